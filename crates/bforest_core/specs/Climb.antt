@@ -35,6 +35,31 @@ module _ {K V : Type 0} where
     pub height : level + length rows ≡ size
     pub apart : Distinct (flat_map numbers rows ++ table.chain)
 
+  -- the rows from a level up, with the path at this one of the nodes below them
+  pub record OneAbove (table : Table K V) (path indices : List ℕ) (level size : ℕ) : Type 0 where
+    pub rows : List (List (LevelNode K ℕ))
+    pub before : List (K × ℕ)
+    pub x : K × ℕ
+    pub after : List (K × ℕ)
+    pub above : Above table path indices level size rows (before ++ x ∷ after) (length before)
+
+  -- the rows from a level up, with the path at the node `x` below them, and with the next one
+  pub record TwoAbove (table : Table K V) (path indices : List ℕ) (level size : ℕ) : Type 0 where
+    pub rows : List (List (LevelNode K ℕ))
+    pub before : List (K × ℕ)
+    pub x : K × ℕ
+    pub y : K × ℕ
+    pub after : List (K × ℕ)
+    pub above : Above table path indices level size rows (before ++ x ∷ y ∷ after) (length before)
+
+  -- the rows from a level up, with the path at the last node below them, and with the one before it
+  pub record LastAbove (table : Table K V) (path indices : List ℕ) (level size : ℕ) : Type 0 where
+    pub rows : List (List (LevelNode K ℕ))
+    pub before : List (K × ℕ)
+    pub y : K × ℕ
+    pub x : K × ℕ
+    pub above : Above table path indices level size rows (before ++ y ∷ x ∷ []) (suc (length before))
+
   -- the rows from a level up after the level gained a node: `list` is its nodes, the path leads to the place,
   -- the new numbers are `taken` from the front of the chain, and the root is the old one or, with a level
   -- more, a taken one

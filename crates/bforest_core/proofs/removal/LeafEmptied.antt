@@ -1,11 +1,10 @@
 -- Removing the only entry of a leaf together with the leaf, which is the rightmost.
 use Rattle.std.proofs.Common.{◌≡◌, ◌≢◌, suc, ◌+◌, ◌≤◌, Some, List, ◌∷◌, ◌++◌, map, length, get_or, slice_get, refl, sym, ap, ◌∙◌, subst, append-nil, length-append, arith, ℕ, []}
 use Rattle.bforest_core.proofs.Words.{nil_from_length, flat_map, remove, IsLeafCapacity, Table, IsUsed, with_freed, LevelNode, node, flat, heads, sizes, numbers, FitRow, Stacked, Topped, Tree, half_of, sizes_of, loss, loss_above}
-use Rattle.bforest_core.proofs.Words.{shrink, RowIn, leaf_content, count, Distinct, root_above, root_of, numbers_of, IsPathAt, nodes_up, Above, UpTo, Trimmed, StandsIn, IsSingle, Removed, Emptied}
+use Rattle.bforest_core.proofs.Words.{shrink, RowIn, leaf_content, count, Distinct, root_above, root_of, numbers_of, IsPathAt, nodes_up, Above, LastAbove, UpTo, Trimmed, StandsIn, IsSingle, Removed, Emptied}
 use Rattle.bforest_core.proofs.rows.LevelRows.{flat-append, heads-append, sizes-append, Solid-full}
 use Rattle.bforest_core.proofs.table.Tables.{count-append, counts, count-same, row-split, row-same, ne_from_count}
 use Rattle.bforest_core.proofs.rows.Tops.{root-stands}
-use Rattle.bforest_core.proofs.removal.Asked.{LastTwo}
 use Rattle.bforest_core.proofs.removal.Merge.{loss_at}
 use Rattle.bforest_core.proofs.removal.Frees.{freed_other, frees-one, frees-first}
 use Rattle.bforest_core.proofs.removal.RemovingEmptied.{fit_solid, LastOf, last_of_solid, last_heads, above_freed, Drops}
@@ -24,7 +23,7 @@ two_leaves list (row ∷ rows) topped ne = topped.0
 
 module _ {K V : Type 0} {most : ℕ} {t : Table K V} {path indices : List ℕ} {size : ℕ} (capacity : IsLeafCapacity most) {p : Table K V} (alone : IsSingle t p (get_or path 0 0)) (read : ℕ) (num_is : read ≡ get_or path 0 0)
     {tree : Tree K V} {place : ℕ} (s : StandsIn most t path indices size tree place) where
-  f : LeafAt most t path indices size tree place
+  pub f : LeafAt most t path indices size tree place
   f = leaf_at s
 
   one : length (f.l ++ f.x ∷ f.r) ≡ 1
@@ -84,22 +83,22 @@ module _ {K V : Type 0} {most : ℕ} {t : Table K V} {path indices : List ℕ} {
 
     module _ (more : size ≢ 1) where
       -- the last of the leaves before it
-      o : LastOf f.before
+      pub o : LastOf f.before
       o =
           let two = two_leaves (heads tree.leaves) tree.above s.fit.topped (λ (e : length tree.above ≡ 0). more (omega (arith, e, s.stands.size_is))) in
           last_of_solid (half_of most) most f.half f.before f.solid (omega (arith, two, heads_are, heads-flat f.before))
 
-      above_then : Above v path indices 1 size tree.above (heads o.init ++ (o.w.0, o.number) ∷ (f.x.0, get_or path 0 0) ∷ []) (suc (length (heads o.init)))
+      pub above_then : Above v path indices 1 size tree.above (heads o.init ++ (o.w.0, o.number) ∷ (f.x.0, get_or path 0 0) ∷ []) (suc (length (heads o.init)))
       above_then = above_freed v (get_or path 0 0) f.x o apart freed_is (subst (λ (z : List (LevelNode K V)). Above t path indices 1 size tree.above (heads z) (length (heads f.before))) row_is f.above)
 
       -- the rows above meet what removing the leaf's entry requires
-      pub above_asks : LastTwo v path indices 1 size
-      above_asks = (tree.above, heads o.init, (o.w.0, o.number), (f.x.0, get_or path 0 0), above_then)
+      abbrev pub above_asks : LastAbove v path indices 1 size
+      above_asks = record { rows = tree.above; before = heads o.init; y = (o.w.0, o.number); x = (f.x.0, get_or path 0 0); above = above_then }
 
       -- the rows above after the leaf's entry was removed
-      module _ (u : Table K V) (drops : (rows : List (List (LevelNode K ℕ))) (a : List (K × ℕ)) (y x : K × ℕ) → Above v path indices 1 size rows (a ++ y ∷ x ∷ []) (suc (length a)) → Drops v u path 1 size rows a y) where
+      module _ (u : Table K V) (drops : (w : LastAbove v path indices 1 size) → Drops v u path 1 size w.rows w.before w.y) where
         dropped : Drops v u path 1 size tree.above (heads o.init) (o.w.0, o.number)
-        dropped = drops tree.above (heads o.init) (o.w.0, o.number) (f.x.0, get_or path 0 0) above_then
+        dropped = drops above_asks
 
         untrimmed : Untrimmed most t u tree place f.before dropped.1.rows' (nodes_up path 0 (suc dropped.0))
         untrimmed =

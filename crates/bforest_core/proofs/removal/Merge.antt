@@ -1,11 +1,10 @@
 -- Removing an entry from a level, in `shrink` and in the rows: its row is rebalanced, then those above.
 use Rattle.std.proofs.Common.{◌≡◌, ℕ, zero, suc, ◌+◌, ◌-◌, ◌≤◌, ◌<◌, Option, None, true, false, Bool, if◌then◌else◌, option_map, List, [], ◌∷◌, ◌++◌, map, length, get_or, Some, refl, sym, ap, ◌∙◌, subst, append_assoc, length-append, arith}
 use Rattle.std.proofs.lemmas.Bool.{lt-ltb, le-ltb}
-use Rattle.bforest_core.proofs.Words.{loss, past, flat_map, Content, Table, LevelNode, node, flat, heads, head_of, sizes, numbers, FitRow, rebalanced, loss_above, RowIn, inner_content, count, nodes_up, Above, SameBelow, top_of, Frees, Rebuilt, Loosened, Healed, Joined, Loses, least, false≢true}
+use Rattle.bforest_core.proofs.Words.{loss, past, flat_map, Content, Table, LevelNode, node, flat, heads, head_of, sizes, numbers, FitRow, rebalanced, loss_above, RowIn, inner_content, count, nodes_up, Above, TwoAbove, SameBelow, top_of, Frees, Rebuilt, Loosened, Healed, Joined, Loses, least, false≢true}
 use Rattle.bforest_core.proofs.rows.LevelRows.{flat-append, heads-append, sizes-append, FitRow-join, FitRow-split, Solid-full, least-pos}
 use Rattle.bforest_core.proofs.table.Tables.{count-append, count-same, count-row, counts, row-same}
 use Rattle.bforest_core.proofs.rows.Zipper.{stands_here}
-use Rattle.bforest_core.proofs.removal.Asked.{MergeAbove}
 use Rattle.bforest_core.proofs.removal.Frees.{only_here, frees-then, frees-after, frees-wider}
 
 -- the index of the node after `k` others, if it is removed
@@ -141,8 +140,8 @@ module _ {K V X : Type 0} {content : List (K × X) → Content K V} {half most :
 
   module _ {w : Table K V} {path1 indices1 : List ℕ} (j : Joined content half most mid w path indices path1 indices1 level size l.before n l.entries l.after l.rest) where
     -- the rows above meet what removing a merged node's entry requires; level and size are as in the code
-    pub merge_asks : (up' size' : ℕ) → up' ≡ suc level → size' ≡ size → MergeAbove w path1 indices1 up' size'
-    merge_asks up' size' up_is size_is = (l.rest, heads l.before, j.first.0, n, j.key, j.right, heads j.after', rw (up_is, size_is) j.above)
+    abbrev pub merge_asks : (up' size' : ℕ) → up' ≡ suc level → size' ≡ size → TwoAbove w path1 indices1 up' size'
+    merge_asks up' size' up_is size_is = record { rows = l.rest; before = heads l.before; x = (j.first.0, n); y = (j.key, j.right); after = heads j.after'; above = rw (up_is, size_is) j.above }
 
     -- a level is rebalanced once the rows above lost the entry of a merged node
     pub joined_restored : {new : Table K V} {path' indices' freed : List ℕ} (r : Rebuilt w new path1 indices1 path' indices' (suc level) size l.rest (heads l.before ++ (j.first.0, j.right) ∷ heads j.after') (length (heads l.before))

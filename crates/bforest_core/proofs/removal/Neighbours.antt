@@ -1,12 +1,12 @@
 -- The right neighbour of a node, under the same parent or another: the answers of `right_sibling`, and the
 -- move of a path there.
 use Rattle.std.proofs.Common.{◌≡◌, ◌≢◌, ℕ, suc, ◌+◌, ◌-◌, ◌≤◌, ◌<◌, true, false, Option, List, [], ◌∷◌, ◌++◌, map, length, drop, get_or, slice_get, Some, None, refl, sym, ap, ◌∙◌, subst, append_assoc, length-append, arith, add-one}
-use Rattle.bforest_core.proofs.Words.{Table, LevelNode, node, flat, heads, RowIn, inner_content, entry_keys, entry_items, Above, NextIs, Bool, Over, Moved, nil_from_length}
+use Rattle.bforest_core.proofs.Words.{Table, LevelNode, node, flat, heads, RowIn, inner_content, entry_keys, entry_items, Above, NextIs, OneAbove, Bool, Over, Moved, nil_from_length}
 use Rattle.bforest_core.proofs.rows.LevelRows.{head-is}
 use Rattle.bforest_core.proofs.table.Tables.{row-split}
 use Rattle.bforest_core.proofs.rows.Zipper.{Spot, stands-same}
 use Rattle.bforest_core.proofs.table.Stored.{item_count, slice_get_at, some_same}
-use Rattle.bforest_core.proofs.removal.Asked.{ChildAt, Counts, ReadsKey, ReadsChild, OneAbove, Beside, Seen, seen}
+use Rattle.bforest_core.proofs.removal.Asked.{ChildAt, Counts, ReadsKey, ReadsChild, Beside, Seen, seen}
 use Rattle.bforest_core.proofs.removal.Taking.{no_nodes, some_first}
 use Rattle.bforest_core.proofs.removal.Lifted.{headed, NextNode, next_of, rows_above}
 
@@ -49,7 +49,9 @@ module _ {K V : Type 0} where
         m.node_is ∙ ap (λ z. z.1) head_is,
       )
 
-  module _ {t : Table K V} {path indices : List ℕ} {up size : ℕ} {rows : List (List (LevelNode K ℕ))} (a : List (K × ℕ)) (x : K × ℕ) (b : List (K × ℕ)) (p : Above t path indices up size rows (a ++ x ∷ b) (length a)) (other : up ≢ size) (r : ℕ) (wide : length path ≡ 17) (height : size ≤ 17) where
+  module _ {t : Table K V} {path indices : List ℕ} {up size : ℕ} (w : OneAbove t path indices up size) (other : up ≢ size) (r : ℕ) (wide : length path ≡ 17) (height : size ≤ 17) where
+    open w use {rows, before as a, x, after as b, above as p}
+
     low : up < size
     low = let h = p.height in omega arith
 
@@ -60,22 +62,22 @@ module _ {K V : Type 0} where
     abbrev d : Spot t path indices up size rows a x b
     d = here.d
 
-    u : (k : K) × Above t path indices (suc up) size d.q.rest (heads d.q.before ++ (k, get_or path up 0) ∷ heads d.q.after) (length (heads d.q.before))
+    pub u : (k : K) × Above t path indices (suc up) size d.q.rest (heads d.q.before ++ (k, get_or path up 0) ∷ heads d.q.after) (length (heads d.q.before))
     u = up_above d
 
-    above_next : Above t path indices (up + 1) size d.q.rest (heads d.q.before ++ (u.0, get_or path up 0) ∷ heads d.q.after) (length (heads d.q.before))
+    pub above_next : Above t path indices (up + 1) size d.q.rest (heads d.q.before ++ (u.0, get_or path up 0) ∷ heads d.q.after) (length (heads d.q.before))
     above_next = rw add-one u.1
 
     -- the rows above meet what the call one level up requires
-    pub above_asks : OneAbove t path indices (up + 1) size
-    above_asks = (d.q.rest, heads d.q.before, (u.0, get_or path up 0), heads d.q.after, above_next)
+    abbrev pub above_asks : OneAbove t path indices (up + 1) size
+    above_asks = record { rows = d.q.rest; before = heads d.q.before; x = (u.0, get_or path up 0); after = heads d.q.after; above = above_next }
 
     pub above_fewer : (n : ℕ) → size - up ≡ n → size - (up + 1) < n
     above_fewer n bound = let l = low in omega arith
 
     -- the answer of the call one level up
     next_above : (o : Option (K × ℕ)) → Beside t path indices (up + 1) size o → NextIs o (heads d.q.after)
-    next_above o beside = beside d.q.rest (heads d.q.before) (u.0, get_or path up 0) (heads d.q.after) above_next
+    next_above o beside = beside above_asks
 
     module _ (o : Option (K × ℕ)) (next : K × ℕ) (is : o ≡ Some next) (beside : Beside t path indices (up + 1) size o) where
       n : NextNode d.q.after next.0 next.1

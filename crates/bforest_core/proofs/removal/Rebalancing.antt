@@ -1,13 +1,13 @@
 -- Rebalancing a level, from what its calls state: the answers of `rebalance`.
 use Rattle.std.proofs.Common.{◌≡◌, add-one, suc, ◌+◌, ◌≤◌, ◌<◌, ◌≢◌, List, [], ◌∷◌, ◌++◌, length, set, get_or, slice_get, Some, None, Option, refl, sym, ap, ◌∙◌, subst, inl, inr, length-append, arith, ℕ}
-use Rattle.bforest_core.proofs.Words.{get_or_default, flat_map, content_at, half_at, most_at, Item, Heals, Joins, Loses, Content, Table, IsUsed, IsUnderflowedAt, IsBalancedAt, with_freed, LevelNode, node, flat, heads, numbers, FitRow, count, Above, NextIs, SameBelow, top_of, OnLevel, Healed, Joined}
+use Rattle.bforest_core.proofs.Words.{get_or_default, flat_map, content_at, half_at, most_at, Item, Heals, Joins, Loses, Content, Table, IsUsed, IsUnderflowedAt, IsBalancedAt, with_freed, LevelNode, node, flat, heads, numbers, FitRow, count, Above, OneAbove, TwoAbove, NextIs, SameBelow, top_of, OnLevel, Healed, Joined}
 use Rattle.bforest_core.proofs.rows.LevelRows.{least-pos, head-is, HeadIs}
 use Rattle.bforest_core.proofs.table.Tables.{row-split, is_used}
 use Rattle.bforest_core.proofs.rows.Zipper.{apart_here}
 use Rattle.bforest_core.proofs.removal.Taking.{no_nodes}
 use Rattle.bforest_core.proofs.removal.Lifted.{headed, NextNode, next_of}
 use Rattle.bforest_core.proofs.removal.Balance.{IsHalf, IsStored, kind_half, kind_stored, AllRight, Spread, all_right_at, spread_at}
-use Rattle.bforest_core.proofs.removal.Asked.{NodeAt, Counts, OneAbove, NextAbove, TwoAbove, Beside, Rekeys, Enters}
+use Rattle.bforest_core.proofs.removal.Asked.{NodeAt, Counts, Beside, Rekeys, Enters}
 use Rattle.bforest_core.proofs.removal.Rebalance.{settle_stay, above_both, settle_move, apart, above_two_put, settle_spread, settle_join}
 
 both_back : {A B : Type 0} (P : A → B → Type 0) (a c : A) (b d : B) → a ≡ c → b ≡ d → P c d → P a b
@@ -32,23 +32,10 @@ module _ {K V : Type 0} {cap least : ℕ} {t : Table K V} {path indices : List �
   abbrev most : ℕ
   most = most_at w.leaf cap
 
-  abbrev before : List (LevelNode K X)
-  before = w.before
+  open w use {before, entries as es, after, rest, on as p}
 
   abbrev n : ℕ
   n = get_or path up 0
-
-  abbrev es : List (K × X)
-  es = w.entries
-
-  abbrev after : List (LevelNode K X)
-  after = w.after
-
-  abbrev rest : List (List (LevelNode K ℕ))
-  rest = w.rest
-
-  p : OnLevel content half most t path indices up size before n es after rest
-  p = w.on
 
   hm : IsHalf half most
   hm = kind_half w.leaf w.capacity
@@ -82,7 +69,7 @@ module _ {K V : Type 0} {cap least : ℕ} {t : Table K V} {path indices : List �
   count_read : (m : ℕ) → Counts t (get_or path up r) m → m ≡ length es
   count_read m value = value (content es) slot_read ∙ s.count_is es
 
-  named : HeadIs n es
+  pub named : HeadIs n es
   named = head-is n es p.some
 
   abbrev e : K × X
@@ -115,7 +102,7 @@ module _ {K V : Type 0} {cap least : ℕ} {t : Table K V} {path indices : List �
 
       module _ (past : get_or indices up 0 ≡ m) where
         -- there is a next node where the path is past the node's last entry
-        behind : (k : K) × (q : ℕ) × NextNode after k q
+        pub behind : (k : K) × (q : ℕ) × NextNode after k q
         behind =
             let at = w.at_entry (omega (arith, healthy, count_read m value)) in
             first_after half most half_some after p.fits (omega (arith, at, past, count_read m value, length-append es (flat after)))
@@ -123,32 +110,32 @@ module _ {K V : Type 0} {cap least : ℕ} {t : Table K V} {path indices : List �
         abbrev then : NextNode after behind.0 behind.1
         then = behind.2
 
-        above_past : Above t path indices (suc up) size rest (heads before ++ (e.0, n) ∷ (then.f.0, behind.1) ∷ heads then.rest) (length (heads before))
+        pub above_past : Above t path indices (suc up) size rest (heads before ++ (e.0, n) ∷ (then.f.0, behind.1) ∷ heads then.rest) (length (heads before))
         above_past = above_both hm (level then)
 
         -- the rows above meet what entering the next node requires
-        pub past_asks : NextAbove t path indices (suc up) size
-        past_asks = (rest, heads before, (e.0, n), (then.f.0, behind.1), heads then.rest, above_past)
+        abbrev pub past_asks : TwoAbove t path indices (suc up) size
+        past_asks = record { rows = rest; before = heads before; x = (e.0, n); y = (then.f.0, behind.1); after = heads then.rest; above = above_past }
 
         -- entering the next node leaves the level rebalanced
         pub past_heals : (path' indices' : List ℕ) → Enters t path indices path' indices' up size → get_or indices' up 0 ≡ 0
             → SameBelow up path path' → SameBelow up indices indices' → top_of path' size ≡ top_of path size → Heals w t path' indices'
         past_heals path' indices' moved first below below_too top_is =
-            let entered = moved rest (heads before) (e.0, n) (then.f.0, behind.1) (heads then.rest) above_past in
+            let entered = moved past_asks in
             let len = ap length named.es_is in
             heals then t path' indices' (settle_move hm (level then) (omega (arith, half_here, len)) (omega (arith, past, count_read m value, len)) entered first below below_too top_is)
 
   -- the rows above, cut at the node
-  above_high : Above t path indices (up + 1) size rest (heads before ++ (e.0, n) ∷ heads after) (length (heads before))
+  pub above_high : Above t path indices (up + 1) size rest (heads before ++ (e.0, n) ∷ heads after) (length (heads before))
   above_high = rw (add-one up) (headed before after named p.above)
 
   -- the rows above meet what the call for the right neighbour requires
-  pub beside_asks : OneAbove t path indices (up + 1) size
-  beside_asks = (rest, heads before, (e.0, n), heads after, above_high)
+  abbrev pub beside_asks : OneAbove t path indices (up + 1) size
+  beside_asks = record { rows = rest; before = heads before; x = (e.0, n); after = heads after; above = above_high }
 
   -- the answer of the call for the right neighbour
   next_is : (o : Option (K × ℕ)) → Beside t path indices (up + 1) size o → NextIs o (heads after)
-  next_is o beside = beside rest (heads before) (e.0, n) (heads after) above_high
+  next_is o beside = beside beside_asks
 
   -- the last node stays
   pub last_heals : Beside t path indices (up + 1) size None → Heals w t path indices
@@ -157,7 +144,7 @@ module _ {K V : Type 0} {cap least : ℕ} {t : Table K V} {path indices : List �
       settle_stay hm p (inr none) (λ some. omega (arith, some, length-append es (flat after), ap (λ z. length (flat z)) none))
 
   module _ (m : ℕ) (value : Counts t (get_or path up r) m) (under : m < least) {o : Option (K × ℕ)} {next : K × ℕ} (is : o ≡ Some next) (beside : Beside t path indices (up + 1) size o) where
-    d : NextNode after next.0 next.1
+    pub d : NextNode after next.0 next.1
     d =
         let nx = subst (λ (z : Option (K × ℕ)). NextIs z (heads after)) is (next_is o beside) in
         next_of half most half_some after next.0 next.1 nx.0 p.fits nx.1
@@ -203,18 +190,17 @@ module _ {K V : Type 0} {cap least : ℕ} {t : Table K V} {path indices : List �
         spread : Spread content t u most n q (e ∷ others) (d.f ∷ d.fs) key
         spread = spread_at content t u n q e others d.f d.fs s lies.0 (omega (arith, hm.hi, hm.two)) slots.0 slots.1 (balanced_as (Some key) got_is)
 
-        above_is : Above u path indices (suc up) size rest (heads before ++ (e.0, n) ∷ (d.f.0, q) ∷ heads d.rest) (length (heads before))
+        pub above_is : Above u path indices (suc up) size rest (heads before ++ (e.0, n) ∷ (d.f.0, q) ∷ heads d.rest) (length (heads before))
         above_is = above_two_put hm (level d) spread.two
 
         -- the rows above meet what updating the key requires
-        pub rekey_asks : TwoAbove u path indices (up + 1) size
-        rekey_asks = (rest, heads before, (e.0, n), d.f.0, q, heads d.rest, rw (add-one up) above_is)
+        abbrev pub rekey_asks : TwoAbove u path indices (up + 1) size
+        rekey_asks = record { rows = rest; before = heads before; x = (e.0, n); y = (d.f.0, q); after = heads d.rest; above = rw (add-one up) above_is }
 
         -- updating the key leaves the level rebalanced
         pub rekey_heals : (v : Table K V) → Rekeys u v path indices (up + 1) size key → Heals w v path indices
         rekey_heals v rekeys =
-            let rk = subst (λ (z : ℕ). Rekeys u v path indices z size key) (add-one up) rekeys in
-            heals d v path indices (settle_spread hm (level d) v under_is spread (rk rest (heads before) (e.0, n) d.f.0 q (heads d.rest) above_is))
+            heals d v path indices (settle_spread hm (level d) v under_is spread (rw (add-one up) at (rekeys rekey_asks)))
 
       -- all entries are in the right node, and the left one has to be freed
       module _ (got_is : got ≡ None) where

@@ -2,7 +2,7 @@
 -- discarded.
 use Rattle.std.proofs.Common.{◌≡◌, zero, suc, ◌+◌, ◌≤◌, ◌<◌, Some, List, ◌∷◌, ◌++◌, ◌⊎◌, map, length, get_or, refl, sym, ap, ◌∙◌, subst, length-append, arith, ℕ, [], inr}
 use Rattle.bforest_core.proofs.Words.{flat_map, remove, flat_map-append, Table, LevelNode, node, flat, heads, sizes, numbers, FitRow, Stacked, Tree, half_of, loss_above, trimmed, RowIn, RowsIn, leaf_content, count, root_above, root_of, numbers_of, StandsAbove, Stands}
-use Rattle.bforest_core.proofs.Words.{IsPathAt, nodes_up, Above, top_of, Frees, Rebuilt, Healed, Joined, UpTo, Trimmed, StandsIn, LeafLoss, Removed, Solid, sizes_of}
+use Rattle.bforest_core.proofs.Words.{IsPathAt, nodes_up, TwoAbove, top_of, Frees, Rebuilt, Healed, Joined, UpTo, Trimmed, StandsIn, LeafLoss, Removed, Solid, sizes_of}
 use Rattle.bforest_core.proofs.rows.LevelRows.{flat-append, FitRow-split, Solid-full, least-pos}
 use Rattle.bforest_core.proofs.walks.Steps.{fit_full}
 use Rattle.bforest_core.proofs.table.Tables.{count-append, row-same, rows-same}
@@ -12,7 +12,6 @@ use Rattle.bforest_core.proofs.removal.Merge.{lost, Restored, Restores, healed_r
 use Rattle.bforest_core.proofs.removal.Rebalance.{enough, judged}
 use Rattle.bforest_core.proofs.removal.PastEnd.{loss_half}
 use Rattle.bforest_core.proofs.removal.Collapse.{length-sizes, trimmed-is, topped-sizes, stands-below, rows-parts, trim_none}
-use Rattle.bforest_core.proofs.removal.Asked.{MergeAbove}
 
 -- a row has one number per node
 length-numbers : {K X : Type 0} (row : List (LevelNode K X)) → length (numbers row) ≡ length row
@@ -233,17 +232,18 @@ module _ {K V : Type 0} {most : ℕ} {old mid : Table K V} {path indices : List 
   -- the leaf was merged into its neighbour
   module _ {mid2 : Table K V} {path1 indices1 : List ℕ} (j : Joined leaf_content (half_of most) most mid mid2 path indices path1 indices1 0 size l.before n l.entries l.after l.rest) {size1 : ℕ} (size_is : size1 ≡ size) where
     -- the rows above meet what removing the leaf's entry requires
-    pub leaf_merge_asks : MergeAbove mid2 path1 indices1 1 size1
+    abbrev pub leaf_merge_asks : TwoAbove mid2 path1 indices1 1 size1
     leaf_merge_asks = merge_asks l.loss j 1 size1 refl size_is
 
     -- the rows above after the leaf's entry was removed
-    module _ {new : Table K V} {path' indices' : List ℕ} (merged : (rows : List (List (LevelNode K ℕ))) (a : List (K × ℕ)) (k : K) (m : ℕ) (k2 : K) (n : ℕ) (b : List (K × ℕ)) → Above mid2 path1 indices1 1 size1 rows (a ++ (k, m) ∷ (k2, n) ∷ b) (length a) →
-        (levels : ℕ) × Rebuilt mid2 new path1 indices1 path' indices' 1 size1 rows (a ++ (k, n) ∷ b) (length a) (loss_above (Some (length a)) (map sizes rows)) (nodes_up path1 1 levels)) {size2 : ℕ} (size2_is : size2 ≡ size) where
-      above : (levels : ℕ) × Rebuilt mid2 new path1 indices1 path' indices' 1 size l.rest (heads l.before ++ (j.first.0, j.right) ∷ heads j.after') (length (heads l.before)) (loss_above (Some (length (heads l.before))) (map sizes l.rest)) (nodes_up path 1 levels)
+    module _ {new : Table K V} {path' indices' : List ℕ} (merged : (w : TwoAbove mid2 path1 indices1 1 size1) → (levels : ℕ) × Rebuilt mid2 new path1 indices1 path' indices' 1 size1 w.rows (w.before ++ (w.x.0, w.y.1) ∷ w.after) (length w.before) (loss_above (Some (length w.before)) (map sizes w.rows)) (nodes_up path1 1 levels)) {size2 : ℕ} (size2_is : size2 ≡ size) where
+      abbrev Rows : ℕ → List ℕ → Type 0
+      Rows z freed = Rebuilt mid2 new path1 indices1 path' indices' 1 z l.rest (heads l.before ++ (j.first.0, j.right) ∷ heads j.after') (length (heads l.before)) (loss_above (Some (length (heads l.before))) (map sizes l.rest)) freed
+
+      above : (levels : ℕ) × Rows size (nodes_up path 1 levels)
       above =
-          let m = merged l.rest (heads l.before) j.first.0 n j.key j.right (heads j.after') (rw size_is j.above) in
-          let same = nodes_up-same path path1 1 m.0 j.nodes_above in
-          (m.0, rw (size_is, same) at m.1)
+          let m = merged leaf_merge_asks in
+          (m.0, subst (λ (z : List ℕ). Rows size z) (nodes_up-same path path1 1 m.0 j.nodes_above) (subst (λ (z : ℕ). Rows z (nodes_up path1 1 m.0)) size_is m.1))
 
       joined : Restores l.loss new path' indices' (nodes_up path 0 (suc above.0))
       joined = joined_restored l.loss j above.1 half

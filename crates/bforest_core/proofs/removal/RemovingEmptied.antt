@@ -2,7 +2,7 @@
 -- answers of `remove_emptied`.
 use Rattle.std.proofs.Common.{◌≡◌, ◌≢◌, ℕ, suc, ◌+◌, ◌-◌, ◌≤◌, ◌<◌, List, [], ◌∷◌, ◌++◌, map, length, drop, get_or, Some, refl, sym, ap, ◌∙◌, subst, append_assoc, length-append, arith}
 use Rattle.bforest_core.proofs.Words.{flat_map, append-nil, nil_from_length, without_child, Table, with_node, with_freed, LevelNode, node, flat, heads, head_of, sizes, numbers, FitRow, Solid, Stacked, loss_above, RowIn, inner_content, entry_keys, entry_items, count}
-use Rattle.bforest_core.proofs.Words.{Distinct, root_above, Above, nodes_up, Dropped, rebalanced}
+use Rattle.bforest_core.proofs.Words.{Distinct, root_above, Above, LastAbove, nodes_up, Dropped, rebalanced}
 use Rattle.bforest_core.proofs.rows.LevelRows.{flat-append, heads-append, sizes-append, FitRow-join, Solid-full}
 use Rattle.bforest_core.proofs.table.Tables.{count-append, counts, count-same, row-split, row-put, row-same, rows-same, ne_from_count, puts}
 use Rattle.bforest_core.proofs.removal.Frees.{frees-puts, freed_other, frees-first}
@@ -12,7 +12,7 @@ use Rattle.bforest_core.proofs.removal.Lifted.{heads-put, above_same, rows_above
 use Rattle.bforest_core.proofs.removal.Taking.{some_first, no_nodes}
 use Rattle.bforest_core.proofs.removal.Collapse.{heads-flat}
 use Rattle.bforest_core.proofs.removal.Merge.{placed, loss_level, lost_above}
-use Rattle.bforest_core.proofs.removal.Asked.{Counts, Removes, LastTwo, Seen, seen}
+use Rattle.bforest_core.proofs.removal.Asked.{Counts, Removes, Seen, seen}
 use Rattle.bforest_core.proofs.rows.Tops.{top_rows}
 use Rattle.bforest_core.proofs.removal.Rebalance.{rebalanced_last}
 
@@ -120,7 +120,7 @@ module _ {K V : Type 0} where
       a_front : flat d.q.before ≡ a
       a_front = sym (append-nil (flat d.q.before)) ∙ ap (λ z. flat d.q.before ++ z) (sym l_none) ∙ sym d.q.a_is
 
-      front : LastOf d.q.before
+      pub front : LastOf d.q.before
       front = last_of_solid 4 8 (omega arith) d.q.before d.f.solid (omega (arith, some, ap length a_front))
 
       above_then : Above v path indices (suc up) size d.q.rest (heads front.init ++ (front.w.0, front.number) ∷ (x.0, get_or path up 0) ∷ []) (suc (length (heads front.init)))
@@ -155,8 +155,9 @@ module _ {K V : Type 0} where
             frees = frees-first t n (inner_content (q.l ++ x ∷ [])) (flat_map numbers rows) known.slot_is v_is (omega (arith, own_is n, count-same n [])) d.f.none_rest (λ m none. omega (arith, none, own_is m)) r.frees;
           }
 
-  module _ {t : Table K V} {path indices : List ℕ} {up size : ℕ} {rows : List (List (LevelNode K ℕ))} (a : List (K × ℕ)) (y x : K × ℕ) (p : Above t path indices up size rows (a ++ y ∷ x ∷ []) (suc (length a)))
-      (r : ℕ) (wide : length path ≡ 17) (height : size ≤ 17) where
+  module _ {t : Table K V} {path indices : List ℕ} {up size : ℕ} (w : LastAbove t path indices up size) (r : ℕ) (wide : length path ≡ 17) (height : size ≤ 17) where
+    open w use {rows, before as a, y, x, above as p}
+
     top : up < size
     top = above_two rows a y x [] p
 
@@ -181,29 +182,29 @@ module _ {K V : Type 0} where
           (0, subst (λ (z : ℕ). Dropped t u path size rows (a ++ y ∷ []) (loss_above (Some z) (map sizes rows)) []) len_is f)
 
       module _ (one : cnt ≡ 1) (v : Table K V) (freed : v ≡ with_freed t (get_or path up r)) (high : ℕ) (high_is : high ≡ suc up) where
-        single : length (here.d.q.l ++ x ∷ here.d.q.r) ≡ 1
+        pub single : length (here.d.q.l ++ x ∷ here.d.q.r) ≡ 1
         single = sym (here.counted cnt value) ∙ one
 
-        some : 1 ≤ length (a ++ y ∷ [])
+        pub some : 1 ≤ length (a ++ y ∷ [])
         some = let e = len_is in omega arith
 
-        v_is : v ≡ with_freed t (get_or path up 0)
+        pub v_is : v ≡ with_freed t (get_or path up 0)
         v_is = freed ∙ ap (λ z. with_freed t z) here.num_is
 
         abbrev o : LastOf here.d.q.before
         o = front here.d v single some v_is
 
-        above_is : Above v path indices high size here.d.q.rest (heads o.init ++ (o.w.0, o.number) ∷ (x.0, get_or path up 0) ∷ []) (suc (length (heads o.init)))
+        pub above_is : Above v path indices high size here.d.q.rest (heads o.init ++ (o.w.0, o.number) ∷ (x.0, get_or path up 0) ∷ []) (suc (length (heads o.init)))
         above_is = subst (λ (z : ℕ). Above v path indices z size here.d.q.rest (heads o.init ++ (o.w.0, o.number) ∷ (x.0, get_or path up 0) ∷ []) (suc (length (heads o.init)))) (sym high_is) (above_then here.d v single some v_is)
 
         -- the rows above meet what the call one level up requires
-        pub above_asks : LastTwo v path indices high size
-        above_asks = (here.d.q.rest, heads o.init, (o.w.0, o.number), (x.0, get_or path up 0), above_is)
+        abbrev pub above_asks : LastAbove v path indices high size
+        above_asks = record { rows = here.d.q.rest; before = heads o.init; y = (o.w.0, o.number); x = (x.0, get_or path up 0); above = above_is }
 
         -- what the call one level up ensures is what this one has to
-        pub empties : (u : Table K V) → ((rows2 : List (List (LevelNode K ℕ))) (a2 : List (K × ℕ)) (y2 x2 : K × ℕ) → Above v path indices high size rows2 (a2 ++ y2 ∷ x2 ∷ []) (suc (length a2)) → Drops v u path high size rows2 a2 y2) → Drops t u path up size rows a y
+        pub empties : (u : Table K V) → ((w2 : LastAbove v path indices high size) → Drops v u path high size w2.rows w2.before w2.y) → Drops t u path up size rows a y
         empties u drops =
-            let w = drops here.d.q.rest (heads o.init) (o.w.0, o.number) (x.0, get_or path up 0) above_is in
+            let w = drops above_asks in
             let r = subst (λ (z : ℕ). Dropped v u path size here.d.q.rest (heads o.init ++ (o.w.0, o.number) ∷ []) (loss_above (Some (suc (length (heads o.init)))) (map sizes here.d.q.rest)) (nodes_up path z w.0)) high_is w.1 in
             let f = drop_empty here.d v single some v_is r in
             (suc w.0, subst (λ (z : ℕ). Dropped t u path size rows (a ++ y ∷ []) (loss_above (Some z) (map sizes rows)) (nodes_up path up (suc w.0))) len_is f)

@@ -3,7 +3,7 @@
 use Rattle.std.proofs.Common.{◌≡◌, ℕ, suc, ◌+◌, ◌≤◌, ◌<◌, Some, Option, List, [], ◌∷◌, ◌++◌, map, length, get_or, slice_get, refl, sym, ap, ◌∙◌, subst, append_assoc, length-append, arith, ◌≢◌}
 use Rattle.bforest_core.proofs.Words.{map-append, flat_map, remove, length-map, Content, Leaf, without_entry, Table, LevelNode, node, flat}
 use Rattle.bforest_core.proofs.Words.{heads, sizes, numbers, FitRow, Solid, Stacked, Tree, half_of, RowIn, leaf_content, entry_keys, count}
-use Rattle.bforest_core.proofs.Words.{Distinct, numbers_of, Above, Rebuilt, StandsIn, HasOthers, IsSingle, LeafLoss}
+use Rattle.bforest_core.proofs.Words.{Distinct, numbers_of, Above, OneAbove, Rebuilt, StandsIn, HasOthers, IsSingle, LeafLoss}
 use Rattle.bforest_core.proofs.Words.{nil_from_length, entry_count, IsUsed, with_node, head_of, entry_items}
 use Rattle.bforest_core.proofs.rows.LevelRows.{flat-append, sizes-append, FitRow-split, Solid-full, least-pos, heads-append}
 use Rattle.bforest_core.proofs.table.Tables.{count-append, counts, count-same, row-split, row-put, row-same, Puts, is_used, puts}
@@ -173,7 +173,7 @@ module _ {K V : Type 0} where
   LeafKeyAt t number index = (keys : List K) × (vals : List V) × (slice_get t.nodes number ≡ Some (Leaf keys vals)) × (index < length keys)
 
   module _ {most : ℕ} {t : Table K V} {path indices : List ℕ} {size : ℕ} {tree : Tree K V} {place : ℕ} (s : StandsIn most t path indices size tree place) (read : ℕ) (num_is : read ≡ get_or path 0 0) where
-    d : LeafAt most t path indices size tree place
+    pub d : LeafAt most t path indices size tree place
     d = leaf_at s
 
     abbrev es : List (K × V)
@@ -273,7 +273,7 @@ module _ {K V : Type 0} where
         next : (y : K × V) × (others : List (K × V)) × (d.l ++ d.r ≡ y ∷ others)
         next = some_first (d.l ++ d.r) more
 
-        above : Above u path indices 1 size tree.above (heads d.before ++ (d.x.0, get_or path 0 0) ∷ heads d.after) (length (heads d.before))
+        pub above : Above u path indices 1 size tree.above (heads d.before ++ (d.x.0, get_or path 0 0) ∷ heads d.after) (length (heads d.before))
         above =
             let none = nil_from_length d.l (omega (arith, first, d.index_is)) in
             above_then d.x.0 (λ rs. ap (λ z. head_of (get_or path 0 0) (z ++ d.x ∷ rs)) none)
@@ -286,13 +286,12 @@ module _ {K V : Type 0} where
         first_asks = (entry_keys (next.0 ∷ next.1), entry_items (next.0 ∷ next.1), slot_then, omega (arith, leaf_keys (next.0 ∷ next.1)))
 
         -- the rows above meet what writing the new first key requires
-        pub above_asks : (rows : List (List (LevelNode K ℕ))) × (before : List (K × ℕ)) × (k : K) × (n : ℕ) × (after : List (K × ℕ)) × Above u path indices 1 size rows (before ++ (k, n) ∷ after) (length before)
-        above_asks = (tree.above, heads d.before, d.x.0, get_or path 0 0, heads d.after, above)
+        abbrev pub above_asks : OneAbove u path indices 1 size
+        above_asks = record { rows = tree.above; before = heads d.before; x = (d.x.0, get_or path 0 0); after = heads d.after; above = above }
 
         -- the first entry of the leaf was removed
         pub ahead : (v : Table K V) (key : K) → ((keys : List K) (vals : List V) → slice_get u.nodes read ≡ Some (Leaf keys vals) → slice_get keys 0 ≡ Some key) →
-            ((rows : List (List (LevelNode K ℕ))) (before : List (K × ℕ)) (k : K) (n : ℕ) (after : List (K × ℕ)) → Above u path indices 1 size rows (before ++ (k, n) ∷ after) (length before) →
-            Rebuilt u v path indices path indices 1 size rows (before ++ (key, n) ∷ after) (length before) (map sizes rows) []) →
+            ((w : OneAbove u path indices 1 size) → Rebuilt u v path indices path indices 1 size w.rows (w.before ++ (key, w.x.1) ∷ w.after) (length w.before) (map sizes w.rows) []) →
             LeafLoss most t v path indices size tree place
         ahead v key reads rekeys =
             let n = get_or path 0 0 in
@@ -300,4 +299,4 @@ module _ {K V : Type 0} where
             let new : heads d.before ++ ((key, n) ∷ heads d.after) ≡ heads (d.before ++ node n (d.l ++ d.r) ∷ d.after) =
             ap (λ z. heads d.before ++ ((z, n) ∷ heads d.after)) (sym key_is) ∙ ap (λ z. heads d.before ++ (head_of n z ++ heads d.after)) (sym next.2) ∙ sym (heads-append d.before (node n (d.l ++ d.r) ∷ d.after)) in
             leaf_loss d more w
-            (subst (λ (z : List (K × ℕ)). Rebuilt u v path indices path indices 1 size tree.above z (length (heads d.before)) (map sizes tree.above) []) new (rekeys tree.above (heads d.before) d.x.0 n (heads d.after) above))
+            (subst (λ (z : List (K × ℕ)). Rebuilt u v path indices path indices 1 size tree.above z (length (heads d.before)) (map sizes tree.above) []) new (rekeys above_asks))

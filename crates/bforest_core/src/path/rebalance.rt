@@ -5,7 +5,7 @@ ghost use Rattle.std.specs.List.{flat_map};
 ghost use Rattle.bforest_core.specs.Levels.{LevelNode, numbers, sizes, most_levels};
 ghost use Rattle.bforest_core.specs.Sizes.{loss_above};
 ghost use Rattle.bforest_core.specs.Place.{inner_content};
-ghost use Rattle.bforest_core.specs.Climb.{Above, NextIs, nodes_up, SameBelow, top_of};
+ghost use Rattle.bforest_core.specs.Climb.{Above, LastAbove, NextIs, nodes_up, OneAbove, SameBelow, top_of, TwoAbove};
 ghost use Rattle.bforest_core.specs.Removal.{Rebuilt, Loosened, Loses, Heals, Joins, Dropped};
 
 use crate::access::{child, entries, remove_child, separator, set_separator};
@@ -17,12 +17,8 @@ impl<K: Copy, V: Copy, const N: usize> Path<K, V, N> {
     // The right neighbour of the path's node below level `up`, which may have another parent, with the key between the two.
     pub(super) fn right_sibling(&self, up: usize, pool: &NodePool<K, V, N>) -> Option<(K, Node)>
         requires height { self.now.size ≤ most_levels }
-        requires pending { (rows : List (List (LevelNode K ℕ))) × (before : List (K × ℕ)) × (x : K × ℕ)
-            × (after : List (K × ℕ)) × Above pool.now self.now.node self.now.entry up self.now.size rows
-            (before ++ x ∷ after) (length before) }
-        ensures { (rows : List (List (LevelNode K ℕ))) (before : List (K × ℕ)) (x : K × ℕ)
-            (after : List (K × ℕ)) → Above pool.now self.now.node self.now.entry up self.now.size rows
-            (before ++ x ∷ after) (length before) → NextIs result after }
+        requires pending { OneAbove pool.now self.now.node self.now.entry up self.now.size }
+        ensures { (w : OneAbove pool.now self.now.node self.now.entry up self.now.size) → NextIs result w.after }
     {
         if up == self.size {
             return None;
@@ -45,14 +41,10 @@ impl<K: Copy, V: Copy, const N: usize> Path<K, V, N> {
     // Updates the key between the path's node below level `up` and its right neighbour.
     pub(super) fn update_next_separator(&self, up: usize, key: K, pool: &mut NodePool<K, V, N>)
         requires height { self.now.size ≤ most_levels }
-        requires pending { (rows : List (List (LevelNode K ℕ))) × (before : List (K × ℕ)) × (x : K × ℕ)
-            × (first : K) × (n : ℕ) × (after : List (K × ℕ)) × Above pool.old self.now.node self.now.entry up
-            self.now.size rows (before ++ x ∷ (first, n) ∷ after) (length before) }
-        ensures { (rows : List (List (LevelNode K ℕ))) (before : List (K × ℕ)) (x : K × ℕ) (first : K) (n : ℕ)
-            (after : List (K × ℕ)) → Above pool.old self.now.node self.now.entry up self.now.size rows
-            (before ++ x ∷ (first, n) ∷ after) (length before) → Rebuilt pool.old pool.new self.now.node
-            self.now.entry self.now.node self.now.entry up self.now.size rows (before ++ x ∷ (key, n) ∷ after)
-            (length before) (map sizes rows) [] }
+        requires pending { TwoAbove pool.old self.now.node self.now.entry up self.now.size }
+        ensures { (w : TwoAbove pool.old self.now.node self.now.entry up self.now.size) → Rebuilt pool.old
+            pool.new self.now.node self.now.entry self.now.node self.now.entry up self.now.size w.rows
+            (w.before ++ w.x ∷ (key, w.y.1) ∷ w.after) (length w.before) (map sizes w.rows) [] }
     {
         let parent = self.node[up];
         let index = self.entry[up] as usize;
@@ -66,14 +58,10 @@ impl<K: Copy, V: Copy, const N: usize> Path<K, V, N> {
     // Updates the first key of the path's node below level `up`: its separator in the table, if it has one.
     pub(super) fn update_separator(&self, up: usize, key: K, pool: &mut NodePool<K, V, N>)
         requires height { self.now.size ≤ most_levels }
-        requires pending { (rows : List (List (LevelNode K ℕ))) × (before : List (K × ℕ)) × (first : K)
-            × (n : ℕ) × (after : List (K × ℕ)) × Above pool.old self.now.node self.now.entry up self.now.size
-            rows (before ++ (first, n) ∷ after) (length before) }
-        ensures { (rows : List (List (LevelNode K ℕ))) (before : List (K × ℕ)) (first : K) (n : ℕ)
-            (after : List (K × ℕ)) → Above pool.old self.now.node self.now.entry up self.now.size rows
-            (before ++ (first, n) ∷ after) (length before) → Rebuilt pool.old pool.new self.now.node
-            self.now.entry self.now.node self.now.entry up self.now.size rows (before ++ (key, n) ∷ after)
-            (length before) (map sizes rows) [] }
+        requires pending { OneAbove pool.old self.now.node self.now.entry up self.now.size }
+        ensures { (w : OneAbove pool.old self.now.node self.now.entry up self.now.size) → Rebuilt pool.old
+            pool.new self.now.node self.now.entry self.now.node self.now.entry up self.now.size w.rows
+            (w.before ++ (key, w.x.1) ∷ w.after) (length w.before) (map sizes w.rows) [] }
     {
         if up >= self.size {
             return;
@@ -89,14 +77,10 @@ impl<K: Copy, V: Copy, const N: usize> Path<K, V, N> {
     // Goes to the first entry of the next node on `level`, if there is one.
     pub(super) fn enter_next(&mut self, level: usize, pool: &NodePool<K, V, N>)
         requires height { self.old.size ≤ most_levels }
-        requires pending { (rows : List (List (LevelNode K ℕ))) × (before : List (K × ℕ)) × (x : K × ℕ)
-            × (y : K × ℕ) × (after : List (K × ℕ)) × Above pool.now self.old.node self.old.entry (suc level)
-            self.old.size rows (before ++ x ∷ y ∷ after) (length before) }
-        ensures moved { (rows : List (List (LevelNode K ℕ))) (before : List (K × ℕ)) (x : K × ℕ) (y : K × ℕ)
-            (after : List (K × ℕ)) → Above pool.now self.old.node self.old.entry (suc level) self.old.size
-            rows (before ++ x ∷ y ∷ after) (length before) → Above pool.now self.new.node self.new.entry
-            (suc level) self.old.size rows (before ++ x ∷ y ∷ after) (suc (length before))
-            × (get_or self.new.node level 0 ≡ y.1) }
+        requires pending { TwoAbove pool.now self.old.node self.old.entry (suc level) self.old.size }
+        ensures moved { (w : TwoAbove pool.now self.old.node self.old.entry (suc level) self.old.size) → Above
+            pool.now self.new.node self.new.entry (suc level) self.old.size w.rows
+            (w.before ++ w.x ∷ w.y ∷ w.after) (suc (length w.before)) × (get_or self.new.node level 0 ≡ w.y.1) }
         ensures first { get_or self.new.entry level 0 ≡ 0 }
         ensures nodes_below { SameBelow level self.old.node self.new.node }
         ensures entries_below { SameBelow level self.old.entry self.new.entry }
@@ -110,15 +94,11 @@ impl<K: Copy, V: Copy, const N: usize> Path<K, V, N> {
     // Removes the entry at the path from level `up`, and gives its key to the next one.
     fn remove_merged(&self, up: usize, pool: &mut NodePool<K, V, N>)
         requires height { self.now.size ≤ most_levels }
-        requires pending { (rows : List (List (LevelNode K ℕ))) × (before : List (K × ℕ)) × (first : K)
-            × (m : ℕ) × (next_first : K) × (n : ℕ) × (after : List (K × ℕ))
-            × Above pool.old self.now.node self.now.entry up self.now.size rows
-            (before ++ (first, m) ∷ (next_first, n) ∷ after) (length before) }
-        ensures { (rows : List (List (LevelNode K ℕ))) (before : List (K × ℕ)) (first : K) (m : ℕ)
-            (next_first : K) (n : ℕ) (after : List (K × ℕ)) → Above pool.old self.now.node self.now.entry up
-            self.now.size rows (before ++ (first, m) ∷ (next_first, n) ∷ after) (length before)
+        requires pending { TwoAbove pool.old self.now.node self.now.entry up self.now.size }
+        ensures { (w : TwoAbove pool.old self.now.node self.now.entry up self.now.size)
             → Loosened inner_content 4 8 pool.old pool.new self.now.node self.now.entry up self.now.size
-            (map sizes rows) (flat_map numbers rows) (before ++ (first, n) ∷ after) (length before) }
+            (map sizes w.rows) (flat_map numbers w.rows) (w.before ++ (w.x.0, w.y.1) ∷ w.after)
+            (length w.before) }
     {
         let parent = self.node[up];
         let index = self.entry[up] as usize;
@@ -180,16 +160,11 @@ impl<K: Copy, V: Copy, const N: usize> Path<K, V, N> {
     // Removes the entry of the path's node below level `up`, which was merged into its right neighbour, and gives its key to the neighbour.
     pub(super) fn merge_above(&mut self, up: usize, pool: &mut NodePool<K, V, N>)
         requires height { self.old.size ≤ most_levels }
-        requires pending { (rows : List (List (LevelNode K ℕ))) × (before : List (K × ℕ)) × (first : K)
-            × (m : ℕ) × (next_first : K) × (n : ℕ) × (after : List (K × ℕ))
-            × Above pool.old self.old.node self.old.entry up self.old.size rows
-            (before ++ (first, m) ∷ (next_first, n) ∷ after) (length before) }
-        ensures merged { (rows : List (List (LevelNode K ℕ))) (before : List (K × ℕ)) (first : K) (m : ℕ)
-            (next_first : K) (n : ℕ) (after : List (K × ℕ)) → Above pool.old self.old.node self.old.entry up
-            self.old.size rows (before ++ (first, m) ∷ (next_first, n) ∷ after) (length before)
+        requires pending { TwoAbove pool.old self.old.node self.old.entry up self.old.size }
+        ensures merged { (w : TwoAbove pool.old self.old.node self.old.entry up self.old.size)
             → (levels : ℕ) × Rebuilt pool.old pool.new self.old.node self.old.entry self.new.node
-            self.new.entry up self.old.size rows (before ++ (first, n) ∷ after) (length before)
-            (loss_above (Some (length before)) (map sizes rows)) (nodes_up self.old.node up levels) }
+            self.new.entry up self.old.size w.rows (w.before ++ (w.x.0, w.y.1) ∷ w.after) (length w.before)
+            (loss_above (Some (length w.before)) (map sizes w.rows)) (nodes_up self.old.node up levels) }
         ensures size { self.new.size ≡ self.old.size }
     {
         self.remove_merged(up, pool);
@@ -201,14 +176,10 @@ impl<K: Copy, V: Copy, const N: usize> Path<K, V, N> {
     // Removes the entry of the path's node below level `up`, which was the rightmost and is empty, and the nodes that this empties.
     pub(super) fn remove_emptied(&self, up: usize, pool: &mut NodePool<K, V, N>)
         requires height { self.now.size ≤ most_levels }
-        requires pending { (rows : List (List (LevelNode K ℕ))) × (before : List (K × ℕ)) × (y : K × ℕ)
-            × (x : K × ℕ) × Above pool.old self.now.node self.now.entry up self.now.size rows
-            (before ++ y ∷ x ∷ []) (suc (length before)) }
-        ensures { (rows : List (List (LevelNode K ℕ))) (before : List (K × ℕ)) (y : K × ℕ) (x : K × ℕ)
-            → Above pool.old self.now.node self.now.entry up self.now.size rows (before ++ y ∷ x ∷ [])
-            (suc (length before)) → (levels : ℕ) × Dropped pool.old pool.new self.now.node self.now.size
-            rows (before ++ y ∷ []) (loss_above (Some (suc (length before))) (map sizes rows))
-            (nodes_up self.now.node up levels) }
+        requires pending { LastAbove pool.old self.now.node self.now.entry up self.now.size }
+        ensures { (w : LastAbove pool.old self.now.node self.now.entry up self.now.size) → (levels : ℕ)
+            × Dropped pool.old pool.new self.now.node self.now.size w.rows (w.before ++ w.y ∷ [])
+            (loss_above (Some (suc (length w.before))) (map sizes w.rows)) (nodes_up self.now.node up levels) }
     {
         let parent = self.node[up];
         if entries(pool, parent) == 1 {
