@@ -50,50 +50,30 @@ entry_said g c {root} {place} u =
     let s = stands_in g.row.N c.args.pool.now c.requires.union u in
     removal _ _ _ _ c.requires.union u (c.remove_entry.ensures (tree_of c.args.pool.now.nodes root) place s)
 
-pub returns-then-entries-eq1-clause-removed : goal.returns-then-entries-eq1-clause-removed
-returns-then-entries-eq1-clause-removed g c = λ at. if_some _ _ c.remove_leaf.result (λ root' r. r.changes) (leaf_said g c at.on).some
+pub returns-then-entries-eq1 : goal.returns-then-entries-eq1
+returns-then-entries-eq1 g c = record {
+  removed = λ at. if_some _ _ c.remove_leaf.result (λ root' r. r.changes) (leaf_said g c at.on).some;
+  account = λ at. (leaf_said g c at.on).gives;
+  order = λ at. (leaf_said g c at.on).order;
+  stands = λ at. if_some _ _ c.remove_leaf.result (λ root' r. record { root_is = r.changes.root_is; at = r.at }) (leaf_said g c at.on).some;
+  same_root = λ at. if_some _ _ c.remove_leaf.result (λ root' r. r.same_root) (leaf_said g c at.on).some;
+  last = λ at. (leaf_said g c at.on).last;
+  ended = λ none at. (leaf_said g c at.on).ended none;
+  end = search rules;
+  none_left = λ none at. (leaf_said g c at.on).none_left none;
+  freed_root = λ at ne. (leaf_said g c at.on).freed_root ne;
+}
 
-pub returns-then-entries-eq1-clause-account : goal.returns-then-entries-eq1-clause-account
-returns-then-entries-eq1-clause-account g c = λ at. (leaf_said g c at.on).gives
-
-pub returns-then-entries-eq1-clause-order : goal.returns-then-entries-eq1-clause-order
-returns-then-entries-eq1-clause-order g c = λ at. (leaf_said g c at.on).order
-
-pub returns-then-entries-eq1-clause-stands : goal.returns-then-entries-eq1-clause-stands
-returns-then-entries-eq1-clause-stands g c = λ at. if_some _ _ c.remove_leaf.result (λ root' r. record { root_is = r.changes.root_is; at = r.at }) (leaf_said g c at.on).some
-
-pub returns-then-entries-eq1-clause-same_root : goal.returns-then-entries-eq1-clause-same_root
-returns-then-entries-eq1-clause-same_root g c = λ at. if_some _ _ c.remove_leaf.result (λ root' r. r.same_root) (leaf_said g c at.on).some
-
-pub returns-then-entries-eq1-clause-last : goal.returns-then-entries-eq1-clause-last
-returns-then-entries-eq1-clause-last g c = λ at. (leaf_said g c at.on).last
-
-pub returns-then-entries-eq1-clause-ended : goal.returns-then-entries-eq1-clause-ended
-returns-then-entries-eq1-clause-ended g c = λ none at. (leaf_said g c at.on).ended none
-
-pub returns-then-entries-eq1-clause-none_left : goal.returns-then-entries-eq1-clause-none_left
-returns-then-entries-eq1-clause-none_left g c = λ none at. (leaf_said g c at.on).none_left none
-
-pub returns-then-entries-eq1-clause-freed_root : goal.returns-then-entries-eq1-clause-freed_root
-returns-then-entries-eq1-clause-freed_root g c = λ at ne. (leaf_said g c at.on).freed_root ne
-
-pub returns-else-entries-eq1-clause-removed : goal.returns-else-entries-eq1-clause-removed
-returns-else-entries-eq1-clause-removed g c = λ at. (entry_said g c at.on).some.changes
-
-pub returns-else-entries-eq1-clause-account : goal.returns-else-entries-eq1-clause-account
-returns-else-entries-eq1-clause-account g c = λ at. (entry_said g c at.on).gives
-
-pub returns-else-entries-eq1-clause-order : goal.returns-else-entries-eq1-clause-order
-returns-else-entries-eq1-clause-order g c = λ at. (entry_said g c at.on).order
-
-pub returns-else-entries-eq1-clause-stands : goal.returns-else-entries-eq1-clause-stands
-returns-else-entries-eq1-clause-stands g c = λ at. (let r = (entry_said g c at.on).some in record { root_is = r.changes.root_is; at = r.at })
-
-pub returns-else-entries-eq1-clause-same_root : goal.returns-else-entries-eq1-clause-same_root
-returns-else-entries-eq1-clause-same_root g c = λ at. (entry_said g c at.on).some.same_root
-
-pub returns-else-entries-eq1-clause-last : goal.returns-else-entries-eq1-clause-last
-returns-else-entries-eq1-clause-last g c = λ at. (entry_said g c at.on).last
-
-pub returns-else-entries-eq1-clause-freed_root : goal.returns-else-entries-eq1-clause-freed_root
-returns-else-entries-eq1-clause-freed_root g c = λ at ne. (entry_said g c at.on).freed_root ne
+pub returns-else-entries-eq1 : goal.returns-else-entries-eq1
+returns-else-entries-eq1 g c = record {
+  removed = λ at. (entry_said g c at.on).some.changes;
+  account = λ at. (entry_said g c at.on).gives;
+  order = λ at. (entry_said g c at.on).order;
+  stands = λ at. (let r = (entry_said g c at.on).some in record { root_is = r.changes.root_is; at = r.at });
+  same_root = λ at. (entry_said g c at.on).some.same_root;
+  last = λ at. (entry_said g c at.on).last;
+  ended = search rules;
+  end = search rules;
+  none_left = search rules;
+  freed_root = λ at ne. (entry_said g c at.on).freed_root ne;
+}
