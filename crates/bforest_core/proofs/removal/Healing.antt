@@ -9,7 +9,7 @@ use Rattle.bforest_core.proofs.union.Unions.{rooted}
 use Rattle.bforest_core.proofs.removal.Asked.{Counts, NodeAt}
 use Rattle.bforest_core.proofs.removal.LeafEmptied.{emptied_tree}
 use Rattle.bforest_core.proofs.removal.PastEnd.{alone_last}
-use Rattle.bforest_core.proofs.removal.Removal.{outcome, removal, shrinks, stands_in}
+use Rattle.bforest_core.proofs.removal.Removal.{outcome, removal, stands_in}
 use Rattle.bforest_core.proofs.removal.Removing.{kept_removed}
 use Rattle.bforest_core.proofs.removal.Taking.{LeafAt, alone_loss, leaf_at, leaf_count, leaf_keys, some_first}
 
@@ -57,7 +57,7 @@ module _ {K V : Type 0} {most : ℕ} {old now : Table K V} {root place : ℕ} {p
 
   -- the effect of a removal from the tree on the table
   pub settled : {new : Table K V} {Now : Tree K V → Type 0} {root' : ℕ} → Removed most old new path Now tree place root' → Shrinks most old new path root place (Some root')
-  settled {new} {Now} {root'} r = shrinks most old new Now e.union e.stood (removal most old new Now e.union e.stood r)
+  settled {new} {Now} r = (removal most old new Now e.union e.stood r).shrinks
 
   module _ (read : ℕ) (num_is : read ≡ leaf) where
     slot_read : slice_get now.nodes read ≡ Some left
@@ -124,4 +124,4 @@ module _ {K V : Type 0} {most : ℕ} {old now : Table K V} {root place : ℕ} {p
       alone_freed one none v freed =
           let c = e.union.1.capacity in
           let empty = emptied_tree c (single (omega (arith, none))) read num_is stood_in v freed one in
-          shrinks most old v (λ z. Unit {0}) e.union e.stood (outcome most old v (λ z. Unit {0}) e.union e.stood None tt (λ is. empty))
+          (outcome most old v (λ z. Unit {0}) e.union e.stood None tt (λ is. empty)).shrinks

@@ -1,7 +1,7 @@
 use Rattle.std.proofs.Common.{rules, arith}
 use Rattle.bforest_core.proofs.Words.{get_or_default, tree_of}
 use Rattle.bforest_core.proofs.removal.Healing.{counted_asks, kept, leaf_used, others, root_was, settled, single, stood_in, unbalanced}
-use Rattle.bforest_core.proofs.removal.Removal.{outcome, shrinks}
+use Rattle.bforest_core.proofs.removal.Removal.{outcome}
 use Rattle.bforest_core.proofs.path.Path.heal.Goals as goal
 
 pub entries-left-requires : goal.entries-left-requires
@@ -21,7 +21,7 @@ returns-then-left-eq0 g c = record {
       let s = stood_in e in
       let tree = tree_of old.nodes c.args.root in
       let alone = single e _ (get_or_default c.args.self.now.node 0 c.index-self-0.result 0 (omega arith)) c.entries-left.result c.entries-left.ensures.value c.if-left-eq0.true in
-      shrinks _ _ _ _ e.union e.stood (outcome _ _ _ _ e.union e.stood c.remove_leaf.result (c.remove_leaf.ensures.removed old tree place s alone) (λ none. c.remove_leaf.ensures.emptied none old tree place s alone));
+      (outcome _ _ _ _ e.union e.stood c.remove_leaf.result (c.remove_leaf.ensures.removed old tree place s alone) (λ none. c.remove_leaf.ensures.emptied none old tree place s alone)).shrinks;
 }
 
 pub renew_first-requires : goal.renew_first-requires

@@ -52,28 +52,28 @@ entry_said g c {root} {place} u =
 
 pub returns-then-entries-eq1 : goal.returns-then-entries-eq1
 returns-then-entries-eq1 g c = record {
-  removed = λ at. if_some _ _ c.remove_leaf.result (λ root' r. r.changes) (leaf_said g c at.on).some;
-  account = λ at. (leaf_said g c at.on).gives;
-  order = λ at. (leaf_said g c at.on).order;
-  stands = λ at. if_some _ _ c.remove_leaf.result (λ root' r. record { root_is = r.changes.root_is; at = r.at }) (leaf_said g c at.on).some;
-  same_root = λ at. if_some _ _ c.remove_leaf.result (λ root' r. r.same_root) (leaf_said g c at.on).some;
-  last = λ at. (leaf_said g c at.on).last;
-  ended = λ none at. (leaf_said g c at.on).ended none;
+  removed = λ at. (leaf_said g c at.on).shrinks.changes;
+  account = λ at. (leaf_said g c at.on).shrinks.account;
+  order = λ at. (leaf_said g c at.on).shrinks.order;
+  stands = λ at. if_some _ _ c.remove_leaf.result (λ root' r. record { root_is = r.0; at = r.1 }) (leaf_said g c at.on).at;
+  same_root = λ at. (leaf_said g c at.on).shrinks.same_root;
+  last = λ at. (leaf_said g c at.on).shrinks.last;
+  ended = λ none at. (leaf_said g c at.on).shrinks.ended none;
   end = search rules;
-  none_left = λ none at. (leaf_said g c at.on).none_left none;
-  freed_root = λ at ne. (leaf_said g c at.on).freed_root ne;
+  none_left = λ none at. (leaf_said g c at.on).shrinks.none_left none;
+  freed_root = λ at ne. (leaf_said g c at.on).shrinks.freed_root ne;
 }
 
 pub returns-else-entries-eq1 : goal.returns-else-entries-eq1
 returns-else-entries-eq1 g c = record {
-  removed = λ at. (entry_said g c at.on).some.changes;
-  account = λ at. (entry_said g c at.on).gives;
-  order = λ at. (entry_said g c at.on).order;
-  stands = λ at. (let r = (entry_said g c at.on).some in record { root_is = r.changes.root_is; at = r.at });
-  same_root = λ at. (entry_said g c at.on).some.same_root;
-  last = λ at. (entry_said g c at.on).last;
+  removed = λ at. (entry_said g c at.on).shrinks.changes;
+  account = λ at. (entry_said g c at.on).shrinks.account;
+  order = λ at. (entry_said g c at.on).shrinks.order;
+  stands = λ at. (let r = (entry_said g c at.on).at in record { root_is = r.0; at = r.1 });
+  same_root = λ at. (entry_said g c at.on).shrinks.same_root;
+  last = λ at. (entry_said g c at.on).shrinks.last;
   ended = search rules;
   end = search rules;
   none_left = search rules;
-  freed_root = λ at ne. (entry_said g c at.on).freed_root ne;
+  freed_root = λ at ne. (entry_said g c at.on).shrinks.freed_root ne;
 }
