@@ -1,8 +1,8 @@
 -- Inserting a child into the path's inner node, or splitting the node and inserting it into one half: the
 -- answers of `insert_here` and `split_here`.
-use Rattle.std.proofs.Common.{◌≡◌, ℕ, suc, ◌-◌, ◌≤◌, ◌<◌, true, false, Bool, if◌then◌else◌, List, [], ◌∷◌, ◌++◌, map, length, set, get_or, Some, refl, sym, ap, ◌∙◌, subst, append_assoc, length-append, arith, ◌+◌, ◌≢◌, nat_lt}
-use Rattle.bforest_core.proofs.Words.{get_or_default, get_or-set_same, get_or-set_other, Inner, with_child, Table, IsUsed, IsFullAt, IsSplitAt, front_of, with_node, LevelNode, flat, head_of, heads, sizes, need_above, gain_above}
-use Rattle.bforest_core.proofs.Words.{inner_content, entry_items, Above, Grown, Halved, flat_map, node, numbers, Stacked, inner_gain, count}
+use Rattle.std.proofs.Common.{◌≡◌, ℕ, suc, ◌-◌, ◌≤◌, ◌<◌, true, false, Bool, if◌then◌else◌, List, [], ◌∷◌, ◌++◌, length, set, get_or, Some, refl, sym, ap, ◌∙◌, subst, append_assoc, length-append, arith, ◌+◌, ◌≢◌, nat_lt}
+use Rattle.bforest_core.proofs.Words.{get_or_default, get_or-set_same, get_or-set_other, Inner, with_child, Table, IsUsed, IsFullAt, IsSplitAt, front_of, with_node, LevelNode, flat, head_of, heads, sizes}
+use Rattle.bforest_core.proofs.Words.{inner_content, entry_items, GrownBy, Halved, HalvedBy, OneAbove, flat_map, node, numbers, Stacked, inner_gain, count}
 use Rattle.bforest_nodes.specs.declared.node.SplitOff.{SplitOff}
 use Rattle.bforest_core.proofs.table.Tables.{is_used, puts, counts, count-append, count-same, row-changed, rows-same, ne_from_count}
 use Rattle.bforest_core.proofs.rows.Bounds.{below_lt, above_lt}
@@ -75,7 +75,9 @@ module _ {K V : Type 0} where
       }
 
 module _ {K V : Type 0} where
-  module _ {t : Table K V} {ms js : List ℕ} {up size : ℕ} {rows : List (List (LevelNode K ℕ))} (a : List (K × ℕ)) (x : K × ℕ) (b : List (K × ℕ)) (p : Above t ms js up size rows (a ++ x ∷ b) (length a)) (r : ℕ) (within : up < size) (low : up < length ms) where
+  module _ {t : Table K V} {ms js : List ℕ} {up size : ℕ} (w : OneAbove t ms js up size) (r : ℕ) (within : up < size) (low : up < length ms) where
+    open w use {rows, before as a, x, after as b, above as p}
+
     d : Spot t ms js up size rows a x b
     d = spot a x b p within
 
@@ -92,7 +94,7 @@ module _ {K V : Type 0} where
     module _ (u : Table K V) (key : K) (child : ℕ) (put : Bool) (has : HasRoom Inner (λ keys children. length children) 8 t (get_or ms up r) put) (wrote : Written Inner (λ z. with_child z (get_or js up 0) key child) t u (get_or ms up r) put) where
       -- a successful insertion needs one node in all and leaves the rows grown
       pub put_grows : put ≡ true → (moved : Bool) (index : ℕ) → index ≡ (if moved then suc (get_or js up 0) else get_or js up 0) → up < length js →
-          (1 ≡ need_above (Some (length a)) (map sizes rows)) × Grown t u ms js ms (set js up index) up size size rows (a ++ x ∷ (key, child) ∷ b) (if moved then suc (length a) else length a) (gain_above (Some (length a)) (map sizes rows)) []
+          GrownBy w (key, child) moved u ms (set js up index) size []
       put_grows done moved index index_is low_js =
           let es : List (K × ℕ) = d.q.l ++ x ∷ d.q.r in
           let fewer : length (entry_items es) < 8 = put_fewer Inner t _ _ num_is _ _ d.f.slot_is u (λ keys children. length children) 8 (λ z. with_child z (get_or js up 0) key child) put has wrote done in
@@ -131,7 +133,7 @@ module _ {K V : Type 0} where
             → HasRoom Inner (λ keys children. length children) 8 s (get_or ms up r) put
             → Written Inner (λ z. with_child z (get_or js up 0) key child) s u (get_or ms up r) put
             → index ≡ (if moved then suc (get_or js up 0) else get_or js up 0) → up < length js →
-            Halved t u ms js ms (set js up index) up size rows (a ++ x ∷ (key, child) ∷ b) (length a) (if moved then suc (length a) else length a) parts.crit_key right false
+            HalvedBy w (key, child) moved u ms (set js up index) parts.crit_key right false
         early_halves u key child moved put index early has puts index_is low_js =
             let written = put_in Inner s _ _ num_is _ _ cut.two.here u (λ keys children. length children) 8 (λ z. with_child z (get_or js up 0) key child) put has puts (omega (arith, item_count cut.zs, cut.count_is, four)) in
             let new : K × ℕ = (key, child) in
@@ -159,7 +161,7 @@ module _ {K V : Type 0} where
             → HasRoom Inner (λ keys children. length children) 8 s right put
             → Written Inner (λ z. with_child z (get_or js up 0 - 4) key child) s u right put
             → index ≡ (if moved then suc (get_or js up 0 - 4) else get_or js up 0 - 4) → up < length js →
-            Halved t u ms js (set ms up right) (set js up index) up size rows (a ++ x ∷ (key, child) ∷ b) (length a) (if moved then suc (length a) else length a) parts.crit_key right true
+            HalvedBy w (key, child) moved u (set ms up right) (set js up index) parts.crit_key right true
         late_halves u key child moved put index late has puts index_is low_js =
             let written = put_in Inner s right right refl _ _ cut.two.there u (λ keys children. length children) 8 (λ z. with_child z (get_or js up 0 - 4) key child) put has puts (omega (arith, item_count (cut.y ∷ cut.ys), right_is)) in
             let h = into_right inner_content u (d.q.l ++ x ∷ (key, child) ∷ d.q.r) cut (λ v. with_child v (get_or js up 0 - 4) key child) 4 5

@@ -83,13 +83,13 @@ module _ {K V : Type 0} where
 
   -- the tree after the right half was inserted into the levels above
   pub inserted : {most : ℕ} {t u v : Table K V} {ms js ms' js' ms'' js'' : List ℕ} {size size' : ℕ} {tree : Tree K V} {place : ℕ}
-      {entry : K × V} {key : K} {right : ℕ} {moved : Bool} {taken : List ℕ} {size1 : ℕ} (left : ℕ) → size1 ≡ size → left ≡ get_or ms 0 0
+      {entry : K × V} {key : K} {right : ℕ} {moved : Bool} {taken : List ℕ} {size1 : ℕ} → size1 ≡ size
       → Placed most t ms js size tree place → (h : LeafHalved most t u ms ms' js' size tree place entry key right moved) →
       suc (length taken) ≡ need_above (Some (length (heads h.before))) (map sizes h.rows) →
-      Grown u v ms' js' ms'' js'' 1 size1 size' h.rows (heads h.before ++ (h.first.0, left) ∷ (key, right) ∷ heads h.after) (if moved then suc (length (heads h.before)) else length (heads h.before)) (gain_above (Some (length (heads h.before))) (map sizes h.rows)) taken →
+      Grown u v ms' js' ms'' js'' 1 size1 size' h.rows (heads h.before ++ (h.first.0, get_or ms 0 0) ∷ (key, right) ∷ heads h.after) (if moved then suc (length (heads h.before)) else length (heads h.before)) (gain_above (Some (length (heads h.before))) (map sizes h.rows)) taken →
       Inserted most t v ms'' js'' size' tree place entry
-  inserted {most} {t} {u} {v} {ms} {js} {ms'} {js'} {ms''} {js''} {size} {size'} {tree} {place} {entry} {key} {right} {moved} {taken} left size_is left_is p h needs grown =
-      let g = rw (size_is, left_is) at grown in
+  inserted {most} {t} {u} {v} {ms} {js} {ms'} {js'} {ms''} {js''} {size} {size'} {tree} {place} {entry} {key} {right} {moved} {taken} size_is p h needs grown =
+      let g = rw size_is at grown in
       let n = get_or ms 0 0 in
       let row2 : List (LevelNode K V) = h.before ++ node n (h.first ∷ h.others) ∷ node right (h.next ∷ h.more) ∷ h.after in
       let leaves_m = λ (m : ℕ). ap (λ z. count m (numbers z ++ flat_map numbers tree.above)) h.leaves_were in

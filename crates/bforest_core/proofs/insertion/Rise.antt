@@ -137,39 +137,41 @@ module _ {K V : Type 0} where
       (a : List (K × ℕ)) (first : K) (b : List (K × ℕ)) (key : K) (child : ℕ) (moved : Bool)
       → Above t ms js size size rows (a ++ (first, left) ∷ b) (length a) → Takes t u root (Inner (key ∷ []) (left ∷ child ∷ [])) →
       size' ≡ suc size → get_or ms' size 0 ≡ root → get_or js' size 0 ≡ (if moved then 1 else 0) → ((i : ℕ) → i ≢ size → get_or ms' i 0 ≡ get_or ms i 0) → ((i : ℕ) → i ≢ size → get_or js' i 0 ≡ get_or js i 0) →
-      (taken : List ℕ) × (suc (length taken) ≡ need_above (Some (length a)) (map sizes rows)) × Grown t u ms js ms' js' size size size' rows (a ++ (first, left) ∷ (key, child) ∷ b) (if moved then suc (length a) else length a) (gain_above (Some (length a)) (map sizes rows)) taken
+      (taken : List ℕ) × ((suc (length taken) ≡ need_above (Some (length a)) (map sizes rows)) × Grown t u ms js ms' js' size size size' rows (a ++ (first, left) ∷ (key, child) ∷ b) (if moved then suc (length a) else length a) (gain_above (Some (length a)) (map sizes rows)) taken)
   settle_root ms' js' size' left (row ∷ rows) a first b key child moved ab w size_is m_is j_is far_m far_j = absurd (omega (arith, ab.height))
   settle_root ms' js' size' left [] (y ∷ a) first b key child moved ab w size_is m_is j_is far_m far_j = absurd (omega (arith, ab.stacked, length-append a ((first, left) ∷ b)))
   settle_root ms' js' size' left [] [] first (y ∷ b) key child moved ab w size_is m_is j_is far_m far_j = absurd (omega (arith, ab.stacked))
   settle_root ms' js' {size} size' left {root} [] [] first [] key child moved ab w size_is m_is j_is far_m far_j =
       let es : List (K × ℕ) = (first, left) ∷ (key, child) ∷ [] in (
         root ∷ [],
-        refl,
-        record {
-          rows' = (node root es ∷ []) ∷ [];
-          above = record {
-            stacked = (refl, (omega arith, omega arith, tt), refl);
-            inside = ((w.here, tt), tt);
-            stands = (
-              record { before = []; entries = es; after = []; row_is = rw m_is refl; within = omega (arith, j_is, step_is moved 0, step_most moved); place_is = sym j_is ∙ (let none : get_or js' size 0 ≡ 0 + get_or js' size 0 = omega arith in none) },
-              refl,
-            );
-            height = omega (arith, size_is);
-            apart = λ m. omega (arith, ab.apart m, ap (λ z. count m z) w.chain_is);
-          };
-          topped = λ old le top. (omega arith, tt);
-          sizes_are = refl;
-          numbers_are = λ m. omega arith;
-          others = λ m z. w.same m (absent_ne m root [] (omega (arith, z)));
-          chain_is = w.chain_is;
-          slots_are = w.slots_are;
-          limit_is = w.limit_is;
-          nodes_below = λ i low. far_m i (λ (e : i ≡ size). omega (arith, e, low));
-          entries_below = λ i low. far_j i (λ (e : i ≡ size). omega (arith, e, low));
-          same_top = λ same. absurd (omega (arith, same, size_is));
-          new_top = λ other. (let top : size' - 1 ≡ size = omega (arith, size_is) in
-              subst (λ (z : ℕ). 0 < count z (root ∷ [])) (sym (ap (λ z. get_or ms' z 0) top ∙ m_is)) (omega (arith, count-same root [])));
-        },
+        (
+          refl,
+          record {
+            rows' = (node root es ∷ []) ∷ [];
+            above = record {
+              stacked = (refl, (omega arith, omega arith, tt), refl);
+              inside = ((w.here, tt), tt);
+              stands = (
+                record { before = []; entries = es; after = []; row_is = rw m_is refl; within = omega (arith, j_is, step_is moved 0, step_most moved); place_is = sym j_is ∙ (let none : get_or js' size 0 ≡ 0 + get_or js' size 0 = omega arith in none) },
+                refl,
+              );
+              height = omega (arith, size_is);
+              apart = λ m. omega (arith, ab.apart m, ap (λ z. count m z) w.chain_is);
+            };
+            topped = λ old le top. (omega arith, tt);
+            sizes_are = refl;
+            numbers_are = λ m. omega arith;
+            others = λ m z. w.same m (absent_ne m root [] (omega (arith, z)));
+            chain_is = w.chain_is;
+            slots_are = w.slots_are;
+            limit_is = w.limit_is;
+            nodes_below = λ i low. far_m i (λ (e : i ≡ size). omega (arith, e, low));
+            entries_below = λ i low. far_j i (λ (e : i ≡ size). omega (arith, e, low));
+            same_top = λ same. absurd (omega (arith, same, size_is));
+            new_top = λ other. (let top : size' - 1 ≡ size = omega (arith, size_is) in
+                subst (λ (z : ℕ). 0 < count z (root ∷ [])) (sym (ap (λ z. get_or ms' z 0) top ∙ m_is)) (omega (arith, count-same root [])));
+          },
+        ),
       )
 
 -- a split of the root takes a node for the new root too
