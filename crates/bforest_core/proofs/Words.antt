@@ -2,7 +2,7 @@
 pub use Rattle.bforest_core.specs.Chain.{IsChain, IsPool, chain_from, next_of}
 pub use Rattle.bforest_core.specs.Change.{AtUnder, Changes, Ends, EntryTaken, GivesInOrder, GivesNodes, KeepsTrees, LeafTaken, PlacedUnder, Plants, Shrinks}
 pub use Rattle.bforest_core.specs.Change.{StandsUnder, TakesNodes, node_count}
-pub use Rattle.bforest_core.specs.Climb.{Above, Grown, Halved, Inserted, LeafHalved, NextIs, Placed, SameBelow, nodes_up, top_of}
+pub use Rattle.bforest_core.specs.Climb.{Above, Grown, GrownBy, Halved, HalvedBy, Inserted, LastAbove, LeafHalved, NextIs, OneAbove, Placed, SameBelow, TwoAbove, nodes_up, top_of}
 pub use Rattle.bforest_core.specs.Leaves.{EndsIn, EndsOn, Narrows, PutsInLeaf, SearchEndsAt, TakesFromLeaf, entry_up_to}
 pub use Rattle.bforest_core.specs.Descent.{Descended, Reached, GoesThrough, HasBelow, IsFirst, IsFrom, IsLast, IsRooted, IsUpTo, Led, OnBelow, SameAbove, StackedTo, StandsTo}
 pub use Rattle.bforest_core.specs.Descent.{SearchThrough, Under, child_index}
@@ -11,7 +11,7 @@ pub use Rattle.bforest_core.specs.Levels.{sizes, sizes_of}
 pub use Rattle.bforest_core.specs.Paths.{OnLeaf, PointsTo, StandsAt, StandsOn, index_of, leaf_of, list_under, path_root, place_in, spot}
 pub use Rattle.bforest_core.specs.Place.{Distinct, IsAt, IsIn, IsPathAt, PointsAt, RowIn, RowsIn, Stands, StandsAbove, count, entry_before}
 pub use Rattle.bforest_core.specs.Place.{entry_items, entry_keys, first_number, inner_content, leaf_content, numbers_of, root_above, root_of}
-pub use Rattle.bforest_core.specs.Removal.{Dropped, Emptied, Frees, GivesAll, HasOthers, Healed, IsSingle, Joined, LeafLoss, Loosened, OnLevel, Rebuilt, Removed, StandsIn}
+pub use Rattle.bforest_core.specs.Removal.{Dropped, Emptied, Frees, GivesAll, HasOthers, Healed, IsSingle, Joined, Heals, Item, Joins, LeafLoss, Loosened, Loses, OnLevel, Rebuilt, Removed, StandsIn, Unbalanced, content_at, half_at, most_at}
 pub use Rattle.bforest_core.specs.Removal.{Trimmed, UpTo, numbers_under}
 pub use Rattle.bforest_core.specs.Sizes.{gain_above, growth, inner_gain, leaf_gain, loss, loss_above, need, need_above, past, rebalanced, shrink}
 pub use Rattle.bforest_core.specs.Sizes.{trimmed}

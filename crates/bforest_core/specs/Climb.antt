@@ -3,7 +3,7 @@ use Rattle.std.specs.Prelude.{◌≡◌, ◌≢◌, ℕ, zero, suc, ◌+◌, ◌
 use Rattle.std.specs.List.{flat_map}
 use Rattle.bforest_core.specs.Table.{Table}
 use Rattle.bforest_core.specs.Levels.{LevelNode, node, flat, head_of, heads, sizes, numbers, FitRow, Stacked, Topped, Tree, IsFit, half_of, sizes_of}
-use Rattle.bforest_core.specs.Sizes.{inner_gain, leaf_gain, growth, need}
+use Rattle.bforest_core.specs.Sizes.{gain_above, inner_gain, leaf_gain, growth, need, need_above}
 use Rattle.bforest_core.specs.Descent.{SameAbove}
 use Rattle.bforest_core.specs.Place.{RowIn, RowsIn, IsIn, leaf_content, inner_content, count, Distinct, root_of, numbers_of, IsAt, StandsAbove, Stands, PlacedAt}
 
@@ -35,6 +35,31 @@ module _ {K V : Type 0} where
     pub height : level + length rows ≡ size
     pub apart : Distinct (flat_map numbers rows ++ table.chain)
 
+  -- the rows from a level up, with the path at this one of the nodes below them
+  pub record OneAbove (table : Table K V) (path indices : List ℕ) (level size : ℕ) : Type 0 where
+    pub rows : List (List (LevelNode K ℕ))
+    pub before : List (K × ℕ)
+    pub x : K × ℕ
+    pub after : List (K × ℕ)
+    pub above : Above table path indices level size rows (before ++ x ∷ after) (length before)
+
+  -- the rows from a level up, with the path at the node `x` below them, and with the next one
+  pub record TwoAbove (table : Table K V) (path indices : List ℕ) (level size : ℕ) : Type 0 where
+    pub rows : List (List (LevelNode K ℕ))
+    pub before : List (K × ℕ)
+    pub x : K × ℕ
+    pub y : K × ℕ
+    pub after : List (K × ℕ)
+    pub above : Above table path indices level size rows (before ++ x ∷ y ∷ after) (length before)
+
+  -- the rows from a level up, with the path at the last node below them, and with the one before it
+  pub record LastAbove (table : Table K V) (path indices : List ℕ) (level size : ℕ) : Type 0 where
+    pub rows : List (List (LevelNode K ℕ))
+    pub before : List (K × ℕ)
+    pub y : K × ℕ
+    pub x : K × ℕ
+    pub above : Above table path indices level size rows (before ++ y ∷ x ∷ []) (suc (length before))
+
   -- the rows from a level up after the level gained a node: `list` is its nodes, the path leads to the place,
   -- the new numbers are `taken` from the front of the chain, and the root is the old one or, with a level
   -- more, a taken one
@@ -52,6 +77,13 @@ module _ {K V : Type 0} where
     pub entries_below : SameBelow level indices indices'
     pub same_top : size' ≡ size → top_of path' size' ≡ top_of path size
     pub new_top : size' ≢ size → 0 < count (top_of path' size') taken
+
+  -- these rows after the level below gained the node `right` behind the path's: they take as many nodes as that
+  -- needs, and the path goes on to `right` or stays
+  abbrev pub GrownBy : {old : Table K V} {path indices : List ℕ} {level size : ℕ} → OneAbove old path indices level size → K × ℕ → Bool → Table K V → List ℕ → List ℕ → ℕ → List ℕ → Type 0
+  GrownBy {old} {path} {indices} {level} {size} w right moved new path' indices' size' taken =
+      (suc (length taken) ≡ need_above (Some (length w.before)) (map sizes w.rows))
+      × Grown old new path indices path' indices' level size size' w.rows (w.before ++ w.x ∷ right ∷ w.after) (if moved then suc (length w.before) else length w.before) (gain_above (Some (length w.before)) (map sizes w.rows)) taken
 
   -- the path's full node on a level is split, with the new child inserted: the rows above lack only the right
   -- half, whose number and first key are given, and the path leads to the half with its place
@@ -81,6 +113,11 @@ module _ {K V : Type 0} where
     pub nodes_below : SameBelow level path path'
     pub entries_below : SameBelow level indices indices'
     pub nodes_above : SameAbove level path path'
+
+  -- the path's full node in these rows is split, with the node `right` inserted behind the path's below
+  abbrev pub HalvedBy : {old : Table K V} {path indices : List ℕ} {level size : ℕ} → OneAbove old path indices level size → K × ℕ → Bool → Table K V → List ℕ → List ℕ → K → ℕ → Bool → Type 0
+  HalvedBy {old} {path} {indices} {level} {size} w right moved new path' indices' key half there =
+      Halved old new path indices path' indices' level size w.rows (w.before ++ w.x ∷ right ∷ w.after) (length w.before) (if moved then suc (length w.before) else length w.before) key half there
 
   -- the path is where an entry may be inserted in a fit tree, which is in the table, off its chain
   pub record Placed (most : ℕ) (table : Table K V) (path indices : List ℕ) (size : ℕ) (tree : Tree K V) (place : ℕ) : Type 0 where

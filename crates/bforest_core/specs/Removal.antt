@@ -1,7 +1,7 @@
 -- What the calls of a path state of the rows above a level, and of a whole tree, when an entry is removed.
-use Rattle.std.specs.Prelude.{Some, remove, ◌≡◌, ◌≢◌, ℕ, suc, ◌+◌, ◌-◌, ◌≤◌, ◌<◌, true, false, List, [], ◌∷◌, ◌++◌, map, length, get_or, slice_get}
+use Rattle.std.specs.Prelude.{Some, remove, ◌≡◌, ◌≢◌, ℕ, suc, ◌+◌, ◌-◌, ◌≤◌, ◌<◌, Bool, true, false, List, [], ◌∷◌, ◌++◌, map, length, get_or, slice_get}
 use Rattle.std.specs.List.{flat_map}
-use Rattle.bforest_nodes.specs.Content.{Content, IsFree, without_entry}
+use Rattle.bforest_nodes.specs.Content.{Content, IsFree, IsLeafCapacity, without_entry}
 use Rattle.bforest_core.specs.Table.{Table, with_freed, with_node}
 use Rattle.bforest_core.specs.Levels.{LevelNode, node, flat, heads, sizes, numbers, FitRow, Solid, Stacked, Topped, least, Tree, IsFit, half_of, sizes_of, top_level}
 use Rattle.bforest_core.specs.Sizes.{rebalanced, shrink}
@@ -20,6 +20,26 @@ pub record InOrder (path : List ℕ) (levels : ℕ) (freed : List ℕ) : Type 0 
   pub up : ℕ
   pub freed_is : freed ≡ roots ++ nodes_up path 0 up
   pub roots_are : length roots ≡ levels
+
+-- what an entry of a leaf holds beside its key, or else one of an inner node
+abbrev pub Item : Type 0 → Bool → Type 0
+Item V true = V
+Item V false = ℕ
+
+-- what the slot of a leaf holds, or else of an inner node
+abbrev pub content_at : {K V : Type 0} (leaf : Bool) → List (K × Item V leaf) → Content K V
+content_at true entries = leaf_content entries
+content_at false entries = inner_content entries
+
+-- half the capacity of a leaf, which is n, or else of an inner node
+abbrev pub half_at : Bool → ℕ → ℕ
+half_at true n = half_of n
+half_at false n = 4
+
+-- the capacity of a leaf, which is n, or else of an inner node
+abbrev pub most_at : Bool → ℕ → ℕ
+most_at true n = n
+most_at false n = 8
 
 module _ {K V : Type 0} where
   -- only slots of the numbers `own` change; the freed ones are free and in front of the chain
@@ -48,7 +68,7 @@ module _ {K V : Type 0} where
     pub same_top : top_of path' size ≡ top_of path size
 
   -- a level with a node that lost an entry and may be less than half full: the path goes through it, to one
-  -- of its entries or, past the last, to the first of the next node
+  -- of its entries or past the last
   pub record OnLevel {X : Type 0} (content : List (K × X) → Content K V) (half most : ℕ) (table : Table K V) (path indices : List ℕ) (level size : ℕ)
       (before : List (LevelNode K X)) (number : ℕ) (entries : List (K × X)) (after : List (LevelNode K X)) (rest : List (List (LevelNode K ℕ))) : Type 0 where
     pub inside : RowIn content table.nodes (before ++ node number entries ∷ after)
@@ -60,22 +80,24 @@ module _ {K V : Type 0} where
     pub above : Above table path indices (suc level) size rest (heads (before ++ node number entries ∷ after)) (length (heads before))
     pub number_is : get_or path level 0 ≡ number
     pub entry_was : get_or indices level 0 ≤ length entries
-    pub entry_within : get_or indices level 0 < length (entries ++ flat after)
     pub apart : Distinct ((numbers (before ++ node number entries ∷ after) ++ flat_map numbers rest) ++ table.chain)
 
-  -- the rows from a level up after an entry of the level's row was removed: they stand over `list`, except
-  -- for the node that lost the entry
-  pub record Loosened (old new : Table K V) (path indices : List ℕ) (level size : ℕ) (rows : List (List (LevelNode K ℕ))) (list : List (K × ℕ)) (place : ℕ) : Type 0 where
-    pub before : List (LevelNode K ℕ)
-    pub entries : List (K × ℕ)
-    pub after : List (LevelNode K ℕ)
+  -- a level after an entry of its row was removed: it and the rows above it had these sizes and numbers, and its
+  -- entries are `list` now. The node that lost the entry may be less than half full
+  pub record Loosened {X : Type 0} (content : List (K × X) → Content K V) (half most : ℕ) (old new : Table K V) (path indices : List ℕ) (level size : ℕ)
+      (were : List (List ℕ)) (own : List ℕ) (list : List (K × X)) (place : ℕ) : Type 0 where
+    pub before : List (LevelNode K X)
+    pub entries : List (K × X)
+    pub after : List (LevelNode K X)
     pub rest : List (List (LevelNode K ℕ))
-    pub on_level : OnLevel inner_content 4 8 new path indices level size before (get_or path level 0) entries after rest
+    pub on_level : OnLevel content half most new path indices level size before (get_or path level 0) entries after rest
+    pub open on_level use *
     pub list_is : flat (before ++ node (get_or path level 0) entries ∷ after) ≡ list
     pub place_is : place ≡ length (flat before) + get_or indices level 0
-    pub sizes_were : map sizes rows ≡ (sizes before ++ suc (length entries) ∷ sizes after) ∷ map sizes rest
-    pub numbers_are : (number : ℕ) → count number (numbers (before ++ node (get_or path level 0) entries ∷ after) ++ flat_map numbers rest) ≡ count number (flat_map numbers rows)
-    pub frees : Frees old new (flat_map numbers rows) []
+    pub was : (es : List (K × X)) → slice_get old.nodes (get_or path level 0) ≡ Some (content es) → length es ≡ suc (length entries)
+    pub sizes_were : were ≡ (sizes before ++ suc (length entries) ∷ sizes after) ∷ map sizes rest
+    pub numbers_are : (number : ℕ) → count number (numbers (before ++ node (get_or path level 0) entries ∷ after) ++ flat_map numbers rest) ≡ count number own
+    pub frees : Frees old new own []
 
   -- the level is rebalanced: its row and those above it fit, and the path leads to the same entry
   pub record Healed {X : Type 0} (content : List (K × X) → Content K V) (half most : ℕ) (old new : Table K V) (path indices path' indices' : List ℕ) (level size : ℕ)
@@ -91,7 +113,7 @@ module _ {K V : Type 0} where
     pub list_is : flat (before' ++ node number' entries' ∷ after') ≡ flat (before ++ node number entries ∷ after)
     pub above : Above new path' indices' (suc level) size rest' (heads (before' ++ node number' entries' ∷ after')) (length (heads before'))
     pub number_is : get_or path' level 0 ≡ number'
-    pub within : get_or indices' level 0 < length entries'
+    pub within : get_or indices level 0 < length (entries ++ flat after) → get_or indices' level 0 < length entries'
     pub place_is : length (flat before') + get_or indices' level 0 ≡ length (flat before) + get_or indices level 0
     pub sizes_are : sizes (before' ++ node number' entries' ∷ after') ≡ sizes before ++ (rebalanced most (length entries) (sizes after)).1
     pub rest_sizes : map sizes rest' ≡ map sizes rest
@@ -124,6 +146,29 @@ module _ {K V : Type 0} where
     pub nodes_above : SameAbove level path path'
     pub entries_below : SameBelow level indices indices'
     pub same_top : top_of path' size ≡ top_of path size
+
+  -- the path's node on a level, a leaf or else an inner node, lost an entry. Half full, it has `least` entries or more, and the path is at
+  -- an entry
+  pub record Loses (n least : ℕ) (table : Table K V) (path indices : List ℕ) (level size : ℕ) : Type 0 where
+    pub leaf : Bool
+    pub capacity : leaf ≡ true → IsLeafCapacity n
+    pub least_is : least ≡ half_at leaf n
+    pub before : List (LevelNode K (Item V leaf))
+    pub entries : List (K × Item V leaf)
+    pub after : List (LevelNode K (Item V leaf))
+    pub rest : List (List (LevelNode K ℕ))
+    pub on : OnLevel (content_at leaf) (half_at leaf n) (most_at leaf n) table path indices level size before (get_or path level 0) entries after rest
+    pub at_entry : least ≤ length entries → get_or indices level 0 < length (entries ++ flat after)
+
+  -- this level is rebalanced
+  abbrev pub Heals : {n least : ℕ} {old : Table K V} {path indices : List ℕ} {level size : ℕ} → Loses n least old path indices level size → Table K V → List ℕ → List ℕ → Type 0
+  Heals {n} {old} {path} {indices} {level} {size} w new path' indices' =
+      Healed (content_at w.leaf) (half_at w.leaf n) (most_at w.leaf n) old new path indices path' indices' level size w.before (get_or path level 0) w.entries w.after w.rest
+
+  -- this level's node is merged into its right neighbour
+  abbrev pub Joins : {n least : ℕ} {old : Table K V} {path indices : List ℕ} {level size : ℕ} → Loses n least old path indices level size → Table K V → List ℕ → List ℕ → Type 0
+  Joins {n} {old} {path} {indices} {level} {size} w new path' indices' =
+      Joined (content_at w.leaf) (half_at w.leaf n) (most_at w.leaf n) old new path indices path' indices' level size w.before (get_or path level 0) w.entries w.after w.rest
 
   -- the rows from a level up after the level lost its rightmost node: the path is at the end and has no node
   -- in the rows
@@ -187,26 +232,18 @@ module _ {K V : Type 0} where
   -- the entry at the place is removed from the path's leaf, which has others: the path keeps its index, at
   -- the next entry or past the leaf's last
   pub record LeafLoss (most : ℕ) (old new : Table K V) (path indices : List ℕ) (size : ℕ) (tree : Tree K V) (place : ℕ) : Type 0 where
-    pub before : List (LevelNode K V)
-    pub entries : List (K × V)
-    pub after : List (LevelNode K V)
-    pub rest : List (List (LevelNode K ℕ))
-    pub inside : RowIn leaf_content new.nodes (before ++ node (get_or path 0 0) entries ∷ after)
-    pub solid : Solid (half_of most) most before
-    pub fits : FitRow (half_of most) most after
-    pub some : 1 ≤ length entries
-    pub lost_one : least (half_of most) after ≤ suc (length entries)
-    pub most_is : length entries ≤ most
-    pub above : Above new path indices 1 size rest (heads (before ++ node (get_or path 0 0) entries ∷ after)) (length (heads before))
-    pub entry_was : get_or indices 0 0 ≤ length entries
-    pub apart : Distinct ((numbers (before ++ node (get_or path 0 0) entries ∷ after) ++ flat_map numbers rest) ++ new.chain)
-    pub flat_is : flat (before ++ node (get_or path 0 0) entries ∷ after) ≡ remove (flat tree.leaves) place
-    pub place_is : place ≡ length (flat before) + get_or indices 0 0
-    pub leaf_was : (es : List (K × V)) → slice_get old.nodes (get_or path 0 0) ≡ Some (leaf_content es) → length es ≡ suc (length entries)
-    pub sizes_were : sizes tree.leaves ≡ sizes before ++ suc (length entries) ∷ sizes after
-    pub rest_sizes : map sizes rest ≡ map sizes tree.above
-    pub numbers_are : (number : ℕ) → count number (numbers (before ++ node (get_or path 0 0) entries ∷ after) ++ flat_map numbers rest) ≡ count number (numbers_of tree)
-    pub frees : Frees old new (numbers_of tree) []
+    pub loss : Loosened leaf_content (half_of most) most old new path indices 0 size (sizes_of tree) (numbers_of tree) (remove (flat tree.leaves) place) place
+    pub open loss use *
+
+  -- a tree whose path's leaf lost the entry at the place: if the leaf is still half full, the path is at an entry
+  pub record Unbalanced (most : ℕ) (table : Table K V) (path indices : List ℕ) (size root : ℕ) : Type 0 where
+    pub old : Table K V
+    pub tree : Tree K V
+    pub place : ℕ
+    pub stands : StandsIn most old path indices size tree place
+    pub root_is : root_of tree ≡ root
+    pub lost : LeafLoss most old table path indices size tree place
+    pub at_entry : half_of most ≤ length lost.entries → get_or indices 0 0 < length (lost.entries ++ flat lost.after)
 
   -- the entry at the place is removed from the tree, which is not empty, has the root `root'` and satisfies
   -- `Now`: the sizes are those of `shrink`, and the freed nodes are in front of the chain, those of the path

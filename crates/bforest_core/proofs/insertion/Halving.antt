@@ -90,7 +90,7 @@ module _ {K V X : Type 0} (content : List (K × X) → Content K V) where
   abbrev pub Cuts : ℕ → Type 0
   Cuts q = (zs : List (K × X)) (y : K × X) (ys : List (K × X)) (left right : Content K V) (key : K) → length zs ≡ q → IsCut (content (zs ++ y ∷ ys)) q left key right → Parts content zs y ys left right key
 
-  module _ (cap : ℕ) (t s : Table K V) (number n e : ℕ) (num_is : number ≡ n) (es : List (K × X)) (parts : SplitOff K) (was : slice_get t.nodes n ≡ Some (content es)) (split : IsSplitAt cap t number e parts s) where
+  module _ {cap : ℕ} {t s : Table K V} {number : ℕ} (n : ℕ) {e : ℕ} (num_is : number ≡ n) (es : List (K × X)) {parts : SplitOff K} (was : slice_get t.nodes n ≡ Some (content es)) (split : IsSplitAt cap t number e parts s) where
     sp : IsSplitAt cap t n e parts s
     sp = rw num_is at split
 
@@ -129,14 +129,14 @@ module _ {K V X : Type 0} (content : List (K × X) → Content K V) where
           };
         }
 
-  module _ (t s u : Table K V) (n right : ℕ) (lefts rights : List (K × X)) (w : Two t s n right lefts rights) where
+  module _ {t s : Table K V} (u : Table K V) {n right : ℕ} {lefts rights : List (K × X)} (w : Two t s n right lefts rights) where
     -- the left half is in use
     pub left_used : count n t.chain ≡ 0 → IsUsed s n
     left_used none = is_used s n (content lefts) w.here (omega (arith, none, ap (λ k. count n k) w.chain_is))
 
     -- one of the two nodes was written
-    two_put : (m : ℕ) (c : Content K V) (xs ys : List (K × X)) → Puts s u m c → slice_get u.nodes n ≡ Some (content xs) → slice_get u.nodes right ≡ Some (content ys) → ((k : ℕ) → k ≢ n → k ≢ right → k ≢ m) → Two t u n right xs ys
-    two_put m c xs ys put here there apart = record {
+    two_put : {m : ℕ} {c : Content K V} (xs ys : List (K × X)) → Puts s u m c → slice_get u.nodes n ≡ Some (content xs) → slice_get u.nodes right ≡ Some (content ys) → ((k : ℕ) → k ≢ n → k ≢ right → k ≢ m) → Two t u n right xs ys
+    two_put xs ys put here there apart = record {
       ne = w.ne;
       here = here;
       there = there;
@@ -147,25 +147,25 @@ module _ {K V X : Type 0} (content : List (K × X) → Content K V) where
     }
 
   -- two nodes whose sizes are those of halves are halves
-  halves : (t u : Table K V) (n right : ℕ) (middle : K) (grown lefts rights : List (K × X)) (left_count right_count : ℕ)
+  halves : {t u : Table K V} {n right : ℕ} (middle : K) (grown lefts rights : List (K × X)) (left_count right_count : ℕ)
       → grown ≡ lefts ++ rights → length lefts ≡ left_count → length rights ≡ right_count → 1 ≤ left_count
       → head_of right rights ≡ (middle, right) ∷ [] → Two t u n right lefts rights → Halves t u n right middle grown left_count right_count
-  halves t u n right middle grown [] rights left_count right_count is left_is right_is some head w = absurd (omega (arith, left_is, some))
-  halves t u n right middle grown (z ∷ xs) [] left_count right_count is left_is right_is some head w = absurd cc
-  halves t u n right middle grown (z ∷ xs) (y ∷ ys) left_count right_count is left_is right_is some head w =
+  halves middle grown [] rights left_count right_count is left_is right_is some head w = absurd (omega (arith, left_is, some))
+  halves middle grown (z ∷ xs) [] left_count right_count is left_is right_is some head w = absurd cc
+  halves {right} middle grown (z ∷ xs) (y ∷ ys) left_count right_count is left_is right_is some head w =
       record { z = z; xs = xs; y = y; ys = ys; grown_is = is; left_is = left_is; right_is = right_is; middle_is = (let same : ◌≡◌ {A = K × ℕ} (y.0, right) (middle, right) = cc in ap (λ v. v.0) (sym same)); two = w }
 
-  module _ (t s u : Table K V) (n right q : ℕ) (es grown : List (K × X)) (middle : K) (sp : Split t s n right q es middle) (write : Content K V → Content K V) (left_count right_count : ℕ) where
+  module _ {t s : Table K V} (u : Table K V) {n right q : ℕ} {es : List (K × X)} (grown : List (K × X)) {middle : K} (sp : Split t s n right q es middle) (write : Content K V → Content K V) (left_count right_count : ℕ) where
     -- the entry was inserted into the left half
     pub into_left : (l l2 r : List (K × X)) → es ≡ l ++ r → grown ≡ l2 ++ r → length l2 ≡ suc (length l) → length l ≤ q → suc q ≡ left_count → q + right_count ≡ length es →
         ((mid : List (K × X)) → write (content (l ++ mid)) ≡ content (l2 ++ mid)) → u ≡ with_node s n (write (content sp.zs)) → Halves t u n right middle grown left_count right_count
     into_left l l2 r es_is grown_is more low left_is right_is wrote after =
         let w = between sp.zs (sp.y ∷ sp.ys) l r (sym sp.es_is ∙ es_is) (omega (arith, low, sp.count_is)) in
         let put = puts s u n (content (l2 ++ w.0)) (content sp.zs) sp.two.here (after ∙ ap (λ v. with_node s n (write (content v))) w.1 ∙ ap (λ v. with_node s n v) (wrote w.0)) in
-        halves t u n right middle grown (l2 ++ w.0) (sp.y ∷ sp.ys) left_count right_count (grown_is ∙ ap (λ v. l2 ++ v) w.2 ∙ sym (append_assoc l2 w.0 (sp.y ∷ sp.ys)))
+        halves middle grown (l2 ++ w.0) (sp.y ∷ sp.ys) left_count right_count (grown_is ∙ ap (λ v. l2 ++ v) w.2 ∙ sym (append_assoc l2 w.0 (sp.y ∷ sp.ys)))
         (omega (arith, length-append l2 w.0, length-append l w.0, more, ap length w.1, sp.count_is, left_is))
         (omega (arith, ap length sp.es_is, length-append sp.zs (sp.y ∷ sp.ys), sp.count_is, right_is)) (omega (arith, left_is)) (ap (λ v. (v, right) ∷ []) (sym sp.key_is))
-        (two_put t s u n right sp.zs (sp.y ∷ sp.ys) sp.two n (content (l2 ++ w.0)) (l2 ++ w.0) (sp.y ∷ sp.ys) put put.here (put.same right (λ (v : right ≡ n). sp.two.ne (sym v)) ∙ sp.two.there) (λ k a b. a))
+        (two_put u sp.two (l2 ++ w.0) (sp.y ∷ sp.ys) put put.here (put.same right (λ (v : right ≡ n). sp.two.ne (sym v)) ∙ sp.two.there) (λ k a b. a))
 
     -- the entry was inserted into the right half
     pub into_right : (first : K) (l r r2 : List (K × X)) → es ≡ l ++ r → grown ≡ l ++ r2 → length r2 ≡ suc (length r) → q ≤ length l → 1 ≤ q → q ≡ left_count → q + right_count ≡ suc (length es) →
@@ -175,10 +175,10 @@ module _ {K V X : Type 0} (content : List (K × X) → Content K V) where
         let w = between l r sp.zs (sp.y ∷ sp.ys) (sym es_is ∙ sp.es_is) (omega (arith, high, sp.count_is)) in
         let there = wrote w.0 (omega (arith, ap length w.1, length-append sp.zs w.0, sp.count_is)) in
         let put = puts s u right (content (w.0 ++ r2)) (content (sp.y ∷ sp.ys)) sp.two.there (after ∙ ap (λ v. with_node s right (write (content v))) w.2 ∙ ap (λ v. with_node s right v) there.0) in
-        halves t u n right first grown sp.zs (w.0 ++ r2) left_count right_count (grown_is ∙ ap (λ v. v ++ r2) w.1 ∙ append_assoc sp.zs w.0 r2) (sp.count_is ∙ left_is)
+        halves first grown sp.zs (w.0 ++ r2) left_count right_count (grown_is ∙ ap (λ v. v ++ r2) w.1 ∙ append_assoc sp.zs w.0 r2) (sp.count_is ∙ left_is)
         (omega (arith, length-append w.0 r2, length-append w.0 r, more, ap length w.2, ap length sp.es_is, length-append sp.zs (sp.y ∷ sp.ys), sp.count_is, right_is))
         (omega (arith, some, left_is)) (there.1 w.2)
-        (two_put t s u n right sp.zs (sp.y ∷ sp.ys) sp.two right (content (w.0 ++ r2)) sp.zs (w.0 ++ r2) put (put.same n sp.two.ne ∙ sp.two.here) put.here (λ k a b. b))
+        (two_put u sp.two sp.zs (w.0 ++ r2) put (put.same n sp.two.ne ∙ sp.two.here) put.here (λ k a b. b))
 
 module _ {K V : Type 0} where
   -- a full leaf has `cap` entries

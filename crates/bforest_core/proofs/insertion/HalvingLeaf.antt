@@ -18,9 +18,9 @@ module _ {K V : Type 0} where
   abbrev pub FullAt : ℕ → Table K V → ℕ → Type 0
   FullAt cap t number = IsUsed t number × (IsFullAt cap t.nodes number × (0 < length t.chain))
 
-  module _ (cap : ℕ) (t : Table K V) (ms js : List ℕ) (size : ℕ) (tree : Tree K V) (place : ℕ) (p : Placed cap t ms js size tree place) (r : ℕ) (wide : length ms ≡ 17) where
+  module _ {cap : ℕ} {t : Table K V} {ms js : List ℕ} {size : ℕ} {tree : Tree K V} {place : ℕ} (p : Placed cap t ms js size tree place) (r : ℕ) (wide : length ms ≡ 17) where
     d : LeafSpot cap t ms js tree place
-    d = leaf_spot cap t ms js size tree place p
+    d = leaf_spot p
 
     num_is : get_or ms 0 r ≡ get_or ms 0 0
     num_is = get_or_default ms 0 r 0 (omega arith)
@@ -36,7 +36,7 @@ module _ {K V : Type 0} where
           let es : List (K × V) = d.l ++ d.r in
           let fewer : length (entry_keys es) < cap = put_fewer Leaf t _ _ num_is _ _ d.slot_is u (λ keys vals. length keys) cap (λ z. with_entry z (get_or js 0 0) key value) put has wrote done in
           let after = put_in Leaf t _ _ num_is _ _ d.slot_is u (λ keys vals. length keys) cap (λ z. with_entry z (get_or js 0 0) key value) put has wrote fewer ∙ ap (λ z. with_node t (get_or ms 0 0) z) (with_entry_is V d.l d.r key value (get_or js 0 0) d.index_is) in
-          put_leaf cap t u ms js size tree place (key, value) p d (omega (arith, keys_count es, fewer)) (puts t u (get_or ms 0 0) (leaf_content (d.l ++ (key, value) ∷ d.r)) (leaf_content es) d.slot_is after)
+          put_leaf (key, value) p d (omega (arith, keys_count es, fewer)) (puts t u (get_or ms 0 0) (leaf_content (d.l ++ (key, value) ∷ d.r)) (leaf_content es) d.slot_is after)
 
       -- a failed insertion means that the leaf is full, and changes nothing
       pub put_full : put ≡ false → IsFullAt cap t.nodes (get_or ms 0 0) × (u ≡ t)
@@ -51,15 +51,15 @@ module _ {K V : Type 0} where
       full_is : length (d.l ++ d.r) ≡ cap
       full_is = leaf_full_is cap t.nodes (get_or ms 0 0) (d.l ++ d.r) d.slot_is full
 
-      module _ (capacity : IsLeafCapacity cap) (right : ℕ) (parts : SplitOff K) (front : front_of t.chain ≡ Some right) (used : IsUsed s right) (split : IsSplitAt cap t (get_or ms 0 r) (get_or js 0 0) parts s) where
+      module _ (capacity : IsLeafCapacity cap) {right : ℕ} {parts : SplitOff K} (front : front_of t.chain ≡ Some right) (used : IsUsed s right) (split : IsSplitAt cap t (get_or ms 0 r) (get_or js 0 0) parts s) where
         seen : length (heads d.before) ≡ length d.before
         seen = Solid-full (half_of cap) cap (omega (arith, capacity.least, capacity.odd)) d.before d.solid
 
         left_count : parts.lhs_entries ≡ (if nat_le (get_or js 0 0) (cap / 2) then cap / 2 else (cap + 1) / 2)
-        left_count = counted leaf_content cap t s _ (get_or ms 0 0) (get_or js 0 0) num_is (d.l ++ d.r) parts d.slot_is split
+        left_count = counted leaf_content (get_or ms 0 0) num_is (d.l ++ d.r) d.slot_is split
 
         cut : parts.lhs_entries < length (d.l ++ d.r) → Split leaf_content t s (get_or ms 0 0) right parts.lhs_entries (d.l ++ d.r) parts.crit_key
-        cut less = split_at leaf_content cap t s _ (get_or ms 0 0) (get_or js 0 0) num_is (d.l ++ d.r) parts d.slot_is split right (λ zs y ys left right2 key is c. leaf_cuts V zs y ys parts.lhs_entries left right2 key is c) less d.none_chain front used.within
+        cut less = split_at leaf_content (get_or ms 0 0) num_is (d.l ++ d.r) d.slot_is split right (λ zs y ys left right2 key is c. leaf_cuts V zs y ys parts.lhs_entries left right2 key is c) less d.none_chain front used.within
 
         module _ (low : get_or js 0 0 ≤ cap / 2) where
           low_is : parts.lhs_entries ≡ cap / 2
@@ -70,7 +70,7 @@ module _ {K V : Type 0} where
 
           pub early_asks : PutAsks Leaf s (get_or ms 0 r) (get_or js 0 0)
           early_asks =
-              asks_put Leaf s _ _ num_is _ _ low_cut.two.here (get_or js 0 0) (left_used leaf_content t s s (get_or ms 0 0) right low_cut.zs (low_cut.y ∷ low_cut.ys) low_cut.two d.none_chain) (omega (arith, keys_count low_cut.zs, low_cut.count_is, low_is))
+              asks_put Leaf s _ _ num_is _ _ low_cut.two.here (get_or js 0 0) (left_used leaf_content s low_cut.two d.none_chain) (omega (arith, keys_count low_cut.zs, low_cut.count_is, low_is))
 
           pub early_halves : (u : Table K V) (key : K) (value : V) (put : Bool)
               → HasRoom Leaf (λ keys vals. length keys) cap s (get_or ms 0 r) put
@@ -78,12 +78,12 @@ module _ {K V : Type 0} where
               → LeafHalved cap t u ms ms js size tree place (key, value) parts.crit_key right false
           early_halves u key value put has puts =
               let written = put_in Leaf s _ _ num_is _ _ low_cut.two.here u (λ keys vals. length keys) cap (λ z. with_entry z (get_or js 0 0) key value) put has puts (omega (arith, keys_count low_cut.zs, low_cut.count_is, low_is, full_is, capacity.least, capacity.odd)) in
-              let h = into_left leaf_content t s u (get_or ms 0 0) right parts.lhs_entries (d.l ++ d.r) (d.l ++ (key, value) ∷ d.r) parts.crit_key low_cut (λ v. with_entry v (get_or js 0 0) key value) (half_of cap) (half_of cap)
+              let h = into_left leaf_content u (d.l ++ (key, value) ∷ d.r) low_cut (λ v. with_entry v (get_or js 0 0) key value) (half_of cap) (half_of cap)
               d.l (d.l ++ (key, value) ∷ []) d.r refl (sym (append_assoc d.l ((key, value) ∷ []) d.r))
               (omega (arith, length-append d.l ((key, value) ∷ []))) (omega (arith, d.index_is, low, low_is))
               (omega (arith, low_is, capacity.least, capacity.odd)) (omega (arith, low_is, full_is, capacity.least, capacity.odd))
               (λ mid. with_entry_is V d.l mid key value (get_or js 0 0) d.index_is ∙ ap leaf_content (sym (append_assoc d.l ((key, value) ∷ []) mid))) written in
-              leaf_parted cap t u ms js ms js size tree place (key, value) parts.crit_key right false capacity p d full_is h (λ i other. refl) (λ i other. refl) seen
+              leaf_parted ms js (key, value) false capacity p d full_is h (λ i other. refl) (λ i other. refl) seen
               (in_left d.before d.after (get_or ms 0 0) right (h.z ∷ h.xs) (h.y ∷ h.ys) (get_or js 0 0) place seen (omega (arith, low, h.left_is, capacity.least, capacity.odd)) (omega (arith, d.place_is, d.index_is)))
 
         module _ (high : cap / 2 < get_or js 0 0) where
@@ -121,13 +121,13 @@ module _ {K V : Type 0} where
                 capacity.least,
                 capacity.odd,
               )) in
-              let h = into_right leaf_content t s u (get_or ms 0 0) right parts.lhs_entries (d.l ++ d.r) (d.l ++ (key, value) ∷ d.r) parts.crit_key high_cut (λ v. with_entry v behind key value) (half_of cap) (half_of cap)
+              let h = into_right leaf_content u (d.l ++ (key, value) ∷ d.r) high_cut (λ v. with_entry v behind key value) (half_of cap) (half_of cap)
               first d.l d.r ((key, value) ∷ d.r) refl refl refl (omega (arith, d.index_is, late_within)) (omega (arith, high_is, capacity.least, capacity.odd)) high_is (omega (arith, high_is, full_is, capacity.least, capacity.odd))
               (λ mid is. (let mid_is : length mid ≡ behind = is ∙ ap (λ z. z - parts.lhs_entries) d.index_is in (
                 with_entry_is V mid d.r key value behind mid_is,
                 λ rest. middle_key right mid (key, value) d.r high_cut.y high_cut.ys first rest (λ none. zero (sym mid_is ∙ none)) (λ few. more (omega (arith, few, mid_is)) ∙ high_cut.key_is),
               ))) written in
               let j_is = get_or-set_same js 0 behind 0 (omega arith) in
-              leaf_parted cap t u ms js (set ms 0 right) (set js 0 behind) size tree place (key, value) first right true capacity p d full_is h (λ i other. get_or-set_other ms 0 i right 0 other) (λ i other. get_or-set_other js 0 i behind 0 other) seen
+              leaf_parted (set ms 0 right) (set js 0 behind) (key, value) true capacity p d full_is h (λ i other. get_or-set_other ms 0 i right 0 other) (λ i other. get_or-set_other js 0 i behind 0 other) seen
               (in_right d.before d.after (get_or ms 0 0) right (h.z ∷ h.xs) (h.y ∷ h.ys) (get_or (set ms 0 right) 0 0) (get_or (set js 0 behind) 0 0) place seen (get_or-set_same ms 0 right 0 (omega arith))
               (omega (arith, j_is, h.right_is, full_is, d.index_is, length-append d.l d.r, high_is, capacity.least, capacity.odd)) (omega (arith, j_is, d.place_is, d.index_is, h.left_is, high_is, late_within)))

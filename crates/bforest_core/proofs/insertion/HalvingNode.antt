@@ -1,8 +1,8 @@
 -- Inserting a child into the path's inner node, or splitting the node and inserting it into one half: the
 -- answers of `insert_here` and `split_here`.
-use Rattle.std.proofs.Common.{◌≡◌, ℕ, suc, ◌-◌, ◌≤◌, ◌<◌, true, false, Bool, if◌then◌else◌, List, [], ◌∷◌, ◌++◌, map, length, set, get_or, Some, refl, sym, ap, ◌∙◌, subst, append_assoc, length-append, arith, ◌+◌, ◌≢◌, nat_lt}
-use Rattle.bforest_core.proofs.Words.{get_or_default, get_or-set_same, get_or-set_other, Inner, with_child, Table, IsUsed, IsFullAt, IsSplitAt, front_of, with_node, LevelNode, flat, head_of, heads, sizes, need_above, gain_above}
-use Rattle.bforest_core.proofs.Words.{inner_content, entry_items, Above, Grown, Halved, flat_map, node, numbers, Stacked, inner_gain, count}
+use Rattle.std.proofs.Common.{◌≡◌, ℕ, suc, ◌-◌, ◌≤◌, ◌<◌, true, false, Bool, if◌then◌else◌, List, [], ◌∷◌, ◌++◌, length, set, get_or, Some, refl, sym, ap, ◌∙◌, subst, append_assoc, length-append, arith, ◌+◌, ◌≢◌, nat_lt}
+use Rattle.bforest_core.proofs.Words.{get_or_default, get_or-set_same, get_or-set_other, Inner, with_child, Table, IsUsed, IsFullAt, IsSplitAt, front_of, with_node, LevelNode, flat, head_of, heads, sizes}
+use Rattle.bforest_core.proofs.Words.{inner_content, entry_items, GrownBy, Halved, HalvedBy, OneAbove, flat_map, node, numbers, Stacked, inner_gain, count}
 use Rattle.bforest_nodes.specs.declared.node.SplitOff.{SplitOff}
 use Rattle.bforest_core.proofs.table.Tables.{is_used, puts, counts, count-append, count-same, row-changed, rows-same, ne_from_count}
 use Rattle.bforest_core.proofs.rows.Bounds.{below_lt, above_lt}
@@ -16,15 +16,15 @@ use Rattle.bforest_core.proofs.insertion.HalvingLeaf.{FullAt}
 
 module _ {K V : Type 0} where
   -- the split level, except for where the path stands
-  pub parted : (t u : Table K V) (ms js ms' js' : List ℕ) (up size : ℕ) (rows : List (List (LevelNode K ℕ))) (a : List (K × ℕ))
-      (x y : K × ℕ) (b : List (K × ℕ)) (middle : K) (right p : ℕ) (moved : Bool) (big small : ℕ) → (4 ≤ big) × (big ≤ 8) × (4 ≤ small)
+  pub parted : {t u : Table K V} {ms js : List ℕ} (ms' js' : List ℕ) {up size : ℕ} {rows : List (List (LevelNode K ℕ))} {a : List (K × ℕ)}
+      {x : K × ℕ} (y : K × ℕ) {b : List (K × ℕ)} {middle : K} {right : ℕ} (p : ℕ) (moved : Bool) {big small : ℕ} → (4 ≤ big) × (big ≤ 8) × (4 ≤ small)
       × (small ≤ 8) → ((after : List ℕ) → (if nat_lt (get_or js up 0) 4 then 5 ∷ 4 ∷ after else 4 ∷ 5 ∷ after) ≡ big ∷ small ∷ after)
       → (d : Spot t ms js up size rows a x b) → length (d.q.l ++ x ∷ d.q.r) ≡ 8 →
       (h : Halves inner_content t u (get_or ms up 0) right middle (d.q.l ++ x ∷ y ∷ d.q.r) big small) →
       ((i : ℕ) → i ≢ up → get_or ms' i 0 ≡ get_or ms i 0) → ((i : ℕ) → i ≢ up → get_or js' i 0 ≡ get_or js i 0) →
       length (heads d.q.before) ≡ length d.q.before → InHalf d.q.before (get_or ms up 0) right (h.z ∷ h.xs) (h.y ∷ h.ys) d.q.after (get_or ms' up 0) (get_or js' up 0) p moved →
       Halved t u ms js ms' js' up size rows (a ++ x ∷ y ∷ b) (length a) p middle right moved
-  parted t u ms js ms' js' up size rows a x y b middle right p moved big small sides halves_are d eight h far_m far_j full at =
+  parted {t} {u} {ms} {js} ms' js' {up} {x} y {b} {right} p moved sides halves_are d eight h far_m far_j full at =
       let q = d.q in
       let n = get_or ms up 0 in
       let es : List (K × ℕ) = q.l ++ x ∷ q.r in
@@ -75,9 +75,11 @@ module _ {K V : Type 0} where
       }
 
 module _ {K V : Type 0} where
-  module _ (t : Table K V) (ms js : List ℕ) (up size : ℕ) (rows : List (List (LevelNode K ℕ))) (a : List (K × ℕ)) (x : K × ℕ) (b : List (K × ℕ)) (p : Above t ms js up size rows (a ++ x ∷ b) (length a)) (r : ℕ) (within : up < size) (low : up < length ms) where
+  module _ {t : Table K V} {ms js : List ℕ} {up size : ℕ} (w : OneAbove t ms js up size) (r : ℕ) (within : up < size) (low : up < length ms) where
+    open w use {rows, before as a, x, after as b, above as p}
+
     d : Spot t ms js up size rows a x b
-    d = spot t ms js up size rows a x b p within
+    d = spot a x b p within
 
     num_is : get_or ms up r ≡ get_or ms up 0
     num_is = get_or_default ms up r 0 low
@@ -92,12 +94,12 @@ module _ {K V : Type 0} where
     module _ (u : Table K V) (key : K) (child : ℕ) (put : Bool) (has : HasRoom Inner (λ keys children. length children) 8 t (get_or ms up r) put) (wrote : Written Inner (λ z. with_child z (get_or js up 0) key child) t u (get_or ms up r) put) where
       -- a successful insertion needs one node in all and leaves the rows grown
       pub put_grows : put ≡ true → (moved : Bool) (index : ℕ) → index ≡ (if moved then suc (get_or js up 0) else get_or js up 0) → up < length js →
-          (1 ≡ need_above (Some (length a)) (map sizes rows)) × Grown t u ms js ms (set js up index) up size size rows (a ++ x ∷ (key, child) ∷ b) (if moved then suc (length a) else length a) (gain_above (Some (length a)) (map sizes rows)) []
+          GrownBy w (key, child) moved u ms (set js up index) size []
       put_grows done moved index index_is low_js =
           let es : List (K × ℕ) = d.q.l ++ x ∷ d.q.r in
           let fewer : length (entry_items es) < 8 = put_fewer Inner t _ _ num_is _ _ d.f.slot_is u (λ keys children. length children) 8 (λ z. with_child z (get_or js up 0) key child) put has wrote done in
           let after = put_in Inner t _ _ num_is _ _ d.f.slot_is u (λ keys children. length children) 8 (λ z. with_child z (get_or js up 0) key child) put has wrote fewer ∙ ap (λ z. with_node t (get_or ms up 0) z) (with_child_is V d.q.l x d.q.r key child (get_or js up 0) d.q.entry_is) in
-          settle_room t u ms js (set js up index) up size rows a x (key, child) b moved d (omega (arith, item_count es)) (puts t u (get_or ms up 0) (inner_content (d.q.l ++ x ∷ (key, child) ∷ d.q.r)) (inner_content es) d.f.slot_is after)
+          settle_room (set js up index) (key, child) moved d (omega (arith, item_count es)) (puts t u (get_or ms up 0) (inner_content (d.q.l ++ x ∷ (key, child) ∷ d.q.r)) (inner_content es) d.f.slot_is after)
           (get_or-set_same js up index 0 low_js ∙ index_is) (λ i other. get_or-set_other js up i index 0 other)
 
       -- a failed insertion means that the node is full, and changes nothing
@@ -116,33 +118,33 @@ module _ {K V : Type 0} where
       seen : length (heads d.q.before) ≡ length d.q.before
       seen = Solid-full 4 8 (omega arith) d.q.before d.f.solid
 
-      module _ (right : ℕ) (parts : SplitOff K) (front : front_of t.chain ≡ Some right) (used : IsUsed s right) (split : IsSplitAt cap t (get_or ms up r) (get_or js up 0) parts s) where
+      module _ {right : ℕ} {parts : SplitOff K} (front : front_of t.chain ≡ Some right) (used : IsUsed s right) (split : IsSplitAt cap t (get_or ms up r) (get_or js up 0) parts s) where
         four : parts.lhs_entries ≡ 4
-        four = counted inner_content cap t s _ (get_or ms up 0) (get_or js up 0) num_is (d.q.l ++ x ∷ d.q.r) parts d.f.slot_is split
+        four = counted inner_content (get_or ms up 0) num_is (d.q.l ++ x ∷ d.q.r) d.f.slot_is split
 
         cut : Split {V = V} inner_content t s (get_or ms up 0) right parts.lhs_entries (d.q.l ++ x ∷ d.q.r) parts.crit_key
-        cut = let f = four in let e = eight in split_at inner_content cap t s _ (get_or ms up 0) (get_or js up 0) num_is (d.q.l ++ x ∷ d.q.r) parts d.f.slot_is split right (inner_parts parts.lhs_entries (omega arith)) (omega arith) d.f.none_chain front used.within
+        cut = let f = four in let e = eight in split_at inner_content (get_or ms up 0) num_is (d.q.l ++ x ∷ d.q.r) d.f.slot_is split right (inner_parts parts.lhs_entries (omega arith)) (omega arith) d.f.none_chain front used.within
 
         pub early_asks : get_or js up 0 < 4 → PutAsks Inner s (get_or ms up r) (get_or js up 0)
         early_asks early =
-            asks_put Inner s _ _ num_is _ _ cut.two.here (get_or js up 0) (left_used inner_content t s s (get_or ms up 0) right cut.zs (cut.y ∷ cut.ys) cut.two d.f.none_chain) (omega (arith, key_count cut.zs, cut.count_is, early, four))
+            asks_put Inner s _ _ num_is _ _ cut.two.here (get_or js up 0) (left_used inner_content s cut.two d.f.none_chain) (omega (arith, key_count cut.zs, cut.count_is, early, four))
 
         pub early_halves : (u : Table K V) (key : K) (child : ℕ) (moved put : Bool) (index : ℕ) → get_or js up 0 < 4
             → HasRoom Inner (λ keys children. length children) 8 s (get_or ms up r) put
             → Written Inner (λ z. with_child z (get_or js up 0) key child) s u (get_or ms up r) put
             → index ≡ (if moved then suc (get_or js up 0) else get_or js up 0) → up < length js →
-            Halved t u ms js ms (set js up index) up size rows (a ++ x ∷ (key, child) ∷ b) (length a) (if moved then suc (length a) else length a) parts.crit_key right false
+            HalvedBy w (key, child) moved u ms (set js up index) parts.crit_key right false
         early_halves u key child moved put index early has puts index_is low_js =
             let written = put_in Inner s _ _ num_is _ _ cut.two.here u (λ keys children. length children) 8 (λ z. with_child z (get_or js up 0) key child) put has puts (omega (arith, item_count cut.zs, cut.count_is, four)) in
             let new : K × ℕ = (key, child) in
-            let h = into_left inner_content t s u (get_or ms up 0) right parts.lhs_entries (d.q.l ++ x ∷ d.q.r) (d.q.l ++ x ∷ new ∷ d.q.r) parts.crit_key cut (λ v. with_child v (get_or js up 0) key child) 5 4
+            let h = into_left inner_content u (d.q.l ++ x ∷ new ∷ d.q.r) cut (λ v. with_child v (get_or js up 0) key child) 5 4
             (d.q.l ++ x ∷ []) (d.q.l ++ x ∷ new ∷ []) d.q.r (sym (append_assoc d.q.l (x ∷ []) d.q.r))
             (sym (append_assoc d.q.l (x ∷ new ∷ []) d.q.r))
             (omega (arith, length-append d.q.l (x ∷ []), length-append d.q.l (x ∷ new ∷ [])))
             (omega (arith, length-append d.q.l (x ∷ []), d.q.entry_is, early, four)) (omega (arith, four)) (omega (arith, four, eight))
             (λ mid. ap (λ z. with_child (inner_content z) (get_or js up 0) key child) (append_assoc d.q.l (x ∷ []) mid) ∙ with_child_is V d.q.l x mid key child (get_or js up 0) d.q.entry_is ∙ ap inner_content (sym (append_assoc d.q.l (x ∷ new ∷ []) mid))) written in
             let j_is = get_or-set_same js up index 0 low_js ∙ index_is ∙ step_is moved (get_or js up 0) in
-            parted t u ms js ms (set js up index) up size rows a x new b parts.crit_key right (if moved then suc (length a) else length a) false 5 4 (omega arith, omega arith, omega arith, omega arith) (λ after. (let a = below_lt (get_or js up 0) 4 early in rw a refl)) d eight h
+            parted ms (set js up index) new (if moved then suc (length a) else length a) false (omega arith, omega arith, omega arith, omega arith) (λ after. (let a = below_lt (get_or js up 0) 4 early in rw a refl)) d eight h
             (λ i other. refl) (λ i other. get_or-set_other js up i index 0 other) seen
             (in_left d.q.before d.q.after (get_or ms up 0) right (h.z ∷ h.xs) (h.y ∷ h.ys) (get_or (set js up index) up 0)
             (if moved then suc (length a) else length a) seen (omega (arith, j_is, step_most moved, h.left_is, early))
@@ -159,18 +161,18 @@ module _ {K V : Type 0} where
             → HasRoom Inner (λ keys children. length children) 8 s right put
             → Written Inner (λ z. with_child z (get_or js up 0 - 4) key child) s u right put
             → index ≡ (if moved then suc (get_or js up 0 - 4) else get_or js up 0 - 4) → up < length js →
-            Halved t u ms js (set ms up right) (set js up index) up size rows (a ++ x ∷ (key, child) ∷ b) (length a) (if moved then suc (length a) else length a) parts.crit_key right true
+            HalvedBy w (key, child) moved u (set ms up right) (set js up index) parts.crit_key right true
         late_halves u key child moved put index late has puts index_is low_js =
             let written = put_in Inner s right right refl _ _ cut.two.there u (λ keys children. length children) 8 (λ z. with_child z (get_or js up 0 - 4) key child) put has puts (omega (arith, item_count (cut.y ∷ cut.ys), right_is)) in
-            let h = into_right inner_content t s u (get_or ms up 0) right parts.lhs_entries (d.q.l ++ x ∷ d.q.r) (d.q.l ++ x ∷ (key, child) ∷ d.q.r) parts.crit_key cut (λ v. with_child v (get_or js up 0 - 4) key child) 4 5
+            let h = into_right inner_content u (d.q.l ++ x ∷ (key, child) ∷ d.q.r) cut (λ v. with_child v (get_or js up 0 - 4) key child) 4 5
             parts.crit_key d.q.l (x ∷ d.q.r) (x ∷ (key, child) ∷ d.q.r) refl refl refl (omega (arith, d.q.entry_is, late, four)) (omega (arith, four)) four (omega (arith, four, eight))
             (λ mid is. (
               with_child_is V mid x d.q.r key child (get_or js up 0 - 4) (omega (arith, is, d.q.entry_is, four)),
               λ rest. head-grown right mid x ((key, child) ∷ d.q.r) d.q.r ∙ ap (λ v. head_of right v) (sym rest) ∙ ap (λ v. (v, right) ∷ []) (sym cut.key_is),
             )) written in
             let j_is = get_or-set_same js up index 0 low_js ∙ index_is ∙ step_is moved (get_or js up 0 - 4) in
-            parted t u ms js (set ms up right) (set js up index) up size rows a x (key, child) b parts.crit_key right
-            (if moved then suc (length a) else length a) true 4 5 (omega arith, omega arith, omega arith, omega arith)
+            parted (set ms up right) (set js up index) (key, child)
+            (if moved then suc (length a) else length a) true (omega arith, omega arith, omega arith, omega arith)
             (λ after. (let a = above_lt (get_or js up 0) 4 late in rw a refl)) d eight h
             (λ i other. get_or-set_other ms up i right 0 other) (λ i other. get_or-set_other js up i index 0 other) seen
             (in_right d.q.before d.q.after (get_or ms up 0) right (h.z ∷ h.xs) (h.y ∷ h.ys) (get_or (set ms up right) up 0)

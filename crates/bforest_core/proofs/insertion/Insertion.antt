@@ -18,8 +18,8 @@ use Rattle.bforest_core.proofs.union.Reserved.{reserved-union, reserved-roots, r
 use Rattle.bforest_core.proofs.rows.Tops.{root-stands}
 
 -- a row in which a path stands has an entry
-row_some : {K X : Type 0} (row : List (LevelNode K X)) (n index place : ℕ) → IsAt row n index place → 1 ≤ length (flat row)
-row_some row n index place at =
+row_some : {K X : Type 0} {row : List (LevelNode K X)} {n index place : ℕ} → IsAt row n index place → 1 ≤ length (flat row)
+row_some {n} at =
     omega (arith, ap (λ z. length (flat z)) at.row_is, ap length (flat-append at.before (node n at.entries ∷ at.after)), length-append (flat at.before) (at.entries ++ flat at.after), length-append at.entries (flat at.after), at.within)
 
 -- a row has no more heads than nodes
@@ -35,8 +35,8 @@ gain-low (Some p) hs rows s t few low = climb-seventeen p hs rows s t few low
 
 module _ {K V : Type 0} where
   -- a tree has no more leaves than there are slots
-  leaves_within : (most : ℕ) (table : Table K V) (root : ℕ) (tree : Tree K V) → Rooted most table root tree → length (heads tree.leaves) ≤ length table.nodes
-  leaves_within most table root tree r =
+  leaves_within : {most : ℕ} {table : Table K V} {root : ℕ} {tree : Tree K V} → Rooted most table root tree → length (heads tree.leaves) ≤ length table.nodes
+  leaves_within {table} {tree} r =
       let c = λ (m : ℕ). count-append m (numbers tree.leaves) (flat_map numbers tree.above) in
       let once : (m : ℕ) → count m (numbers tree.leaves) ≤ once_below m (length table.nodes) = λ m. elim (cases_lt m (length table.nodes)) [
         | inl low ↦ omega (arith, below-one m (length table.nodes) low, c m, count-append m (numbers_of tree) table.chain, r.apart m)
@@ -52,17 +52,17 @@ module _ {K V : Type 0} where
   growth-low most table root place union is slots =
       let r = rooted most table root union is in
       let tree = tree_of table.nodes root in
-      omega (arith, gain-low (leaf_gain most place (sizes tree.leaves)).0 (heads tree.leaves) tree.above r.fit.stacked r.fit.topped (omega (arith, leaves_within most table root tree r, slots)) r.low)
+      omega (arith, gain-low (leaf_gain most place (sizes tree.leaves)).0 (heads tree.leaves) tree.above r.fit.stacked r.fit.topped (omega (arith, leaves_within r, slots)) r.low)
 
   -- a path under a root is where an entry may be inserted in its tree, which is in the table
-  pub placed-under : (most : ℕ) (table : Table K V) (root place : ℕ) (path indices : List ℕ) (size : ℕ) → IsUnion most table → PlacedUnder table.nodes root path indices size place → Placed most table path indices size (tree_of table.nodes root) place
-  placed-under most table root place path indices size union p =
+  pub placed-under : (most : ℕ) (table : Table K V) {root place : ℕ} {path indices : List ℕ} {size : ℕ} → IsUnion most table → PlacedUnder table.nodes root path indices size place → Placed most table path indices size (tree_of table.nodes root) place
+  placed-under most table {root} union p =
       let r = rooted most table root union p.root_is in
       record { fit = r.fit; inside = r.inside; apart = r.apart; at = p.at }
 
   -- a path under a root has at least one level and at most 17
-  pub under-low : (most : ℕ) (table : Table K V) (root place : ℕ) (path indices : List ℕ) (size : ℕ) → IsUnion most table → PlacedUnder table.nodes root path indices size place → (0 < size) × (size ≤ 17)
-  under-low most table root place path indices size union p =
+  pub under-low : (most : ℕ) (table : Table K V) {root place : ℕ} {path indices : List ℕ} {size : ℕ} → IsUnion most table → PlacedUnder table.nodes root path indices size place → (0 < size) × (size ≤ 17)
+  under-low most table {root} union p =
       (omega (arith, p.at.points.size_is), omega (arith, p.at.points.size_is, (rooted most table root union p.root_is).low))
 
   -- what an insertion states of the table and of the path
@@ -73,15 +73,15 @@ module _ {K V : Type 0} where
     pub same_root : (root' ≡ root) ↔ (length (growth most place (sizes_of (tree_of old.nodes root))) ≡ length (sizes_of (tree_of old.nodes root)))
 
   -- a root that was on the chain differs from the old root
-  new_ne : (most : ℕ) (table new : Table K V) (root : ℕ) (tree : Tree K V) (root' : ℕ) (taken : List ℕ) → Rooted most table root tree → table.chain ≡ taken ++ new.chain → 0 < count root' taken → root' ≢ root
-  new_ne most table new root tree root' taken r chain_is some same =
+  new_ne : {most : ℕ} {table : Table K V} (new : Table K V) {root : ℕ} {tree : Tree K V} (root' : ℕ) (taken : List ℕ) → Rooted most table root tree → table.chain ≡ taken ++ new.chain → 0 < count root' taken → root' ≢ root
+  new_ne {most} {table} new {tree} root' taken r chain_is some same =
       let among = subst (λ (z : ℕ). 0 < count z (numbers_of tree)) (r.root_is ∙ sym same) (root-among most table.nodes tree r.fit r.inside r.some) in
       omega (arith, among, some, r.apart root', count-append root' (numbers_of tree) table.chain, ap (λ z. count root' z) chain_is, count-append root' taken new.chain)
 
   -- inserting an entry into the tree under a root, after the nodes that it needs were reserved
-  pub insertion : (most : ℕ) (old new : Table K V) (root place : ℕ) (path' indices' : List ℕ) (size' : ℕ) (entry : K × V) → IsUnion most old → IsTrue (is_root old.nodes root) → size' ≤ 17 →
+  pub insertion : {most : ℕ} (old : Table K V) {new : Table K V} (root : ℕ) {place : ℕ} {path' indices' : List ℕ} {size' : ℕ} {entry : K × V} → IsUnion most old → IsTrue (is_root old.nodes root) → size' ≤ 17 →
       Inserted most (reserved old (need most place (sizes_of (tree_of old.nodes root)))) new path' indices' size' (tree_of old.nodes root) place entry → Insertion most old new root (top_of path' size') place entry path' indices' size'
-  insertion most old new root place path' indices' size' entry union is low i =
+  insertion {most} old {new} root {place} {path'} {indices'} {size'} {entry} union is low i =
       let tree = tree_of old.nodes root in
       let n = need most place (sizes_of tree) in
       let mid = reserved old n in
@@ -91,11 +91,11 @@ module _ {K V : Type 0} where
       let union_mid = reserved-union most old n union in
       let r = subst (λ (z : Tree K V). Rooted most mid root z) same (rooted most mid root union_mid (roots.0 ∙ is)) in
       let nums = λ (m : ℕ). ap (λ z. count m (numbers_of z)) same in
-      let planted : IsPlanted most new.nodes i.tree' = record { fit = i.fit; inside = i.inside; some = row_some i.tree'.leaves _ _ _ i.stands.leaf; low = omega (arith, low, i.stands.size_is) } in
-      let e = exchanged most mid new root i.tree' i.taken union_mid (roots.0 ∙ is) planted i.chain_is i.slots_are (λ m. omega (arith, i.numbers_are m, nums m)) (λ m none. i.others m (omega (arith, none, nums m))) in
+      let planted : IsPlanted most new.nodes i.tree' = record { fit = i.fit; inside = i.inside; some = row_some i.stands.leaf; low = omega (arith, low, i.stands.size_is) } in
+      let e = exchanged root i.taken union_mid (roots.0 ∙ is) planted i.chain_is i.slots_are (λ m. omega (arith, i.numbers_are m, nums m)) (λ m none. i.others m (omega (arith, none, nums m))) in
       let levels : length (growth most place (sizes_of tree)) ≡ suc (length i.tree'.above) = omega (arith, ap length i.sizes_are, length-map i.tree'.above sizes) in
       let levels_were : length (sizes_of tree) ≡ suc (length tree.above) = omega (arith, length-map tree.above sizes) in
-      subst (λ (z : ℕ). Insertion most old new root z place entry path' indices' size') (root-stands most i.tree' path' indices' size' place i.fit i.stands) (record {
+      subst (λ (z : ℕ). Insertion most old new root z place entry path' indices' size') (root-stands i.fit i.stands) (record {
         changes = record {
           union = e.union;
           root_is = e.root_is;
@@ -115,7 +115,7 @@ module _ {K V : Type 0} where
         same_root = (
           λ same_number. elim (eqb_tells (length i.tree'.above) (length tree.above)) [
             | inl w ↦ omega (arith, levels, levels_were, w.1)
-            | inr w ↦ absurd (new_ne most mid new root tree root' i.taken r i.chain_is (i.new_root w.1) same_number)
+            | inr w ↦ absurd (new_ne new root' i.taken r i.chain_is (i.new_root w.1) same_number)
           ],
           λ same_levels. i.same_root (omega (arith, levels, levels_were, same_levels)) ∙ r.root_is,
         );
@@ -129,41 +129,41 @@ module _ {K V : Type 0} where
     pub enough : need most place (sizes_of (tree_of old.nodes root)) ≤ room old
 
   -- inserting an entry into a leaf with room
-  pub put-here : (most : ℕ) (old new : Table K V) (root place : ℕ) (path indices : List ℕ) (size : ℕ) (entry : K × V) → IsUnion most old → PlacedUnder old.nodes root path indices size place →
+  pub put-here : {most : ℕ} {old new : Table K V} {root place : ℕ} {path indices : List ℕ} {size : ℕ} {entry : K × V} → IsUnion most old → PlacedUnder old.nodes root path indices size place →
       Inserted most old new path indices size (tree_of old.nodes root) place entry → Put most old new root place entry path indices size
-  put-here most old new root place path indices size entry union p i =
+  put-here {most} {old} {new} {root} {place} {path} {indices} {size} {entry} union p i =
       let n = need most place (sizes_of (tree_of old.nodes root)) in
       let enough : n ≤ free_count old = omega (arith, i.taken_is, ap length i.chain_is, length-append i.taken new.chain) in
-      let levels = under-low most old root place path indices size union p in
+      let levels = under-low most old union p in
       record {
         some = levels.0;
         low = levels.1;
-        is = insertion most old new root place path indices size entry union p.root_is levels.1 (rw (reserved-enough old n enough) i);
+        is = insertion {most = most} old {new = new} root {place = place} {path' = path} {indices' = indices} {size' = size} {entry = entry} union p.root_is levels.1 (rw (reserved-enough old n enough) i);
         enough = omega (arith, enough);
       }
 
   -- reserving nodes leaves the path at its place
-  pub placed-mid : (most : ℕ) (old mid : Table K V) (root place : ℕ) (path indices : List ℕ) (size n : ℕ) → IsUnion most old → PlacedUnder old.nodes root path indices size place → mid ≡ reserved old n → Placed most mid path indices size (tree_of old.nodes root) place
-  placed-mid most old mid root place path indices size n union p mid_is =
+  pub placed-mid : (most : ℕ) (old mid : Table K V) {root place : ℕ} {path indices : List ℕ} {size : ℕ} (n : ℕ) → IsUnion most old → PlacedUnder old.nodes root path indices size place → mid ≡ reserved old n → Placed most mid path indices size (tree_of old.nodes root) place
+  placed-mid most old mid {root} n union p mid_is =
       let same = reserved-roots most old n union root in
       let r = rooted most (reserved old n) root (reserved-union most old n union) (same.0 ∙ p.root_is) in
       let s = subst (λ (z : Tree K V). Rooted most (reserved old n) root z) (same.1 p.root_is) r in
       rw mid_is (record { fit = s.fit; inside = s.inside; apart = s.apart; at = p.at })
 
   -- inserting an entry by a split of the leaf, after the nodes were reserved
-  pub put-split : (most : ℕ) (old mid new : Table K V) (root place : ℕ) (path indices : List ℕ) (size n : ℕ) (path' indices' : List ℕ) (size' : ℕ) (entry : K × V) → IsUnion most old → PlacedUnder old.nodes root path indices size place → slot_count old ≤ 4294967295 →
+  pub put-split : (most : ℕ) (old mid new : Table K V) {root place : ℕ} {path indices : List ℕ} {size : ℕ} (n : ℕ) (path' indices' : List ℕ) (size' : ℕ) (entry : K × V) → IsUnion most old → PlacedUnder old.nodes root path indices size place → slot_count old ≤ 4294967295 →
       ((tree : Tree K V) (place : ℕ) → Placed most old path indices size tree place → n ≡ need most place (sizes_of tree)) → ¬ (room old < n) → mid ≡ reserved old n →
       ((tree : Tree K V) (place : ℕ) → Placed most mid path indices size tree place → Inserted most mid new path' indices' size' tree place entry) → Put most old new root place entry path' indices' size'
-  put-split most old mid new root place path indices size n path' indices' size' entry union p slots needs enough mid_is inserts =
+  put-split most old mid new {root} {place} {path} {indices} {size} n path' indices' size' entry union p slots needs enough mid_is inserts =
       let tree = tree_of old.nodes root in
-      let n_is = needs tree place (placed-under most old root place path indices size union p) in
+      let n_is = needs tree place (placed-under most old union p) in
       let mid_old : mid ≡ reserved old (need most place (sizes_of tree)) = mid_is ∙ ap (λ z. reserved old z) n_is in
-      let i = inserts tree place (placed-mid most old mid root place path indices size (need most place (sizes_of tree)) union p mid_old) in
+      let i = inserts tree place (placed-mid most old mid (need most place (sizes_of tree)) union p mid_old) in
       let low : size' ≤ 17 = omega (arith, i.stands.size_is, ap length i.sizes_are, length-map i.tree'.above sizes, growth-low most old root place union p.root_is slots) in
       record {
         some = omega (arith, i.stands.size_is);
         low = low;
-        is = insertion most old new root place path' indices' size' entry union p.root_is low (rw mid_old at i);
+        is = insertion {most = most} old {new = new} root {place = place} {path' = path'} {indices' = indices'} {size' = size'} {entry = entry} union p.root_is low (rw mid_old at i);
         enough = omega (arith, enough, n_is);
       }
 

@@ -12,23 +12,23 @@ use Rattle.bforest_core.proofs.insertion.LeafSpot.{LeafSpot, renewed, insert_fla
 use Rattle.bforest_core.proofs.insertion.Halving.{Halves}
 
 module _ {K V : Type 0} where
-  pub full_gain : (most : ℕ) (t : Table K V) (ms js : List ℕ) (tree : Tree K V) (place : ℕ) → (d : LeafSpot most t ms js tree place) → length (d.l ++ d.r) ≡ most →
+  pub full_gain : {most : ℕ} {t : Table K V} {ms js : List ℕ} {tree : Tree K V} {place : ℕ} → (d : LeafSpot most t ms js tree place) → length (d.l ++ d.r) ≡ most →
       leaf_gain most place (sizes tree.leaves) ≡ (Some (length d.before), sizes d.before ++ half_of most ∷ half_of most ∷ sizes d.after)
-  full_gain most t ms js tree place d full =
+  full_gain {most} {ms} d full =
       rw (d.leaves_are, d.place_is, sizes-append d.before (node (get_or ms 0 0) (d.l ++ d.r) ∷ d.after)) (leaf_full most d.before (length (d.l ++ d.r)) (length d.l) (sizes d.after) (omega (arith, length-append d.l d.r)) d.first full)
 
   -- the split leaf, except for where the path stands
-  pub leaf_parted : (most : ℕ) (t u : Table K V) (ms js ms' js' : List ℕ) (size : ℕ) (tree : Tree K V) (place : ℕ) (entry : K × V)
-      (middle : K) (right : ℕ) (moved : Bool) → IsLeafCapacity most → Placed most t ms js size tree place
+  pub leaf_parted : {most : ℕ} {t u : Table K V} {ms js : List ℕ} (ms' js' : List ℕ) {size : ℕ} {tree : Tree K V} {place : ℕ} (entry : K × V)
+      {middle : K} {right : ℕ} (moved : Bool) → IsLeafCapacity most → Placed most t ms js size tree place
       → (d : LeafSpot most t ms js tree place) → length (d.l ++ d.r) ≡ most →
       (h : Halves leaf_content t u (get_or ms 0 0) right middle (d.l ++ entry ∷ d.r) (half_of most) (half_of most)) →
       ((i : ℕ) → i ≢ 0 → get_or ms' i 0 ≡ get_or ms i 0) → ((i : ℕ) → i ≢ 0 → get_or js' i 0 ≡ get_or js i 0) →
       length (heads d.before) ≡ length d.before → InHalf d.before (get_or ms 0 0) right (h.z ∷ h.xs) (h.y ∷ h.ys) d.after (get_or ms' 0 0) (get_or js' 0 0) place moved →
       LeafHalved most t u ms ms' js' size tree place entry middle right moved
-  leaf_parted most t u ms js ms' js' size tree place entry middle right moved capacity p d full h far_m far_j solid_full stands =
+  leaf_parted {most} {t} {u} {ms} {js} ms' js' {size} {tree} {place} entry {right} moved capacity p d full h far_m far_j solid_full stands =
       let n = get_or ms 0 0 in
       let es : List (K × V) = d.l ++ d.r in
-      let up = renewed most t ms js size tree place entry (omega (arith, capacity.least, capacity.odd)) p d in
+      let up = renewed entry (omega (arith, capacity.least, capacity.odd)) p d in
       let few : half_of most ≤ most = omega (arith, capacity.least, capacity.odd) in
       let nums = λ (m : ℕ). ap (λ z. count m z) up.numbers_are in
       let c = λ (m : ℕ). counts m d.before n es d.after tree.above t.chain in
@@ -54,7 +54,7 @@ module _ {K V : Type 0} where
             ∙ sym (insert_flat d.before n d.l d.r d.after entry) ∙ rw (d.leaves_are, d.place_is) refl;
         fit = FitRow-halved (half_of most) most d.before d.after n right es (h.z ∷ h.xs) (h.y ∷ h.ys) (omega (arith, capacity.least)) d.fit.leaves_fit (omega (arith, h.left_is)) (omega (arith, h.left_is, few)) (omega (arith, h.right_is)) (omega (arith, h.right_is, few));
         inside = row-changed leaf_content t.nodes u.nodes d.before (node n es ∷ []) (node n (h.z ∷ h.xs) ∷ node right (h.y ∷ h.ys) ∷ []) d.after n right d.inside h.two.same (h.two.here, (h.two.there, tt)) d.none none_right;
-        gain_is = full_gain most t ms js tree place d full ∙ rw (solid_full, sizes-append d.before (node n (h.z ∷ h.xs) ∷ node right (h.y ∷ h.ys) ∷ d.after), h.left_is, h.right_is) refl;
+        gain_is = full_gain d full ∙ rw (solid_full, sizes-append d.before (node n (h.z ∷ h.xs) ∷ node right (h.y ∷ h.ys) ∷ d.after), h.left_is, h.right_is) refl;
         above = record {
           stacked = subst (λ (z : List (K × ℕ)). Stacked z up.rows') hs0 up.stacked;
           inside = rows-same t.nodes u.nodes up.rows' (λ m some. h.two.same m (ne_from_count m n (flat_map numbers up.rows') some none_rows) (ne_from_count m right (flat_map numbers up.rows') some none_right_rows)) up.inside;
@@ -76,20 +76,20 @@ module _ {K V : Type 0} where
       }
 
   -- the need, or the sizes above, where the leaf is split
-  pub above_leaf : {X : Type 0} (change : Option ℕ → List (List ℕ) → X) (most : ℕ) (t u : Table K V) (ms ms' js' : List ℕ) (size : ℕ) (tree : Tree K V) (place : ℕ) (entry : K × V) (key : K) (right : ℕ) (moved : Bool) → (h : LeafHalved most t u ms ms' js' size tree place entry key right moved) →
+  pub above_leaf : {X : Type 0} (change : Option ℕ → List (List ℕ) → X) {most : ℕ} {t u : Table K V} {ms ms' js' : List ℕ} {size : ℕ} {tree : Tree K V} {place : ℕ} {entry : K × V} {key : K} {right : ℕ} {moved : Bool} → (h : LeafHalved most t u ms ms' js' size tree place entry key right moved) →
       change (leaf_gain most place (sizes tree.leaves)).0 (map sizes tree.above) ≡ change (Some (length (heads h.before))) (map sizes h.rows)
-  above_leaf change most t u ms ms' js' size tree place entry key right moved h =
+  above_leaf change {tree} h =
       ap (λ z. change z.0 (map sizes tree.above)) h.gain_is ∙ ap (λ z. change (Some (length (heads h.before))) z) (sym h.sizes_above)
 
   -- the tree after the right half was inserted into the levels above
-  pub inserted : (most : ℕ) (t u v : Table K V) (ms js ms' js' ms'' js'' : List ℕ) (size size' : ℕ) (tree : Tree K V) (place : ℕ)
-      (entry : K × V) (key : K) (right : ℕ) (moved : Bool) (taken : List ℕ) (size1 left : ℕ) → size1 ≡ size → left ≡ get_or ms 0 0
+  pub inserted : {most : ℕ} {t u v : Table K V} {ms js ms' js' ms'' js'' : List ℕ} {size size' : ℕ} {tree : Tree K V} {place : ℕ}
+      {entry : K × V} {key : K} {right : ℕ} {moved : Bool} {taken : List ℕ} {size1 : ℕ} → size1 ≡ size
       → Placed most t ms js size tree place → (h : LeafHalved most t u ms ms' js' size tree place entry key right moved) →
       suc (length taken) ≡ need_above (Some (length (heads h.before))) (map sizes h.rows) →
-      Grown u v ms' js' ms'' js'' 1 size1 size' h.rows (heads h.before ++ (h.first.0, left) ∷ (key, right) ∷ heads h.after) (if moved then suc (length (heads h.before)) else length (heads h.before)) (gain_above (Some (length (heads h.before))) (map sizes h.rows)) taken →
+      Grown u v ms' js' ms'' js'' 1 size1 size' h.rows (heads h.before ++ (h.first.0, get_or ms 0 0) ∷ (key, right) ∷ heads h.after) (if moved then suc (length (heads h.before)) else length (heads h.before)) (gain_above (Some (length (heads h.before))) (map sizes h.rows)) taken →
       Inserted most t v ms'' js'' size' tree place entry
-  inserted most t u v ms js ms' js' ms'' js'' size size' tree place entry key right moved taken size1 left size_is left_is p h needs grown =
-      let g = rw (size_is, left_is) at grown in
+  inserted {most} {t} {u} {v} {ms} {js} {ms'} {js'} {ms''} {js''} {size} {size'} {tree} {place} {entry} {key} {right} {moved} {taken} size_is p h needs grown =
+      let g = rw size_is at grown in
       let n = get_or ms 0 0 in
       let row2 : List (LevelNode K V) = h.before ++ node n (h.first ∷ h.others) ∷ node right (h.next ∷ h.more) ∷ h.after in
       let leaves_m = λ (m : ℕ). ap (λ z. count m (numbers z ++ flat_map numbers tree.above)) h.leaves_were in
@@ -115,17 +115,17 @@ module _ {K V : Type 0} where
       } in
       let some = FitRow-split (half_of most) most h.before (node n (h.first ∷ h.others)) (node right (h.next ∷ h.more) ∷ h.after) h.fit in
       let top = root-points most tree ms js size place (omega (arith, some.1.1)) p.fit p.at.points in
-      let top' = root-stands most (record { leaves = row2; above = g.rows' }) ms'' js'' size' place fit' stands in
+      let top' = root-stands fit' stands in
       record {
         tree' = record { leaves = row2; above = g.rows' };
         taken = right ∷ taken;
         flat_is = h.flat_is;
-        sizes_are = ap (λ z. sizes row2 ∷ z) (g.sizes_are ∙ sym (above_leaf gain_above most t u ms ms' js' size tree place entry key right moved h)) ∙ sym (ap (λ z. z.1 ∷ gain_above (leaf_gain most place (sizes tree.leaves)).0 (map sizes tree.above)) h.gain_is);
+        sizes_are = ap (λ z. sizes row2 ∷ z) (g.sizes_are ∙ sym (above_leaf gain_above h)) ∙ sym (ap (λ z. z.1 ∷ gain_above (leaf_gain most place (sizes tree.leaves)).0 (map sizes tree.above)) h.gain_is);
         fit = fit';
         inside = record { leaves_in = row-same leaf_content u.nodes v.nodes row2 quiet h.inside; rows_in = g.above.inside };
         stands = stands;
         numbers_are = λ m. omega (arith, leaves_m m, rows_m m, c2 m, c4 m, g.numbers_are m);
-        taken_is = needs ∙ sym (above_leaf need_above most t u ms ms' js' size tree place entry key right moved h);
+        taken_is = needs ∙ sym (above_leaf need_above h);
         others = λ m z. g.others m (omega (arith, z, leaves_m m, rows_m m, c2 m)) ∙ h.slots_same m (absent_ne m n (numbers h.after) (omega (arith, z, leaves_m m, c2 m))) (absent_ne m right taken (omega (arith, z)));
         chain_is = chain_is;
         slots_are = g.slots_are ∙ h.slots_are;

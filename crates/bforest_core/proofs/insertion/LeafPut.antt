@@ -23,7 +23,7 @@ pub valued : {K V : Type 0} (o : Option (K × V)) → is_some o ≡ true → ¬ 
 valued None here none = absurd (cc)
 valued (Some e) here none = absurd (cc)
 
-module _ {K V : Type 0} (cmp : K → K → Ordering) (most : ℕ) (table : Table K V) (root leaf : ℕ) (key : K) (path indices : List ℕ) (size : ℕ) (union : IsUnion most table) (e : EndsIn cmp table root key leaf path indices size) where
+module _ {K V : Type 0} {cmp : K → K → Ordering} (most : ℕ) {table : Table K V} {root leaf : ℕ} {key : K} {path indices : List ℕ} {size : ℕ} (union : IsUnion most table) (e : EndsIn cmp table root key leaf path indices size) where
   abbrev es : List (K × V)
   es = e.entries
 
@@ -53,11 +53,11 @@ module _ {K V : Type 0} (cmp : K → K → Ordering) (most : ℕ) (table : Table
   placed none = e.absent (e.found_is ∙ none)
 
   is_placed : is_present cmp es key ≡ false → Placed most table path js size (tree_of table.nodes root) at
-  is_placed none = placed-under most table root at path js size union (placed none)
+  is_placed none = placed-under most table union (placed none)
 
   used_by : (b : Bool) → is_present cmp es key ≡ b → IsUsed table leaf
   used_by true here = subst (λ (n : ℕ). IsUsed table n) e.leaf_is (entry-used most table root at path js size union (stands here)).0
-  used_by false none = subst (λ (n : ℕ). IsUsed table n) e.leaf_is (is_used table (get_or path 0 0) (leaf_content es) slot (leaf_spot most table path js size (tree_of table.nodes root) at (is_placed none)).none_chain)
+  used_by false none = subst (λ (n : ℕ). IsUsed table n) e.leaf_is (is_used table (get_or path 0 0) (leaf_content es) slot (leaf_spot (is_placed none)).none_chain)
 
   -- the leaf is used
   pub leaf-used : IsUsed table leaf
@@ -115,11 +115,11 @@ module _ {K V : Type 0} (cmp : K → K → Ordering) (most : ℕ) (table : Table
       inserts fits =
           let tree = tree_of table.nodes root in
           let ok : answer ≡ Ok None = said ∙ ap (λ b. if b then Ok None else Err (place cmp es key)) fits in
-          let d = leaf_spot most table path js size tree at (is_placed none) in
+          let d = leaf_spot (is_placed none) in
           let fewer : length (d.l ++ d.r) < most = subst (λ (z : ℕ). z < most) (keys_count (d.l ++ d.r)) ((has _ _ d.slot_is).0 fits) in
-          let gain = room_gain most table path js tree at d fewer in
+          let gain = room_gain d fewer in
           let levels : length (growth most at (sizes_of tree)) ≡ length (sizes_of tree) = ap (λ z. length (z.1 ∷ gain_above z.0 (map sizes tree.above))) gain in
-          let put = put-here most table new root at path js size (key, value) union (placed none) (put_inserts most table path js size tree at (is_placed none) 0 e.wide new key value room has wrote fits) in
+          let put = put-here union (placed none) (put_inserts (is_placed none) 0 e.wide new key value room has wrote fits) in
           let put_is = after ∙ ap (λ b. with_node table leaf (if b then with_entry (leaf_content es) (place cmp es key) key value else leaf_content es)) fits in
           record {
             ok = rw ok (sym gone);
@@ -139,7 +139,7 @@ module _ {K V : Type 0} (cmp : K → K → Ordering) (most : ℕ) (table : Table
       refuses : room ≡ false → PutsInLeaf cmp table root key most value path indices size answer new
       refuses past =
           let err : answer ≡ Err (place cmp es key) = said ∙ ap (λ b. if b then Ok None else Err (place cmp es key)) past in
-          let same : new ≡ table = (put_full most table path js size (tree_of table.nodes root) at (is_placed none) 0 e.wide new key value room has wrote past).1 in
+          let same : new ≡ table = (put_full (is_placed none) 0 e.wide new key value room has wrote past).1 in
           record {
             ok = rw err tt;
             slots = ap (λ z. slot_count z) same;
@@ -173,7 +173,7 @@ module _ {K V : Type 0} (cmp : K → K → Ordering) (most : ℕ) (table : Table
         ∙ ap Ok (items-read es (place cmp es key) ∙ sym (value_for-present cmp es key here))) ∙ err in cc)
     full_by false none true fits index err = absurd (let bad : Ok None ≡ Err index = sym (said none ∙ ap (λ b. if b then Ok None else Err (place cmp es key)) fits) ∙ err in cc)
     full_by false none false past index err =
-        subst (λ (n : ℕ). IsFullAt most table.nodes n) e.leaf_is (put_full most table path js size (tree_of table.nodes root) at (is_placed none) 0 e.wide new key value (nat_lt (entry_count (leaf_content es)) most) (has none) (wrote none) past).0
+        subst (λ (n : ℕ). IsFullAt most table.nodes n) e.leaf_is (put_full (is_placed none) 0 e.wide new key value (nat_lt (entry_count (leaf_content es)) most) (has none) (wrote none) past).0
 
     -- the leaf is full where the key's place is answered
     pub is-full : (index : ℕ) → answer ≡ Err index → IsFullAt most table.nodes leaf

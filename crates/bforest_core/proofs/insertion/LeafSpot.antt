@@ -118,8 +118,8 @@ module _ {K V : Type 0} where
     pub none_rows : count (get_or ms 0 0) (flat_map numbers tree.above) ≡ 0
     pub none_chain : count (get_or ms 0 0) t.chain ≡ 0
 
-  pub leaf_spot : (most : ℕ) (t : Table K V) (ms js : List ℕ) (size : ℕ) (tree : Tree K V) (place : ℕ) → Placed most t ms js size tree place → LeafSpot most t ms js tree place
-  leaf_spot most t ms js size tree place p =
+  pub leaf_spot : {most : ℕ} {t : Table K V} {ms js : List ℕ} {size : ℕ} {tree : Tree K V} {place : ℕ} → Placed most t ms js size tree place → LeafSpot most t ms js tree place
+  leaf_spot {most} {t} {ms} {js} {tree} p =
       let at = p.at.points in
       let n = get_or ms 0 0 in
       let l = take (get_or js 0 0) at.entries in
@@ -154,30 +154,30 @@ module _ {K V : Type 0} where
       }
 
   -- the rows over the leaves after the insertion
-  pub renewed : (most : ℕ) (t : Table K V) (ms js : List ℕ) (size : ℕ) (tree : Tree K V) (place : ℕ) (entry : K × V) → 1 ≤ most → Placed most t ms js size tree place → (d : LeafSpot most t ms js tree place) →
+  pub renewed : {most : ℕ} {t : Table K V} {ms js : List ℕ} {size : ℕ} {tree : Tree K V} {place : ℕ} (entry : K × V) → 1 ≤ most → Placed most t ms js size tree place → (d : LeafSpot most t ms js tree place) →
       Renewed t.nodes ms js 1 tree.above (heads (d.before ++ node (get_or ms 0 0) (d.l ++ entry ∷ d.r) ∷ d.after))
-  renewed most t ms js size tree place entry one p d =
+  renewed {most} {t} {ms} {js} {tree} entry one p d =
       let f = FitRow-split (half_of most) most d.before (node (get_or ms 0 0) (d.l ++ d.r)) d.after d.fit.leaves_fit in
       renew t.nodes ms js 1 tree.above d.before (get_or ms 0 0) d.l entry d.r d.after d.first (omega (arith, f.1.0, least-pos (half_of most) (omega (arith, one)) d.after)) d.fit.stacked d.fit.topped p.inside.rows_in
 
   -- the sizes of the leaves where the leaf has room
-  pub room_gain : (most : ℕ) (t : Table K V) (ms js : List ℕ) (tree : Tree K V) (place : ℕ) → (d : LeafSpot most t ms js tree place) → length (d.l ++ d.r) < most → leaf_gain most place (sizes tree.leaves) ≡ (None, sizes d.before ++ suc (length (d.l ++ d.r)) ∷ sizes d.after)
-  room_gain most t ms js tree place d room =
+  pub room_gain : {most : ℕ} {t : Table K V} {ms js : List ℕ} {tree : Tree K V} {place : ℕ} → (d : LeafSpot most t ms js tree place) → length (d.l ++ d.r) < most → leaf_gain most place (sizes tree.leaves) ≡ (None, sizes d.before ++ suc (length (d.l ++ d.r)) ∷ sizes d.after)
+  room_gain {most} {ms} d room =
       rw (d.leaves_are, d.place_is, sizes-append d.before (node (get_or ms 0 0) (d.l ++ d.r) ∷ d.after)) (leaf_room most d.before (length (d.l ++ d.r)) (length d.l) (sizes d.after) (omega (arith, length-append d.l d.r)) d.first room)
 
-  pub put_leaf : (most : ℕ) (t u : Table K V) (ms js : List ℕ) (size : ℕ) (tree : Tree K V) (place : ℕ) (entry : K × V) → Placed most t ms js size tree place → (d : LeafSpot most t ms js tree place) → length (d.l ++ d.r) < most →
+  pub put_leaf : {most : ℕ} {t u : Table K V} {ms js : List ℕ} {size : ℕ} {tree : Tree K V} {place : ℕ} (entry : K × V) → Placed most t ms js size tree place → (d : LeafSpot most t ms js tree place) → length (d.l ++ d.r) < most →
       Puts t u (get_or ms 0 0) (leaf_content (d.l ++ entry ∷ d.r)) → Inserted most t u ms js size tree place entry
-  put_leaf most t u ms js size tree place entry p d room w =
+  put_leaf {most} {t} {u} {ms} {js} {size} {tree} {place} entry p d room w =
       let n = get_or ms 0 0 in
       let old : List (K × V) = d.l ++ d.r in
       let es : List (K × V) = d.l ++ entry ∷ d.r in
       let row2 : List (LevelNode K V) = d.before ++ node n es ∷ d.after in
-      let above = renewed most t ms js size tree place entry (omega (arith, room)) p d in
+      let above = renewed entry (omega (arith, room)) p d in
       let len : length es ≡ suc (length old) = omega (arith, length-append d.l (entry ∷ d.r), length-append d.l d.r) in
       let none2 : count n (flat_map numbers above.rows') ≡ 0 = ap (λ z. count n z) above.numbers_are ∙ d.none_rows in
       let c0 = λ (m : ℕ). ap (λ z. count m (numbers z ++ flat_map numbers tree.above)) d.leaves_are in
       let c2 = λ (m : ℕ). counts m d.before n old d.after tree.above t.chain in
-      let g = room_gain most t ms js tree place d room in
+      let g = room_gain d room in
       let fit' : IsFit most (record { leaves = row2; above = above.rows' }) = record { leaves_fit = FitRow-put (half_of most) most d.before d.after n old es len room d.fit.leaves_fit; stacked = above.stacked; topped = above.topped } in
       let stands : Stands ms js size (record { leaves = row2; above = above.rows' }) place = record {
         leaf = record { before = d.before; entries = es; after = d.after; row_is = refl; within = omega (arith, d.index_is, length-append d.l (entry ∷ d.r)); place_is = omega (arith, d.place_is, d.index_is) };
@@ -202,7 +202,7 @@ module _ {K V : Type 0} where
         chain_is = sym w.chain_is;
         slots_are = w.slots_are;
         limit_is = w.limit_is;
-        same_root = λ same. root-stands most (record { leaves = row2; above = above.rows' }) ms js size place fit' stands ∙ sym (root-points most tree ms js size place (omega (arith, room)) p.fit p.at.points);
+        same_root = λ same. root-stands fit' stands ∙ sym (root-points most tree ms js size place (omega (arith, room)) p.fit p.at.points);
         new_root = λ other. absurd (other (rows_count tree.above above.rows' above.sizes_are));
       }
 

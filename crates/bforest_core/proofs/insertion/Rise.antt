@@ -19,12 +19,12 @@ step_most true = omega arith
 step_most false = omega arith
 
 module _ {K V : Type 0} where
-  pub settle_room : (t u : Table K V) (ms js js' : List ℕ) (up size : ℕ) (rows : List (List (LevelNode K ℕ))) (a : List (K × ℕ))
-      (x y : K × ℕ) (b : List (K × ℕ)) (moved : Bool) → (d : Spot t ms js up size rows a x b) → length (d.q.l ++ x ∷ d.q.r) < 8
+  pub settle_room : {t u : Table K V} {ms js : List ℕ} (js' : List ℕ) {up size : ℕ} {rows : List (List (LevelNode K ℕ))} {a : List (K × ℕ)}
+      {x : K × ℕ} (y : K × ℕ) {b : List (K × ℕ)} (moved : Bool) → (d : Spot t ms js up size rows a x b) → length (d.q.l ++ x ∷ d.q.r) < 8
       → Puts t u (get_or ms up 0) (inner_content (d.q.l ++ x ∷ y ∷ d.q.r)) →
       get_or js' up 0 ≡ (if moved then suc (get_or js up 0) else get_or js up 0) → ((i : ℕ) → i ≢ up → get_or js' i 0 ≡ get_or js i 0) →
       (1 ≡ need_above (Some (length a)) (map sizes rows)) × Grown t u ms js ms js' up size size rows (a ++ x ∷ y ∷ b) (if moved then suc (length a) else length a) (gain_above (Some (length a)) (map sizes rows)) []
-  settle_room t u ms js js' up size rows a x y b moved d room w j_is far =
+  settle_room {t} {u} {ms} {js} js' {up} {x} y moved d room w j_is far =
       let q = d.q in
       let n = get_or ms up 0 in
       let old : List (K × ℕ) = q.l ++ x ∷ q.r in
@@ -76,20 +76,20 @@ gain-some p (level ∷ levels) = omega arith
 
 module _ {K V : Type 0} where
   -- the need and the number of levels above a level with a split node, from those one level up
-  pub sizes_halved : (t u : Table K V) (ms js ms' js' : List ℕ) (up size : ℕ) (rows : List (List (LevelNode K ℕ))) (list : List (K × ℕ)) (was p : ℕ) (key : K) (right : ℕ) (moved : Bool) → (h : Halved t u ms js ms' js' up size rows list was p key right moved) →
+  pub sizes_halved : {t u : Table K V} {ms js ms' js' : List ℕ} {up size : ℕ} {rows : List (List (LevelNode K ℕ))} {list : List (K × ℕ)} {was p : ℕ} {key : K} {right : ℕ} {moved : Bool} → (h : Halved t u ms js ms' js' up size rows list was p key right moved) →
       (need_above (Some was) (map sizes rows) ≡ suc (need_above (Some (length (heads h.before))) (map sizes h.rest))) × (length (gain_above (Some was) (map sizes rows)) ≡ suc (length (gain_above (Some (length (heads h.before))) (map sizes h.rest))))
-  sizes_halved t u ms js ms' js' up size rows list was p key right moved h = (
+  sizes_halved {was} h = (
     ap (λ z. need_above (Some was) (map sizes z)) h.rows_were ∙ ap (λ z. suc (need_above z.0 (map sizes h.rest))) h.gain_is,
     ap (λ z. length (gain_above (Some was) (map sizes z))) h.rows_were ∙ ap (λ z. suc (length (gain_above z.0 (map sizes h.rest)))) h.gain_is,
   )
 
   -- the rows from a level up, after the right half was inserted into the levels above
-  pub rise : (t u v : Table K V) (ms js ms' js' ms'' js'' : List ℕ) (up size size' : ℕ) (rows : List (List (LevelNode K ℕ)))
-      (hs list : List (K × ℕ)) (q was p : ℕ) (key : K) (right : ℕ) (moved : Bool) (taken : List ℕ) → Above t ms js up size rows hs q
+  pub rise : {t u v : Table K V} {ms js ms' js' ms'' js'' : List ℕ} {up size size' : ℕ} {rows : List (List (LevelNode K ℕ))}
+      {hs list : List (K × ℕ)} {q was p : ℕ} {key : K} {right : ℕ} {moved : Bool} {taken : List ℕ} → Above t ms js up size rows hs q
       → (h : Halved t u ms js ms' js' up size rows list was p key right moved) →
       Grown u v ms' js' ms'' js'' (suc up) size size' h.rest (heads h.before ++ (h.first.0, get_or ms up 0) ∷ (key, right) ∷ heads h.after) (if moved then suc (length (heads h.before)) else length (heads h.before)) (gain_above (Some (length (heads h.before))) (map sizes h.rest)) taken →
       Grown t v ms js ms'' js'' up size size' rows list p (gain_above (Some was) (map sizes rows)) (right ∷ taken)
-  rise t u v ms js ms' js' ms'' js'' up size size' rows hs list q was p key right moved taken ab h g =
+  rise {t} {u} {v} {ms} {ms''} {js''} {up} {size} {rows} {hs} {was} {p} {key} {right} {taken} ab h g =
       let n = get_or ms up 0 in
       let row : List (LevelNode K ℕ) = h.before ++ node n h.entries ∷ h.after in
       let row2 : List (LevelNode K ℕ) = h.before ++ node n (h.first ∷ h.others) ∷ node right (h.next ∷ h.more) ∷ h.after in
@@ -133,43 +133,45 @@ module _ {K V : Type 0} where
       }
 
   -- splitting the root adds a new root
-  pub settle_root : (t u : Table K V) (ms js ms' js' : List ℕ) (size size' left root : ℕ) (rows : List (List (LevelNode K ℕ)))
+  pub settle_root : {t u : Table K V} {ms js : List ℕ} (ms' js' : List ℕ) {size : ℕ} (size' left : ℕ) {root : ℕ} (rows : List (List (LevelNode K ℕ)))
       (a : List (K × ℕ)) (first : K) (b : List (K × ℕ)) (key : K) (child : ℕ) (moved : Bool)
       → Above t ms js size size rows (a ++ (first, left) ∷ b) (length a) → Takes t u root (Inner (key ∷ []) (left ∷ child ∷ [])) →
       size' ≡ suc size → get_or ms' size 0 ≡ root → get_or js' size 0 ≡ (if moved then 1 else 0) → ((i : ℕ) → i ≢ size → get_or ms' i 0 ≡ get_or ms i 0) → ((i : ℕ) → i ≢ size → get_or js' i 0 ≡ get_or js i 0) →
-      (taken : List ℕ) × (suc (length taken) ≡ need_above (Some (length a)) (map sizes rows)) × Grown t u ms js ms' js' size size size' rows (a ++ (first, left) ∷ (key, child) ∷ b) (if moved then suc (length a) else length a) (gain_above (Some (length a)) (map sizes rows)) taken
-  settle_root t u ms js ms' js' size size' left root (row ∷ rows) a first b key child moved ab w size_is m_is j_is far_m far_j = absurd (omega (arith, ab.height))
-  settle_root t u ms js ms' js' size size' left root [] (y ∷ a) first b key child moved ab w size_is m_is j_is far_m far_j = absurd (omega (arith, ab.stacked, length-append a ((first, left) ∷ b)))
-  settle_root t u ms js ms' js' size size' left root [] [] first (y ∷ b) key child moved ab w size_is m_is j_is far_m far_j = absurd (omega (arith, ab.stacked))
-  settle_root t u ms js ms' js' size size' left root [] [] first [] key child moved ab w size_is m_is j_is far_m far_j =
+      (taken : List ℕ) × ((suc (length taken) ≡ need_above (Some (length a)) (map sizes rows)) × Grown t u ms js ms' js' size size size' rows (a ++ (first, left) ∷ (key, child) ∷ b) (if moved then suc (length a) else length a) (gain_above (Some (length a)) (map sizes rows)) taken)
+  settle_root ms' js' size' left (row ∷ rows) a first b key child moved ab w size_is m_is j_is far_m far_j = absurd (omega (arith, ab.height))
+  settle_root ms' js' size' left [] (y ∷ a) first b key child moved ab w size_is m_is j_is far_m far_j = absurd (omega (arith, ab.stacked, length-append a ((first, left) ∷ b)))
+  settle_root ms' js' size' left [] [] first (y ∷ b) key child moved ab w size_is m_is j_is far_m far_j = absurd (omega (arith, ab.stacked))
+  settle_root ms' js' {size} size' left {root} [] [] first [] key child moved ab w size_is m_is j_is far_m far_j =
       let es : List (K × ℕ) = (first, left) ∷ (key, child) ∷ [] in (
         root ∷ [],
-        refl,
-        record {
-          rows' = (node root es ∷ []) ∷ [];
-          above = record {
-            stacked = (refl, (omega arith, omega arith, tt), refl);
-            inside = ((w.here, tt), tt);
-            stands = (
-              record { before = []; entries = es; after = []; row_is = rw m_is refl; within = omega (arith, j_is, step_is moved 0, step_most moved); place_is = sym j_is ∙ (let none : get_or js' size 0 ≡ 0 + get_or js' size 0 = omega arith in none) },
-              refl,
-            );
-            height = omega (arith, size_is);
-            apart = λ m. omega (arith, ab.apart m, ap (λ z. count m z) w.chain_is);
-          };
-          topped = λ old le top. (omega arith, tt);
-          sizes_are = refl;
-          numbers_are = λ m. omega arith;
-          others = λ m z. w.same m (absent_ne m root [] (omega (arith, z)));
-          chain_is = w.chain_is;
-          slots_are = w.slots_are;
-          limit_is = w.limit_is;
-          nodes_below = λ i low. far_m i (λ (e : i ≡ size). omega (arith, e, low));
-          entries_below = λ i low. far_j i (λ (e : i ≡ size). omega (arith, e, low));
-          same_top = λ same. absurd (omega (arith, same, size_is));
-          new_top = λ other. (let top : size' - 1 ≡ size = omega (arith, size_is) in
-              subst (λ (z : ℕ). 0 < count z (root ∷ [])) (sym (ap (λ z. get_or ms' z 0) top ∙ m_is)) (omega (arith, count-same root [])));
-        },
+        (
+          refl,
+          record {
+            rows' = (node root es ∷ []) ∷ [];
+            above = record {
+              stacked = (refl, (omega arith, omega arith, tt), refl);
+              inside = ((w.here, tt), tt);
+              stands = (
+                record { before = []; entries = es; after = []; row_is = rw m_is refl; within = omega (arith, j_is, step_is moved 0, step_most moved); place_is = sym j_is ∙ (let none : get_or js' size 0 ≡ 0 + get_or js' size 0 = omega arith in none) },
+                refl,
+              );
+              height = omega (arith, size_is);
+              apart = λ m. omega (arith, ab.apart m, ap (λ z. count m z) w.chain_is);
+            };
+            topped = λ old le top. (omega arith, tt);
+            sizes_are = refl;
+            numbers_are = λ m. omega arith;
+            others = λ m z. w.same m (absent_ne m root [] (omega (arith, z)));
+            chain_is = w.chain_is;
+            slots_are = w.slots_are;
+            limit_is = w.limit_is;
+            nodes_below = λ i low. far_m i (λ (e : i ≡ size). omega (arith, e, low));
+            entries_below = λ i low. far_j i (λ (e : i ≡ size). omega (arith, e, low));
+            same_top = λ same. absurd (omega (arith, same, size_is));
+            new_top = λ other. (let top : size' - 1 ≡ size = omega (arith, size_is) in
+                subst (λ (z : ℕ). 0 < count z (root ∷ [])) (sym (ap (λ z. get_or ms' z 0) top ∙ m_is)) (omega (arith, count-same root [])));
+          },
+        ),
       )
 
 -- a split of the root takes a node for the new root too
@@ -184,8 +186,8 @@ need_some p (level ∷ levels) = omega arith
 
 module _ {K V : Type 0} where
   -- a split below a full node takes at least two nodes
-  pub need_full : (t : Table K V) (ms js : List ℕ) (up size : ℕ) (rows : List (List (LevelNode K ℕ))) (a : List (K × ℕ)) (x : K × ℕ) (b : List (K × ℕ)) → (d : Spot t ms js up size rows a x b) → length (d.q.l ++ x ∷ d.q.r) ≡ 8 → 2 ≤ need_above (Some (length a)) (map sizes rows)
-  need_full t ms js up size rows a x b d eight =
+  pub need_full : {t : Table K V} {ms js : List ℕ} {up size : ℕ} {rows : List (List (LevelNode K ℕ))} {a : List (K × ℕ)} {x : K × ℕ} {b : List (K × ℕ)} → (d : Spot t ms js up size rows a x b) → length (d.q.l ++ x ∷ d.q.r) ≡ 8 → 2 ≤ need_above (Some (length a)) (map sizes rows)
+  need_full {ms} {up} {rows} {a} {x} d eight =
       let q = d.q in
       let es : List (K × ℕ) = q.l ++ x ∷ q.r in
       let needs : need_above (Some (length a)) (map sizes rows) ≡ suc (need_above (Some (length q.before)) (map sizes q.rest)) =

@@ -1,7 +1,7 @@
 -- What the calls on the nodes of a path and on the rows above a level require and ensure, as their contracts
 -- state it.
-use Rattle.std.proofs.Common.{◌≡◌, ℕ, suc, ◌+◌, ◌≤◌, ◌<◌, Option, Some, List, [], ◌∷◌, ◌++◌, map, length, drop, get_or, slice_get, ap, subst, ◌∙◌, arith}
-use Rattle.bforest_core.proofs.Words.{Content, Inner, IsFree, IsUsed, entry_count, with_key, without_child, Table, with_node, LevelNode, sizes, inner_content, entry_keys, entry_items, count, Above, NextIs, Rebuilt, get_or_default}
+use Rattle.std.proofs.Common.{◌≡◌, ℕ, suc, ◌+◌, ◌≤◌, ◌<◌, Option, Some, List, [], ◌∷◌, ◌++◌, map, length, drop, get_or, slice_get, ap, ◌∙◌, arith}
+use Rattle.bforest_core.proofs.Words.{Content, Inner, IsFree, IsUsed, entry_count, with_key, without_child, Table, with_node, LevelNode, sizes, inner_content, entry_keys, entry_items, count, Above, LastAbove, NextIs, OneAbove, Rebuilt, TwoAbove, get_or_default}
 use Rattle.bforest_core.proofs.table.Stored.{key_count, item_count}
 use Rattle.bforest_core.proofs.table.Tables.{is_used}
 use Rattle.bforest_core.proofs.rows.Zipper.{Spot, spot, above_two}
@@ -38,52 +38,25 @@ module _ {K V : Type 0} where
   abbrev pub Removes : Table K V → Table K V → ℕ → ℕ → Type 0
   Removes t u number index = (keys : List K) (children : List ℕ) → slice_get t.nodes number ≡ Some (Inner keys children) → u ≡ with_node t number (without_child (Inner keys children) index)
 
-  -- the rows from a level up, cut at one entry
-  abbrev pub OneAbove : Table K V → List ℕ → List ℕ → ℕ → ℕ → Type 0
-  OneAbove t path indices up size = (rows : List (List (LevelNode K ℕ))) × (before : List (K × ℕ)) × (x : K × ℕ) × (after : List (K × ℕ)) × Above t path indices up size rows (before ++ x ∷ after) (length before)
+  pub two_low : {t : Table K V} {path indices : List ℕ} {up size : ℕ} → TwoAbove t path indices up size → up < size
+  two_low w = above_two w.rows w.before w.x w.y w.after w.above
 
-  -- the rows from a level up, cut at an entry and the number of the next
-  abbrev pub TwoAbove : Table K V → List ℕ → List ℕ → ℕ → ℕ → Type 0
-  TwoAbove t path indices up size = (rows : List (List (LevelNode K ℕ))) × (before : List (K × ℕ)) × (x : K × ℕ) × (key : K) × (n : ℕ) × (after : List (K × ℕ)) × Above t path indices up size rows (before ++ x ∷ (key, n) ∷ after) (length before)
-
-  pub two_low : (t : Table K V) (path indices : List ℕ) (up size : ℕ) → TwoAbove t path indices up size → up < size
-  two_low t path indices up size w = above_two t path indices up size w.0 w.1 w.2 (w.3, w.4) w.5 (length w.1) w.6
-
-  -- the rows from a level up, cut at an entry and the next
-  abbrev pub NextAbove : Table K V → List ℕ → List ℕ → ℕ → ℕ → Type 0
-  NextAbove t path indices up size = (rows : List (List (LevelNode K ℕ))) × (before : List (K × ℕ)) × (x : K × ℕ) × (y : K × ℕ) × (after : List (K × ℕ)) × Above t path indices up size rows (before ++ x ∷ y ∷ after) (length before)
-
-  -- the rows from a level up, cut at two entries given by keys and numbers
-  abbrev pub MergeAbove : Table K V → List ℕ → List ℕ → ℕ → ℕ → Type 0
-  MergeAbove t path indices up size = (rows : List (List (LevelNode K ℕ))) × (before : List (K × ℕ)) × (k : K) × (m : ℕ) × (k2 : K) × (n : ℕ) × (after : List (K × ℕ)) × Above t path indices up size rows (before ++ (k, m) ∷ (k2, n) ∷ after) (length before)
-
-  pub merge_low : (t : Table K V) (path indices : List ℕ) (up size : ℕ) → MergeAbove t path indices up size → up < size
-  merge_low t path indices up size w = above_two t path indices up size w.0 w.1 (w.2, w.3) (w.4, w.5) w.6 (length w.1) w.7
-
-  -- the rows from a level up, cut at the last two entries
-  abbrev pub LastTwo : Table K V → List ℕ → List ℕ → ℕ → ℕ → Type 0
-  LastTwo t path indices up size = (rows : List (List (LevelNode K ℕ))) × (before : List (K × ℕ)) × (y : K × ℕ) × (x : K × ℕ) × Above t path indices up size rows (before ++ y ∷ x ∷ []) (suc (length before))
-
-  pub last_low : (t : Table K V) (path indices : List ℕ) (up size : ℕ) → LastTwo t path indices up size → up < size
-  last_low t path indices up size w = above_two t path indices up size w.0 w.1 w.2 w.3 [] (suc (length w.1)) w.4
+  pub last_low : {t : Table K V} {path indices : List ℕ} {up size : ℕ} → LastAbove t path indices up size → up < size
+  last_low w = above_two w.rows w.before w.y w.x [] w.above
 
   -- the answer of the call for the right neighbour
   abbrev pub Beside : Table K V → List ℕ → List ℕ → ℕ → ℕ → Option (K × ℕ) → Type 0
-  Beside t path indices up size r = (rows : List (List (LevelNode K ℕ))) (before : List (K × ℕ)) (x : K × ℕ) (after : List (K × ℕ)) → Above t path indices up size rows (before ++ x ∷ after) (length before) → NextIs r after
-
-  -- the same answer, where it is known
-  pub beside_is : (t : Table K V) (path indices : List ℕ) (up size : ℕ) (r : Option (K × ℕ)) (next : K × ℕ) → Beside t path indices up size r → r ≡ Some next → Beside t path indices up size (Some next)
-  beside_is t path indices up size r next beside is = subst (λ (z : Option (K × ℕ)). Beside t path indices up size z) is beside
+  Beside t path indices up size r = (w : OneAbove t path indices up size) → NextIs r w.after
 
   -- the effect of the call that updates the key between two neighbours
   abbrev pub Rekeys : Table K V → Table K V → List ℕ → List ℕ → ℕ → ℕ → K → Type 0
-  Rekeys u v path indices up size key = (rows : List (List (LevelNode K ℕ))) (before : List (K × ℕ)) (x : K × ℕ) (first : K) (n : ℕ) (after : List (K × ℕ)) → Above u path indices up size rows (before ++ x ∷ (first, n) ∷ after) (length before) →
-      Rebuilt u v path indices path indices up size rows (before ++ x ∷ (key, n) ∷ after) (length before) (map sizes rows) []
+  Rekeys u v path indices up size key =
+      (w : TwoAbove u path indices up size) → Rebuilt u v path indices path indices up size w.rows (w.before ++ w.x ∷ (key, w.y.1) ∷ w.after) (length w.before) (map sizes w.rows) []
 
   -- the effect of the call that enters the next node
   abbrev pub Enters : Table K V → List ℕ → List ℕ → List ℕ → List ℕ → ℕ → ℕ → Type 0
-  Enters t path indices path' indices' up size = (rows : List (List (LevelNode K ℕ))) (before : List (K × ℕ)) (x : K × ℕ) (y : K × ℕ) (after : List (K × ℕ)) → Above t path indices (suc up) size rows (before ++ x ∷ y ∷ after) (length before) →
-      Above t path' indices' (suc up) size rows (before ++ x ∷ y ∷ after) (suc (length before)) × (get_or path' up 0 ≡ y.1)
+  Enters t path indices path' indices' up size =
+      (w : TwoAbove t path indices (suc up) size) → Above t path' indices' (suc up) size w.rows (w.before ++ w.x ∷ w.y ∷ w.after) (suc (length w.before)) × (get_or path' up 0 ≡ w.y.1)
 
   -- the path's node on a level above, by the number that was read, and what the calls on it require
   pub record Seen (t : Table K V) (path indices : List ℕ) (up size : ℕ) (rows : List (List (LevelNode K ℕ))) (a : List (K × ℕ)) (x : K × ℕ) (b : List (K × ℕ)) (r : ℕ) : Type 0 where
@@ -99,11 +72,11 @@ module _ {K V : Type 0} where
     pub low_key_asks : (i : ℕ) → i < get_or indices up 0 → KeyAt t (get_or path up r) i
     pub key_asks : (m i : ℕ) → Counts t (get_or path up r) m → i + 1 < m → KeyAt t (get_or path up r) i
 
-  pub seen : (t : Table K V) (path indices : List ℕ) (up size : ℕ) (rows : List (List (LevelNode K ℕ))) (a : List (K × ℕ)) (x : K × ℕ)
+  pub seen : {t : Table K V} {path indices : List ℕ} {up size : ℕ} {rows : List (List (LevelNode K ℕ))} (a : List (K × ℕ)) (x : K × ℕ)
       (b : List (K × ℕ)) → Above t path indices up size rows (a ++ x ∷ b) (length a) → up < size → (r : ℕ) → length path ≡ 17 → size ≤ 17
       → Seen t path indices up size rows a x b r
-  seen t path indices up size rows a x b p low r wide height =
-      let d = spot t path indices up size rows a x b p low in
+  seen {t} {path} {indices} {up} {size} {rows} a x b p low r wide height =
+      let d = spot a x b p low in
       let es : List (K × ℕ) = d.q.l ++ x ∷ d.q.r in
       let num_is : get_or path up r ≡ get_or path up 0 = get_or_default path up r 0 (omega (arith, low, wide, height)) in
       let slot : slice_get t.nodes (get_or path up r) ≡ Some (inner_content es) = ap (λ z. slice_get t.nodes z) num_is ∙ d.f.slot_is in

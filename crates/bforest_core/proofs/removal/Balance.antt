@@ -1,7 +1,7 @@
 -- Leaves and inner nodes as stored, for the calls on two neighbours.
-use Rattle.std.proofs.Common.{◌≡◌, ℕ, suc, ◌+◌, ◌-◌, ◌/◌, ◌≤◌, ◌<◌, ◌≢◌, List, [], ◌∷◌, ◌++◌, length, slice_get, Option, Some, None, refl, sym, ap, ◌∙◌, subst, inl, inr, length-append, arith}
+use Rattle.std.proofs.Common.{true, ◌≡◌, ℕ, suc, ◌+◌, ◌-◌, ◌/◌, ◌≤◌, ◌<◌, ◌≢◌, List, [], ◌∷◌, ◌++◌, length, slice_get, Option, Some, None, refl, sym, ap, ◌∙◌, subst, inl, inr, length-append, arith}
 use Rattle.bforest_core.proofs.Words.{length-map, map-append, cases_lt, Content, Inner, Leaf, IsFree, IsSameKind, entry_count, entry_capacity, joined, IsCut, Balances, left_share, Table, with_node, IsBalancedAt, Frees}
-use Rattle.bforest_core.proofs.Words.{inner_content, leaf_content, entry_keys, entry_items}
+use Rattle.bforest_core.proofs.Words.{Bool, false, IsLeafCapacity, content_at, half_at, most_at, inner_content, leaf_content, entry_keys, entry_items}
 use Rattle.bforest_core.proofs.table.Stored.{some_same, Parts, inner_cuts, leaf_cuts}
 use Rattle.bforest_core.proofs.table.Tables.{count-same, puts}
 use Rattle.bforest_core.proofs.rows.LevelRows.{head-is}
@@ -46,6 +46,16 @@ module _ {K : Type 0} where
     cuts = λ x xs y ys q left right key e c. leaf_cuts V (x ∷ xs) y ys q left right key e c;
   }
 
+-- a leaf is half full with half of its capacity, an inner node with 4 children
+pub kind_half : {n : ℕ} (leaf : Bool) → (leaf ≡ true → IsLeafCapacity n) → IsHalf (half_at leaf n) (most_at leaf n)
+kind_half true capacity = let c = capacity refl in record { two = omega (arith, c.least); lo = omega (arith, c.odd); hi = omega (arith, c.odd) }
+kind_half false capacity = record { two = omega arith; lo = omega arith; hi = omega arith }
+
+-- leaves and inner nodes are stored
+pub kind_stored : {K V : Type 0} (n : ℕ) (leaf : Bool) → IsStored {K = K} {V = V} (content_at leaf) n (most_at leaf n)
+kind_stored n true = leaf_stored n
+kind_stored n false = inner_stored n
+
 module _ {K V X : Type 0} (content : List (K × X) → Content K V) where
   -- two slots were written
   pub record PutsTwo (t u : Table K V) (n q : ℕ) (c d : Content K V) : Type 0 where
@@ -65,7 +75,7 @@ module _ {K V X : Type 0} (content : List (K × X) → Content K V) where
         here = two.same n ne ∙ one.here;
         there = two.here;
         same = λ m a b. two.same m b ∙ one.same m a;
-        frees = frees-after t v u own own [] (λ m none. none) (frees-puts t v n c own (omega (arith, count-same n (q ∷ []))) one) (frees-puts v u q d own (omega (arith, count-same q [])) two);
+        frees = frees-after {t = t} {own = own} (λ m none. none) (frees-puts own (omega (arith, count-same n (q ∷ []))) one) (frees-puts own (omega (arith, count-same q [])) two);
       }
 
   -- both nodes were merged into the right one
@@ -87,10 +97,10 @@ module _ {K V X : Type 0} (content : List (K × X) → Content K V) where
     pub key_is : key ≡ y.0
     pub two : PutsTwo t u n q (content (x ∷ xs)) (content (y ∷ ys))
 
-  module _ (t u : Table K V) (cap most n q : ℕ) (e : K × X) (es : List (K × X)) (f : K × X) (fs : List (K × X)) (s : IsStored content cap most) (ne : n ≢ q) (two : 2 ≤ most) (fn : slice_get t.nodes n ≡ Some (content (e ∷ es))) (fq : slice_get t.nodes q ≡ Some (content (f ∷ fs))) where
+  module _ (t u : Table K V) {cap most : ℕ} (n q : ℕ) (e : K × X) (es : List (K × X)) (f : K × X) (fs : List (K × X)) (s : IsStored content cap most) (ne : n ≢ q) (two : 2 ≤ most) (fn : slice_get t.nodes n ≡ Some (content (e ∷ es))) (fq : slice_get t.nodes q ≡ Some (content (f ∷ fs))) where
     -- the balanced nodes are these two
-    balances_at : (got : Option K) (b : IsBalancedAt cap t n f.0 q got u) → Balances cap (content (e ∷ es)) f.0 (content (f ∷ fs)) got b.new_left b.new_right
-    balances_at got b =
+    balances_at : {got : Option K} (b : IsBalancedAt cap t n f.0 q got u) → Balances cap (content (e ∷ es)) f.0 (content (f ∷ fs)) got b.new_left b.new_right
+    balances_at {got} b =
         let under_is : b.under ≡ content (e ∷ es) = some_same b.under (content (e ∷ es)) (sym b.left_was ∙ fn) in
         let neighbour_is : b.neighbour ≡ content (f ∷ fs) = some_same b.neighbour (content (f ∷ fs)) (sym b.right_was ∙ fq) in
         subst (λ (z : Content K V). Balances cap (content (e ∷ es)) f.0 z got b.new_left b.new_right) neighbour_is (subst (λ (z : Content K V). Balances cap z f.0 b.neighbour got b.new_left b.new_right) under_is b.balances)
@@ -101,7 +111,7 @@ module _ {K V X : Type 0} (content : List (K × X) → Content K V) where
     -- where everything fits, balancing merges into the right node
     pub all_right_at : IsBalancedAt cap t n f.0 q None u → AllRight t u most n q (e ∷ es) (f ∷ fs)
     all_right_at b =
-        let bal = balances_at None b in
+        let bal = balances_at b in
         let full = s.capacity_is (e ∷ es) in
         let total = whole_count in
         elim (cases_lt most (length (e ∷ es) + length (f ∷ fs))) [
@@ -111,9 +121,9 @@ module _ {K V X : Type 0} (content : List (K × X) → Content K V) where
         ]
 
     -- where not everything fits, balancing shares the entries
-    pub spread_at : (key : K) → IsBalancedAt cap t n f.0 q (Some key) u → Spread t u most n q (e ∷ es) (f ∷ fs) key
-    spread_at key b =
-        let bal = balances_at (Some key) b in
+    pub spread_at : {key : K} → IsBalancedAt cap t n f.0 q (Some key) u → Spread t u most n q (e ∷ es) (f ∷ fs) key
+    spread_at {key} b =
+        let bal = balances_at b in
         let full = s.capacity_is (e ∷ es) in
         let total = whole_count in
         let both = length (e ∷ es) + length (f ∷ fs) in

@@ -95,8 +95,8 @@ module _ {K V : Type 0} where
   rows-parts slots (row ∷ rows) more i = let r = rows-parts slots rows more i.1 in ((i.0, r.0), r.1)
 
   -- no root is discarded
-  unfoldable pub trim_none : (t : Table K V) (size : ℕ) (rows : List (List (LevelNode K ℕ))) (list : List (K × ℕ)) (root : ℕ) → UpTo t size rows list root → Topped list rows → Trimmed t t size size rows list root root []
-  trim_none t size rows list root u topped = record {
+  unfoldable pub trim_none : {t : Table K V} {size : ℕ} {rows : List (List (LevelNode K ℕ))} {list : List (K × ℕ)} {root : ℕ} → UpTo t size rows list root → Topped list rows → Trimmed t t size size rows list root root []
+  trim_none {t} {rows} u topped = record {
     rows' = rows;
     discarded = [];
     rows_are = sym (append-nil rows);
@@ -112,18 +112,18 @@ module _ {K V : Type 0} where
   }
 
   -- a leaf that is the root stays
-  pub trim_leaf : (t : Table K V) (size : ℕ) (rows : List (List (LevelNode K ℕ))) (list : List (K × ℕ)) (root : ℕ) → UpTo t size rows list root → size ≡ 1 → Trimmed t t size size rows list root root []
-  trim_leaf t size [] list root u one = trim_none t size [] list root u tt
-  trim_leaf t size (row ∷ rows) list root u one = absurd (omega (arith, u.height, one))
+  pub trim_leaf : {t : Table K V} {size : ℕ} (rows : List (List (LevelNode K ℕ))) {list : List (K × ℕ)} {root : ℕ} → UpTo t size rows list root → size ≡ 1 → Trimmed t t size size rows list root root []
+  trim_leaf {t} {size} [] {list} {root} u one = trim_none u tt
+  trim_leaf (row ∷ rows) u one = absurd (omega (arith, u.height, one))
 
-  top_of_up : (t : Table K V) (size : ℕ) (rows : List (List (LevelNode K ℕ))) (list : List (K × ℕ)) (root : ℕ) → UpTo t size rows list root → size ≢ 1 → Top rows root
-  top_of_up t size [] list root u more = absurd (more (sym u.height))
-  top_of_up t size (row ∷ rows) list root u more = top_of_rows list row rows root u.stacked u.root_is
+  top_of_up : {t : Table K V} {size : ℕ} (rows : List (List (LevelNode K ℕ))) {list : List (K × ℕ)} {root : ℕ} → UpTo t size rows list root → size ≢ 1 → Top rows root
+  top_of_up [] u more = absurd (more (sym u.height))
+  top_of_up (row ∷ rows) {list} {root} u more = top_of_rows list row rows root u.stacked u.root_is
 
   -- there is a level above the leaves
-  module _ (t : Table K V) (size : ℕ) (rows : List (List (LevelNode K ℕ))) (list : List (K × ℕ)) (root : ℕ) (u : UpTo t size rows list root) (more : size ≢ 1) where
+  module _ {t : Table K V} {size : ℕ} {rows : List (List (LevelNode K ℕ))} {list : List (K × ℕ)} {root : ℕ} (u : UpTo t size rows list root) (more : size ≢ 1) where
     pub top : Top rows root
-    top = top_of_up t size rows list root u more
+    top = top_of_up rows u more
 
     whole : UpTo t size (top.init ++ (node root top.entries ∷ []) ∷ []) list root
     whole = subst (λ (z : List (List (LevelNode K ℕ))). UpTo t size z list root) top.rows_are u
@@ -152,7 +152,7 @@ module _ {K V : Type 0} where
       -- a root with two children or more stays
       pub trim_stays : 1 < n → Trimmed t t size size rows list root root []
       trim_stays two =
-          trim_none t size rows list root u (subst (λ (z : List (List (LevelNode K ℕ))). Topped list z) (sym top.rows_are) (topped-here list top.init root top.entries (omega (arith, two, count_is)) whole.stacked).1)
+          trim_none u (subst (λ (z : List (List (LevelNode K ℕ))). Topped list z) (sym top.rows_are) (topped-here list top.init root top.entries (omega (arith, two, count_is)) whole.stacked).1)
 
       -- the root has a single child
       module _ (few : n ≤ 1) where
@@ -187,8 +187,8 @@ module _ {K V : Type 0} where
           }
 
           -- the rows below the root, after further roots were discarded
-          pub trim_then : (w : Table K V) (size' root' : ℕ) (gone : List ℕ) → Trimmed v w (size - 1) size' top.init list only root' gone → Trimmed t w size size' rows list root root' (gone ++ root ∷ [])
-          trim_then w size' root' gone r =
+          pub trim_then : {w : Table K V} {size' root' : ℕ} {gone : List ℕ} → Trimmed v w (size - 1) size' top.init list only root' gone → Trimmed t w size size' rows list root root' (gone ++ root ∷ [])
+          trim_then {w} {size'} {gone} r =
               let row : List (LevelNode K ℕ) = node root top.entries ∷ [] in
               let c = λ (m : ℕ). count_top m r.discarded root top.entries in
               let d = λ (m : ℕ). count-append m gone (root ∷ []) in
@@ -206,5 +206,5 @@ module _ {K V : Type 0} where
                 root_is = r.root_is;
                 same_root = λ same. absurd (omega (arith, same, less));
                 old_root = λ ne. omega (arith, d root, count-same root []);
-                frees = frees-first t v w root (inner_content top.entries) (flat_map numbers (r.discarded ++ row ∷ [])) (flat_map numbers r.discarded) gone slot_is freed (omega (arith, c root, count-same root [])) (omega (arith, none_else.0, parts)) (λ m none. omega (arith, none, c m)) r.frees;
+                frees = frees-first t root (inner_content top.entries) (flat_map numbers (r.discarded ++ row ∷ [])) slot_is freed (omega (arith, c root, count-same root [])) (omega (arith, none_else.0, parts)) (λ m none. omega (arith, none, c m)) r.frees;
               }

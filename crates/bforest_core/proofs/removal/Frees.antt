@@ -19,8 +19,8 @@ module _ {K V : Type 0} where
   frees-refl t own = record { others = λ m z. refl; freed_are = tt; chain_is = refl; slots_are = refl; limit_is = refl }
 
   -- two changes in sequence, the second of which leaves the slots freed by the first
-  pub frees-then : (t u v : Table K V) (own wide one two : List ℕ) → ((m : ℕ) → count m own ≡ 0 → count m wide ≡ 0) → ((m : ℕ) → 0 < count m one → count m wide ≡ 0) → Frees t u own one → Frees u v wide two → Frees t v own (two ++ one)
-  frees-then t u v own wide one two less quiet p q = record {
+  pub frees-then : {t u v : Table K V} {own wide one two : List ℕ} → ((m : ℕ) → count m own ≡ 0 → count m wide ≡ 0) → ((m : ℕ) → 0 < count m one → count m wide ≡ 0) → Frees t u own one → Frees u v wide two → Frees t v own (two ++ one)
+  frees-then {t} {u} {v} {one} {two} less quiet p q = record {
     others = λ m z. q.others m (less m z) ∙ p.others m z;
     freed_are = every-join (λ (m : ℕ). IsFree (slot v.nodes m)) two one q.freed_are (free-same u.nodes v.nodes one (λ m some. q.others m (quiet m some)) p.freed_are);
     chain_is = q.chain_is ∙ ap (λ z. two ++ z) p.chain_is ∙ sym (append_assoc two one t.chain);
@@ -29,12 +29,12 @@ module _ {K V : Type 0} where
   }
 
   -- two changes in sequence, the first of which frees nothing
-  pub frees-after : (t u v : Table K V) (own wide freed : List ℕ) → ((m : ℕ) → count m own ≡ 0 → count m wide ≡ 0) → Frees t u own [] → Frees u v wide freed → Frees t v own freed
-  frees-after t u v own wide freed less p q = subst (λ (z : List ℕ). Frees t v own z) (append-nil freed) (frees-then t u v own wide [] freed less (λ m some. omega (arith, some)) p q)
+  pub frees-after : {t u v : Table K V} {own wide freed : List ℕ} → ((m : ℕ) → count m own ≡ 0 → count m wide ≡ 0) → Frees t u own [] → Frees u v wide freed → Frees t v own freed
+  frees-after {t} {u} {v} {own} {wide} {freed} less p q = subst (λ (z : List ℕ). Frees t v own z) (append-nil freed) (frees-then less (λ m some. omega (arith, some)) p q)
 
   -- a change of some slots is a change of more slots
-  pub frees-wider : (t u : Table K V) (own wide freed : List ℕ) → ((m : ℕ) → count m wide ≡ 0 → count m own ≡ 0) → Frees t u own freed → Frees t u wide freed
-  frees-wider t u own wide freed w p = record {
+  pub frees-wider : {t u : Table K V} {own : List ℕ} (wide : List ℕ) {freed : List ℕ} → ((m : ℕ) → count m wide ≡ 0 → count m own ≡ 0) → Frees t u own freed → Frees t u wide freed
+  frees-wider wide w p = record {
     others = λ m z. p.others m (w m z);
     freed_are = p.freed_are;
     chain_is = p.chain_is;
@@ -43,8 +43,8 @@ module _ {K V : Type 0} where
   }
 
   -- writing one slot frees nothing
-  pub frees-puts : (t u : Table K V) (n : ℕ) (c : Content K V) (own : List ℕ) → 0 < count n own → Puts t u n c → Frees t u own []
-  frees-puts t u n c own some p = record {
+  pub frees-puts : {t u : Table K V} {n : ℕ} {c : Content K V} (own : List ℕ) → 0 < count n own → Puts t u n c → Frees t u own []
+  frees-puts {n} own some p = record {
     others = λ m z. p.same m (λ (e : m ≡ n). let h = ap (λ w. count w own) e in omega (arith, h, z, some));
     freed_are = tt;
     chain_is = p.chain_is;
@@ -67,7 +67,7 @@ module _ {K V : Type 0} where
   }
 
   -- freeing one slot, followed by a change of others
-  pub frees-first : (t v u : Table K V) (n : ℕ) (old : Content K V) (own wide freed : List ℕ) → slice_get t.nodes n ≡ Some old → v ≡ with_freed t n → 0 < count n own → count n wide ≡ 0 →
+  pub frees-first : (t : Table K V) {v u : Table K V} (n : ℕ) (old : Content K V) (own : List ℕ) {wide freed : List ℕ} → slice_get t.nodes n ≡ Some old → v ≡ with_freed t n → 0 < count n own → count n wide ≡ 0 →
       ((m : ℕ) → count m own ≡ 0 → count m wide ≡ 0) → Frees v u wide freed → Frees t u own (freed ++ n ∷ [])
-  frees-first t v u n old own wide freed found is some none less q =
-      frees-then t v u own wide (n ∷ []) freed less (λ m here. only_here m n wide here none) (frees-one t v n old own found is some) q
+  frees-first t {v} {u} n old own {wide} {freed} found is some none less q =
+      frees-then less (λ m here. only_here m n wide here none) (frees-one t v n old own found is some) q

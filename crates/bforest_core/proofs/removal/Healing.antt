@@ -1,17 +1,15 @@
--- Restoring a tree whose leaf lost the entry on which a path stood: the answers of `heal`, `fill_leaf` and
--- `heal_alone`.
+-- Restoring a tree whose leaf lost the entry on which a path stood: the answers of `heal` and `heal_alone`.
 use Rattle.std.proofs.Common.{◌≡◌, ◌≢◌, ℕ, ◌+◌, ◌/◌, ◌≤◌, ◌<◌, List, [], ◌∷◌, ◌++◌, None, Some, ap, arith, get_or, inl, inr, length, length-append, refl, slice_get, sym, ◌∙◌}
 use Rattle.std.proofs.lemmas.List.{set-set}
 use Rattle.std.proofs.lemmas.List.Edits.{length-remove}
-use Rattle.bforest_core.proofs.Words.{nil_from_length, Content, Free, EntryTaken, HasOthers, IsSingle, IsUsed, LeafLoss, Removed, Shrinks, StandsIn, Table, Tree, count, entry_count, entry_keys, front_of, half_of, leaf_content, root_of, top_of, tree_of, with_freed, with_node, without_entry}
+use Rattle.bforest_core.proofs.Words.{nil_from_length, Content, Free, EntryTaken, HasOthers, IsSingle, IsUsed, LeafLoss, Removed, Shrinks, StandsIn, Unbalanced, Table, Tree, count, entry_keys, front_of, leaf_content, root_of, top_of, tree_of, with_freed, with_node, without_entry}
 use Rattle.bforest_core.proofs.rows.Tops.{root-stands}
-use Rattle.bforest_core.proofs.table.Tables.{is_used, puts, row-split}
-use Rattle.bforest_core.proofs.table.Stored.{read_same}
+use Rattle.bforest_core.proofs.table.Tables.{is_used, puts}
 use Rattle.bforest_core.proofs.union.Unions.{rooted}
 use Rattle.bforest_core.proofs.removal.Asked.{Counts, NodeAt}
 use Rattle.bforest_core.proofs.removal.LeafEmptied.{emptied_tree}
 use Rattle.bforest_core.proofs.removal.PastEnd.{alone_last}
-use Rattle.bforest_core.proofs.removal.Removal.{outcome, removal, shrinks, stands_in}
+use Rattle.bforest_core.proofs.removal.Removal.{outcome, removal, stands_in}
 use Rattle.bforest_core.proofs.removal.Removing.{kept_removed}
 use Rattle.bforest_core.proofs.removal.Taking.{LeafAt, alone_loss, leaf_at, leaf_count, leaf_keys, some_first}
 
@@ -19,7 +17,7 @@ use Rattle.bforest_core.proofs.removal.Taking.{LeafAt, alone_loss, leaf_at, leaf
 freed_again : {K V : Type 0} (t : Table K V) (n : ℕ) (c : Content K V) → with_freed (with_node t n c) n ≡ with_freed t n
 freed_again {K} {V} t n c = ap (λ (z : List (Content K V)). record (with_freed t n) { nodes = z }) (set-set t.nodes n c (Free (front_of t.chain)))
 
-module _ {K V : Type 0} (most : ℕ) (old now : Table K V) (root place : ℕ) (path indices : List ℕ) (size : ℕ) (e : EntryTaken most old now root place path indices size) where
+module _ {K V : Type 0} {most : ℕ} {old now : Table K V} {root place : ℕ} {path indices : List ℕ} {size : ℕ} (e : EntryTaken most old now root place path indices size) where
   abbrev tree : Tree K V
   tree = tree_of old.nodes root
 
@@ -34,7 +32,7 @@ module _ {K V : Type 0} (most : ℕ) (old now : Table K V) (root place : ℕ) (p
 
   -- the path stood in the tree
   pub stood_in : StandsIn most old path indices size tree place
-  stood_in = stands_in most old root place path indices size e.union e.stood
+  stood_in = stands_in most old e.union e.stood
 
   -- the tree had this root
   pub root_was : root_of tree ≡ root
@@ -42,10 +40,10 @@ module _ {K V : Type 0} (most : ℕ) (old now : Table K V) (root place : ℕ) (p
 
   -- the leaf of a path of one level is the root
   pub leaf_is_root : size ≡ 1 → root ≡ leaf
-  leaf_is_root one = sym root_was ∙ root-stands most tree path indices size place stood_in.fit stood_in.stands ∙ ap (λ z. top_of path z) one
+  leaf_is_root one = sym root_was ∙ root-stands stood_in.fit stood_in.stands ∙ ap (λ z. top_of path z) one
 
   d : LeafAt most old path indices size tree place
-  d = leaf_at most old path indices size tree place stood_in
+  d = leaf_at stood_in
 
   within : get_or indices 0 0 < length es
   within = omega (arith, d.index_is, length-append d.l (d.x ∷ d.r), leaf_count es (d.l ++ d.x ∷ d.r) (slice_get old.nodes leaf) e.leaf.slot_was d.slot_is)
@@ -58,8 +56,8 @@ module _ {K V : Type 0} (most : ℕ) (old now : Table K V) (root place : ℕ) (p
   leaf_used = is_used now leaf left slot_is (ap (λ z. count leaf z.chain) e.leaf.new_is ∙ d.none_chain)
 
   -- the effect of a removal from the tree on the table
-  pub settled : (new : Table K V) (Now : Tree K V → Type 0) (root' : ℕ) → Removed most old new path Now tree place root' → Shrinks most old new path root place (Some root')
-  settled new Now root' r = shrinks most old new root place path indices size Now e.union e.stood (Some root') (removal most old new root place path indices size Now e.union e.stood root' r)
+  pub settled : {new : Table K V} {Now : Tree K V → Type 0} {root' : ℕ} → Removed most old new path Now tree place root' → Shrinks most old new path root place (Some root')
+  settled {new} {Now} r = (removal most old new Now e.union e.stood r).shrinks
 
   module _ (read : ℕ) (num_is : read ≡ leaf) where
     slot_read : slice_get now.nodes read ≡ Some left
@@ -103,29 +101,27 @@ module _ {K V : Type 0} (most : ℕ) (old now : Table K V) (root place : ℕ) (p
         pub lost : LeafLoss most old v path indices size tree place
         lost = renews old tree place stood_in (others some)
 
-        left_is : m ≡ length lost.entries
-        left_is = omega (arith, count_is, lost.leaf_was es e.leaf.slot_was)
+        pub left_is : m ≡ length lost.entries
+        left_is = omega (arith, count_is, lost.was es e.leaf.slot_was)
 
         -- the tree where the leaf is still half full
         pub kept : most / 2 < m → Shrinks most old v path root place (Some root)
-        kept high = settled v (λ z. Unit {0}) root (kept_removed most old v path indices size tree place stood_in lost root root_was (λ z. Unit {0}) (inl (omega (arith, left_is, high, e.union.1.capacity.odd))) tt)
+        kept high = settled (kept_removed stood_in lost root_was (λ z. Unit {0}) (inl (omega (arith, left_is, high, e.union.1.capacity.odd))) (λ z is. tt))
 
         -- the leaf is less than half full
-        pub few : m ≤ most / 2 → (held : Content K V) → slice_get v.nodes leaf ≡ Some held → entry_count held < half_of most
-        few low held slot =
-            let here = (row-split leaf_content v.nodes lost.before _ lost.inside).1.0 in
-            omega (arith, left_is, low, e.union.1.capacity.odd, leaf_keys lost.entries, ap entry_count (read_same v.nodes leaf (leaf_content lost.entries) held here slot))
+        abbrev pub unbalanced : m ≤ most / 2 → Unbalanced most v path indices size root
+        unbalanced low = record { old = old; tree = tree; place = place; stands = stood_in; root_is = root_was; lost = lost; at_entry = λ high. absurd (omega (arith, low, high, left_is, e.union.1.capacity.odd)) }
 
       -- the tree of one leaf that has others
       pub alone_kept : size ≡ 1 → 0 < m → Shrinks most old now path root place (Some root)
       alone_kept one some =
           let s = stood_in in
-          let l = alone_loss most old path indices size tree place s leaf refl now (others (λ none. omega (arith, none, some))) (omega (arith, one)) in
-          settled now (λ z. Unit {0}) root (kept_removed most old now path indices size tree place s l root root_was (λ z. Unit {0}) (inr (alone_last most old now path indices size tree place l (omega (arith, one)))) tt)
+          let l = alone_loss s leaf refl (others (λ none. omega (arith, none, some))) (omega (arith, one)) in
+          settled (kept_removed s l root_was (λ z. Unit {0}) (inr (alone_last l (omega (arith, one)))) (λ z is. tt))
 
       -- the tree of one leaf, which had one entry
       pub alone_freed : size ≡ 1 → m ≤ 0 → (v : Table K V) → v ≡ with_freed now read → Shrinks most old v path root place None
       alone_freed one none v freed =
           let c = e.union.1.capacity in
-          let empty = emptied_tree most old path indices size c now (single (omega (arith, none))) read num_is tree place stood_in v freed one in
-          shrinks most old v root place path indices size (λ z. Unit {0}) e.union e.stood None (outcome most old v root place path indices size (λ z. Unit {0}) e.union e.stood None tt (λ is. empty))
+          let empty = emptied_tree c (single (omega (arith, none))) read num_is stood_in v freed one in
+          (outcome most old v (λ z. Unit {0}) e.union e.stood None tt (λ is. empty)).shrinks

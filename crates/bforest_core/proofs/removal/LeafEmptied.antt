@@ -1,11 +1,10 @@
 -- Removing the only entry of a leaf together with the leaf, which is the rightmost.
 use Rattle.std.proofs.Common.{◌≡◌, ◌≢◌, suc, ◌+◌, ◌≤◌, Some, List, ◌∷◌, ◌++◌, map, length, get_or, slice_get, refl, sym, ap, ◌∙◌, subst, append-nil, length-append, arith, ℕ, []}
 use Rattle.bforest_core.proofs.Words.{nil_from_length, flat_map, remove, IsLeafCapacity, Table, IsUsed, with_freed, LevelNode, node, flat, heads, sizes, numbers, FitRow, Stacked, Topped, Tree, half_of, sizes_of, loss, loss_above}
-use Rattle.bforest_core.proofs.Words.{shrink, RowIn, leaf_content, count, Distinct, root_above, root_of, numbers_of, IsPathAt, nodes_up, Above, UpTo, Trimmed, StandsIn, IsSingle, Removed, Emptied}
+use Rattle.bforest_core.proofs.Words.{shrink, RowIn, leaf_content, count, Distinct, root_above, root_of, numbers_of, IsPathAt, nodes_up, Above, LastAbove, UpTo, Trimmed, StandsIn, IsSingle, Removed, Emptied}
 use Rattle.bforest_core.proofs.rows.LevelRows.{flat-append, heads-append, sizes-append, Solid-full}
 use Rattle.bforest_core.proofs.table.Tables.{count-append, counts, count-same, row-split, row-same, ne_from_count}
 use Rattle.bforest_core.proofs.rows.Tops.{root-stands}
-use Rattle.bforest_core.proofs.removal.Asked.{LastTwo}
 use Rattle.bforest_core.proofs.removal.Merge.{loss_at}
 use Rattle.bforest_core.proofs.removal.Frees.{freed_other, frees-one, frees-first}
 use Rattle.bforest_core.proofs.removal.RemovingEmptied.{fit_solid, LastOf, last_of_solid, last_heads, above_freed, Drops}
@@ -22,10 +21,10 @@ two_leaves : {K : Type 0} (list : List (K × ℕ)) (rows : List (List (LevelNode
 two_leaves list [] topped ne = absurd (ne refl)
 two_leaves list (row ∷ rows) topped ne = topped.0
 
-module _ {K V : Type 0} (most : ℕ) (t : Table K V) (path indices : List ℕ) (size : ℕ) (capacity : IsLeafCapacity most) (p : Table K V) (alone : IsSingle t p (get_or path 0 0)) (read : ℕ) (num_is : read ≡ get_or path 0 0)
-    (tree : Tree K V) (place : ℕ) (s : StandsIn most t path indices size tree place) where
-  f : LeafAt most t path indices size tree place
-  f = leaf_at most t path indices size tree place s
+module _ {K V : Type 0} {most : ℕ} {t : Table K V} {path indices : List ℕ} {size : ℕ} (capacity : IsLeafCapacity most) {p : Table K V} (alone : IsSingle t p (get_or path 0 0)) (read : ℕ) (num_is : read ≡ get_or path 0 0)
+    {tree : Tree K V} {place : ℕ} (s : StandsIn most t path indices size tree place) where
+  pub f : LeafAt most t path indices size tree place
+  f = leaf_at s
 
   one : length (f.l ++ f.x ∷ f.r) ≡ 1
   one = leaf_count (f.l ++ f.x ∷ f.r) (alone.entry ∷ []) (slice_get t.nodes (get_or path 0 0)) f.slot_is alone.slot_was
@@ -84,22 +83,22 @@ module _ {K V : Type 0} (most : ℕ) (t : Table K V) (path indices : List ℕ) (
 
     module _ (more : size ≢ 1) where
       -- the last of the leaves before it
-      o : LastOf f.before
+      pub o : LastOf f.before
       o =
           let two = two_leaves (heads tree.leaves) tree.above s.fit.topped (λ (e : length tree.above ≡ 0). more (omega (arith, e, s.stands.size_is))) in
           last_of_solid (half_of most) most f.half f.before f.solid (omega (arith, two, heads_are, heads-flat f.before))
 
-      above_then : Above v path indices 1 size tree.above (heads o.init ++ (o.w.0, o.number) ∷ (f.x.0, get_or path 0 0) ∷ []) (suc (length (heads o.init)))
-      above_then = above_freed t v path indices 1 size (get_or path 0 0) f.before f.x tree.above o apart freed_is (subst (λ (z : List (LevelNode K V)). Above t path indices 1 size tree.above (heads z) (length (heads f.before))) row_is f.above)
+      pub above_then : Above v path indices 1 size tree.above (heads o.init ++ (o.w.0, o.number) ∷ (f.x.0, get_or path 0 0) ∷ []) (suc (length (heads o.init)))
+      above_then = above_freed v (get_or path 0 0) f.x o apart freed_is (subst (λ (z : List (LevelNode K V)). Above t path indices 1 size tree.above (heads z) (length (heads f.before))) row_is f.above)
 
       -- the rows above meet what removing the leaf's entry requires
-      pub above_asks : LastTwo v path indices 1 size
-      above_asks = (tree.above, heads o.init, (o.w.0, o.number), (f.x.0, get_or path 0 0), above_then)
+      abbrev pub above_asks : LastAbove v path indices 1 size
+      above_asks = record { rows = tree.above; before = heads o.init; y = (o.w.0, o.number); x = (f.x.0, get_or path 0 0); above = above_then }
 
       -- the rows above after the leaf's entry was removed
-      module _ (u : Table K V) (drops : (rows : List (List (LevelNode K ℕ))) (a : List (K × ℕ)) (y x : K × ℕ) → Above v path indices 1 size rows (a ++ y ∷ x ∷ []) (suc (length a)) → Drops v u path 1 size rows a y) where
+      module _ (u : Table K V) (drops : (w : LastAbove v path indices 1 size) → Drops v u path 1 size w.rows w.before w.y) where
         dropped : Drops v u path 1 size tree.above (heads o.init) (o.w.0, o.number)
-        dropped = drops tree.above (heads o.init) (o.w.0, o.number) (f.x.0, get_or path 0 0) above_then
+        dropped = drops above_asks
 
         untrimmed : Untrimmed most t u tree place f.before dropped.1.rows' (nodes_up path 0 (suc dropped.0))
         untrimmed =
@@ -107,7 +106,7 @@ module _ {K V : Type 0} (most : ℕ) (t : Table K V) (path indices : List ℕ) (
             let front : List (LevelNode K V) = f.before in
             let row : List (LevelNode K V) = front ++ node n (f.x ∷ []) ∷ [] in
             let r = dropped.1 in
-            let hs = last_heads front o in
+            let hs = last_heads o in
             let full = Solid-full (half_of most) most f.half front f.solid in
             let len : suc (length (heads o.init)) ≡ length front = omega (arith, full, ap length hs, length-append (heads o.init) ((o.w.0, o.number) ∷ [])) in
             let first : place ≡ length (flat front) + 0 = omega (arith, place_is) in
@@ -130,13 +129,13 @@ module _ {K V : Type 0} (most : ℕ) (t : Table K V) (path indices : List ℕ) (
               rows_in = r.inside;
               height = r.height;
               numbers_are = λ m. omega (arith, c0 m, c1 m, c2 m, count-append m (numbers front) (flat_map numbers r.rows'), count-append m (nodes_up path 1 dropped.0) (n ∷ []), r.numbers_are m);
-              root_is = ap (λ z. root_above z r.rows') hs ∙ r.root_is ∙ sym (root-stands most tree path indices size place s.fit s.stands);
-              frees = frees-first t v u n (leaf_content (f.l ++ f.x ∷ f.r)) (numbers_of tree) (flat_map numbers tree.above) (nodes_up path 1 dropped.0) f.slot_is freed_is (omega (arith, c0 n, c1 n, c2 n, count-same n [])) f.none_rows (λ m none. omega (arith, none, c2 m)) r.frees;
+              root_is = ap (λ z. root_above z r.rows') hs ∙ r.root_is ∙ sym (root-stands s.fit s.stands);
+              frees = frees-first t n (leaf_content (f.l ++ f.x ∷ f.r)) (numbers_of tree) f.slot_is freed_is (omega (arith, c0 n, c1 n, c2 n, count-same n [])) f.none_rows (λ m none. omega (arith, none, c2 m)) r.frees;
             }
 
         module _ (root : ℕ) (root_is : root_of tree ≡ root) where
           up : UpTo u size dropped.1.rows' (heads f.before) root
-          up = up_to most t u path indices size size tree place root f.before dropped.1.rows' (nodes_up path 0 (suc dropped.0)) s untrimmed refl root_is
+          up = up_to size root s untrimmed refl root_is
 
           -- the rows above meet what discarding roots requires
           pub collapse_asks : (rows : List (List (LevelNode K ℕ))) × (list : List (K × ℕ)) × UpTo u size rows list root
@@ -149,4 +148,4 @@ module _ {K V : Type 0} (most : ℕ) (t : Table K V) (path indices : List ℕ) (
               → Removed most t u2 path (λ z. IsPathAt path' indices' 0 z place) tree place root'
           drop_removed u2 path' indices' size2 root' trims =
               let g = trims dropped.1.rows' (heads f.before) up in
-              trimmed_removed most t u u2 path indices size tree place root f.before dropped.1.rows' (suc dropped.0) size size2 root' g.0 (λ z. IsPathAt path' indices' 0 z place) s untrimmed root_is g.1 refl place_is
+              trimmed_removed (suc dropped.0) (λ z. IsPathAt path' indices' 0 z place) s untrimmed root_is g.1 refl place_is

@@ -19,7 +19,7 @@ module _ {V : Type 0} (index : ℕ) where
   at-index P p None = tt
   at-index P p (Some v) = p
 
-module _ {K V : Type 0} (cmp : K → K → Ordering) (most : ℕ) (table : Table K V) (root leaf : ℕ) (key : K) (path indices : List ℕ) (size : ℕ) (union : IsUnion most table) (e : EndsIn cmp table root key leaf path indices size)
+module _ {K V : Type 0} {cmp : K → K → Ordering} (most : ℕ) {table : Table K V} {root leaf : ℕ} {key : K} {path indices : List ℕ} {size : ℕ} (union : IsUnion most table) (e : EndsIn cmp table root key leaf path indices size)
     (answer : Option (ℕ × V)) (new : Table K V) (answer_is : answer ≡ take_answer (leaf_content e.entries) (search_of cmp (entry_keys e.entries) key)) (new_is : new ≡ with_node table leaf (with_taken (leaf_content e.entries) (search_of cmp (entry_keys e.entries) key))) where
   abbrev es : List (K × V)
   es = e.entries
@@ -36,11 +36,11 @@ module _ {K V : Type 0} (cmp : K → K → Ordering) (most : ℕ) (table : Table
       let after : new ≡ with_node table leaf (without_entry (leaf_content es) p) = new_is ∙ ap (λ z. with_node table leaf (with_taken (leaf_content es) z)) found in
       let taken : EntryTaken most table new root at path (set indices 0 p) size = record {
         union = union;
-        stood = stands cmp most table root leaf key path indices size union e here;
+        stood = stands most union e here;
         leaf = record {
           entries = es;
-          slot_was = slot cmp most table root leaf key path indices size union e;
-          new_is = after ∙ ap (λ z. with_node table z (without_entry (leaf_content es) p)) (sym e.leaf_is) ∙ ap (λ z. with_node table (get_or path 0 0) (without_entry (leaf_content es) z)) (sym (index_is cmp most table root leaf key path indices size union e));
+          slot_was = slot most union e;
+          new_is = after ∙ ap (λ z. with_node table z (without_entry (leaf_content es) p)) (sym e.leaf_is) ∙ ap (λ z. with_node table (get_or path 0 0) (without_entry (leaf_content es) z)) (sym (index_is most union e));
         };
       } in
       record {

@@ -47,40 +47,40 @@ next_of {K} half most one (node m (x ∷ xs) ∷ after) k q cs f e =
 
 module _ {K V : Type 0} where
   -- the rows above, in a table that agrees on their slots
-  pub above_same : (t u : Table K V) (path indices : List ℕ) (up size : ℕ) (rows : List (List (LevelNode K ℕ))) (list : List (K × ℕ)) (p : ℕ) → ((m : ℕ) → 0 < count m (flat_map numbers rows) → slice_get u.nodes m ≡ slice_get t.nodes m) →
+  pub above_same : {t : Table K V} (u : Table K V) {path indices : List ℕ} {up size : ℕ} {rows : List (List (LevelNode K ℕ))} {list : List (K × ℕ)} {p : ℕ} → ((m : ℕ) → 0 < count m (flat_map numbers rows) → slice_get u.nodes m ≡ slice_get t.nodes m) →
       Distinct (flat_map numbers rows ++ u.chain) →
       Above t path indices up size rows list p → Above u path indices up size rows list p
-  above_same t u path indices up size rows list p same apart a = record { stacked = a.stacked; inside = rows-same t.nodes u.nodes rows same a.inside; stands = a.stands; height = a.height; apart = apart }
+  above_same {t} u {rows} same apart a = record { stacked = a.stacked; inside = rows-same t.nodes u.nodes rows same a.inside; stands = a.stands; height = a.height; apart = apart }
 
   -- the rows above, cut at a node of the level
-  pub headed : {X : Type 0} (t : Table K V) (path indices : List ℕ) (up size : ℕ) (before : List (LevelNode K X)) (n : ℕ)
-      (es : List (K × X)) (after : List (LevelNode K X)) (rest : List (List (LevelNode K ℕ))) (h : HeadIs n es)
+  pub headed : {X : Type 0} {t : Table K V} {path indices : List ℕ} {up size : ℕ} (before : List (LevelNode K X)) {n : ℕ}
+      {es : List (K × X)} (after : List (LevelNode K X)) {rest : List (List (LevelNode K ℕ))} (h : HeadIs n es)
       → Above t path indices up size rest (heads (before ++ node n es ∷ after)) (length (heads before)) →
       Above t path indices up size rest (heads before ++ (h.first.0, n) ∷ heads after) (length (heads before))
-  headed t path indices up size before n es after rest h p =
+  headed {t} {path} {indices} {up} {size} before {n} {es} after {rest} h p =
       subst (λ (z : List (K × ℕ)). Above t path indices up size rest z (length (heads before))) (heads-append before (node n es ∷ after) ∙ ap (λ z. heads before ++ (head_of n z ++ heads after)) h.es_is) p
 
   -- the rows above, after a write to a slot that is not theirs
-  pub above_written : (t u : Table K V) (n : ℕ) (c : Content K V) (path indices : List ℕ) (up size : ℕ) (rows : List (List (LevelNode K ℕ))) (list : List (K × ℕ)) (p : ℕ) → Puts t u n c → count n (flat_map numbers rows) ≡ 0 →
+  pub above_written : {t u : Table K V} {n : ℕ} {c : Content K V} {path indices : List ℕ} {up size : ℕ} {rows : List (List (LevelNode K ℕ))} {list : List (K × ℕ)} {p : ℕ} → Puts t u n c → count n (flat_map numbers rows) ≡ 0 →
       Above t path indices up size rows list p → Above u path indices up size rows list p
-  above_written t u n c path indices up size rows list p w none a =
-      above_same t u path indices up size rows list p (λ m some. w.same m (ne_from_count m n (flat_map numbers rows) some none))
+  above_written {t} {u} {n} {path} {indices} {up} {size} {rows} {list} {p} w none a =
+      above_same u (λ m some. w.same m (ne_from_count m n (flat_map numbers rows) some none))
       (λ m. omega (arith, a.apart m, count-append m (flat_map numbers rows) t.chain, count-append m (flat_map numbers rows) u.chain, ap (λ z. count m z) w.chain_is)) a
 
   -- without a row above, only the length of the list matters
-  pub above_top : (t : Table K V) (path indices : List ℕ) (up size : ℕ) (rows : List (List (LevelNode K ℕ))) (list list' : List (K × ℕ)) (p : ℕ) → size ≤ up → length list' ≡ length list → Above t path indices up size rows list p → Above t path indices up size rows list' p
-  above_top t path indices up size (row ∷ rows) list list' p high same a = absurd (omega (arith, a.height, high))
-  above_top t path indices up size [] list list' p high same a = record { stacked = same ∙ a.stacked; inside = tt; stands = a.stands; height = a.height; apart = a.apart }
+  pub above_top : {t : Table K V} {path indices : List ℕ} {up size : ℕ} (rows : List (List (LevelNode K ℕ))) {list : List (K × ℕ)} (list' : List (K × ℕ)) {p : ℕ} → size ≤ up → length list' ≡ length list → Above t path indices up size rows list p → Above t path indices up size rows list' p
+  above_top (row ∷ rows) list' high same a = absurd (omega (arith, a.height, high))
+  above_top [] list' high same a = record { stacked = same ∙ a.stacked; inside = tt; stands = a.stands; height = a.height; apart = a.apart }
 
   -- without a row above, the list has one element
-  pub top_one : (t : Table K V) (path indices : List ℕ) (up size : ℕ) (rows : List (List (LevelNode K ℕ))) (list : List (K × ℕ)) (p : ℕ) → size ≤ up → Above t path indices up size rows list p → length list ≡ 1
-  top_one t path indices up size (row ∷ rows) list p high a = absurd (omega (arith, a.height, high))
-  top_one t path indices up size [] list p high a = a.stacked
+  pub top_one : {t : Table K V} {path indices : List ℕ} {up size : ℕ} (rows : List (List (LevelNode K ℕ))) {list : List (K × ℕ)} {p : ℕ} → size ≤ up → Above t path indices up size rows list p → length list ≡ 1
+  top_one (row ∷ rows) high a = absurd (omega (arith, a.height, high))
+  top_one [] high a = a.stacked
 
   -- the rows above, unchanged
-  pub rebuilt_same : (u : Table K V) (path indices : List ℕ) (up size : ℕ) (rows : List (List (LevelNode K ℕ))) (list : List (K × ℕ)) (p : ℕ) → Above u path indices up size rows list p →
+  pub rebuilt_same : {u : Table K V} {path indices : List ℕ} {up size : ℕ} {rows : List (List (LevelNode K ℕ))} {list : List (K × ℕ)} {p : ℕ} → Above u path indices up size rows list p →
       Rebuilt u u path indices path indices up size rows list p (map sizes rows) []
-  rebuilt_same u path indices up size rows list p a = record {
+  rebuilt_same {u} {rows} a = record {
     rows' = rows;
     above = a;
     sizes_are = refl;
@@ -91,7 +91,7 @@ module _ {K V : Type 0} where
     same_top = refl;
   }
 
-  module _ (t : Table K V) (path indices : List ℕ) (up size : ℕ) (rows : List (List (LevelNode K ℕ))) (a : List (K × ℕ)) (x : K × ℕ) (b : List (K × ℕ)) (d : Spot t path indices up size rows a x b) where
+  module _ {t : Table K V} {path indices : List ℕ} {up size : ℕ} {rows : List (List (LevelNode K ℕ))} {a : List (K × ℕ)} {x : K × ℕ} {b : List (K × ℕ)} (d : Spot t path indices up size rows a x b) where
     -- the rows above the path's row
     pub rows_above : Above t path indices (suc up) size d.q.rest (heads (d.q.before ++ node (get_or path up 0) (d.q.l ++ x ∷ d.q.r) ∷ d.q.after)) (length (heads d.q.before))
     rows_above =
@@ -110,11 +110,11 @@ module _ {K V : Type 0} where
     place_at = omega (arith, ap length d.q.a_is, length-append (flat d.q.before) d.q.l, d.q.entry_is)
 
     -- the row with other keys, under rows above that have those keys
-    pub lifted : (v u : Table K V) (es : List (K × ℕ)) (after : List (LevelNode K ℕ)) (list rest : List (K × ℕ)) → length es ≡ length (d.q.l ++ x ∷ d.q.r) → sizes after ≡ sizes d.q.after → numbers after ≡ numbers d.q.after → es ++ flat after ≡ d.q.l ++ rest →
+    pub lifted : {v u : Table K V} (es : List (K × ℕ)) (after : List (LevelNode K ℕ)) {list : List (K × ℕ)} (rest : List (K × ℕ)) → length es ≡ length (d.q.l ++ x ∷ d.q.r) → sizes after ≡ sizes d.q.after → numbers after ≡ numbers d.q.after → es ++ flat after ≡ d.q.l ++ rest →
         list ≡ heads (d.q.before ++ node (get_or path up 0) es ∷ after) → FitRow 4 8 (node (get_or path up 0) es ∷ after) → RowIn inner_content u.nodes (d.q.before ++ node (get_or path up 0) es ∷ after) →
         Frees t u (numbers (d.q.before ++ node (get_or path up 0) (d.q.l ++ x ∷ d.q.r) ∷ d.q.after) ++ flat_map numbers d.q.rest) [] → Rebuilt v u path indices path indices (suc up) size d.q.rest list (length (heads d.q.before)) (map sizes d.q.rest) [] →
         Rebuilt t u path indices path indices up size rows (a ++ rest) (length a) (map sizes rows) []
-    lifted v u es after list rest len sizes_same numbers_same flat_is heads_are fits inside frees r =
+    lifted {u} es after rest len sizes_same numbers_same flat_is heads_are fits inside frees r =
         let q = d.q in
         let n = get_or path up 0 in
         let old : List (K × ℕ) = q.l ++ x ∷ q.r in
@@ -145,17 +145,17 @@ module _ {K V : Type 0} where
         }
 
     -- the row after writes to the rows above it alone
-    pub lifted_above : (u : Table K V) (es : List (K × ℕ)) (after : List (LevelNode K ℕ)) (list rest : List (K × ℕ)) → length es ≡ length (d.q.l ++ x ∷ d.q.r) → sizes after ≡ sizes d.q.after → numbers after ≡ numbers d.q.after → es ++ flat after ≡ d.q.l ++ rest →
+    pub lifted_above : {u : Table K V} (es : List (K × ℕ)) (after : List (LevelNode K ℕ)) {list : List (K × ℕ)} (rest : List (K × ℕ)) → length es ≡ length (d.q.l ++ x ∷ d.q.r) → sizes after ≡ sizes d.q.after → numbers after ≡ numbers d.q.after → es ++ flat after ≡ d.q.l ++ rest →
         list ≡ heads (d.q.before ++ node (get_or path up 0) es ∷ after) → FitRow 4 8 (node (get_or path up 0) es ∷ after) → RowIn inner_content t.nodes (d.q.before ++ node (get_or path up 0) es ∷ after) →
         Rebuilt t u path indices path indices (suc up) size d.q.rest list (length (heads d.q.before)) (map sizes d.q.rest) [] → Rebuilt t u path indices path indices up size rows (a ++ rest) (length a) (map sizes rows) []
-    lifted_above u es after list rest len sizes_same numbers_same flat_is heads_are fits inside r =
+    lifted_above {u} es after {list} rest len sizes_same numbers_same flat_is heads_are fits inside r =
         let q = d.q in
         let n = get_or path up 0 in
         let c = λ (m : ℕ). counts m q.before n (q.l ++ x ∷ q.r) q.after q.rest t.chain in
         let c2 = λ (m : ℕ). count-row m q.before n es after in
         let c3 = λ (m : ℕ). ap (λ z. count m (n ∷ z)) numbers_same in
-        lifted t u es after list rest len sizes_same numbers_same flat_is heads_are fits (row-same inner_content t.nodes u.nodes _ (λ m some. r.frees.others m (omega (arith, some, d.whole.apart m, c m, c2 m, c3 m))) inside)
-        (frees-wider t u (flat_map numbers q.rest) (numbers (q.before ++ node n (q.l ++ x ∷ q.r) ∷ q.after) ++ flat_map numbers q.rest) [] (λ m none. omega (arith, none, c m)) r.frees) r
+        lifted es after rest len sizes_same numbers_same flat_is heads_are fits (row-same inner_content t.nodes u.nodes _ (λ m some. r.frees.others m (omega (arith, some, d.whole.apart m, c m, c2 m, c3 m))) inside)
+        (frees-wider (numbers (q.before ++ node n (q.l ++ x ∷ q.r) ∷ q.after) ++ flat_map numbers q.rest) (λ m none. omega (arith, none, c m)) r.frees) r
 
     -- the row after a write of the key before an entry of the node
     pub renamed : (u : Table K V) (p : List (K × ℕ)) (y : K × ℕ) (s : List (K × ℕ)) (e : ℕ) (key : K) (rest : List (K × ℕ)) → d.q.l ++ x ∷ d.q.r ≡ p ++ y ∷ s → suc e ≡ length p → u ≡ with_node t (get_or path up 0) (with_key (inner_content (d.q.l ++ x ∷ d.q.r)) e key) →
@@ -168,9 +168,9 @@ module _ {K V : Type 0} where
         let w = puts t u n (inner_content es) (inner_content old) d.f.slot_is (u_is ∙ ap (λ z. with_node t n z) (ap (λ z. with_key (inner_content z) e key) es_is ∙ with_key_is p y s e key p_is)) in
         let len : length es ≡ length old = omega (arith, ap length es_is, length-append p (y ∷ s), length-append p ((key, y.1) ∷ s)) in
         let head : head_of n old ≡ head_of n es = ap (λ z. head_of n z) es_is ∙ head-kept n p (y ∷ s) ((key, y.1) ∷ s) (omega (arith, p_is)) in
-        let above = above_written t u n (inner_content es) path indices (suc up) size q.rest (heads (q.before ++ node n old ∷ q.after)) (length (heads q.before)) w d.f.none_rest rows_above in
-        lifted u u es q.after (heads (q.before ++ node n old ∷ q.after)) rest len refl refl flat_is
+        let above = above_written w d.f.none_rest rows_above in
+        lifted es q.after rest len refl refl flat_is
         (heads-put q.before n old es q.after head) (omega (arith, d.f.fit.0, len), omega (arith, d.f.fit.1, len), d.f.fit.2)
         (row-put inner_content t.nodes u.nodes q.before n old es q.after d.f.inside w.same w.here d.f.none)
-        (frees-puts t u n (inner_content es) (numbers (q.before ++ node n old ∷ q.after) ++ flat_map numbers q.rest) (let c = counts n q.before n old q.after q.rest t.chain in omega (arith, c, count-same n (numbers q.after))) w)
-        (rebuilt_same u path indices (suc up) size q.rest (heads (q.before ++ node n old ∷ q.after)) (length (heads q.before)) above)
+        (frees-puts (numbers (q.before ++ node n old ∷ q.after) ++ flat_map numbers q.rest) (let c = counts n q.before n old q.after q.rest t.chain in omega (arith, c, count-same n (numbers q.after))) w)
+        (rebuilt_same above)

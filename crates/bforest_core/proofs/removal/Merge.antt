@@ -1,11 +1,10 @@
 -- Removing an entry from a level, in `shrink` and in the rows: its row is rebalanced, then those above.
 use Rattle.std.proofs.Common.{◌≡◌, ℕ, zero, suc, ◌+◌, ◌-◌, ◌≤◌, ◌<◌, Option, None, true, false, Bool, if◌then◌else◌, option_map, List, [], ◌∷◌, ◌++◌, map, length, get_or, Some, refl, sym, ap, ◌∙◌, subst, append_assoc, length-append, arith}
 use Rattle.std.proofs.lemmas.Bool.{lt-ltb, le-ltb}
-use Rattle.bforest_core.proofs.Words.{loss, past, flat_map, Content, Table, LevelNode, node, flat, heads, head_of, sizes, numbers, FitRow, rebalanced, loss_above, RowIn, inner_content, count, Distinct, nodes_up, Above, SameBelow, top_of, Frees, Rebuilt, Loosened, Healed, Joined}
-use Rattle.bforest_core.proofs.rows.LevelRows.{flat-append, heads-append, sizes-append, FitRow-split, Solid-full, least-pos}
+use Rattle.bforest_core.proofs.Words.{loss, past, flat_map, Content, Table, LevelNode, node, flat, heads, head_of, sizes, numbers, FitRow, rebalanced, loss_above, RowIn, inner_content, count, nodes_up, Above, TwoAbove, SameBelow, top_of, Frees, Rebuilt, Loosened, Healed, Joined, Loses, least, false≢true}
+use Rattle.bforest_core.proofs.rows.LevelRows.{flat-append, heads-append, sizes-append, FitRow-join, FitRow-split, Solid-full, least-pos}
 use Rattle.bforest_core.proofs.table.Tables.{count-append, count-same, count-row, counts, row-same}
 use Rattle.bforest_core.proofs.rows.Zipper.{stands_here}
-use Rattle.bforest_core.proofs.removal.Asked.{MergeAbove}
 use Rattle.bforest_core.proofs.removal.Frees.{only_here, frees-then, frees-after, frees-wider}
 
 -- the index of the node after `k` others, if it is removed
@@ -30,12 +29,23 @@ loss_at {K} {X} q (node k fs ∷ before) m e after low =
     let ih = loss_at {K = K} {X = X} q before m e after low in
     rw (len, a, s) (ap (λ z. past (length fs) z) ih ∙ ap (λ z. (z, length fs ∷ (sizes before ++ (rebalanced q m after).1))) (one_placed (length before) (rebalanced q m after).0))
 
+-- the levels after a removal at a place of the lowest, whose nodes have at most `q` entries
+abbrev pub lost : ℕ → ℕ → List (List ℕ) → List (List ℕ)
+lost q place [] = []
+lost q place (level ∷ levels) = (loss q place level).1 ∷ loss_above (loss q place level).0 levels
+
+-- a level of inner nodes is one of those above another
+pub lost_above : (place : ℕ) (levels : List (List ℕ)) → lost 8 place levels ≡ loss_above (Some place) levels
+lost_above place [] = refl
+lost_above place (level ∷ levels) = refl
+
 -- a removal in one level, for a known outcome of its rebalancing
-pub loss_level : {K X : Type 0} (q : ℕ) (before : List (LevelNode K X)) (m e p : ℕ) (after : List ℕ) (levels all : List (List ℕ)) → all ≡ (sizes before ++ suc m ∷ after) ∷ levels → e ≤ m → p ≡ length (flat before) + e → q ≡ 8 →
-    loss_above (Some p) all ≡ (sizes before ++ (rebalanced q m after).1) ∷ loss_above (placed (length before) (rebalanced q m after).0) levels
-loss_level q before m e p after levels all all_is low p_is q_is =
+pub loss_level : {K X : Type 0} (q : ℕ) (before : List (LevelNode K X)) (m e p : ℕ) (after : List ℕ) (levels all : List (List ℕ)) → all ≡ (sizes before ++ suc m ∷ after) ∷ levels
+    → e ≤ m → p ≡ length (flat before) + e
+    → lost q p all ≡ (sizes before ++ (rebalanced q m after).1) ∷ loss_above (placed (length before) (rebalanced q m after).0) levels
+loss_level q before m e p after levels all all_is low p_is =
     let l = loss_at q before m e after (omega (arith, low)) in
-    ap (λ z. loss_above (Some p) z) all_is ∙ rw (p_is, ← q_is) (ap (λ z. z.1 ∷ loss_above z.0 levels) l)
+    ap (λ z. lost q p z) all_is ∙ rw p_is (ap (λ z. z.1 ∷ loss_above z.0 levels) l)
 
 -- two paths that agree from a level up have the same nodes there
 pub nodes_up-same : (path path' : List ℕ) (level count : ℕ) → ((i : ℕ) → level ≤ i → get_or path' i 0 ≡ get_or path i 0) → nodes_up path' level count ≡ nodes_up path level count
@@ -43,111 +53,183 @@ nodes_up-same path path' level zero same = refl
 nodes_up-same path path' level (suc count) same =
     ap (λ z. z ++ get_or path' level 0 ∷ []) (nodes_up-same path path' (suc level) count (λ i above. same i (omega (arith, above)))) ∙ ap (λ z. nodes_up path (suc level) count ++ z ∷ []) (same level (omega arith))
 
--- a rebalanced level and the rows above it, as stored in the table, where nodes of these numbers were freed
-pub record Settled {K V X : Type 0} (content : List (K × X) → Content K V) (half most : ℕ) (t v : Table K V) (path' indices' : List ℕ) (up size : ℕ) (before : List (LevelNode K X)) (n : ℕ) (es : List (K × X)) (after : List (LevelNode K X)) (rest : List (List (LevelNode K ℕ)))
-    (front row : List (LevelNode K X)) (rows : List (List (LevelNode K ℕ))) (freed : List ℕ) : Type 0 where
-  pub list_is : flat row ≡ flat (before ++ node n es ∷ after)
+-- a level that lost an entry is rebalanced, with the rows above it: its entries are `list`, nodes of these numbers
+-- were freed, and the path goes through one of its nodes
+pub record Restored {K V X : Type 0} (content : List (K × X) → Content K V) (half most : ℕ) (old new : Table K V) (path indices : List ℕ) (level size : ℕ)
+    (were : List (List ℕ)) (own : List ℕ) (list : List (K × X)) (place : ℕ) (freed : List ℕ) : Type 0 where
+  pub row : List (LevelNode K X)
+  pub front : List (LevelNode K X)
+  pub entries : List (K × X)
+  pub after : List (LevelNode K X)
+  pub rows : List (List (LevelNode K ℕ))
+  pub row_is : row ≡ front ++ node (get_or path level 0) entries ∷ after
+  pub list_is : flat row ≡ list
   pub fit : FitRow half most row
-  pub inside : RowIn content v.nodes row
-  pub above : Above v path' indices' (suc up) size rows (heads row) (length (heads front))
-  pub sizes_are : sizes row ∷ map sizes rows ≡ (sizes before ++ (rebalanced most (length es) (sizes after)).1) ∷ loss_above (placed (length before) (rebalanced most (length es) (sizes after)).0) (map sizes rest)
-  pub numbers_are : (m : ℕ) → count m (numbers row ++ flat_map numbers rows) + count m freed ≡ count m (numbers (before ++ node n es ∷ after) ++ flat_map numbers rest)
-  pub frees : Frees t v (numbers (before ++ node n es ∷ after) ++ flat_map numbers rest) freed
+  pub inside : RowIn content new.nodes row
+  pub above : Above new path indices (suc level) size rows (heads row) (length (heads front))
+  pub sizes_are : sizes row ∷ map sizes rows ≡ lost most place were
+  pub numbers_are : (m : ℕ) → count m (numbers row ++ flat_map numbers rows) + count m freed ≡ count m own
+  pub frees : Frees old new own freed
+  pub place_is : place ≡ length (flat front) + get_or indices level 0
 
-module _ {K V X : Type 0} (content : List (K × X) → Content K V) (half most : ℕ) (t : Table K V) (path indices : List ℕ) (up size : ℕ) (before : List (LevelNode K X)) (n : ℕ) (es : List (K × X)) (after : List (LevelNode K X)) (rest : List (List (LevelNode K ℕ))) where
+module _ {K V X : Type 0} {content : List (K × X) → Content K V} {half most : ℕ} {old mid : Table K V} {path indices : List ℕ} {level size : ℕ}
+    {were : List (List ℕ)} {own : List ℕ} {list : List (K × X)} {place : ℕ} (l : Loosened content half most old mid path indices level size were own list place) where
+  -- the level is rebalanced, and the path stands in it, where an entry follows
+  abbrev pub Restores : Table K V → List ℕ → List ℕ → List ℕ → Type 0
+  Restores new path' indices' freed =
+      (r : Restored content half most old new path' indices' level size were own list place freed) × (place < length list → get_or indices' level 0 < length r.entries)
+
+  abbrev n : ℕ
+  n = get_or path level 0
+
+  -- an entry follows the path's place
+  pub low : place < length list → get_or indices level 0 < length (l.entries ++ flat l.after)
+  low some = omega (arith, some, ap length l.list_is, ap length (flat-append l.before (node n l.entries ∷ l.after)), length-append (flat l.before) (l.entries ++ flat l.after), l.place_is)
+
+  abbrev outcome : Bool × List ℕ
+  outcome = rebalanced most (length l.entries) (sizes l.after)
+
+  pub lost_is : lost most place were ≡ (sizes l.before ++ outcome.1) ∷ loss_above (placed (length l.before) outcome.0) (map sizes l.rest)
+  lost_is = loss_level most l.before (length l.entries) (get_or indices level 0) place (sizes l.after) (map sizes l.rest) were l.sizes_were l.on_level.entry_was l.place_is
+
+  -- the sizes, for a known outcome of the rebalancing
+  pub sizes_by : (o : Bool × List ℕ) → outcome ≡ o → (sizes l.before ++ o.1) ∷ loss_above (placed (length l.before) o.0) (map sizes l.rest) ≡ lost most place were
+  sizes_by o is = ap (λ z. (sizes l.before ++ z.1) ∷ loss_above (placed (length l.before) z.0) (map sizes l.rest)) (sym is) ∙ sym lost_is
+
+  -- a level whose node is half full or the last stays
+  abbrev pub kept_restored : outcome ≡ (false, length l.entries ∷ sizes l.after) → least half l.after ≤ length l.entries → Restored content half most old mid path indices level size were own list place []
+  kept_restored same enough = record {
+    row = l.before ++ node n l.entries ∷ l.after;
+    front = l.before;
+    entries = l.entries;
+    after = l.after;
+    rows = l.rest;
+    row_is = refl;
+    list_is = l.list_is;
+    fit = FitRow-join half most l.before (node n l.entries) l.after l.on_level.solid (enough, l.on_level.most_is, l.on_level.fits);
+    inside = l.on_level.inside;
+    above = l.on_level.above;
+    sizes_are = ap (λ z. z ∷ map sizes l.rest) (sizes-append l.before (node n l.entries ∷ l.after)) ∙ sizes_by _ same;
+    numbers_are = λ m. omega (arith, l.numbers_are m);
+    frees = l.frees;
+    place_is = l.place_is;
+  }
+
   -- a level whose node stays is rebalanced
-  pub healed_settled : (v : Table K V) (path' indices' : List ℕ)
-      (h : Healed content half most t v path indices path' indices' up size before n es after rest)
-      → Settled content half most t v path' indices' up size before n es after rest h.before'
-      (h.before' ++ node h.number' h.entries' ∷ h.after') h.rest' []
-  healed_settled v path' indices' h =
-      let s = rebalanced most (length es) (sizes after) in
-      record {
-        list_is = h.list_is;
-        fit = h.fit;
-        inside = h.inside;
-        above = h.above;
-        sizes_are = ap (λ z. z ∷ map sizes h.rest') h.sizes_are ∙ ap (λ z. (sizes before ++ s.1) ∷ z) h.rest_sizes ∙ sym (ap (λ z. (sizes before ++ s.1) ∷ loss_above (placed (length before) z) (map sizes rest)) h.stays);
-        numbers_are = λ m. omega (arith, counts m before n es after rest t.chain, counts m h.before' h.number' h.entries' h.after' h.rest' v.chain, ap (λ z. count m z) h.row_numbers, h.rest_numbers m);
-        frees = h.frees;
-      }
+  abbrev pub healed_restored : {new : Table K V} {path' indices' : List ℕ} → Healed content half most mid new path indices path' indices' level size l.before n l.entries l.after l.rest → Restores new path' indices' []
+  healed_restored {new} h = (
+    record {
+      row = h.before' ++ node h.number' h.entries' ∷ h.after';
+      front = h.before';
+      entries = h.entries';
+      after = h.after';
+      rows = h.rest';
+      row_is = ap (λ z. h.before' ++ node z h.entries' ∷ h.after') (sym h.number_is);
+      list_is = h.list_is ∙ l.list_is;
+      fit = h.fit;
+      inside = h.inside;
+      above = h.above;
+      sizes_are = ap (λ z. z ∷ map sizes h.rest') h.sizes_are ∙ ap (λ z. (sizes l.before ++ outcome.1) ∷ z) h.rest_sizes
+          ∙ ap (λ z. (sizes l.before ++ outcome.1) ∷ loss_above (placed (length l.before) z) (map sizes l.rest)) (sym h.stays) ∙ sym lost_is;
+      numbers_are = λ m. omega (arith, counts m l.before n l.entries l.after l.rest mid.chain, counts m h.before' h.number' h.entries' h.after' h.rest' new.chain, ap (λ z. count m z) h.row_numbers, h.rest_numbers m, l.numbers_are m);
+      frees = frees-after (λ m none. omega (arith, none, l.numbers_are m)) l.frees h.frees;
+      place_is = omega (arith, l.place_is, h.place_is);
+    },
+    λ some. h.within (low some),
+  )
 
-  module _ (w : Table K V) (path1 indices1 : List ℕ) (j : Joined content half most t w path indices path1 indices1 up size before n es after rest) where
+  module _ {w : Table K V} {path1 indices1 : List ℕ} (j : Joined content half most mid w path indices path1 indices1 level size l.before n l.entries l.after l.rest) where
     -- the rows above meet what removing a merged node's entry requires; level and size are as in the code
-    pub merge_asks : (up' size' : ℕ) → up' ≡ suc up → size' ≡ size → MergeAbove w path1 indices1 up' size'
-    merge_asks up' size' up_is size_is = (rest, heads before, j.first.0, n, j.key, j.right, heads j.after', rw (up_is, size_is) j.above)
+    abbrev pub merge_asks : (up' size' : ℕ) → up' ≡ suc level → size' ≡ size → TwoAbove w path1 indices1 up' size'
+    merge_asks up' size' up_is size_is = record { rows = l.rest; before = heads l.before; x = (j.first.0, n); y = (j.key, j.right); after = heads j.after'; above = rw (up_is, size_is) j.above }
 
     -- a level is rebalanced once the rows above lost the entry of a merged node
-    pub joined_settled : (v : Table K V) (path' indices' freed : List ℕ) (r : Rebuilt w v path1 indices1 path' indices' (suc up) size rest (heads before ++ (j.first.0, j.right) ∷ heads j.after') (length (heads before)) (loss_above (Some (length (heads before))) (map sizes rest)) freed) →
-        Distinct ((numbers (before ++ node n es ∷ after) ++ flat_map numbers rest) ++ t.chain) → length (heads before) ≡ length before
-        → Settled content half most t v path' indices' up size before n es after rest before
-        (before ++ node j.right (es ++ j.right_entries) ∷ j.after') r.rows' (freed ++ n ∷ [])
-    joined_settled v path' indices' freed r apart full =
-        let both : List (K × X) = es ++ j.right_entries in
-        let row : List (LevelNode K X) = before ++ node j.right both ∷ j.after' in
-        let own : List ℕ = numbers (before ++ node n es ∷ after) ++ flat_map numbers rest in
-        let c = λ (m : ℕ). counts m before n es after rest t.chain in
+    pub joined_restored : {new : Table K V} {path' indices' freed : List ℕ} (r : Rebuilt w new path1 indices1 path' indices' (suc level) size l.rest (heads l.before ++ (j.first.0, j.right) ∷ heads j.after') (length (heads l.before))
+        (loss_above (Some (length (heads l.before))) (map sizes l.rest)) freed) → 1 ≤ half → Restores new path' indices' (freed ++ n ∷ [])
+    joined_restored {new} {path'} {indices'} {freed} r one =
+        let both : List (K × X) = l.entries ++ j.right_entries in
+        let row : List (LevelNode K X) = l.before ++ node j.right both ∷ j.after' in
+        let own1 : List ℕ = numbers (l.before ++ node n l.entries ∷ l.after) ++ flat_map numbers l.rest in
+        let p = l.on_level in
+        let full = Solid-full half most one l.before p.solid in
+        let c = λ (m : ℕ). counts m l.before n l.entries l.after l.rest mid.chain in
         let c0 = λ (m : ℕ). ap (λ z. count m (n ∷ numbers z)) j.after_is in
-        let list : heads before ++ (j.first.0, j.right) ∷ heads j.after' ≡ heads row = sym (heads-append before (node j.right both ∷ j.after') ∙ ap (λ z. heads before ++ (head_of j.right (z ++ j.right_entries) ++ heads j.after')) j.entries_are) in
-        record {
-          list_is = flat-append before (node j.right both ∷ j.after') ∙ ap (λ z. flat before ++ z) (append_assoc es j.right_entries (flat j.after')) ∙ sym (flat-append before (node n es ∷ node j.right j.right_entries ∷ j.after')) ∙ ap (λ z. flat (before ++ node n es ∷ z)) (sym j.after_is);
-          fit = j.fit;
-          inside = row-same content w.nodes v.nodes row (λ m more. r.frees.others m (omega (arith, more, apart m, c0 m, c m, count-row m before j.right both j.after'))) j.inside;
-          above = subst (λ (z : List (K × ℕ)). Above v path' indices' (suc up) size r.rows' z (length (heads before))) list r.above;
-          sizes_are = ap (λ z. z ∷ map sizes r.rows') (sizes-append before (node j.right both ∷ j.after')) ∙ ap (λ z. (sizes before ++ length both ∷ sizes j.after') ∷ z) (r.sizes_are ∙ ap (λ z. loss_above (Some z) (map sizes rest)) full)
-              ∙ sym (ap (λ z. (sizes before ++ z.1) ∷ loss_above (placed (length before) z.0) (map sizes rest)) j.outcome);
-          numbers_are = λ m. omega (arith, r.numbers_are m, c0 m, c m, counts m before j.right both j.after' r.rows' v.chain, count-append m freed (n ∷ []));
-          frees = frees-then t w v own (flat_map numbers rest) (n ∷ []) freed (λ m none. omega (arith, none, c m)) (λ m here. only_here m n (flat_map numbers rest) here (omega (arith, apart n, c n, count-same n (numbers after))))
-              (frees-wider t w (numbers (before ++ node n es ∷ after)) own (n ∷ []) (λ m none. omega (arith, none, c m)) j.frees) r.frees;
-        }
+        let list_is : heads l.before ++ (j.first.0, j.right) ∷ heads j.after' ≡ heads row = sym (heads-append l.before (node j.right both ∷ j.after') ∙ ap (λ z. heads l.before ++ (head_of j.right (z ++ j.right_entries) ++ heads j.after')) j.entries_are) in
+        let e_is : get_or indices' level 0 ≡ get_or indices level 0 = r.entries_below level (omega arith) ∙ j.entry_is in
+        let fits : FitRow half most (node j.right j.right_entries ∷ j.after') = subst (λ (z : List (LevelNode K X)). FitRow half most z) j.after_is p.fits in
+        let left : Frees mid new own1 (freed ++ n ∷ []) = frees-then (λ m none. omega (arith, none, c m)) (λ m here. only_here m n (flat_map numbers l.rest) here (omega (arith, p.apart n, c n, count-same n (numbers l.after))))
+        (frees-wider own1 (λ m none. omega (arith, none, c m)) j.frees) r.frees in (
+          record {
+            row = row;
+            front = l.before;
+            entries = both;
+            after = j.after';
+            rows = r.rows';
+            row_is = ap (λ z. l.before ++ node z both ∷ j.after') (sym (r.nodes_below level (omega arith) ∙ j.number_is));
+            list_is = flat-append l.before (node j.right both ∷ j.after') ∙ ap (λ z. flat l.before ++ z) (append_assoc l.entries j.right_entries (flat j.after')) ∙ sym (flat-append l.before (node n l.entries ∷ node j.right j.right_entries ∷ j.after'))
+                ∙ ap (λ z. flat (l.before ++ node n l.entries ∷ z)) (sym j.after_is) ∙ l.list_is;
+            fit = j.fit;
+            inside = row-same content w.nodes new.nodes row (λ m more. r.frees.others m (omega (arith, more, p.apart m, c0 m, c m, count-row m l.before j.right both j.after'))) j.inside;
+            above = subst (λ (z : List (K × ℕ)). Above new path' indices' (suc level) size r.rows' z (length (heads l.before))) list_is r.above;
+            sizes_are = ap (λ z. z ∷ map sizes r.rows') (sizes-append l.before (node j.right both ∷ j.after'))
+                ∙ ap (λ z. (sizes l.before ++ length both ∷ sizes j.after') ∷ z) (r.sizes_are ∙ ap (λ z. loss_above (Some z) (map sizes l.rest)) full) ∙ sizes_by _ j.outcome;
+            numbers_are = λ m. omega (arith, r.numbers_are m, c0 m, c m, counts m l.before j.right both j.after' r.rows' new.chain, count-append m freed (n ∷ []), l.numbers_are m);
+            frees = frees-after (λ m none. omega (arith, none, l.numbers_are m)) l.frees left;
+            place_is = omega (arith, l.place_is, e_is);
+          },
+          λ some. omega (arith, e_is, p.entry_was, length-append l.entries j.right_entries, fits.0, least-pos half one j.after'),
+        )
 
-module _ {K V : Type 0} (t u v : Table K V) (path indices path' indices' : List ℕ) (up size : ℕ) (rows : List (List (LevelNode K ℕ))) (hs : List (K × ℕ)) (p : ℕ) (l : Loosened t u path indices up size rows hs p) where
-  -- the rebalanced level and the rows above it
-  merged : (front : List (LevelNode K ℕ)) (m : ℕ) (es : List (K × ℕ)) (back : List (LevelNode K ℕ)) (rest : List (List (LevelNode K ℕ)))
-      (freed : List ℕ) → Settled inner_content 4 8 u v path' indices' up size l.before (get_or path up 0) l.entries l.after l.rest front
-      (front ++ node m es ∷ back) rest freed →
-      get_or path' up 0 ≡ m → get_or indices' up 0 < length es
-      → length (flat front) + get_or indices' up 0 ≡ length (flat l.before) + get_or indices up 0 → SameBelow up path path'
-      → SameBelow up indices indices' → top_of path' size ≡ top_of path size
+module _ {K V : Type 0} {t u : Table K V} {path indices : List ℕ} {up size : ℕ} (rows : List (List (LevelNode K ℕ))) {hs : List (K × ℕ)} {p : ℕ}
+    (l : Loosened inner_content 4 8 t u path indices up size (map sizes rows) (flat_map numbers rows) hs p) (at : p < length hs) where
+  -- the node that lost an entry, as rebalancing it requires it
+  abbrev pub loses_child : (n : ℕ) → Loses n 4 u path indices up size
+  loses_child n = record { leaf = false; capacity = λ is. absurd (false≢true is); least_is = refl; before = l.before; entries = l.entries; after = l.after; rest = l.rest; on = l.on_level; at_entry = λ some. low l at }
+
+  -- the rebalanced level is one of the rows
+  rebuilt : {v : Table K V} {path' indices' freed : List ℕ} → Restores l v path' indices' freed → SameBelow up path path' → SameBelow up indices indices' → top_of path' size ≡ top_of path size
       → Rebuilt t v path indices path' indices' up size rows hs p (loss_above (Some p) (map sizes rows)) freed
-  merged front m es back rest freed k m_is within place below below_too top =
-      let row : List (LevelNode K ℕ) = front ++ node m es ∷ back in
-      let own : List ℕ = numbers (l.before ++ node (get_or path up 0) l.entries ∷ l.after) ++ flat_map numbers l.rest in
+  rebuilt {v} {path'} {indices'} {freed} restored below below_too top =
+      let r = restored.0 in
+      let n' = get_or path' up 0 in
+      let solid = (FitRow-split 4 8 r.front (node n' r.entries) r.after (subst (λ (z : List (LevelNode K ℕ)). FitRow 4 8 z) r.row_is r.fit)).0 in
       record {
-        rows' = row ∷ rest;
+        rows' = r.row ∷ r.rows;
         above = record {
-          stacked = (k.list_is ∙ l.list_is, k.fit, k.above.stacked);
-          inside = (k.inside, k.above.inside);
-          stands = stands_here path' indices' up row front m (get_or indices' up 0) es back rest p (FitRow-split 4 8 front (node m es) back k.fit).0 refl m_is refl within (l.place_is ∙ sym place) k.above.stands;
-          height = omega (arith, k.above.height);
-          apart = λ i. omega (arith, l.on_level.apart i, k.numbers_are i, count-append i own u.chain, count-append i (numbers row ++ flat_map numbers rest) v.chain, ap (λ z. count i z) k.frees.chain_is, count-append i freed u.chain);
+          stacked = (r.list_is, r.fit, r.above.stacked);
+          inside = (r.inside, r.above.inside);
+          stands = stands_here path' indices' up r.row r.front n' (get_or indices' up 0) r.entries r.after r.rows p solid r.row_is refl refl (restored.1 at) r.place_is r.above.stands;
+          height = omega (arith, r.above.height);
+          apart = λ i. omega (
+            arith,
+            l.on_level.apart i,
+            l.numbers_are i,
+            r.numbers_are i,
+            count-append i (numbers (l.before ++ node (get_or path up 0) l.entries ∷ l.after) ++ flat_map numbers l.rest) u.chain,
+            count-append i (numbers r.row ++ flat_map numbers r.rows) v.chain,
+            ap (λ z. count i z) r.frees.chain_is,
+            ap (λ z. count i z) l.frees.chain_is,
+            count-append i freed t.chain,
+          );
         };
-        sizes_are = k.sizes_are ∙ sym (loss_level 8 l.before (length l.entries) (get_or indices up 0) p (sizes l.after) (map sizes l.rest) (map sizes rows) l.sizes_were l.on_level.entry_was l.place_is refl);
-        numbers_are = λ i. omega (arith, k.numbers_are i, l.numbers_are i);
-        frees = frees-after t u v (flat_map numbers rows) own freed (λ i none. omega (arith, none, l.numbers_are i)) l.frees k.frees;
+        sizes_are = r.sizes_are ∙ lost_above p (map sizes rows);
+        numbers_are = r.numbers_are;
+        frees = r.frees;
         nodes_below = below;
         entries_below = below_too;
         same_top = top;
       }
 
   -- where the node stays, the level above stays too
-  pub merge_healed : Healed inner_content 4 8 u v path indices path' indices' up size l.before (get_or path up 0) l.entries l.after l.rest → Rebuilt t v path indices path' indices' up size rows hs p (loss_above (Some p) (map sizes rows)) []
-  merge_healed h =
-      let k = healed_settled inner_content 4 8 u path indices up size l.before (get_or path up 0) l.entries l.after l.rest v path' indices' h in
-      merged h.before' h.number' h.entries' h.after' h.rest' [] k h.number_is h.within h.place_is h.nodes_below h.entries_below h.same_top
+  pub merge_healed : {v : Table K V} {path' indices' : List ℕ} → Healed inner_content 4 8 u v path indices path' indices' up size l.before (get_or path up 0) l.entries l.after l.rest
+      → Rebuilt t v path indices path' indices' up size rows hs p (loss_above (Some p) (map sizes rows)) []
+  merge_healed h = rebuilt (healed_restored l h) h.nodes_below h.entries_below h.same_top
 
   -- where two nodes of the level merge, the level above loses an entry; level and size are as in the code
-  pub merge_joined : (w : Table K V) (path1 indices1 : List ℕ) (up' size' : ℕ) → (j : Joined inner_content 4 8 u w path indices path1 indices1 up size l.before (get_or path up 0) l.entries l.after l.rest) → up' ≡ suc up → size' ≡ size → (levels : ℕ) →
+  pub merge_joined : {v w : Table K V} {path1 indices1 path' indices' : List ℕ} (up' size' : ℕ) → (j : Joined inner_content 4 8 u w path indices path1 indices1 up size l.before (get_or path up 0) l.entries l.after l.rest) → up' ≡ suc up → size' ≡ size → (levels : ℕ) →
       Rebuilt w v path1 indices1 path' indices' up' size' l.rest (heads l.before ++ (j.first.0, j.right) ∷ heads j.after') (length (heads l.before)) (loss_above (Some (length (heads l.before))) (map sizes l.rest)) (nodes_up path1 up' levels) →
       Rebuilt t v path indices path' indices' up size rows hs p (loss_above (Some p) (map sizes rows)) (nodes_up path up (suc levels))
-  merge_joined w path1 indices1 up' size' j up_is size_is levels rebuilt =
-      let n = get_or path up 0 in
-      let freed = nodes_up path (suc up) levels in
+  merge_joined {path1} up' size' j up_is size_is levels again =
       let same = nodes_up-same path path1 (suc up) levels (λ i above. j.nodes_above i (omega (arith, above))) in
-      let r = rw (up_is, size_is, same) at rebuilt in
-      let fits : FitRow 4 8 (node j.right j.right_entries ∷ j.after') = subst (λ (z : List (LevelNode K ℕ)). FitRow 4 8 z) j.after_is l.on_level.fits in
-      let k = joined_settled inner_content 4 8 u path indices up size l.before n l.entries l.after l.rest w path1 indices1 j v path' indices' freed r l.on_level.apart (Solid-full 4 8 (omega arith) l.before l.on_level.solid) in
-      let e = r.entries_below up (omega arith) ∙ j.entry_is in
-      let within : get_or indices' up 0 < length (l.entries ++ j.right_entries) = omega (arith, e, l.on_level.entry_was, length-append l.entries j.right_entries, fits.0, least-pos 4 (omega arith) j.after') in
-      merged l.before j.right (l.entries ++ j.right_entries) j.after' r.rows' (freed ++ n ∷ []) k (r.nodes_below up (omega arith) ∙ j.number_is) within (ap (λ z. length (flat l.before) + z) e)
-      (λ i low. r.nodes_below i (omega (arith, low)) ∙ j.nodes_below i low) (λ i low. r.entries_below i (omega (arith, low)) ∙ j.entries_below i low) (r.same_top ∙ j.same_top)
+      let r = rw (up_is, size_is, same) at again in
+      rebuilt (joined_restored l j r (omega arith)) (λ i low. r.nodes_below i (omega (arith, low)) ∙ j.nodes_below i low) (λ i low. r.entries_below i (omega (arith, low)) ∙ j.entries_below i low) (r.same_top ∙ j.same_top)

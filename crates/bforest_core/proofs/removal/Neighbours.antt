@@ -1,12 +1,12 @@
 -- The right neighbour of a node, under the same parent or another: the answers of `right_sibling`, and the
 -- move of a path there.
 use Rattle.std.proofs.Common.{◌≡◌, ◌≢◌, ℕ, suc, ◌+◌, ◌-◌, ◌≤◌, ◌<◌, true, false, Option, List, [], ◌∷◌, ◌++◌, map, length, drop, get_or, slice_get, Some, None, refl, sym, ap, ◌∙◌, subst, append_assoc, length-append, arith, add-one}
-use Rattle.bforest_core.proofs.Words.{Table, LevelNode, node, flat, heads, RowIn, inner_content, entry_keys, entry_items, Above, NextIs, Bool, Over, Moved, nil_from_length}
+use Rattle.bforest_core.proofs.Words.{Table, LevelNode, node, flat, heads, RowIn, inner_content, entry_keys, entry_items, Above, NextIs, OneAbove, Bool, Over, Moved, nil_from_length}
 use Rattle.bforest_core.proofs.rows.LevelRows.{head-is}
 use Rattle.bforest_core.proofs.table.Tables.{row-split}
 use Rattle.bforest_core.proofs.rows.Zipper.{Spot, stands-same}
 use Rattle.bforest_core.proofs.table.Stored.{item_count, slice_get_at, some_same}
-use Rattle.bforest_core.proofs.removal.Asked.{ChildAt, Counts, ReadsKey, ReadsChild, OneAbove, Beside, Seen, seen}
+use Rattle.bforest_core.proofs.removal.Asked.{ChildAt, Counts, ReadsKey, ReadsChild, Beside, Seen, seen}
 use Rattle.bforest_core.proofs.removal.Taking.{no_nodes, some_first}
 use Rattle.bforest_core.proofs.removal.Lifted.{headed, NextNode, next_of, rows_above}
 
@@ -20,17 +20,17 @@ second_key (z ∷ l) x y r = second (λ w. w.0) l x y r
 
 module _ {K V : Type 0} where
   -- the rows one level up, cut at the path's node
-  pub up_above : (t : Table K V) (path indices : List ℕ) (up size : ℕ) (rows : List (List (LevelNode K ℕ))) (a : List (K × ℕ)) (x : K × ℕ)
-      (b : List (K × ℕ)) → (d : Spot t path indices up size rows a x b) → (k : K)
+  pub up_above : {t : Table K V} {path indices : List ℕ} {up size : ℕ} {rows : List (List (LevelNode K ℕ))} {a : List (K × ℕ)} {x : K × ℕ}
+      {b : List (K × ℕ)} → (d : Spot t path indices up size rows a x b) → (k : K)
       × Above t path indices (suc up) size d.q.rest (heads d.q.before ++ (k, get_or path up 0) ∷ heads d.q.after)
       (length (heads d.q.before))
-  up_above t path indices up size rows a x b d =
+  up_above {t} {path} {indices} {up} {size} {rows} {a} {x} {b} d =
       let h = head-is (get_or path up 0) (d.q.l ++ x ∷ d.q.r) (omega (arith, d.count_is)) in
-      (h.first.0, headed t path indices (suc up) size d.q.before (get_or path up 0) (d.q.l ++ x ∷ d.q.r) d.q.after d.q.rest h (rows_above t path indices up size rows a x b d))
+      (h.first.0, headed d.q.before d.q.after h (rows_above d))
 
   -- the rows above a level, as a step on it requires them
-  pub over-above : (t : Table K V) (path indices : List ℕ) (level size : ℕ) (rows : List (List (LevelNode K ℕ))) (list : List (K × ℕ)) (place : ℕ) → Above t path indices level size rows list place → Over t.nodes path indices level size rows list place
-  over-above t path indices level size rows list place p = record { stacked = p.stacked; inside = p.inside; stands = p.stands; height = p.height }
+  pub over-above : {t : Table K V} {path indices : List ℕ} {level size : ℕ} {rows : List (List (LevelNode K ℕ))} {list : List (K × ℕ)} {place : ℕ} → Above t path indices level size rows list place → Over t.nodes path indices level size rows list place
+  over-above p = record { stacked = p.stacked; inside = p.inside; stands = p.stands; height = p.height }
 
   -- where there is a next node, a step moves
   pub must_move : (t : Table K V) (path indices : List ℕ) (level size : ℕ) (rows : List (List (LevelNode K ℕ))) (a : List (K × ℕ)) (x y : K × ℕ) (b : List (K × ℕ)) (moved : Bool) →
@@ -39,9 +39,9 @@ module _ {K V : Type 0} where
   must_move t path indices level size rows a x y b false last = absurd (omega (arith, last refl, length-append a (x ∷ y ∷ b)))
 
   -- the rows after a step, with another index below them
-  pub entered_next : (t : Table K V) (path indices path' indices' indices2 : List ℕ) (level size : ℕ) (rows : List (List (LevelNode K ℕ))) (a : List (K × ℕ)) (x y : K × ℕ) (b : List (K × ℕ)) → Above t path indices (suc level) size rows (a ++ x ∷ y ∷ b) (length a) →
+  pub entered_next : {t : Table K V} {path indices path' indices' : List ℕ} (indices2 : List ℕ) {level size : ℕ} {rows : List (List (LevelNode K ℕ))} (a : List (K × ℕ)) (x y : K × ℕ) (b : List (K × ℕ)) → Above t path indices (suc level) size rows (a ++ x ∷ y ∷ b) (length a) →
       Moved path indices path' indices' level rows (a ++ x ∷ y ∷ b) (suc (length a)) → ((i : ℕ) → suc level ≤ i → get_or indices2 i 0 ≡ get_or indices' i 0) → Above t path' indices2 (suc level) size rows (a ++ x ∷ y ∷ b) (suc (length a)) × (get_or path' level 0 ≡ y.1)
-  entered_next t path indices path' indices' indices2 level size rows a x y b p m same =
+  entered_next {path'} {indices'} indices2 {level} {rows} a x y b p m same =
       let len : length (a ++ x ∷ []) ≡ suc (length a) = length-append a (x ∷ []) ∙ omega arith in
       let found : slice_get (a ++ x ∷ y ∷ b) (suc (length a)) ≡ Some y = ap (λ z. slice_get z (suc (length a))) (sym (append_assoc a (x ∷ []) (y ∷ b))) ∙ slice_get_at (a ++ x ∷ []) y b (suc (length a)) len in
       let head_is : m.head ≡ y = some_same m.head y (sym m.head_is ∙ found) in (
@@ -49,33 +49,35 @@ module _ {K V : Type 0} where
         m.node_is ∙ ap (λ z. z.1) head_is,
       )
 
-  module _ (t : Table K V) (path indices : List ℕ) (up size : ℕ) (rows : List (List (LevelNode K ℕ))) (a : List (K × ℕ)) (x : K × ℕ) (b : List (K × ℕ)) (p : Above t path indices up size rows (a ++ x ∷ b) (length a)) (other : up ≢ size) (r : ℕ) (wide : length path ≡ 17) (height : size ≤ 17) where
+  module _ {t : Table K V} {path indices : List ℕ} {up size : ℕ} (w : OneAbove t path indices up size) (other : up ≢ size) (r : ℕ) (wide : length path ≡ 17) (height : size ≤ 17) where
+    open w use {rows, before as a, x, after as b, above as p}
+
     low : up < size
     low = let h = p.height in omega arith
 
     -- the parent of the node
     pub here : Seen t path indices up size rows a x b r
-    here = seen t path indices up size rows a x b p low r wide height
+    here = seen a x b p low r wide height
 
     abbrev d : Spot t path indices up size rows a x b
     d = here.d
 
-    u : (k : K) × Above t path indices (suc up) size d.q.rest (heads d.q.before ++ (k, get_or path up 0) ∷ heads d.q.after) (length (heads d.q.before))
-    u = up_above t path indices up size rows a x b d
+    pub u : (k : K) × Above t path indices (suc up) size d.q.rest (heads d.q.before ++ (k, get_or path up 0) ∷ heads d.q.after) (length (heads d.q.before))
+    u = up_above d
 
-    above_next : Above t path indices (up + 1) size d.q.rest (heads d.q.before ++ (u.0, get_or path up 0) ∷ heads d.q.after) (length (heads d.q.before))
+    pub above_next : Above t path indices (up + 1) size d.q.rest (heads d.q.before ++ (u.0, get_or path up 0) ∷ heads d.q.after) (length (heads d.q.before))
     above_next = rw add-one u.1
 
     -- the rows above meet what the call one level up requires
-    pub above_asks : OneAbove t path indices (up + 1) size
-    above_asks = (d.q.rest, heads d.q.before, (u.0, get_or path up 0), heads d.q.after, above_next)
+    abbrev pub above_asks : OneAbove t path indices (up + 1) size
+    above_asks = record { rows = d.q.rest; before = heads d.q.before; x = (u.0, get_or path up 0); after = heads d.q.after; above = above_next }
 
     pub above_fewer : (n : ℕ) → size - up ≡ n → size - (up + 1) < n
     above_fewer n bound = let l = low in omega arith
 
     -- the answer of the call one level up
     next_above : (o : Option (K × ℕ)) → Beside t path indices (up + 1) size o → NextIs o (heads d.q.after)
-    next_above o beside = beside d.q.rest (heads d.q.before) (u.0, get_or path up 0) (heads d.q.after) above_next
+    next_above o beside = beside above_asks
 
     module _ (o : Option (K × ℕ)) (next : K × ℕ) (is : o ≡ Some next) (beside : Beside t path indices (up + 1) size o) where
       n : NextNode d.q.after next.0 next.1

@@ -1,45 +1,28 @@
--- The leaf after it lost an entry: whether the path is past all entries, and the leaf as a level to
--- rebalance.
-use Rattle.std.proofs.Common.{◌≡◌, ℕ, ◌≤◌, ◌<◌, Some, None, Option, Bool, true, false, not, List, [], ◌∷◌, ◌++◌, length, get_or, slice_get, refl, ap, ◌∙◌, length-append, arith}
-use Rattle.bforest_core.proofs.Words.{is_some, nil_from_length, Table, node, flat, heads, Tree, half_of, leaf_content, Above, NextIs, LeafLoss, OnLevel, get_or_default, Content, entry_count}
+-- The leaf after it lost an entry: whether the path is past all entries.
+use Rattle.std.proofs.Common.{◌≡◌, ℕ, ◌≤◌, ◌<◌, Some, None, Option, Bool, true, false, not, List, [], ◌∷◌, ◌++◌, length, get_or, slice_get, ap, ◌∙◌, length-append, arith}
+use Rattle.bforest_core.proofs.Words.{is_some, nil_from_length, Table, node, flat, heads, Tree, half_of, leaf_content, Above, OneAbove, NextIs, LeafLoss, get_or_default, Content, entry_count}
 use Rattle.bforest_core.proofs.rows.LevelRows.{HeadIs, head-is}
 use Rattle.bforest_core.proofs.table.Tables.{row-split}
 use Rattle.bforest_core.proofs.removal.Lifted.{headed, top_one}
-use Rattle.bforest_core.proofs.removal.Asked.{NodeAt, OneAbove, Beside}
+use Rattle.bforest_core.proofs.removal.Asked.{NodeAt, Beside}
 use Rattle.bforest_core.proofs.removal.Taking.{no_nodes, leaf_keys}
 use Rattle.bforest_core.proofs.removal.Collapse.{heads-flat}
 
-module _ {K V : Type 0} (most : ℕ) (t v : Table K V) (path indices : List ℕ) (size : ℕ) (tree : Tree K V) (place : ℕ) (l : LeafLoss most t v path indices size tree place) where
-  named : HeadIs (get_or path 0 0) l.entries
+module _ {K V : Type 0} {most : ℕ} {t v : Table K V} {path indices : List ℕ} {size : ℕ} {tree : Tree K V} {place : ℕ} (l : LeafLoss most t v path indices size tree place) where
+  pub named : HeadIs (get_or path 0 0) l.entries
   named = head-is (get_or path 0 0) l.entries l.some
 
   -- the rows above the leaf, cut at it
-  above : Above v path indices 1 size l.rest (heads l.before ++ (named.first.0, get_or path 0 0) ∷ heads l.after) (length (heads l.before))
-  above = headed v path indices 1 size l.before (get_or path 0 0) l.entries l.after l.rest named l.above
+  pub above : Above v path indices 1 size l.rest (heads l.before ++ (named.first.0, get_or path 0 0) ∷ heads l.after) (length (heads l.before))
+  above = headed l.before l.after named l.above
 
   -- the rows above meet what the search for the next leaf requires
-  pub beside_asks : OneAbove v path indices 1 size
-  beside_asks = (l.rest, heads l.before, (named.first.0, get_or path 0 0), heads l.after, above)
+  abbrev pub beside_asks : OneAbove v path indices 1 size
+  beside_asks = record { rows = l.rest; before = heads l.before; x = (named.first.0, get_or path 0 0); after = heads l.after; above = above }
 
   -- half of a leaf is at least one entry
   pub loss_half : 1 ≤ half_of most
   loss_half = let one : 1 ≤ most = omega (arith, l.some, l.most_is) in omega (arith, one)
-
-  -- the leaf is a level to rebalance, where an entry follows
-  pub on_leaf : get_or indices 0 0 < length (l.entries ++ flat l.after) → OnLevel leaf_content (half_of most) most v path indices 0 size l.before (get_or path 0 0) l.entries l.after l.rest
-  on_leaf within = record {
-    inside = l.inside;
-    solid = l.solid;
-    fits = l.fits;
-    some = l.some;
-    lost_one = l.lost_one;
-    most_is = l.most_is;
-    above = l.above;
-    number_is = refl;
-    entry_was = l.entry_was;
-    entry_within = within;
-    apart = l.apart;
-  }
 
   -- no leaf follows
   none_follows : (found : Option (K × ℕ)) → NextIs found (heads l.after) → is_some found ≡ false → l.after ≡ []
@@ -49,18 +32,14 @@ module _ {K V : Type 0} (most : ℕ) (t v : Table K V) (path indices : List ℕ)
   -- no leaf follows where the leaf is the whole tree
   pub alone_last : size ≤ 1 → l.after ≡ []
   alone_last low =
-      let one = top_one v path indices 1 size l.rest (heads l.before ++ (named.first.0, get_or path 0 0) ∷ heads l.after) (length (heads l.before)) low above in
+      let one = top_one l.rest low above in
       no_nodes (half_of most) most loss_half l.after l.fits (nil_from_length (heads l.after) (omega (arith, one, length-append (heads l.before) ((named.first.0, get_or path 0 0) ∷ heads l.after))))
-
-  -- the last leaf has no right neighbour
-  pub last_leaf : Beside v path indices 1 size None → l.after ≡ []
-  last_leaf beside = none_follows None (beside l.rest (heads l.before) (named.first.0, get_or path 0 0) (heads l.after) above) refl
 
   -- a leaf follows
   pub one_follows : (found : Option (K × ℕ)) (none : Bool) → Beside v path indices 1 size found → is_some found ≡ not none → none ≡ false → get_or indices 0 0 < length (l.entries ++ flat l.after)
   one_follows None none beside is so = absurd (let e : not none ≡ true = ap not so in cc)
   one_follows (Some x) none beside is so =
-      let next = beside l.rest (heads l.before) (named.first.0, get_or path 0 0) (heads l.after) above in
+      let next = beside beside_asks in
       omega (arith, ap length next.1, heads-flat l.after, l.entry_was, length-append l.entries (flat l.after))
 
   module _ (r : ℕ) (wide : length path ≡ 17) where
@@ -82,5 +61,5 @@ module _ {K V : Type 0} (most : ℕ) (t v : Table K V) (path indices : List ℕ)
       -- the path is past all entries
       pub behind_all : (found : Option (K × ℕ)) (none : Bool) → m ≤ get_or indices 0 0 → Beside v path indices 1 size found → is_some found ≡ not none → none ≡ true → (l.after ≡ []) × (get_or indices 0 0 ≡ length l.entries)
       behind_all found none high beside is so =
-          let next = beside l.rest (heads l.before) (named.first.0, get_or path 0 0) (heads l.after) above in
+          let next = beside beside_asks in
           (none_follows found next (is ∙ ap not so), omega (arith, high, count_is, l.entry_was))

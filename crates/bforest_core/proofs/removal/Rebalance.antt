@@ -37,15 +37,15 @@ judged half most es [] lo some w = rebalanced_last most (length es) some
 judged half most es (node k fs ∷ xs) lo some (inl h) = rebalanced_healthy most (length es) (length fs) (sizes xs) some (omega (arith, lo, h))
 judged half most es (x ∷ xs) lo some (inr e) = absurd cc
 
-module _ {K V X : Type 0} (content : List (K × X) → Content K V) (half most : ℕ) (hm : IsHalf half most) (t : Table K V) (path indices : List ℕ) (up size : ℕ) (before : List (LevelNode K X)) (n : ℕ) where
-  module _ (es : List (K × X)) (after : List (LevelNode K X)) (rest : List (List (LevelNode K ℕ))) (p : OnLevel content half most t path indices up size before n es after rest) (why : (half ≤ length es) ⊎ (after ≡ [])) where
+module _ {K V X : Type 0} {content : List (K × X) → Content K V} {half most : ℕ} (hm : IsHalf half most) {t : Table K V} {path indices : List ℕ} {up size : ℕ} {before : List (LevelNode K X)} {n : ℕ} where
+  module _ {es : List (K × X)} {after : List (LevelNode K X)} {rest : List (List (LevelNode K ℕ))} (p : OnLevel content half most t path indices up size before n es after rest) (why : (half ≤ length es) ⊎ (after ≡ [])) where
     -- the level is unchanged, and the path leads to a node of the row
-    settle_same : (path' indices' : List ℕ) (front : List (LevelNode K X)) (m : ℕ) (fs : List (K × X)) (back : List (LevelNode K X)) → front ++ node m fs ∷ back ≡ before ++ node n es ∷ after → Above t path' indices' (suc up) size rest (heads (front ++ node m fs ∷ back)) (length (heads front)) →
-        get_or path' up 0 ≡ m → get_or indices' up 0 < length fs
+    settle_same : {path' indices' : List ℕ} (front : List (LevelNode K X)) (m : ℕ) (fs : List (K × X)) (back : List (LevelNode K X)) → front ++ node m fs ∷ back ≡ before ++ node n es ∷ after → Above t path' indices' (suc up) size rest (heads (front ++ node m fs ∷ back)) (length (heads front)) →
+        get_or path' up 0 ≡ m → (get_or indices up 0 < length (es ++ flat after) → get_or indices' up 0 < length fs)
         → length (flat front) + get_or indices' up 0 ≡ length (flat before) + get_or indices up 0 → SameBelow up path path'
         → SameBelow up indices indices' → top_of path' size ≡ top_of path size
         → Healed content half most t t path indices path' indices' up size before n es after rest
-    settle_same path' indices' front m fs back same above m_is within place_is below below_too top_is =
+    settle_same front m fs back same above m_is within place_is below below_too top_is =
         let outcome : rebalanced most (length es) (sizes after) ≡ (false, length es ∷ sizes after) = judged half most es after hm.lo p.some why in
         record {
           before' = front;
@@ -72,10 +72,10 @@ module _ {K V X : Type 0} (content : List (K × X) → Content K V) (half most :
         }
 
     -- the level is unchanged, and so is the path
-    pub settle_stay : get_or indices up 0 < length es → Healed content half most t t path indices path indices up size before n es after rest
-    settle_stay within = settle_same path indices before n es after refl p.above p.number_is within refl (λ i low. refl) (λ i low. refl) refl
+    pub settle_stay : (get_or indices up 0 < length (es ++ flat after) → get_or indices up 0 < length es) → Healed content half most t t path indices path indices up size before n es after rest
+    settle_stay within = settle_same before n es after refl p.above p.number_is within refl (λ i low. refl) (λ i low. refl) refl
 
-  module _ (e : K × X) (es : List (K × X)) (q : ℕ) (f : K × X) (fs : List (K × X)) (after : List (LevelNode K X)) (rest : List (List (LevelNode K ℕ))) (p : OnLevel content half most t path indices up size before n (e ∷ es) (node q (f ∷ fs) ∷ after) rest) where
+  module _ {e : K × X} {es : List (K × X)} {q : ℕ} {f : K × X} {fs : List (K × X)} {after : List (LevelNode K X)} {rest : List (List (LevelNode K ℕ))} (p : OnLevel content half most t path indices up size before n (e ∷ es) (node q (f ∷ fs) ∷ after) rest) where
     abbrev row : List (LevelNode K X)
     row = before ++ node n (e ∷ es) ∷ node q (f ∷ fs) ∷ after
 
@@ -84,16 +84,16 @@ module _ {K V X : Type 0} (content : List (K × X) → Content K V) (half most :
     above_both = subst (λ (z : List (K × ℕ)). Above t path indices (suc up) size rest z (length (heads before))) (heads-append before (node n (e ∷ es) ∷ node q (f ∷ fs) ∷ after)) p.above
 
     -- the path moves from past the node to the next node
-    pub settle_move : (path' indices' : List ℕ) → half ≤ length (e ∷ es) → get_or indices up 0 ≡ length (e ∷ es)
+    pub settle_move : {path' indices' : List ℕ} → half ≤ length (e ∷ es) → get_or indices up 0 ≡ length (e ∷ es)
         → Above t path' indices' (suc up) size rest (heads before ++ (e.0, n) ∷ (f.0, q) ∷ heads after) (suc (length (heads before)))
         × (get_or path' up 0 ≡ q) → get_or indices' up 0 ≡ 0 → SameBelow up path path' →
         SameBelow up indices indices' → top_of path' size ≡ top_of path size → Healed content half most t t path indices path' indices' up size before n (e ∷ es) (node q (f ∷ fs) ∷ after) rest
-    settle_move path' indices' healthy e_is above z_is below below_too top_is =
+    settle_move {path'} {indices'} healthy e_is above z_is below below_too top_is =
         let front : List (LevelNode K X) = before ++ node n (e ∷ es) ∷ [] in
         let same : front ++ node q (f ∷ fs) ∷ after ≡ row = append_assoc before (node n (e ∷ es) ∷ []) (node q (f ∷ fs) ∷ after) in
         let len : length (heads front) ≡ suc (length (heads before)) = ap length (heads-append before (node n (e ∷ es) ∷ [])) ∙ length-append (heads before) ((e.0, n) ∷ []) ∙ omega arith in
         let flats : length (flat front) ≡ length (flat before) + length (e ∷ es) = ap length (flat-append before (node n (e ∷ es) ∷ []) ∙ ap (λ z. flat before ++ z) (append-nil (e ∷ es))) ∙ length-append (flat before) (e ∷ es) in
-        settle_same (e ∷ es) (node q (f ∷ fs) ∷ after) rest p (inl healthy) path' indices' front q (f ∷ fs) after same (rw (same, heads-append before (node n (e ∷ es) ∷ node q (f ∷ fs) ∷ after), len) above.0) above.1 (omega (arith, z_is)) (omega (arith, z_is, e_is, flats)) below below_too top_is
+        settle_same p (inl healthy) {path' = path'} {indices' = indices'} front q (f ∷ fs) after same (rw (same, heads-append before (node n (e ∷ es) ∷ node q (f ∷ fs) ∷ after), len) above.0) above.1 (λ low. omega (arith, z_is)) (omega (arith, z_is, e_is, flats)) below below_too top_is
 
     -- the two nodes are different and in no other row, and the right one is off the chain
     pub apart : (n ≢ q) × (count n (numbers before) + count n (numbers after) ≡ 0) × (count q (numbers before) + count q (numbers after) ≡ 0) × (count q t.chain ≡ 0)
@@ -108,22 +108,22 @@ module _ {K V X : Type 0} (content : List (K × X) → Content K V) (half most :
         )
 
     -- writing the two slots changes only slots of the row
-    two_frees : (u : Table K V) (c d : Content K V) → PutsTwo content t u n q c d → Frees t u (numbers row) []
-    two_frees u c d w = frees-wider t u (n ∷ q ∷ []) (numbers row) [] (λ m none. let c = count-row m before n (e ∷ es) (node q (f ∷ fs) ∷ after) in omega (arith, none, c)) w.frees
+    two_frees : {u : Table K V} {c d : Content K V} → PutsTwo content t u n q c d → Frees t u (numbers row) []
+    two_frees {u} {c} w = frees-wider (numbers row) (λ m none. let c = count-row m before n (e ∷ es) (node q (f ∷ fs) ∷ after) in omega (arith, none, c)) w.frees
 
     -- the rows above, after a write of the two slots
-    pub above_two_put : (u : Table K V) (c d : Content K V) → PutsTwo content t u n q c d → Above u path indices (suc up) size rest (heads before ++ (e.0, n) ∷ (f.0, q) ∷ heads after) (length (heads before))
-    above_two_put u c d w =
+    pub above_two_put : {u : Table K V} {c d : Content K V} → PutsTwo content t u n q c d → Above u path indices (suc up) size rest (heads before ++ (e.0, n) ∷ (f.0, q) ∷ heads after) (length (heads before))
+    above_two_put {u} {c} {d} w =
         let k = λ (m : ℕ). counts m before n (e ∷ es) (node q (f ∷ fs) ∷ after) rest t.chain in
         let b = above_both in
-        above_same t u path indices (suc up) size rest (heads before ++ (e.0, n) ∷ (f.0, q) ∷ heads after) (length (heads before)) (λ m some. (two_frees u c d w).others m (omega (arith, some, p.apart m, k m)))
+        above_same u (λ m some. (two_frees w).others m (omega (arith, some, p.apart m, k m)))
         (λ m. omega (arith, b.apart m, count-append m (flat_map numbers rest) t.chain, count-append m (flat_map numbers rest) u.chain, ap (λ z. count m z) w.frees.chain_is)) b
 
-    module _ (u v : Table K V) (under : length (e ∷ es) < half) where
+    module _ {u : Table K V} (v : Table K V) (under : length (e ∷ es) < half) where
       -- the node takes entries of its right neighbour, and the key between the two was updated above
-      pub settle_spread : (key : K) (s : Spread content t u most n q (e ∷ es) (f ∷ fs) key) → Rebuilt u v path indices path indices (suc up) size rest (heads before ++ (e.0, n) ∷ (key, q) ∷ heads after) (length (heads before)) (map sizes rest) [] →
+      pub settle_spread : {key : K} (s : Spread content t u most n q (e ∷ es) (f ∷ fs) key) → Rebuilt u v path indices path indices (suc up) size rest (heads before ++ (e.0, n) ∷ (key, q) ∷ heads after) (length (heads before)) (map sizes rest) [] →
           Healed content half most t v path indices path indices up size before n (e ∷ es) (node q (f ∷ fs) ∷ after) rest
-      settle_spread key s b =
+      settle_spread {key} s b =
           let both = length (e ∷ es) + length (f ∷ fs) in
           let row2 : List (LevelNode K X) = before ++ node n (s.x ∷ s.xs) ∷ node q (s.y ∷ s.ys) ∷ after in
           let outcome : rebalanced most (length (e ∷ es)) (length (f ∷ fs) ∷ sizes after) ≡ (false, (both - both / 2) ∷ both / 2 ∷ sizes after) = rebalanced_spread most (length es) (length (f ∷ fs)) (sizes after) (omega (arith, hm.hi, under)) s.more in
@@ -154,13 +154,13 @@ module _ {K V X : Type 0} (content : List (K × X) → Content K V) (half most :
             list_is = flats;
             above = subst (λ (z : List (K × ℕ)). Above v path indices (suc up) size b.rows' z (length (heads before))) hs b.above;
             number_is = p.number_is;
-            within = omega (arith, p.entry_was, under, lo);
+            within = λ low. omega (arith, p.entry_was, under, lo);
             place_is = refl;
             sizes_are = sizes-append before (node n (s.x ∷ s.xs) ∷ node q (s.y ∷ s.ys) ∷ after) ∙ ap (λ z. sizes before ++ z ∷ suc (length s.ys) ∷ sizes after) s.left_is ∙ ap (λ z. sizes before ++ (both - both / 2) ∷ z ∷ sizes after) s.right_is ∙ sym (ap (λ z. sizes before ++ z.1) outcome);
             rest_sizes = b.sizes_are;
             row_numbers = numbers-append before (node n (s.x ∷ s.xs) ∷ node q (s.y ∷ s.ys) ∷ after) ∙ sym (numbers-append before (node n (e ∷ es) ∷ node q (f ∷ fs) ∷ after));
             rest_numbers = λ m. omega (arith, b.numbers_are m);
-            frees = frees-after t u v (numbers row ++ flat_map numbers rest) (flat_map numbers rest) [] (λ m none. omega (arith, none, c m)) (frees-wider t u (numbers row) (numbers row ++ flat_map numbers rest) [] (λ m none. omega (arith, none, c m)) (two_frees u _ _ s.two)) b.frees;
+            frees = frees-after (λ m none. omega (arith, none, c m)) (frees-wider (numbers row ++ flat_map numbers rest) (λ m none. omega (arith, none, c m)) (two_frees s.two)) b.frees;
             nodes_below = λ i low. refl;
             entries_below = λ i low. refl;
             same_top = refl;
@@ -174,10 +174,10 @@ module _ {K V X : Type 0} (content : List (K × X) → Content K V) (half most :
           let len : length both ≡ length (e ∷ es) + length (f ∷ fs) = length-append (e ∷ es) (f ∷ fs) in
           let fit_q = p.fits in
           let a = above_both in
-          let high : suc up < size = above_two t path indices (suc up) size rest (heads before) (e.0, n) (f.0, q) (heads after) (length (heads before)) a in
+          let high : suc up < size = above_two rest (heads before) (e.0, n) (f.0, q) (heads after) a in
           let other : (m : ℕ) → m ≢ n → slice_get v.nodes m ≡ slice_get u.nodes m = freed_other u v n v_is in
           let c = λ (m : ℕ). counts m before n (e ∷ es) (node q (f ∷ fs) ∷ after) rest t.chain in
-          let frees : Frees t v (numbers row) (n ∷ []) = frees-after t u v (numbers row) (n ∷ []) (n ∷ []) (λ m none. omega (arith, none, c m)) (two_frees u _ _ s.two) (frees-one u v n s.left_content (n ∷ []) s.two.here v_is (omega (arith, count-same n []))) in
+          let frees : Frees t v (numbers row) (n ∷ []) = frees-after (λ m none. omega (arith, none, c m)) (two_frees s.two) (frees-one u v n s.left_content (n ∷ []) s.two.here v_is (omega (arith, count-same n []))) in
           record {
             first = e;
             others = es;

@@ -1,8 +1,8 @@
 -- The effect of a removal from the tree under a root on the table.
-use Rattle.std.proofs.Common.{◌≡◌, ◌≢◌, ℕ, suc, ◌<◌, ◌↔◌, Option, Some, None, IfSome, List, [], ◌∷◌, ◌++◌, length, get_or, refl, sym, ap, ◌∙◌, subst, inl, inr, append_assoc, length-append, arith}
+use Rattle.std.proofs.Common.{IsTrue, ◌≡◌, ℕ, suc, ◌<◌, Option, Some, None, IfSome, List, ◌∷◌, ◌++◌, length, get_or, refl, sym, ap, ◌∙◌, subst, inl, inr, append_assoc, length-append, arith}
 use Rattle.std.proofs.lemmas.List.Edits.{length-remove}
-use Rattle.bforest_core.proofs.Words.{remove, eqb_tells, length-map, Table, node, flat, sizes, Tree, sizes_of, nodes_up, shrink, count, root_of, numbers_of, Stands, tree_of, IsUnion, Changes, Ends, GivesInOrder, Shrinks}
-use Rattle.bforest_core.proofs.Words.{GivesNodes, StandsUnder, node_count, StandsIn, Removed, Emptied}
+use Rattle.bforest_core.proofs.Words.{eqb_tells, length-map, Table, node, flat, sizes, Tree, sizes_of, nodes_up, shrink, count, root_of, numbers_of, Stands, tree_of, IsUnion, is_root, Shrinks}
+use Rattle.bforest_core.proofs.Words.{StandsUnder, node_count, StandsIn, Removed, Emptied}
 use Rattle.bforest_core.proofs.rows.LevelRows.{flat-append}
 use Rattle.bforest_core.proofs.table.Tables.{count-append}
 use Rattle.bforest_core.proofs.union.Forests.{root-among}
@@ -18,8 +18,8 @@ if_some P Q (Some x) h p = h x p
 
 module _ {K V : Type 0} where
   -- a path under a root stands in its tree, which is in the table
-  pub stands_in : (most : ℕ) (table : Table K V) (root place : ℕ) (path indices : List ℕ) (size : ℕ) → IsUnion most table → StandsUnder table.nodes root path indices size place → StandsIn most table path indices size (tree_of table.nodes root) place
-  stands_in most table root place path indices size union s =
+  pub stands_in : (most : ℕ) (table : Table K V) {root place : ℕ} {path indices : List ℕ} {size : ℕ} → IsUnion most table → StandsUnder table.nodes root path indices size place → StandsIn most table path indices size (tree_of table.nodes root) place
+  stands_in most table {root} union s =
       let r = rooted most table root union s.root_is in
       record { fit = r.fit; inside = r.inside; apart = r.apart; low = r.low; stands = s.stands }
 
@@ -29,36 +29,26 @@ module _ {K V : Type 0} where
       let at = s.leaf in
       omega (arith, at.place_is, at.within, ap (λ z. length (flat z)) at.row_is, ap length (flat-append at.before (node (get_or path 0 0) at.entries ∷ at.after)), length-append (flat at.before) (at.entries ++ flat at.after), length-append at.entries (flat at.after))
 
-  -- the effect of a removal from a tree that has another entry
-  pub record Removal (most : ℕ) (old new : Table K V) (root root' place : ℕ) (Now : Tree K V → Type 0) : Type 0 where
-    pub changes : Changes most old new root root' (remove (flat (tree_of old.nodes root).leaves) place) (shrink most place (sizes_of (tree_of old.nodes root)))
-    pub at : Now (tree_of new.nodes root')
-    pub same_root : (root' ≡ root) ↔ (length (shrink most place (sizes_of (tree_of old.nodes root))) ≡ length (sizes_of (tree_of old.nodes root)))
-
   -- the effect of a removal on the table and the path, with the root that is left, if any
   pub record Said (most : ℕ) (old new : Table K V) (path : List ℕ) (root place : ℕ) (Now : Tree K V → Type 0) (found : Option ℕ) : Type 0 where
-    pub some : IfSome found (λ root'. Removal most old new root root' place Now)
-    pub gives : GivesNodes (sizes_of (tree_of old.nodes root)) (shrink most place (sizes_of (tree_of old.nodes root))) old new
-    pub order : GivesInOrder path (sizes_of (tree_of old.nodes root)) (shrink most place (sizes_of (tree_of old.nodes root))) old new
-    pub last : (found ≡ None) ↔ (length (flat (tree_of old.nodes root).leaves) ≡ 1)
-    pub ended : found ≡ None → Ends most old new root
-    pub none_left : found ≡ None → shrink most place (sizes_of (tree_of old.nodes root)) ≡ []
-    pub freed_root : found ≢ Some root → 0 < count root new.chain
+    pub shrinks : Shrinks most old new path root place found
+    pub at : IfSome found (λ root'. IsTrue (is_root new.nodes root') × Now (tree_of new.nodes root'))
 
-  module _ (most : ℕ) (old new : Table K V) (root place : ℕ) (path indices : List ℕ) (size : ℕ) (Now : Tree K V → Type 0) (union : IsUnion most old) (s : StandsUnder old.nodes root path indices size place) where
-    removed_root : (root' : ℕ) (i : Removed most old new path Now (tree_of old.nodes root) place root') → Said most old new path root place Now (Some (root_of i.tree'))
-    removed_root root' i =
+  module _ (most : ℕ) (old new : Table K V) {root place : ℕ} {path indices : List ℕ} {size : ℕ} (Now : Tree K V → Type 0) (union : IsUnion most old) (s : StandsUnder old.nodes root path indices size place) where
+    removed_root : {root' : ℕ} (i : Removed most old new path Now (tree_of old.nodes root) place root') → Said most old new path root place Now (Some (root_of i.tree'))
+    removed_root i =
         let tree = tree_of old.nodes root in
         let r = rooted most old root union s.root_is in
         let planted : IsPlanted most new.nodes i.tree' = record { fit = i.fit; inside = i.inside; some = i.some; low = omega (arith, i.low, r.low) } in
-        let e = exchanged-freed most old new root i.tree' i.freed union s.root_is planted i.frees i.numbers_are in
+        let e = exchanged-freed root union s.root_is planted i.frees i.numbers_are in
         let levels : length (shrink most place (sizes_of tree)) ≡ suc (length i.tree'.above) = omega (arith, ap length i.sizes_are, length-map i.tree'.above sizes) in
         let levels_were : length (sizes_of tree) ≡ suc (length tree.above) = omega (arith, length-map tree.above sizes) in
         let among = root-among most new.nodes i.tree' i.fit i.inside i.some in
         let c = λ (m : ℕ). count-append m (numbers_of tree) old.chain in
         let rooted_is = λ (z : root_of i.tree' ≡ root). ap (λ w. count w i.freed) (z ∙ sym r.root_is) in
         record {
-          some = record {
+          at = (e.root_is, subst Now (sym e.tree_is) i.at);
+          shrinks = record {
             changes = record {
               union = e.union;
               root_is = e.root_is;
@@ -69,7 +59,6 @@ module _ {K V : Type 0} where
               new_came = e.new_came;
               limit_is = i.frees.limit_is;
             };
-            at = subst Now (sym e.tree_is) i.at;
             same_root = (
               λ same. elim (eqb_tells (length i.tree'.above) (length tree.above)) [
                 | inl w ↦ omega (arith, levels, levels_were, w.1)
@@ -77,68 +66,59 @@ module _ {K V : Type 0} where
               ],
               λ same. i.root_is ∙ i.same_root (omega (arith, levels, levels_were, same)) ∙ r.root_is,
             );
+            account = record {
+              given = i.freed;
+              chain_is = i.frees.chain_is;
+              slots = i.frees.slots_are;
+              count_is = omega (arith, length-same (numbers_of i.tree' ++ i.freed) (numbers_of tree) (λ m. count-append m (numbers_of i.tree') i.freed ∙ i.numbers_are m), length-append (numbers_of i.tree') i.freed, nodes-count tree, nodes-count i.tree' ∙ ap (λ z. node_count z) i.sizes_are);
+            };
+            order = record {
+              roots = i.order.roots;
+              up = i.order.up;
+              chain_is = i.frees.chain_is ∙ ap (λ z. z ++ old.chain) i.order.freed_is ∙ append_assoc i.order.roots (nodes_up path 0 i.order.up) old.chain;
+              roots_are = omega (arith, i.order.roots_are, levels, levels_were);
+            };
+            last = (λ is. absurd cc, λ one. absurd (let low = place_low path indices size tree place s.stands in omega (arith, length-remove (flat tree.leaves) place low, one, ap length i.flat_is, i.some)));
+            ended = λ is. absurd cc;
+            none_left = λ is. absurd cc;
+            freed_root = λ ne. elim (eqb_tells (length i.tree'.above) (length tree.above)) [
+              | inl w ↦ absurd (ne (ap Some (i.root_is ∙ i.same_root w.1 ∙ r.root_is)))
+              | inr w ↦ omega (arith, i.old_root w.1, ap (λ z. count z i.freed) r.root_is, ap (λ z. count root z) i.frees.chain_is, count-append root i.freed old.chain)
+            ];
           };
-          gives = record {
-            given = i.freed;
-            chain_is = i.frees.chain_is;
-            slots = i.frees.slots_are;
-            count_is = omega (arith, length-same (numbers_of i.tree' ++ i.freed) (numbers_of tree) (λ m. count-append m (numbers_of i.tree') i.freed ∙ i.numbers_are m), length-append (numbers_of i.tree') i.freed, nodes-count tree, nodes-count i.tree' ∙ ap (λ z. node_count z) i.sizes_are);
-          };
-          order = record {
-            roots = i.order.roots;
-            up = i.order.up;
-            chain_is = i.frees.chain_is ∙ ap (λ z. z ++ old.chain) i.order.freed_is ∙ append_assoc i.order.roots (nodes_up path 0 i.order.up) old.chain;
-            roots_are = omega (arith, i.order.roots_are, levels, levels_were);
-          };
-          last = (λ is. absurd cc, λ one. absurd (let low = place_low path indices size tree place s.stands in omega (arith, length-remove (flat tree.leaves) place low, one, ap length i.flat_is, i.some)));
-          ended = λ is. absurd cc;
-          none_left = λ is. absurd cc;
-          freed_root = λ ne. elim (eqb_tells (length i.tree'.above) (length tree.above)) [
-            | inl w ↦ absurd (ne (ap Some (i.root_is ∙ i.same_root w.1 ∙ r.root_is)))
-            | inr w ↦ omega (arith, i.old_root w.1, ap (λ z. count z i.freed) r.root_is, ap (λ z. count root z) i.frees.chain_is, count-append root i.freed old.chain)
-          ];
         }
 
     -- removing an entry of a tree that has others
-    pub removal : (root' : ℕ) → Removed most old new path Now (tree_of old.nodes root) place root' → Said most old new path root place Now (Some root')
-    removal root' i = subst (λ (z : ℕ). Said most old new path root place Now (Some z)) i.root_is (removed_root root' i)
+    pub removal : {root' : ℕ} → Removed most old new path Now (tree_of old.nodes root) place root' → Said most old new path root place Now (Some root')
+    removal {root'} i = subst (λ (z : ℕ). Said most old new path root place Now (Some z)) i.root_is (removed_root i)
 
     -- removing the last entry of a tree
     ending : Emptied most old new (tree_of old.nodes root) place → Said most old new path root place Now None
     ending i =
         let tree = tree_of old.nodes root in
         let r = rooted most old root union s.root_is in
-        let u = uprooted-union most old new root i.freed union s.root_is i.frees i.freed_is in
+        let u = uprooted-union most root union s.root_is i.frees i.freed_is in
         let among = root-among most old.nodes tree r.fit r.inside r.some in
         record {
-          some = tt;
-          gives = record {
-            given = i.freed;
-            chain_is = i.frees.chain_is;
-            slots = i.frees.slots_are;
-            count_is = omega (arith, length-same i.freed (numbers_of tree) i.freed_is, nodes-count tree, ap (λ z. node_count z) i.none_left);
+          at = tt;
+          shrinks = record {
+            changes = tt;
+            same_root = tt;
+            account = record {
+              given = i.freed;
+              chain_is = i.frees.chain_is;
+              slots = i.frees.slots_are;
+              count_is = omega (arith, length-same i.freed (numbers_of tree) i.freed_is, nodes-count tree, ap (λ z. node_count z) i.none_left);
+            };
+            order = record { roots = i.freed; up = 0; chain_is = i.frees.chain_is; roots_are = omega (arith, i.one, ap length i.levels_are, ap length i.none_left) };
+            last = (λ is. i.single, λ is. refl);
+            ended = λ is. record { union = u.0; root_gone = u.1; others = u.2; limit_is = i.frees.limit_is };
+            none_left = λ is. i.none_left;
+            freed_root = λ ne. omega (arith, among, i.freed_is root, ap (λ z. count z (numbers_of tree)) r.root_is, ap (λ z. count root z) i.frees.chain_is, count-append root i.freed old.chain);
           };
-          order = record { roots = i.freed; up = 0; chain_is = i.frees.chain_is; roots_are = omega (arith, i.one, ap length i.levels_are, ap length i.none_left) };
-          last = (λ is. i.single, λ is. refl);
-          ended = λ is. record { union = u.0; root_gone = u.1; others = u.2; limit_is = i.frees.limit_is };
-          none_left = λ is. i.none_left;
-          freed_root = λ ne. omega (arith, among, i.freed_is root, ap (λ z. count z (numbers_of tree)) r.root_is, ap (λ z. count root z) i.frees.chain_is, count-append root i.freed old.chain);
         }
 
     -- the effect of a removal, from the answer of the call for a leaf of one entry
     pub outcome : (found : Option ℕ) → IfSome found (λ root'. Removed most old new path Now (tree_of old.nodes root) place root') → (found ≡ None → Emptied most old new (tree_of old.nodes root) place) → Said most old new path root place Now found
     outcome None removed emptied = ending (emptied refl)
-    outcome (Some root') removed emptied = removal root' removed
-
-    -- the effect of a removal, without where the path is
-    pub shrinks : (found : Option ℕ) → Said most old new path root place Now found → Shrinks most old new path root place found
-    shrinks found said = record {
-      changes = if_some _ _ found (λ root' r. r.changes) said.some;
-      account = said.gives;
-      order = said.order;
-      same_root = if_some _ _ found (λ root' r. r.same_root) said.some;
-      last = said.last;
-      ended = said.ended;
-      none_left = said.none_left;
-      freed_root = said.freed_root;
-    }
+    outcome (Some root') removed emptied = removal removed

@@ -1,18 +1,17 @@
 -- A tree after a removal, from the calls that make it: before and after roots with a single child are
 -- discarded.
 use Rattle.std.proofs.Common.{◌≡◌, zero, suc, ◌+◌, ◌≤◌, ◌<◌, Some, List, ◌∷◌, ◌++◌, ◌⊎◌, map, length, get_or, refl, sym, ap, ◌∙◌, subst, length-append, arith, ℕ, [], inr}
-use Rattle.bforest_core.proofs.Words.{flat_map, remove, flat_map-append, Table, LevelNode, node, flat, head_of, heads, sizes, numbers, FitRow, Stacked, Tree, half_of, rebalanced, loss, loss_above, trimmed, RowIn, RowsIn, leaf_content, count, root_above, root_of, numbers_of, StandsAbove, Stands}
-use Rattle.bforest_core.proofs.Words.{IsPathAt, nodes_up, Above, top_of, Frees, Rebuilt, Healed, Joined, UpTo, Trimmed, StandsIn, LeafLoss, Removed, OnLevel}
-use Rattle.bforest_core.proofs.rows.LevelRows.{flat-append, heads-append, sizes-append, FitRow-split, FitRow-join, Solid-full, least-pos}
+use Rattle.bforest_core.proofs.Words.{flat_map, remove, flat_map-append, Table, LevelNode, node, flat, heads, sizes, numbers, FitRow, Stacked, Tree, half_of, loss_above, trimmed, RowIn, RowsIn, leaf_content, count, root_above, root_of, numbers_of, StandsAbove, Stands}
+use Rattle.bforest_core.proofs.Words.{IsPathAt, nodes_up, TwoAbove, top_of, Frees, Rebuilt, Healed, Joined, UpTo, Trimmed, StandsIn, LeafLoss, Removed, Solid, sizes_of}
+use Rattle.bforest_core.proofs.rows.LevelRows.{flat-append, FitRow-split, Solid-full, least-pos}
 use Rattle.bforest_core.proofs.walks.RowNodes.{fit_full}
 use Rattle.bforest_core.proofs.table.Tables.{count-append, row-same, rows-same}
 use Rattle.bforest_core.proofs.rows.Tops.{root-stands, top_tree}
-use Rattle.bforest_core.proofs.removal.Frees.{frees-refl, frees-then, frees-after}
-use Rattle.bforest_core.proofs.removal.Merge.{loss_at, placed, Settled, healed_settled, joined_settled, nodes_up-same, merge_asks}
+use Rattle.bforest_core.proofs.removal.Frees.{frees-then}
+use Rattle.bforest_core.proofs.removal.Merge.{lost, Restored, Restores, healed_restored, joined_restored, kept_restored, nodes_up-same, merge_asks}
 use Rattle.bforest_core.proofs.removal.Rebalance.{enough, judged}
-use Rattle.bforest_core.proofs.removal.PastEnd.{loss_half, on_leaf}
+use Rattle.bforest_core.proofs.removal.PastEnd.{loss_half}
 use Rattle.bforest_core.proofs.removal.Collapse.{length-sizes, trimmed-is, topped-sizes, stands-below, rows-parts, trim_none}
-use Rattle.bforest_core.proofs.removal.Asked.{MergeAbove}
 
 -- a row has one number per node
 length-numbers : {K X : Type 0} (row : List (LevelNode K X)) → length (numbers row) ≡ length row
@@ -21,18 +20,19 @@ length-numbers (node n es ∷ row) = ap suc (length-numbers row)
 
 module _ {K V : Type 0} where
   -- two trees in which one path stands have the same root
-  pub stands_root : (most : ℕ) (t t1 : Table K V) (path indices : List ℕ) (size : ℕ) (tree tree1 : Tree K V) (place place1 root : ℕ) → StandsIn most t path indices size tree place → StandsIn most t1 path indices size tree1 place1 → root_of tree1 ≡ root → root_of tree ≡ root
-  stands_root most t t1 path indices size tree tree1 place place1 root s s1 is =
-      root-stands most tree path indices size place s.fit s.stands ∙ sym (root-stands most tree1 path indices size place1 s1.fit s1.stands) ∙ is
+  pub stands_root : {most : ℕ} {t t1 : Table K V} {path indices : List ℕ} {size : ℕ} {tree tree1 : Tree K V} {place place1 : ℕ} (root : ℕ) → StandsIn most t path indices size tree place → StandsIn most t1 path indices size tree1 place1 → root_of tree1 ≡ root → root_of tree ≡ root
+  stands_root {most} {path} {indices} {size} {tree} {tree1} {place} {place1} root s s1 is =
+      root-stands s.fit s.stands ∙ sym (root-stands s1.fit s1.stands) ∙ is
 
   -- a path that stands in a tree is at an entry
-  pub path-at : (path indices : List ℕ) (size : ℕ) (tree : Tree K V) (place : ℕ) → Stands path indices size tree place → IsPathAt path indices size tree place
-  path-at path indices zero tree place s = absurd (omega (arith, s.size_is))
-  path-at path indices (suc size) tree place s = s
+  pub path-at : {path indices : List ℕ} (size : ℕ) {tree : Tree K V} {place : ℕ} → Stands path indices size tree place → IsPathAt path indices size tree place
+  path-at zero s = absurd (omega (arith, s.size_is))
+  path-at (suc size) s = s
 
-  -- a removal, with nothing stated of where the path is
-  pub anywhere : (most : ℕ) (old new : Table K V) (path : List ℕ) (Now : Tree K V → Type 0) (tree : Tree K V) (place root' : ℕ) → Removed most old new path Now tree place root' → Removed most old new path (λ z. Unit {0}) tree place root'
-  anywhere most old new path Now tree place root' r = record {
+  -- a removal, with another fact of the tree that it leaves
+  pub removed_at : {most : ℕ} {old new : Table K V} {path : List ℕ} {Now : Tree K V → Type 0} (Then : Tree K V → Type 0) {tree : Tree K V} {place root' : ℕ} → ((z : Tree K V) → flat z.leaves ≡ remove (flat tree.leaves) place → Now z → Then z) →
+      Removed most old new path Now tree place root' → Removed most old new path Then tree place root'
+  removed_at Then then r = record {
     tree' = r.tree';
     freed = r.freed;
     flat_is = r.flat_is;
@@ -40,7 +40,7 @@ module _ {K V : Type 0} where
     fit = r.fit;
     inside = r.inside;
     some = r.some;
-    at = tt;
+    at = then r.tree' r.flat_is r.at;
     numbers_are = r.numbers_are;
     root_is = r.root_is;
     same_root = r.same_root;
@@ -53,7 +53,7 @@ module _ {K V : Type 0} where
   -- the tree without the entry: its levels have the sizes of a removal, but the root may have a single child
   pub record Untrimmed (most : ℕ) (old new : Table K V) (tree : Tree K V) (place : ℕ) (leaves : List (LevelNode K V)) (rows : List (List (LevelNode K ℕ))) (freed : List ℕ) : Type 0 where
     pub flat_is : flat leaves ≡ remove (flat tree.leaves) place
-    pub sizes_are : sizes leaves ∷ map sizes rows ≡ (loss most place (sizes tree.leaves)).1 ∷ loss_above (loss most place (sizes tree.leaves)).0 (map sizes tree.above)
+    pub sizes_are : sizes leaves ∷ map sizes rows ≡ lost most place (sizes_of tree)
     pub half : 1 ≤ half_of most
     pub leaves_fit : FitRow (half_of most) most leaves
     pub leaves_in : RowIn leaf_content new.nodes leaves
@@ -66,9 +66,9 @@ module _ {K V : Type 0} where
     pub frees : Frees old new (numbers_of tree) freed
 
   -- the rows of the tree meet what discarding roots requires
-  pub up_to : (most : ℕ) (old new : Table K V) (path indices : List ℕ) (size size1 : ℕ) (tree : Tree K V) (place root : ℕ) (leaves : List (LevelNode K V)) (rows : List (List (LevelNode K ℕ))) (freed : List ℕ) → StandsIn most old path indices size tree place →
+  pub up_to : {most : ℕ} {old new : Table K V} {path indices : List ℕ} {size : ℕ} (size1 : ℕ) {tree : Tree K V} {place : ℕ} (root : ℕ) {leaves : List (LevelNode K V)} {rows : List (List (LevelNode K ℕ))} {freed : List ℕ} → StandsIn most old path indices size tree place →
       Untrimmed most old new tree place leaves rows freed → size1 ≡ size → root_of tree ≡ root → UpTo new size1 rows (heads leaves) root
-  up_to most old new path indices size size1 tree place root leaves rows freed s u size_is root_is = record {
+  up_to {old} {new} size1 {tree} root {leaves} {rows} {freed} s u size_is root_is = record {
     stacked = u.stacked;
     inside = u.rows_in;
     height = omega (arith, u.height, size_is, s.stands.size_is);
@@ -77,10 +77,10 @@ module _ {K V : Type 0} where
   }
 
   -- the tree after roots were discarded
-  pub trimmed_removed : (most : ℕ) (old mid new : Table K V) (path indices : List ℕ) (size : ℕ) (tree : Tree K V) (place root : ℕ) (leaves : List (LevelNode K V)) (rows : List (List (LevelNode K ℕ))) (up size1 size2 root' : ℕ) (gone : List ℕ) (Now : Tree K V → Type 0) →
+  pub trimmed_removed : {most : ℕ} {old mid new : Table K V} {path indices : List ℕ} {size : ℕ} {tree : Tree K V} {place root : ℕ} {leaves : List (LevelNode K V)} {rows : List (List (LevelNode K ℕ))} (up : ℕ) {size1 size2 root' : ℕ} {gone : List ℕ} (Now : Tree K V → Type 0) →
       StandsIn most old path indices size tree place → Untrimmed most old mid tree place leaves rows (nodes_up path 0 up) → root_of tree ≡ root → (t : Trimmed mid new size1 size2 rows (heads leaves) root root' gone) → size1 ≡ size →
       Now (record { leaves = leaves; above = t.rows' }) → Removed most old new path Now tree place root'
-  trimmed_removed most old mid new path indices size tree place root leaves rows up size1 size2 root' gone Now s u root_is t size_is at =
+  trimmed_removed {most} {old} {mid} {new} {path} {tree} {leaves} {rows} up {size1} {size2} {gone} Now s u root_is t size_is at =
       let freed = nodes_up path 0 up in
       let parts = λ (m : ℕ). ap (λ z. count m z) (ap (flat_map numbers) t.rows_are ∙ flat_map-append numbers t.rows' t.discarded) ∙ count-append m (flat_map numbers t.rows') (flat_map numbers t.discarded) in
       let c0 = λ (m : ℕ). count-append m (numbers leaves) (flat_map numbers rows) in
@@ -108,217 +108,157 @@ module _ {K V : Type 0} where
         old_root = λ ne. omega (arith, t.old_root (λ (e : size2 ≡ size1). ne (omega (arith, e, t.size_is, size_is, s.stands.size_is))), c2 (root_of tree), ap (λ z. count z gone) root_is);
         low = omega (arith, count_is, u.height);
         order = record { roots = gone; up = up; freed_is = refl; roots_are = omega (arith, t.one_each, count_is, u.height) };
-        frees = frees-then old mid new (numbers_of tree) (flat_map numbers t.discarded) freed gone (λ m none. omega (arith, none, u.numbers_are m, c0 m, parts m)) (λ m some. omega (arith, some, u.numbers_are m, c0 m, parts m, c3 m, s.apart m)) u.frees t.frees;
+        frees = frees-then (λ m none. omega (arith, none, u.numbers_are m, c0 m, parts m)) (λ m some. omega (arith, some, u.numbers_are m, c0 m, parts m, c3 m, s.apart m)) u.frees t.frees;
       }
 
-  -- no root is discarded where each level keeps its nodes
-  pub whole_removed : (most : ℕ) (old new : Table K V) (path indices : List ℕ) (size : ℕ) (tree : Tree K V) (place root : ℕ) (leaves : List (LevelNode K V)) (rows : List (List (LevelNode K ℕ))) (Now : Tree K V → Type 0) →
-      StandsIn most old path indices size tree place → Untrimmed most old new tree place leaves rows [] → root_of tree ≡ root → length (heads leaves) ≡ length (heads tree.leaves) → map sizes rows ≡ map sizes tree.above →
-      Now (record { leaves = leaves; above = rows }) → Removed most old new path Now tree place root
-  unfolding trim_none
-  whole_removed most old new path indices size tree place root leaves rows Now s u root_is len same at =
-      let topped = topped-sizes (heads tree.leaves) (heads leaves) tree.above rows s.fit.stacked u.stacked len same s.fit.topped in
-      let none = trim_none new size rows (heads leaves) root (up_to most old new path indices size size tree place root leaves rows [] s u refl root_is) topped in
-      trimmed_removed most old new new path indices size tree place root leaves rows 0 size size root [] Now s u root_is none refl at
+module _ {K V : Type 0} {most : ℕ} {old : Table K V} {path indices : List ℕ} {size : ℕ} {tree : Tree K V} {place : ℕ} (s : StandsIn most old path indices size tree place) (half : 1 ≤ half_of most) {root : ℕ} (root_is : root_of tree ≡ root) where
+  module _ {new : Table K V} {path' indices' freed : List ℕ} (r : Restored leaf_content (half_of most) most old new path' indices' 0 size (sizes_of tree) (numbers_of tree) (remove (flat tree.leaves) place) place freed)
+      (top : top_of path' size ≡ top_of path size) where
+    abbrev m : ℕ
+    m = get_or path' 0 0
 
-module _ {K V : Type 0} (most : ℕ) (old mid : Table K V) (path indices : List ℕ) (size : ℕ) (tree : Tree K V) (place : ℕ) (s : StandsIn most old path indices size tree place) (l : LeafLoss most old mid path indices size tree place) where
-  half : 1 ≤ half_of most
-  half = loss_half most old mid path indices size tree place l
+    fit : Solid (half_of most) most r.front × FitRow (half_of most) most (node m r.entries ∷ r.after)
+    fit = FitRow-split (half_of most) most r.front (node m r.entries) r.after (subst (λ (z : List (LevelNode K V)). FitRow (half_of most) most z) r.row_is r.fit)
 
-  full : length (heads l.before) ≡ length l.before
-  full = Solid-full (half_of most) most half l.before l.solid
+    some : 1 ≤ length r.entries
+    some = omega (arith, fit.1.0, least-pos (half_of most) half r.after)
 
-  -- the tree after the leaf and the rows above it were rebalanced
-  settled : (new : Table K V) (path' indices' : List ℕ) (front : List (LevelNode K V)) (m : ℕ) (es : List (K × V)) (back : List (LevelNode K V)) (rest : List (List (LevelNode K ℕ))) (freed : List ℕ) →
-      Settled leaf_content (half_of most) most mid new path' indices' 0 size l.before (get_or path 0 0) l.entries l.after l.rest front
-      (front ++ node m es ∷ back) rest freed → get_or path' 0 0 ≡ m → 1 ≤ length es → top_of path' size ≡ top_of path size
-      → Untrimmed most old new tree place (front ++ node m es ∷ back) rest freed
-  settled new path' indices' front m es back rest freed k m_is some top =
-      let row : List (LevelNode K V) = front ++ node m es ∷ back in
-      let lost =
-      ap (λ z. loss most place z) l.sizes_were ∙ ap (λ z. loss most z (sizes l.before ++ suc (length l.entries) ∷ sizes l.after)) l.place_is ∙ loss_at most l.before (length l.entries) (get_or indices 0 0) (sizes l.after) (omega (arith, l.entry_was)) in
-      record {
-        flat_is = k.list_is ∙ l.flat_is;
-        sizes_are = k.sizes_are ∙ ap (λ z. (sizes l.before ++ (rebalanced most (length l.entries) (sizes l.after)).1) ∷ loss_above (placed (length l.before) (rebalanced most (length l.entries) (sizes l.after)).0) z) l.rest_sizes ∙ sym (ap (λ z. z.1 ∷ loss_above z.0 (map sizes tree.above)) lost);
-        half = half;
-        leaves_fit = k.fit;
-        leaves_in = k.inside;
-        some = omega (arith, ap length (flat-append front (node m es ∷ back)), length-append (flat front) (es ++ flat back), length-append es (flat back), some);
-        stacked = k.above.stacked;
-        rows_in = k.above.inside;
-        height = omega (arith, k.above.height, s.stands.size_is);
-        numbers_are = λ i. omega (arith, k.numbers_are i, l.numbers_are i);
-        root_is = top_tree row rest path' indices' size (length (heads front)) front es back (ap (λ z. front ++ node z es ∷ back) (sym m_is)) some k.above.stacked k.above.stands (omega (arith, k.above.height)) ∙ top ∙ sym (root-stands most tree path indices size place s.fit s.stands);
-        frees = frees-after old mid new (numbers_of tree) _ freed (λ i none. omega (arith, none, l.numbers_are i)) l.frees k.frees;
-      }
+    full : length (heads r.front) ≡ length r.front
+    full = Solid-full (half_of most) most half r.front fit.0
 
-  -- a leaf that is still half full, or the last, stays as it is
-  pub kept_untrimmed : (half_of most ≤ length l.entries) ⊎ (l.after ≡ []) → Untrimmed most old mid tree place (l.before ++ node (get_or path 0 0) l.entries ∷ l.after) l.rest []
-  kept_untrimmed why =
-      let n = get_or path 0 0 in
-      let outcome = judged (half_of most) most l.entries l.after (omega arith) l.some why in
-      let k : Settled leaf_content (half_of most) most mid mid path indices 0 size l.before n l.entries l.after l.rest l.before (l.before ++ node n l.entries ∷ l.after) l.rest [] = record {
-        list_is = refl;
-        fit = FitRow-join (half_of most) most l.before (node n l.entries) l.after l.solid (enough (half_of most) l.entries l.after l.some why, l.most_is, l.fits);
-        inside = l.inside;
-        above = l.above;
-        sizes_are = ap (λ z. z ∷ map sizes l.rest) (sizes-append l.before (node n l.entries ∷ l.after)) ∙ sym (ap (λ z. (sizes l.before ++ z.1) ∷ loss_above (placed (length l.before) z.0) (map sizes l.rest)) outcome);
-        numbers_are = λ i. omega arith;
-        frees = frees-refl mid (numbers (l.before ++ node n l.entries ∷ l.after) ++ flat_map numbers l.rest);
-      } in
-      settled mid path indices l.before n l.entries l.after l.rest [] k refl l.some refl
+    -- the tree once the leaf and the rows above it are rebalanced
+    untrimmed : Untrimmed most old new tree place r.row r.rows freed
+    untrimmed = record {
+      flat_is = r.list_is;
+      sizes_are = r.sizes_are;
+      half = half;
+      leaves_fit = r.fit;
+      leaves_in = r.inside;
+      some = omega (arith, ap length (ap flat r.row_is ∙ flat-append r.front (node m r.entries ∷ r.after)), length-append (flat r.front) (r.entries ++ flat r.after), length-append r.entries (flat r.after), some);
+      stacked = r.above.stacked;
+      rows_in = r.above.inside;
+      height = omega (arith, r.above.height, s.stands.size_is);
+      numbers_are = r.numbers_are;
+      root_is = top_tree r.row r.rows path' indices' size (length (heads r.front)) r.front r.entries r.after r.row_is some r.above.stacked r.above.stands (omega (arith, r.above.height)) ∙ top ∙ sym (root-stands s.fit s.stands);
+      frees = r.frees;
+    }
 
-  module _ (new : Table K V) (path' indices' : List ℕ) (h : Healed leaf_content (half_of most) most mid new path indices path' indices' 0 size l.before (get_or path 0 0) l.entries l.after l.rest) where
-    full_healed : length (heads h.before') ≡ length h.before'
-    full_healed = Solid-full (half_of most) most half h.before' (FitRow-split (half_of most) most h.before' (node h.number' h.entries') h.after' h.fit).0
+    up_here : {size1 : ℕ} → size1 ≡ size → UpTo new size1 r.rows (heads r.row) root
+    up_here is = up_to _ root s untrimmed is root_is
 
-    -- the tree after a rebalancing in which the leaf stays
-    pub healed_untrimmed : Untrimmed most old new tree place (h.before' ++ node h.number' h.entries' ∷ h.after') h.rest' []
-    healed_untrimmed =
-        let k = healed_settled leaf_content (half_of most) most mid path indices 0 size l.before (get_or path 0 0) l.entries l.after l.rest new path' indices' h in
-        settled new path' indices' h.before' h.number' h.entries' h.after' h.rest' [] k h.number_is (omega (arith, h.within)) h.same_top
+    -- no root is discarded where each level keeps its nodes
+    whole : {size1 : ℕ} → size1 ≡ size → length r.row ≡ length tree.leaves → map sizes r.rows ≡ map sizes tree.above → Trimmed new new size1 size1 r.rows (heads r.row) root root []
+    whole is len same =
+        let many : length (heads r.row) ≡ length (heads tree.leaves) = omega (arith, len, fit_full (half_of most) most half r.row r.fit, fit_full (half_of most) most half tree.leaves s.fit.leaves_fit) in
+        trim_none (up_here is) (topped-sizes (heads tree.leaves) (heads r.row) tree.above r.rows s.fit.stacked r.above.stacked many same s.fit.topped)
 
-    -- the path stands at the place after a rebalancing in which the leaf stays
-    pub healed_stands : (size1 : ℕ) → size1 ≡ size → Stands path' indices' size1 (record { leaves = h.before' ++ node h.number' h.entries' ∷ h.after'; above = h.rest' }) place
-    healed_stands size1 size_is =
-        let st = h.above.stands in
+    -- the path stands at the place, in the rows that stay
+    stands : {new2 : Table K V} {size1 size2 root' : ℕ} {gone : List ℕ} → get_or indices' 0 0 < length r.entries → (t : Trimmed new new2 size1 size2 r.rows (heads r.row) root root' gone) → Stands path' indices' size2 (record { leaves = r.row; above = t.rows' }) place
+    stands within t =
+        let st : StandsAbove path' indices' 1 (t.rows' ++ t.discarded) (length (heads r.front)) = subst (λ (z : List (List (LevelNode K ℕ))). StandsAbove path' indices' 1 z (length (heads r.front))) t.rows_are r.above.stands in
+        let few : length (heads r.front) < length (heads r.row) = omega (arith, full, fit_full (half_of most) most half r.row r.fit, ap length r.row_is, length-append r.front (node m r.entries ∷ r.after)) in
+        let below = stands-below path' indices' 1 (heads r.row) t.rows' t.discarded (length (heads r.front)) few t.stacked st in
         record {
-          leaf = record { before = h.before'; entries = h.entries'; after = h.after'; row_is = ap (λ z. h.before' ++ node z h.entries' ∷ h.after') (sym h.number_is); within = h.within; place_is = omega (arith, l.place_is, h.place_is) };
-          above = rw full_healed at st;
-          size_is = omega (arith, h.above.height, size_is);
-        }
-
-  module _ (mid2 new : Table K V) (path1 indices1 path' indices' freed : List ℕ) (j : Joined leaf_content (half_of most) most mid mid2 path indices path1 indices1 0 size l.before (get_or path 0 0) l.entries l.after l.rest)
-      (r : Rebuilt mid2 new path1 indices1 path' indices' 1 size l.rest (heads l.before ++ (j.first.0, j.right) ∷ heads j.after') (length (heads l.before)) (loss_above (Some (length (heads l.before))) (map sizes l.rest)) freed) where
-    number_is : get_or path' 0 0 ≡ j.right
-    number_is = r.nodes_below 0 (omega arith) ∙ j.number_is
-
-    -- the tree after the leaf was merged into its neighbour and the rows above lost its entry
-    pub joined_untrimmed : Untrimmed most old new tree place (l.before ++ node j.right (l.entries ++ j.right_entries) ∷ j.after') r.rows' (freed ++ get_or path 0 0 ∷ [])
-    joined_untrimmed =
-        let k = joined_settled leaf_content (half_of most) most mid path indices 0 size l.before (get_or path 0 0) l.entries l.after l.rest mid2 path1 indices1 j new path' indices' freed r l.apart full in
-        settled new path' indices' l.before j.right (l.entries ++ j.right_entries) j.after' r.rows' (freed ++ get_or path 0 0 ∷ []) k number_is (omega (arith, l.some, length-append l.entries j.right_entries)) (r.same_top ∙ j.same_top)
-
-    -- the path stands at the place after the leaf was merged into its neighbour, in the remaining rows
-    pub joined_stands : (new2 : Table K V) (size1 size2 root root' : ℕ) (gone : List ℕ) → (t : Trimmed new new2 size1 size2 r.rows' (heads (l.before ++ node j.right (l.entries ++ j.right_entries) ∷ j.after')) root root' gone) →
-        Stands path' indices' size2 (record { leaves = l.before ++ node j.right (l.entries ++ j.right_entries) ∷ j.after'; above = t.rows' }) place
-    joined_stands new2 size1 size2 root root' gone t =
-        let both : List (K × V) = l.entries ++ j.right_entries in
-        let row2 : List (LevelNode K V) = l.before ++ node j.right both ∷ j.after' in
-        let entry_is : get_or indices' 0 0 ≡ get_or indices 0 0 = r.entries_below 0 (omega arith) ∙ j.entry_is in
-        let fits : FitRow (half_of most) most (node j.right j.right_entries ∷ j.after') = subst (λ (z : List (LevelNode K V)). FitRow (half_of most) most z) j.after_is l.fits in
-        let st : StandsAbove path' indices' 1 (t.rows' ++ t.discarded) (length (heads l.before)) = subst (λ (z : List (List (LevelNode K ℕ))). StandsAbove path' indices' 1 z (length (heads l.before))) t.rows_are r.above.stands in
-        let low : length (heads l.before) < length (heads row2) =
-        omega (
-          arith,
-          full,
-          ap length (heads-append l.before (node j.right both ∷ j.after')),
-          length-append (heads l.before) (head_of j.right both ++ heads j.after'),
-          ap (λ z. length (head_of j.right (z ++ j.right_entries) ++ heads j.after')) j.entries_are,
-        ) in
-        let below = stands-below path' indices' 1 (heads row2) t.rows' t.discarded (length (heads l.before)) low t.stacked st in
-        let more : 0 < length j.right_entries = omega (arith, fits.0, least-pos (half_of most) half j.after') in
-        record {
-          leaf = record { before = l.before; entries = both; after = j.after'; row_is = ap (λ z. l.before ++ node z both ∷ j.after') (sym number_is); within = omega (arith, entry_is, l.entry_was, length-append l.entries j.right_entries, more); place_is = omega (arith, l.place_is, entry_is) };
+          leaf = record { before = r.front; entries = r.entries; after = r.after; row_is = r.row_is; within = within; place_is = r.place_is };
           above = rw full at below;
           size_is = sym t.size_is;
         }
 
-  module _ (root : ℕ) (root_is : root_of tree ≡ root) where
-    -- a row of as many leaves as the tree has as many heads
-    as_many : (row : List (LevelNode K V)) → FitRow (half_of most) most row → length row ≡ length l.before + suc (length l.after) → length (heads row) ≡ length (heads tree.leaves)
-    as_many row fit len =
-        omega (
-          arith,
-          fit_full (half_of most) most half row fit,
-          fit_full (half_of most) most half tree.leaves s.fit.leaves_fit,
-          length-sizes tree.leaves,
-          ap length l.sizes_were,
-          length-append (sizes l.before) (suc (length l.entries) ∷ sizes l.after),
-          length-sizes l.before,
-          length-sizes l.after,
-          len,
-        )
+    -- the removal is complete once roots with a single child are discarded: the path stands at the place, where an entry follows
+    completed : (up : ℕ) → freed ≡ nodes_up path 0 up → (place < length (remove (flat tree.leaves) place) → get_or indices' 0 0 < length r.entries)
+        → {new2 : Table K V} {size1 size2 root' : ℕ} {gone : List ℕ} → (t : Trimmed new new2 size1 size2 r.rows (heads r.row) root root' gone) → size1 ≡ size
+        → Removed most old new2 path (λ z. place < length (flat z.leaves) → IsPathAt path' indices' size2 z place) tree place root'
+    completed up freed_is within {size2 = size2} t size_is =
+        trimmed_removed up (λ z. place < length (flat z.leaves) → IsPathAt path' indices' size2 z place) s (subst (λ (z : List ℕ). Untrimmed most old new tree place r.row r.rows z) freed_is untrimmed) root_is t size_is
+        (λ low. path-at size2 (stands (within (subst (λ (z : List (K × V)). place < length z) r.list_is low)) t))
 
-    -- the removal is complete where the leaf is still half full or the last
-    pub kept_removed : (Now : Tree K V → Type 0) → (half_of most ≤ length l.entries) ⊎ (l.after ≡ []) → Now (record { leaves = l.before ++ node (get_or path 0 0) l.entries ∷ l.after; above = l.rest }) → Removed most old mid path Now tree place root
-    kept_removed Now why now =
-        let row : List (LevelNode K V) = l.before ++ node (get_or path 0 0) l.entries ∷ l.after in
-        let u = kept_untrimmed why in
-        whole_removed most old mid path indices size tree place root row l.rest Now s u root_is (as_many row u.leaves_fit (length-append l.before (node (get_or path 0 0) l.entries ∷ l.after))) l.rest_sizes now
+module _ {K V : Type 0} {most : ℕ} {old mid : Table K V} {path indices : List ℕ} {size : ℕ} {tree : Tree K V} {place : ℕ} (s : StandsIn most old path indices size tree place) (l : LeafLoss most old mid path indices size tree place) {root : ℕ} (root_is : root_of tree ≡ root) where
+  abbrev n : ℕ
+  n = get_or path 0 0
 
-    -- the removal is complete where the path was at the last entry
-    pub past_removed : l.after ≡ [] → get_or indices 0 0 ≡ length l.entries → Removed most old mid path (λ z. IsPathAt path indices 0 z place) tree place root
-    past_removed none last =
-        let n = get_or path 0 0 in
-        let end : place ≡ length (flat (l.before ++ node n l.entries ∷ l.after)) =
-        omega (
-          arith,
-          l.place_is,
-          last,
-          ap length (flat-append l.before (node n l.entries ∷ l.after)),
-          length-append (flat l.before) (l.entries ++ flat l.after),
-          length-append l.entries (flat l.after),
-          ap (λ z. length (flat z)) none,
-        ) in
-        kept_removed (λ z. IsPathAt path indices 0 z place) (inr none) end
+  half : 1 ≤ half_of most
+  half = loss_half l
 
-    -- the path is at an entry, and the leaf was rebalanced
-    module _ (low : get_or indices 0 0 < length (l.entries ++ flat l.after)) where
-      -- the removal is complete where the leaf stays
-      pub healed_removed : (new : Table K V) (path' indices' : List ℕ) (size1 : ℕ)
-          → ((before : List (LevelNode K V)) (n : ℕ) (es : List (K × V)) (after : List (LevelNode K V)) (rest : List (List (LevelNode K ℕ)))
-          → OnLevel leaf_content (half_of most) most mid path indices 0 size before n es after rest →
-          Healed leaf_content (half_of most) most mid new path indices path' indices' 0 size before n es after rest) →
-          size1 ≡ size → Removed most old new path (λ z. IsPathAt path' indices' size1 z place) tree place root
-      healed_removed new path' indices' size1 heals size_is =
-          let h = heals l.before (get_or path 0 0) l.entries l.after l.rest (on_leaf most old mid path indices size tree place l low) in
-          let row : List (LevelNode K V) = l.before ++ node (get_or path 0 0) l.entries ∷ l.after in
-          let row2 : List (LevelNode K V) = h.before' ++ node h.number' h.entries' ∷ h.after' in
-          let u = healed_untrimmed new path' indices' h in
-          let len : length row2 ≡ length l.before + suc (length l.after) = omega (arith, length-numbers row2, length-numbers row, ap length h.row_numbers, length-append l.before (node (get_or path 0 0) l.entries ∷ l.after)) in
-          let st = healed_stands new path' indices' h size1 size_is in
-          whole_removed most old new path indices size tree place root row2 h.rest' (λ z. IsPathAt path' indices' size1 z place) s u root_is (as_many row2 u.leaves_fit len) (h.rest_sizes ∙ l.rest_sizes)
-          (path-at path' indices' size1 (record { leaves = row2; above = h.rest' }) place st)
+  -- the leaves and the rows above them were as many
+  sizes_were : (sizes tree.leaves ≡ sizes l.before ++ suc (length l.entries) ∷ sizes l.after) × (map sizes tree.above ≡ map sizes l.rest)
+  sizes_were = let w = l.sizes_were in (cc, cc)
 
-      -- the leaf was merged into its neighbour
-      module _ (mid2 : Table K V) (path1 indices1 : List ℕ) (size1 : ℕ) (size_is : size1 ≡ size)
-          (joins : (before : List (LevelNode K V)) (n : ℕ) (es : List (K × V)) (after : List (LevelNode K V))
-          (rest : List (List (LevelNode K ℕ))) → OnLevel leaf_content (half_of most) most mid path indices 0 size before n es after rest
-          → Joined leaf_content (half_of most) most mid mid2 path indices path1 indices1 0 size before n es after rest) where
-        abbrev j : Joined leaf_content (half_of most) most mid mid2 path indices path1 indices1 0 size l.before (get_or path 0 0) l.entries l.after l.rest
-        j = joins l.before (get_or path 0 0) l.entries l.after l.rest (on_leaf most old mid path indices size tree place l low)
+  -- the removal is complete where the leaf is still half full or the last
+  pub kept_removed : (Now : Tree K V → Type 0) → (half_of most ≤ length l.entries) ⊎ (l.after ≡ []) → ((z : Tree K V) → flat z.leaves ≡ remove (flat tree.leaves) place → Now z) → Removed most old mid path Now tree place root
+  kept_removed Now why now =
+      let r = kept_restored l.loss (judged (half_of most) most l.entries l.after (omega arith) l.some why) (enough (half_of most) l.entries l.after l.some why) in
+      let len : length (l.before ++ node n l.entries ∷ l.after) ≡ length tree.leaves = omega (arith, ap length sizes_were.0, length-sizes tree.leaves, length-sizes l.before, length-sizes l.after, length-append (sizes l.before) (suc (length l.entries) ∷ sizes l.after), length-append l.before (node n l.entries ∷ l.after)) in
+      trimmed_removed 0 Now s (untrimmed s half root_is r refl) root_is (whole s half root_is r refl refl len (sym sizes_were.1)) refl (now _ r.list_is)
 
-        -- the rows above meet what removing the leaf's entry requires
-        pub leaf_merge_asks : MergeAbove mid2 path1 indices1 1 size1
-        leaf_merge_asks = merge_asks leaf_content (half_of most) most mid path indices 0 size l.before (get_or path 0 0) l.entries l.after l.rest mid2 path1 indices1 j 1 size1 refl size_is
+  -- an entry follows in what is left
+  pub entry_follows : get_or indices 0 0 < length (l.entries ++ flat l.after) → (z : Tree K V) → flat z.leaves ≡ remove (flat tree.leaves) place → place < length (flat z.leaves)
+  entry_follows low z is = omega (arith, low, l.place_is, ap length is, ap length l.list_is, ap length (flat-append l.before (node n l.entries ∷ l.after)), length-append (flat l.before) (l.entries ++ flat l.after))
 
-        -- the rows above after the leaf's entry was removed
-        module _ (new : Table K V) (path' indices' : List ℕ) (merged : (rows : List (List (LevelNode K ℕ))) (a : List (K × ℕ)) (k : K) (m : ℕ) (k2 : K) (n : ℕ) (b : List (K × ℕ)) → Above mid2 path1 indices1 1 size1 rows (a ++ (k, m) ∷ (k2, n) ∷ b) (length a) →
-            (levels : ℕ) × Rebuilt mid2 new path1 indices1 path' indices' 1 size1 rows (a ++ (k, n) ∷ b) (length a) (loss_above (Some (length a)) (map sizes rows)) (nodes_up path1 1 levels)) (size2 : ℕ) (size2_is : size2 ≡ size) where
-          rest : (levels : ℕ) × Rebuilt mid2 new path1 indices1 path' indices' 1 size l.rest (heads l.before ++ (j.first.0, j.right) ∷ heads j.after') (length (heads l.before)) (loss_above (Some (length (heads l.before))) (map sizes l.rest)) (nodes_up path 1 levels)
-          rest =
-              let m = merged l.rest (heads l.before) j.first.0 (get_or path 0 0) j.key j.right (heads j.after') (rw size_is j.above) in
-              let same = nodes_up-same path path1 1 m.0 j.nodes_above in
-              (m.0, rw (size_is, same) at m.1)
+  -- the removal is complete where the path was at the last entry
+  pub past_removed : l.after ≡ [] → get_or indices 0 0 ≡ length l.entries → Removed most old mid path (λ z. IsPathAt path indices 0 z place) tree place root
+  past_removed none last =
+      kept_removed (λ z. IsPathAt path indices 0 z place) (inr none)
+      (λ z is. omega (
+        arith,
+        l.place_is,
+        last,
+        ap length is,
+        ap length l.list_is,
+        ap length (flat-append l.before (node n l.entries ∷ l.after)),
+        length-append (flat l.before) (l.entries ++ flat l.after),
+        length-append l.entries (flat l.after),
+        ap (λ z. length (flat z)) none,
+      ))
 
-          untrimmed : Untrimmed most old new tree place (l.before ++ node j.right (l.entries ++ j.right_entries) ∷ j.after') rest.1.rows' (nodes_up path 0 (suc rest.0))
-          untrimmed = joined_untrimmed mid2 new path1 indices1 path' indices' (nodes_up path 1 rest.0) j rest.1
+  -- the removal is complete where the leaf was rebalanced and stays
+  pub healed_removed : {new : Table K V} {path' indices' : List ℕ} {size1 : ℕ} → Healed leaf_content (half_of most) most mid new path indices path' indices' 0 size l.before n l.entries l.after l.rest → size1 ≡ size →
+      Removed most old new path (λ z. place < length (flat z.leaves) → IsPathAt path' indices' size1 z place) tree place root
+  healed_removed h size_is =
+      let r = healed_restored l.loss h in
+      let len : length (h.before' ++ node h.number' h.entries' ∷ h.after') ≡ length tree.leaves = omega (
+        arith,
+        ap length sizes_were.0,
+        length-sizes tree.leaves,
+        length-sizes l.before,
+        length-sizes l.after,
+        length-append (sizes l.before) (suc (length l.entries) ∷ sizes l.after),
+        length-append l.before (node n l.entries ∷ l.after),
+        ap length h.row_numbers,
+        length-numbers (h.before' ++ node h.number' h.entries' ∷ h.after'),
+        length-numbers (l.before ++ node n l.entries ∷ l.after),
+      ) in
+      completed s half root_is r.0 h.same_top 0 refl r.1 (whole s half root_is r.0 h.same_top size_is len (h.rest_sizes ∙ sym sizes_were.1)) size_is
 
-          up : UpTo new size2 rest.1.rows' (heads (l.before ++ node j.right (l.entries ++ j.right_entries) ∷ j.after')) root
-          up = up_to most old new path indices size size2 tree place root _ rest.1.rows' _ s untrimmed size2_is root_is
+  -- the leaf was merged into its neighbour
+  module _ {mid2 : Table K V} {path1 indices1 : List ℕ} (j : Joined leaf_content (half_of most) most mid mid2 path indices path1 indices1 0 size l.before n l.entries l.after l.rest) {size1 : ℕ} (size_is : size1 ≡ size) where
+    -- the rows above meet what removing the leaf's entry requires
+    abbrev pub leaf_merge_asks : TwoAbove mid2 path1 indices1 1 size1
+    leaf_merge_asks = merge_asks l.loss j 1 size1 refl size_is
 
-          -- the rows above meet what discarding roots requires
-          pub collapse_asks : (rows : List (List (LevelNode K ℕ))) × (list : List (K × ℕ)) × UpTo new size2 rows list root
-          collapse_asks = (rest.1.rows', heads (l.before ++ node j.right (l.entries ++ j.right_entries) ∷ j.after'), up)
+    -- the rows above after the leaf's entry was removed
+    module _ {new : Table K V} {path' indices' : List ℕ} (merged : (w : TwoAbove mid2 path1 indices1 1 size1) → (levels : ℕ) × Rebuilt mid2 new path1 indices1 path' indices' 1 size1 w.rows (w.before ++ (w.x.0, w.y.1) ∷ w.after) (length w.before) (loss_above (Some (length w.before)) (map sizes w.rows)) (nodes_up path1 1 levels)) {size2 : ℕ} (size2_is : size2 ≡ size) where
+      abbrev Rows : ℕ → List ℕ → Type 0
+      Rows z freed = Rebuilt mid2 new path1 indices1 path' indices' 1 z l.rest (heads l.before ++ (j.first.0, j.right) ∷ heads j.after') (length (heads l.before)) (loss_above (Some (length (heads l.before))) (map sizes l.rest)) freed
 
-          -- the removal is complete after roots with a single child were discarded
-          pub joined_removed : (new2 : Table K V) (path2 indices2 : List ℕ) (size3 root' : ℕ)
-              → ((rows : List (List (LevelNode K ℕ))) (list : List (K × ℕ)) → UpTo new size2 rows list root → (gone : List ℕ)
-              × Trimmed new new2 size2 size3 rows list root root' gone) → path2 ≡ path' → indices2 ≡ indices' →
-              Removed most old new2 path (λ z. IsPathAt path2 indices2 size3 z place) tree place root'
-          joined_removed new2 path2 indices2 size3 root' trims path_is indices_is =
-              let t = trims rest.1.rows' _ up in
-              let st = joined_stands mid2 new path1 indices1 path' indices' (nodes_up path 1 rest.0) j rest.1 new2 size2 size3 root root' t.0 t.1 in
-              let w = trimmed_removed most old new new2 path indices size tree place root _ rest.1.rows' (suc rest.0) size2 size3 root' t.0 (λ z. IsPathAt path' indices' size3 z place) s untrimmed root_is t.1 size2_is (path-at path' indices' size3 _ place st) in
-              rw (path_is, indices_is) w
+      above : (levels : ℕ) × Rows size (nodes_up path 1 levels)
+      above =
+          let m = merged leaf_merge_asks in
+          (m.0, subst (λ (z : List ℕ). Rows size z) (nodes_up-same path path1 1 m.0 j.nodes_above) (subst (λ (z : ℕ). Rows z (nodes_up path1 1 m.0)) size_is m.1))
+
+      joined : Restores l.loss new path' indices' (nodes_up path 0 (suc above.0))
+      joined = joined_restored l.loss j above.1 half
+
+      top : top_of path' size ≡ top_of path size
+      top = above.1.same_top ∙ j.same_top
+
+      -- the rows above meet what discarding roots requires
+      pub collapse_asks : (rows : List (List (LevelNode K ℕ))) × (list : List (K × ℕ)) × UpTo new size2 rows list root
+      collapse_asks = (joined.0.rows, heads joined.0.row, up_here s half root_is joined.0 top size2_is)
+
+      -- the removal is complete after roots with a single child were discarded
+      pub joined_removed : {new2 : Table K V} {path2 indices2 : List ℕ} {size3 root' : ℕ}
+          → ((rows : List (List (LevelNode K ℕ))) (list : List (K × ℕ)) → UpTo new size2 rows list root → (gone : List ℕ) × Trimmed new new2 size2 size3 rows list root root' gone) → path2 ≡ path' → indices2 ≡ indices' →
+          Removed most old new2 path (λ z. place < length (flat z.leaves) → IsPathAt path2 indices2 size3 z place) tree place root'
+      joined_removed trims path_is indices_is =
+          let t = trims joined.0.rows (heads joined.0.row) (up_here s half root_is joined.0 top size2_is) in
+          rw (path_is, indices_is) (completed s half root_is joined.0 top (suc above.0) refl joined.1 t.1 size2_is)

@@ -2,7 +2,7 @@
 -- answers of `remove_emptied`.
 use Rattle.std.proofs.Common.{◌≡◌, ◌≢◌, ℕ, suc, ◌+◌, ◌-◌, ◌≤◌, ◌<◌, List, [], ◌∷◌, ◌++◌, map, length, drop, get_or, Some, refl, sym, ap, ◌∙◌, subst, append_assoc, length-append, arith}
 use Rattle.bforest_core.proofs.Words.{flat_map, append-nil, nil_from_length, without_child, Table, with_node, with_freed, LevelNode, node, flat, heads, head_of, sizes, numbers, FitRow, Solid, Stacked, loss_above, RowIn, inner_content, entry_keys, entry_items, count}
-use Rattle.bforest_core.proofs.Words.{Distinct, root_above, Above, nodes_up, Dropped, rebalanced}
+use Rattle.bforest_core.proofs.Words.{Distinct, root_above, Above, LastAbove, nodes_up, Dropped, rebalanced}
 use Rattle.bforest_core.proofs.rows.LevelRows.{flat-append, heads-append, sizes-append, FitRow-join, Solid-full}
 use Rattle.bforest_core.proofs.table.Tables.{count-append, counts, count-same, row-split, row-put, row-same, rows-same, ne_from_count, puts}
 use Rattle.bforest_core.proofs.removal.Frees.{frees-puts, freed_other, frees-first}
@@ -11,8 +11,8 @@ use Rattle.bforest_core.proofs.rows.Contents.{removed_last}
 use Rattle.bforest_core.proofs.removal.Lifted.{heads-put, above_same, rows_above}
 use Rattle.bforest_core.proofs.removal.Taking.{some_first, no_nodes}
 use Rattle.bforest_core.proofs.removal.Collapse.{heads-flat}
-use Rattle.bforest_core.proofs.removal.Merge.{placed, loss_level}
-use Rattle.bforest_core.proofs.removal.Asked.{Counts, Removes, LastTwo, Seen, seen}
+use Rattle.bforest_core.proofs.removal.Merge.{placed, loss_level, lost_above}
+use Rattle.bforest_core.proofs.removal.Asked.{Counts, Removes, Seen, seen}
 use Rattle.bforest_core.proofs.rows.Tops.{top_rows}
 use Rattle.bforest_core.proofs.removal.Rebalance.{rebalanced_last}
 
@@ -39,27 +39,27 @@ last_of_solid half most one (node n (w ∷ ws) ∷ node m es ∷ before) s some 
     record { init = node n (w ∷ ws) ∷ r.init; number = r.number; w = r.w; ws = r.ws; is = ap (λ z. node n (w ∷ ws) ∷ z) r.is }
 
 -- the last node has the last head
-pub last_heads : {K X : Type 0} (before : List (LevelNode K X)) (o : LastOf before) → heads before ≡ heads o.init ++ (o.w.0, o.number) ∷ []
-last_heads before o = ap (λ z. heads z) o.is ∙ heads-append o.init (node o.number (o.w ∷ o.ws) ∷ [])
+pub last_heads : {K X : Type 0} {before : List (LevelNode K X)} (o : LastOf before) → heads before ≡ heads o.init ++ (o.w.0, o.number) ∷ []
+last_heads o = ap (λ z. heads z) o.is ∙ heads-append o.init (node o.number (o.w ∷ o.ws) ∷ [])
 
 module _ {K V : Type 0} where
   -- the rows above a level, after its last node was freed
-  pub above_freed : {X : Type 0} (t v : Table K V) (path indices : List ℕ) (up size n : ℕ) (before : List (LevelNode K X)) (x : K × X)
-      (rest : List (List (LevelNode K ℕ))) (o : LastOf before)
+  pub above_freed : {X : Type 0} {t : Table K V} (v : Table K V) {path indices : List ℕ} {up size : ℕ} (n : ℕ) {before : List (LevelNode K X)} (x : K × X)
+      {rest : List (List (LevelNode K ℕ))} (o : LastOf before)
       → Distinct ((numbers (before ++ node n (x ∷ []) ∷ []) ++ flat_map numbers rest) ++ t.chain) → v ≡ with_freed t n →
       Above t path indices up size rest (heads (before ++ node n (x ∷ []) ∷ [])) (length (heads before)) → Above v path indices up size rest (heads o.init ++ (o.w.0, o.number) ∷ (x.0, n) ∷ []) (suc (length (heads o.init)))
-  above_freed t v path indices up size n before x rest o apart is p =
+  above_freed {t} v {path} {indices} {up} {size} n {before} x {rest} o apart is p =
       let c = λ (m : ℕ). counts m before n (x ∷ []) [] rest t.chain in
       let none : count n (flat_map numbers rest) ≡ 0 = omega (arith, apart n, c n, count-same n []) in
-      let list = heads-append before (node n (x ∷ []) ∷ []) ∙ ap (λ z. z ++ (x.0, n) ∷ []) (last_heads before o) ∙ append_assoc (heads o.init) ((o.w.0, o.number) ∷ []) ((x.0, n) ∷ []) in
-      let len : length (heads before) ≡ suc (length (heads o.init)) = omega (arith, ap length (last_heads before o), length-append (heads o.init) ((o.w.0, o.number) ∷ [])) in
-      above_same t v path indices up size rest _ _ (λ m some. freed_other t v n is m (ne_from_count m n (flat_map numbers rest) some none)) (λ m. omega (arith, apart m, c m, count-append m (flat_map numbers rest) v.chain, ap (λ z. count m z.chain) is)) (rw (list, len) at p)
+      let list = heads-append before (node n (x ∷ []) ∷ []) ∙ ap (λ z. z ++ (x.0, n) ∷ []) (last_heads o) ∙ append_assoc (heads o.init) ((o.w.0, o.number) ∷ []) ((x.0, n) ∷ []) in
+      let len : length (heads before) ≡ suc (length (heads o.init)) = omega (arith, ap length (last_heads o), length-append (heads o.init) ((o.w.0, o.number) ∷ [])) in
+      above_same {t = t} v {path = path} {indices = indices} {up = up} {size = size} {rows = rest} (λ m some. freed_other t v n is m (ne_from_count m n (flat_map numbers rest) some none)) (λ m. omega (arith, apart m, c m, count-append m (flat_map numbers rest) v.chain, ap (λ z. count m z.chain) is)) (rw (list, len) at p)
 
   -- what the call ensures
   abbrev pub Drops : Table K V → Table K V → List ℕ → ℕ → ℕ → List (List (LevelNode K ℕ)) → List (K × ℕ) → K × ℕ → Type 0
   Drops t u path up size rows a y = (levels : ℕ) × Dropped t u path size rows (a ++ y ∷ []) (loss_above (Some (suc (length a))) (map sizes rows)) (nodes_up path up levels)
 
-  module _ (t : Table K V) (path indices : List ℕ) (up size : ℕ) (rows : List (List (LevelNode K ℕ))) (a : List (K × ℕ)) (x : K × ℕ) (d : Spot t path indices up size rows a x []) where
+  module _ {t : Table K V} {path indices : List ℕ} {up size : ℕ} {rows : List (List (LevelNode K ℕ))} {a : List (K × ℕ)} {x : K × ℕ} (d : Spot t path indices up size rows a x []) where
     ends : (d.q.r ≡ []) × (d.q.after ≡ [])
     ends =
         let len = length-append d.q.r (flat d.q.after) in
@@ -81,7 +81,7 @@ module _ {K V : Type 0} where
 
     -- the sizes of the levels after the row lost the entry
     lost : loss_above (Some (length a)) (map sizes rows) ≡ (sizes d.q.before ++ (rebalanced 8 (length d.q.l) []).1) ∷ loss_above (placed (length d.q.before) (rebalanced 8 (length d.q.l) []).0) (map sizes d.q.rest)
-    lost = loss_level 8 d.q.before (length d.q.l) (length d.q.l) (length a) [] (map sizes d.q.rest) (map sizes rows) were (omega arith) (omega (arith, ap length d.q.a_is, length-append (flat d.q.before) d.q.l)) refl
+    lost = sym (lost_above (length a) (map sizes rows)) ∙ loss_level 8 d.q.before (length d.q.l) (length d.q.l) (length a) [] (map sizes d.q.rest) (map sizes rows) were (omega arith) (omega (arith, ap length d.q.a_is, length-append (flat d.q.before) d.q.l))
 
     own_is : (m : ℕ) → count m (flat_map numbers rows) ≡ count m (numbers d.q.before) + count m (get_or path up 0 ∷ []) + count m (flat_map numbers d.q.rest)
     own_is m = omega (arith, ap (λ z. count m (flat_map numbers z)) d.q.rows_are, ap (λ z. count m (get_or path up 0 ∷ numbers z)) ends.1, counts m d.q.before (get_or path up 0) (d.q.l ++ x ∷ d.q.r) d.q.after d.q.rest t.chain)
@@ -109,7 +109,7 @@ module _ {K V : Type 0} where
           sizes_are = ap (λ z. z ∷ map sizes q.rest) (sizes-append q.before (node n q.l ∷ [])) ∙ sym (lost ∙ ap (λ z. (sizes q.before ++ z.1) ∷ loss_above (placed (length q.before) z.0) (map sizes q.rest)) (rebalanced_last 8 (length q.l) some));
           numbers_are = λ m. omega (arith, own_is m, counts m q.before n q.l [] q.rest u.chain);
           root_is = ap (λ z. root_above z q.rest) (sym hs) ∙ top_rows _ path indices up (q.before ++ node n old ∷ []) q.rest _ whole.stacked whole.stands ∙ ap (λ z. get_or path z 0) high;
-          frees = frees-puts t u n (inner_content q.l) (flat_map numbers rows) (omega (arith, own_is n, count-same n [])) w;
+          frees = frees-puts (flat_map numbers rows) (omega (arith, own_is n, count-same n [])) w;
         }
 
     -- the node has no other entry: it was freed (v), and its own entry is removed above
@@ -120,24 +120,24 @@ module _ {K V : Type 0} where
       a_front : flat d.q.before ≡ a
       a_front = sym (append-nil (flat d.q.before)) ∙ ap (λ z. flat d.q.before ++ z) (sym l_none) ∙ sym d.q.a_is
 
-      front : LastOf d.q.before
+      pub front : LastOf d.q.before
       front = last_of_solid 4 8 (omega arith) d.q.before d.f.solid (omega (arith, some, ap length a_front))
 
       above_then : Above v path indices (suc up) size d.q.rest (heads front.init ++ (front.w.0, front.number) ∷ (x.0, get_or path up 0) ∷ []) (suc (length (heads front.init)))
       above_then =
           let e = ends in
           let apart = whole.apart in
-          let p = rows_above t path indices up size rows a x [] d in
-          above_freed t v path indices (suc up) size (get_or path up 0) d.q.before x d.q.rest front (rw l_none at apart) v_is (rw (l_none, e.0, e.1) at p)
+          let p = rows_above d in
+          above_freed {t = t} v {path = path} {indices = indices} {up = suc up} {size = size} (get_or path up 0) x {rest = d.q.rest} front (rw l_none at apart) v_is (rw (l_none, e.0, e.1) at p)
 
-      drop_empty : (u : Table K V) (freed : List ℕ)
+      drop_empty : {u : Table K V} {freed : List ℕ}
           → Dropped v u path size d.q.rest (heads front.init ++ (front.w.0, front.number) ∷ [])
           (loss_above (Some (suc (length (heads front.init)))) (map sizes d.q.rest)) freed
           → Dropped t u path size rows a (loss_above (Some (length a)) (map sizes rows)) (freed ++ get_or path up 0 ∷ [])
-      drop_empty u freed r =
+      drop_empty {u} {freed} r =
           let q = d.q in
           let n = get_or path up 0 in
-          let hs = last_heads q.before front in
+          let hs = last_heads front in
           let len : length q.before ≡ suc (length (heads front.init)) = omega (arith, Solid-full 4 8 (omega arith) q.before d.f.solid, ap length hs, length-append (heads front.init) ((front.w.0, front.number) ∷ [])) in
           let in_v : RowIn inner_content v.nodes q.before = row-same inner_content t.nodes v.nodes q.before
           (λ m some. freed_other t v n v_is m (ne_from_count m n (numbers q.before) some (omega (arith, known.none))))
@@ -152,20 +152,21 @@ module _ {K V : Type 0} where
                 ∙ sym (lost ∙ ap (λ z. (sizes q.before ++ (rebalanced 8 (length z) []).1) ∷ loss_above (placed (length q.before) (rebalanced 8 (length z) []).0) (map sizes q.rest)) l_none);
             numbers_are = λ m. omega (arith, own_is m, count-append m (numbers q.before) (flat_map numbers r.rows'), count-append m freed (n ∷ []), r.numbers_are m);
             root_is = ap (λ z. root_above z r.rows') hs ∙ r.root_is;
-            frees = frees-first t v u n (inner_content (q.l ++ x ∷ [])) (flat_map numbers rows) (flat_map numbers q.rest) freed known.slot_is v_is (omega (arith, own_is n, count-same n [])) d.f.none_rest (λ m none. omega (arith, none, own_is m)) r.frees;
+            frees = frees-first t n (inner_content (q.l ++ x ∷ [])) (flat_map numbers rows) known.slot_is v_is (omega (arith, own_is n, count-same n [])) d.f.none_rest (λ m none. omega (arith, none, own_is m)) r.frees;
           }
 
-  module _ (t : Table K V) (path indices : List ℕ) (up size : ℕ) (rows : List (List (LevelNode K ℕ))) (a : List (K × ℕ)) (y x : K × ℕ) (p : Above t path indices up size rows (a ++ y ∷ x ∷ []) (suc (length a)))
-      (r : ℕ) (wide : length path ≡ 17) (height : size ≤ 17) where
+  module _ {t : Table K V} {path indices : List ℕ} {up size : ℕ} (w : LastAbove t path indices up size) (r : ℕ) (wide : length path ≡ 17) (height : size ≤ 17) where
+    open w use {rows, before as a, y, x, above as p}
+
     top : up < size
-    top = above_two t path indices up size rows a y x [] (suc (length a)) p
+    top = above_two rows a y x [] p
 
     len_is : length (a ++ y ∷ []) ≡ suc (length a)
     len_is = length-append a (y ∷ []) ∙ omega arith
 
     -- the parent of the node
     pub here : Seen t path indices up size rows (a ++ y ∷ []) x [] r
-    here = seen t path indices up size rows (a ++ y ∷ []) x [] (rw (append_assoc a (y ∷ []) (x ∷ []), len_is) p) top r wide height
+    here = seen {t = t} {path = path} {indices = indices} {up = up} {size = size} {rows = rows} (a ++ y ∷ []) x [] (rw (append_assoc a (y ∷ []) (x ∷ []), len_is) p) top r wide height
 
     pub drop_fewer : (high n : ℕ) → high ≡ suc up → size - up ≡ n → size - high < n
     drop_fewer high n high_is bound = let low = top in omega arith
@@ -177,33 +178,33 @@ module _ {K V : Type 0} where
           let s = here in
           let es : List (K × ℕ) = s.d.q.l ++ x ∷ s.d.q.r in
           let u_is = removes (drop 1 (entry_keys es)) (entry_items es) s.slot_is in
-          let f = drop_keep t path indices up size rows (a ++ y ∷ []) x s.d u (λ (e : length es ≡ 1). more (s.counted cnt value ∙ e)) (rw s.num_is at u_is) in
+          let f = drop_keep s.d u (λ (e : length es ≡ 1). more (s.counted cnt value ∙ e)) (rw s.num_is at u_is) in
           (0, subst (λ (z : ℕ). Dropped t u path size rows (a ++ y ∷ []) (loss_above (Some z) (map sizes rows)) []) len_is f)
 
       module _ (one : cnt ≡ 1) (v : Table K V) (freed : v ≡ with_freed t (get_or path up r)) (high : ℕ) (high_is : high ≡ suc up) where
-        single : length (here.d.q.l ++ x ∷ here.d.q.r) ≡ 1
+        pub single : length (here.d.q.l ++ x ∷ here.d.q.r) ≡ 1
         single = sym (here.counted cnt value) ∙ one
 
-        some : 1 ≤ length (a ++ y ∷ [])
+        pub some : 1 ≤ length (a ++ y ∷ [])
         some = let e = len_is in omega arith
 
-        v_is : v ≡ with_freed t (get_or path up 0)
+        pub v_is : v ≡ with_freed t (get_or path up 0)
         v_is = freed ∙ ap (λ z. with_freed t z) here.num_is
 
         abbrev o : LastOf here.d.q.before
-        o = front t path indices up size rows (a ++ y ∷ []) x here.d v single some v_is
+        o = front here.d v single some v_is
 
-        above_is : Above v path indices high size here.d.q.rest (heads o.init ++ (o.w.0, o.number) ∷ (x.0, get_or path up 0) ∷ []) (suc (length (heads o.init)))
-        above_is = subst (λ (z : ℕ). Above v path indices z size here.d.q.rest (heads o.init ++ (o.w.0, o.number) ∷ (x.0, get_or path up 0) ∷ []) (suc (length (heads o.init)))) (sym high_is) (above_then t path indices up size rows (a ++ y ∷ []) x here.d v single some v_is)
+        pub above_is : Above v path indices high size here.d.q.rest (heads o.init ++ (o.w.0, o.number) ∷ (x.0, get_or path up 0) ∷ []) (suc (length (heads o.init)))
+        above_is = subst (λ (z : ℕ). Above v path indices z size here.d.q.rest (heads o.init ++ (o.w.0, o.number) ∷ (x.0, get_or path up 0) ∷ []) (suc (length (heads o.init)))) (sym high_is) (above_then here.d v single some v_is)
 
         -- the rows above meet what the call one level up requires
-        pub above_asks : LastTwo v path indices high size
-        above_asks = (here.d.q.rest, heads o.init, (o.w.0, o.number), (x.0, get_or path up 0), above_is)
+        abbrev pub above_asks : LastAbove v path indices high size
+        above_asks = record { rows = here.d.q.rest; before = heads o.init; y = (o.w.0, o.number); x = (x.0, get_or path up 0); above = above_is }
 
         -- what the call one level up ensures is what this one has to
-        pub empties : (u : Table K V) → ((rows2 : List (List (LevelNode K ℕ))) (a2 : List (K × ℕ)) (y2 x2 : K × ℕ) → Above v path indices high size rows2 (a2 ++ y2 ∷ x2 ∷ []) (suc (length a2)) → Drops v u path high size rows2 a2 y2) → Drops t u path up size rows a y
+        pub empties : (u : Table K V) → ((w2 : LastAbove v path indices high size) → Drops v u path high size w2.rows w2.before w2.y) → Drops t u path up size rows a y
         empties u drops =
-            let w = drops here.d.q.rest (heads o.init) (o.w.0, o.number) (x.0, get_or path up 0) above_is in
+            let w = drops above_asks in
             let r = subst (λ (z : ℕ). Dropped v u path size here.d.q.rest (heads o.init ++ (o.w.0, o.number) ∷ []) (loss_above (Some (suc (length (heads o.init)))) (map sizes here.d.q.rest)) (nodes_up path z w.0)) high_is w.1 in
-            let f = drop_empty t path indices up size rows (a ++ y ∷ []) x here.d v single some v_is u (nodes_up path (suc up) w.0) r in
+            let f = drop_empty here.d v single some v_is r in
             (suc w.0, subst (λ (z : ℕ). Dropped t u path size rows (a ++ y ∷ []) (loss_above (Some z) (map sizes rows)) (nodes_up path up (suc w.0))) len_is f)

@@ -1,27 +1,27 @@
 -- Removing an entry from the row above a level, whose key passes to the next entry: the answers of
 -- `remove_merged`.
 use Rattle.std.proofs.Common.{◌≡◌, ℕ, suc, ◌+◌, ◌-◌, ◌≤◌, ◌<◌, List, [], ◌∷◌, ◌++◌, map, length, drop, set, get_or, slice_get, Some, refl, sym, ap, ◌∙◌, subst, append_assoc, length-append, arith}
-use Rattle.bforest_core.proofs.Words.{flat_map, Inner, IsUsed, with_key, without_child, Table, with_node, LevelNode, node, flat, heads, head_of, sizes, numbers, FitRow, RowIn, inner_content, entry_keys, entry_items, count, Above, Rebuilt, Loosened}
+use Rattle.bforest_core.proofs.Words.{flat_map, entry_count, Inner, IsUsed, with_key, without_child, Table, with_node, LevelNode, node, flat, heads, head_of, sizes, numbers, FitRow, RowIn, inner_content, entry_keys, entry_items, count, Above, TwoAbove, Rebuilt, Loosened}
 use Rattle.bforest_core.proofs.rows.LevelRows.{heads-append, sizes-append}
 use Rattle.bforest_core.proofs.table.Tables.{counts, count-same, count-row, row-same, row-put, is_used, Puts, puts, puts-then}
-use Rattle.bforest_core.proofs.table.Stored.{item_count, some_same}
+use Rattle.bforest_core.proofs.table.Stored.{item_count, read_same, some_same}
 use Rattle.bforest_core.proofs.rows.Contents.{removed_same, removed_last, last_key}
 use Rattle.bforest_core.proofs.rows.Zipper.{Spot, above_two}
 use Rattle.bforest_core.proofs.removal.Frees.{frees-puts, frees-after, frees-wider}
 use Rattle.bforest_core.proofs.removal.Lifted.{head-other, heads-put, above_written, rebuilt_same, rows_above, flat_at, place_at}
 use Rattle.bforest_core.proofs.removal.Separating.{next_in, Across, across, across_in, across_above}
-use Rattle.bforest_core.proofs.removal.Asked.{KeyAt, ChildAt, Counts, ReadsKey, Writes, Removes, TwoAbove, Rekeys, Seen, seen}
+use Rattle.bforest_core.proofs.removal.Asked.{KeyAt, ChildAt, Counts, ReadsKey, Writes, Removes, Rekeys, Seen, seen}
 
 module _ {K V : Type 0} where
-  module _ (t : Table K V) (path indices : List ℕ) (up size : ℕ) (rows : List (List (LevelNode K ℕ))) (a : List (K × ℕ)) (k : K) (m : ℕ) (k2 : K) (n : ℕ) (b : List (K × ℕ)) (d : Spot t path indices up size rows a (k, m) ((k2, n) ∷ b)) where
+  module _ {t : Table K V} {path indices : List ℕ} {up size : ℕ} {rows : List (List (LevelNode K ℕ))} {a : List (K × ℕ)} {x y : K × ℕ} {b : List (K × ℕ)} (d : Spot t path indices up size rows a x (y ∷ b)) where
     -- the row after its node lost an entry, under rows above that have its keys
-    loosened : (v u : Table K V) (es list : List (K × ℕ)) (after : List (LevelNode K ℕ)) → length (d.q.l ++ (k, m) ∷ d.q.r) ≡ suc (length es) → 1 ≤ length es → length d.q.l ≤ length es → sizes after ≡ sizes d.q.after → numbers after ≡ numbers d.q.after → es ++ flat after ≡ d.q.l ++ (k, n) ∷ b →
-        list ≡ heads (d.q.before ++ node (get_or path up 0) es ∷ after) → FitRow 4 8 (node (get_or path up 0) (d.q.l ++ (k, m) ∷ d.q.r) ∷ after) → RowIn inner_content t.nodes (d.q.before ++ node (get_or path up 0) (d.q.l ++ (k, m) ∷ d.q.r) ∷ after) →
-        Rebuilt t v path indices path indices (suc up) size d.q.rest list (length (heads d.q.before)) (map sizes d.q.rest) [] → Puts v u (get_or path up 0) (inner_content es) → Loosened t u path indices up size rows (a ++ (k, n) ∷ b) (length a)
-    loosened v u es list after len some low sizes_same numbers_same flat_is heads_are fits inside r w =
+    loosened : {v u : Table K V} (es : List (K × ℕ)) {list : List (K × ℕ)} (after : List (LevelNode K ℕ)) → length (d.q.l ++ x ∷ d.q.r) ≡ suc (length es) → 1 ≤ length es → length d.q.l ≤ length es → sizes after ≡ sizes d.q.after → numbers after ≡ numbers d.q.after → es ++ flat after ≡ d.q.l ++ (x.0, y.1) ∷ b →
+        list ≡ heads (d.q.before ++ node (get_or path up 0) es ∷ after) → FitRow 4 8 (node (get_or path up 0) (d.q.l ++ x ∷ d.q.r) ∷ after) → RowIn inner_content t.nodes (d.q.before ++ node (get_or path up 0) (d.q.l ++ x ∷ d.q.r) ∷ after) →
+        Rebuilt t v path indices path indices (suc up) size d.q.rest list (length (heads d.q.before)) (map sizes d.q.rest) [] → Puts v u (get_or path up 0) (inner_content es) → Loosened inner_content 4 8 t u path indices up size (map sizes rows) (flat_map numbers rows) (a ++ (x.0, y.1) ∷ b) (length a)
+    loosened {v} {u} es after len some low sizes_same numbers_same flat_is heads_are fits inside r w =
         let q = d.q in
         let num = get_or path up 0 in
-        let old : List (K × ℕ) = q.l ++ (k, m) ∷ q.r in
+        let old : List (K × ℕ) = q.l ++ x ∷ q.r in
         let own : List ℕ = numbers (q.before ++ node num old ∷ q.after) ++ flat_map numbers q.rest in
         let c = λ (i : ℕ). counts i q.before num old q.after q.rest t.chain in
         let c2 = λ (i : ℕ). counts i q.before num es after r.rows' u.chain in
@@ -41,84 +41,85 @@ module _ {K V : Type 0} where
             some = some;
             lost_one = omega (arith, fits.0, len);
             most_is = omega (arith, fits.1, len);
-            above = above_written v u num (inner_content es) path indices (suc up) size r.rows' _ (length (heads q.before)) w (omega (arith, r.numbers_are num, d.f.none_rest)) (subst (λ (z : List (K × ℕ)). Above v path indices (suc up) size r.rows' z (length (heads q.before))) heads_are r.above);
+            above = above_written w (omega (arith, r.numbers_are num, d.f.none_rest)) (subst (λ (z : List (K × ℕ)). Above v path indices (suc up) size r.rows' z (length (heads q.before))) heads_are r.above);
             number_is = refl;
             entry_was = omega (arith, low, q.entry_is);
-            entry_within = omega (arith, q.entry_is, ap length flat_is, length-append q.l ((k, n) ∷ b));
             apart = λ i. omega (arith, d.whole.apart i, r.numbers_are i, c i, c2 i, c3 i, c4 i);
           };
-          list_is = flat_at t path indices up size rows a (k, m) ((k2, n) ∷ b) d es ((k, n) ∷ b) after flat_is;
-          place_is = place_at t path indices up size rows a (k, m) ((k2, n) ∷ b) d;
+          list_is = flat_at d es ((x.0, y.1) ∷ b) after flat_is;
+          place_is = place_at d;
+          was = λ fs slot. omega (arith, item_count fs, item_count old, len, ap entry_count (read_same t.nodes num (inner_content old) (inner_content fs) d.f.slot_is slot));
           sizes_were = ap (λ z. map sizes z) q.rows_are
               ∙ ap (λ z. z ∷ map sizes q.rest)
               (sizes-append q.before (node num old ∷ q.after) ∙ ap (λ z. sizes q.before ++ z ∷ sizes q.after) len
               ∙ ap (λ z. sizes q.before ++ suc (length es) ∷ z) (sym sizes_same))
               ∙ ap (λ z. (sizes q.before ++ suc (length es) ∷ sizes after) ∷ z) (sym r.sizes_are);
           numbers_are = λ i. omega (arith, c i, c2 i, c3 i, r.numbers_are i, ap (λ z. count i (flat_map numbers z)) q.rows_are);
-          frees = rw q.rows_are (frees-after t v u own own [] (λ i none. none) (frees-wider t v (flat_map numbers q.rest) own [] (λ i none. omega (arith, none, c i)) r.frees) (frees-puts v u num (inner_content es) own (omega (arith, c num, count-same num (numbers q.after))) w));
+          frees = rw q.rows_are (frees-after {v = u} {wide = own} {freed = []} (λ i none. none) (frees-wider own (λ i none. omega (arith, none, c i)) r.frees) (frees-puts own (omega (arith, c num, count-same num (numbers q.after))) w));
         }
 
     -- removing the entry where the next one is in the same parent
-    take_same : (s u : Table K V) (key : K) → get_or indices up 0 + 1 < length (d.q.l ++ (k, m) ∷ d.q.r) → slice_get (drop 1 (entry_keys (d.q.l ++ (k, m) ∷ d.q.r))) (get_or indices up 0 - 1) ≡ Some key →
-        s ≡ with_node t (get_or path up 0) (Inner (set (drop 1 (entry_keys (d.q.l ++ (k, m) ∷ d.q.r))) (get_or indices up 0) key) (entry_items (d.q.l ++ (k, m) ∷ d.q.r))) →
-        u ≡ with_node s (get_or path up 0) (without_child (Inner (set (drop 1 (entry_keys (d.q.l ++ (k, m) ∷ d.q.r))) (get_or indices up 0) key) (entry_items (d.q.l ++ (k, m) ∷ d.q.r))) (get_or indices up 0)) → Loosened t u path indices up size rows (a ++ (k, n) ∷ b) (length a)
+    take_same : (s u : Table K V) (key : K) → get_or indices up 0 + 1 < length (d.q.l ++ x ∷ d.q.r) → slice_get (drop 1 (entry_keys (d.q.l ++ x ∷ d.q.r))) (get_or indices up 0 - 1) ≡ Some key →
+        s ≡ with_node t (get_or path up 0) (Inner (set (drop 1 (entry_keys (d.q.l ++ x ∷ d.q.r))) (get_or indices up 0) key) (entry_items (d.q.l ++ x ∷ d.q.r))) →
+        u ≡ with_node s (get_or path up 0) (without_child (Inner (set (drop 1 (entry_keys (d.q.l ++ x ∷ d.q.r))) (get_or indices up 0) key) (entry_items (d.q.l ++ x ∷ d.q.r))) (get_or indices up 0)) → Loosened inner_content 4 8 t u path indices up size (map sizes rows) (flat_map numbers rows) (a ++ (x.0, y.1) ∷ b) (length a)
     take_same s u key more key_is s_is u_is =
         let q = d.q in
         let num = get_or path up 0 in
         let e = get_or indices up 0 in
-        let old : List (K × ℕ) = q.l ++ (k, m) ∷ q.r in
-        let w = next_in q.l (k, m) q.r e (k2, n) b (flat q.after) q.b_is q.entry_is more in
-        let es : List (K × ℕ) = q.l ++ (k, n) ∷ w.0 in
-        let len : length es ≡ length q.l + suc (length w.0) = length-append q.l ((k, n) ∷ w.0) in
+        let old : List (K × ℕ) = q.l ++ x ∷ q.r in
+        let w = next_in q.l x q.r e y b (flat q.after) q.b_is q.entry_is more in
+        let es : List (K × ℕ) = q.l ++ (x.0, y.1) ∷ w.0 in
+        let len : length es ≡ length q.l + suc (length w.0) = length-append q.l ((x.0, y.1) ∷ w.0) in
         let one = puts t s num _ (inner_content old) d.f.slot_is s_is in
-        let key_then = subst (λ (z : List (K × ℕ)). slice_get (drop 1 (entry_keys (q.l ++ (k, m) ∷ z))) (e - 1) ≡ Some key) w.1 key_is in
-        let gone = ap (λ z. without_child (with_key (inner_content (q.l ++ (k, m) ∷ z)) e key) e) w.1 ∙ removed_same V q.l (k, m) (k2, n) w.0 key e q.entry_is key_then in
+        let key_then = subst (λ (z : List (K × ℕ)). slice_get (drop 1 (entry_keys (q.l ++ x ∷ z))) (e - 1) ≡ Some key) w.1 key_is in
+        let gone = ap (λ z. without_child (with_key (inner_content (q.l ++ x ∷ z)) e key) e) w.1 ∙ removed_same V q.l x y w.0 key e q.entry_is key_then in
         let two = puts s u num (inner_content es) _ one.here (u_is ∙ ap (λ z. with_node s num z) gone) in
         let row : List (K × ℕ) = heads (q.before ++ node num old ∷ q.after) in
-        loosened t u es row q.after (omega (arith, len, length-append q.l ((k, m) ∷ q.r), ap length w.1)) (omega (arith, len)) (omega (arith, len)) refl refl (append_assoc q.l ((k, n) ∷ w.0) (flat q.after) ∙ ap (λ z. q.l ++ (k, n) ∷ z) (sym w.2))
-        (heads-put q.before num old es q.after (head-other num q.l k m n q.r w.0)) d.f.fit d.f.inside (rebuilt_same t path indices (suc up) size q.rest row (length (heads q.before)) (rows_above t path indices up size rows a (k, m) ((k2, n) ∷ b) d)) (puts-then t s u num _ _ one two)
+        loosened es q.after (omega (arith, len, length-append q.l (x ∷ q.r), ap length w.1)) (omega (arith, len)) (omega (arith, len)) refl refl (append_assoc q.l ((x.0, y.1) ∷ w.0) (flat q.after) ∙ ap (λ z. q.l ++ (x.0, y.1) ∷ z) (sym w.2))
+        (heads-put q.before num old es q.after (head-other num q.l x.0 x.1 y.1 q.r w.0)) d.f.fit d.f.inside (rebuilt_same (rows_above d)) (puts-then one two)
 
-    module _ (o : Across d.q.l d.q.r d.q.after (k2, n) b) where
+    module _ (o : Across d.q.l d.q.r d.q.after y b) where
       index_is : suc (length o.zs) ≡ get_or indices up 0
       index_is = ap length (sym o.l_is) ∙ d.q.entry_is
 
-      old_is : d.q.l ++ (k, m) ∷ d.q.r ≡ (o.z ∷ o.zs) ++ (k, m) ∷ []
-      old_is = ap (λ z. z ++ (k, m) ∷ d.q.r) o.l_is ∙ ap (λ z. (o.z ∷ o.zs) ++ (k, m) ∷ z) o.r_is
+      old_is : d.q.l ++ x ∷ d.q.r ≡ (o.z ∷ o.zs) ++ x ∷ []
+      old_is = ap (λ z. z ++ x ∷ d.q.r) o.l_is ∙ ap (λ z. (o.z ∷ o.zs) ++ x ∷ z) o.r_is
 
       -- the key that the code read is that of the removed entry
-      moved_key : (key : K) → slice_get (drop 1 (entry_keys (d.q.l ++ (k, m) ∷ d.q.r))) (get_or indices up 0 - 1) ≡ Some key → key ≡ k
-      moved_key key is = some_same key k (sym is ∙ ap (λ w. slice_get (drop 1 (entry_keys w)) (get_or indices up 0 - 1)) old_is ∙ last_key ℕ o.z o.zs (k, m) (get_or indices up 0) index_is)
+      moved_key : (key : K) → slice_get (drop 1 (entry_keys (d.q.l ++ x ∷ d.q.r))) (get_or indices up 0 - 1) ≡ Some key → key ≡ x.0
+      moved_key key is = some_same key x.0 (sym is ∙ ap (λ w. slice_get (drop 1 (entry_keys w)) (get_or indices up 0 - 1)) old_is ∙ last_key ℕ o.z o.zs x (get_or indices up 0) index_is)
 
       -- removing the entry where the next one is in the next parent, whose key was written first
-      take_over : (v u : Table K V) → Rebuilt t v path indices path indices (suc up) size d.q.rest
-          (heads d.q.before ++ (o.z.0, get_or path up 0) ∷ (k, o.q) ∷ heads o.rest) (length (heads d.q.before)) (map sizes d.q.rest) []
-          → slice_get v.nodes (get_or path up 0) ≡ Some (inner_content (d.q.l ++ (k, m) ∷ d.q.r)) →
-          u ≡ with_node v (get_or path up 0) (without_child (inner_content (d.q.l ++ (k, m) ∷ d.q.r)) (get_or indices up 0)) → Loosened t u path indices up size rows (a ++ (k, n) ∷ b) (length a)
-      take_over v u r slot u_is =
+      take_over : {v : Table K V} (u : Table K V) → Rebuilt t v path indices path indices (suc up) size d.q.rest
+          (heads d.q.before ++ (o.z.0, get_or path up 0) ∷ (x.0, o.q) ∷ heads o.rest) (length (heads d.q.before)) (map sizes d.q.rest) []
+          → slice_get v.nodes (get_or path up 0) ≡ Some (inner_content (d.q.l ++ x ∷ d.q.r)) →
+          u ≡ with_node v (get_or path up 0) (without_child (inner_content (d.q.l ++ x ∷ d.q.r)) (get_or indices up 0)) → Loosened inner_content 4 8 t u path indices up size (map sizes rows) (flat_map numbers rows) (a ++ (x.0, y.1) ∷ b) (length a)
+      take_over {v} u r slot u_is =
           let q = d.q in
           let num = get_or path up 0 in
-          let after : List (LevelNode K ℕ) = node o.q ((k, n) ∷ o.ys) ∷ o.rest in
-          let gone = ap (λ z. without_child (inner_content z) (get_or indices up 0)) old_is ∙ removed_last V o.z o.zs (k, m) (get_or indices up 0) index_is ∙ ap (λ z. inner_content z) (sym o.l_is) in
+          let after : List (LevelNode K ℕ) = node o.q ((x.0, y.1) ∷ o.ys) ∷ o.rest in
+          let gone = ap (λ z. without_child (inner_content z) (get_or indices up 0)) old_is ∙ removed_last V o.z o.zs x (get_or indices up 0) index_is ∙ ap (λ z. inner_content z) (sym o.l_is) in
           let two = puts v u num (inner_content q.l) _ slot (u_is ∙ ap (λ z. with_node v num z) gone) in
-          let list : heads (q.before ++ node num q.l ∷ after) ≡ heads q.before ++ (o.z.0, num) ∷ (k, o.q) ∷ heads o.rest = heads-append q.before (node num q.l ∷ after) ∙ ap (λ z. heads q.before ++ (head_of num z ++ (k, o.q) ∷ heads o.rest)) o.l_is in
-          let len : length (q.l ++ (k, m) ∷ q.r) ≡ suc (length q.l) = omega (arith, length-append q.l ((k, m) ∷ q.r), ap length o.r_is) in
-          loosened v u q.l (heads q.before ++ (o.z.0, num) ∷ (k, o.q) ∷ heads o.rest) after len (omega (arith, ap length o.l_is)) (omega arith) (ap (λ z. sizes z) (sym o.after_is)) (ap (λ z. numbers z) (sym o.after_is)) (ap (λ z. q.l ++ (k, n) ∷ z) (sym o.b_is)) (sym list)
-          (rw o.after_is at d.f.fit) (across_in t path indices up size rows a (k, m) (k2, n) b d o k) r two
+          let list : heads (q.before ++ node num q.l ∷ after) ≡ heads q.before ++ (o.z.0, num) ∷ (x.0, o.q) ∷ heads o.rest = heads-append q.before (node num q.l ∷ after) ∙ ap (λ z. heads q.before ++ (head_of num z ++ (x.0, o.q) ∷ heads o.rest)) o.l_is in
+          let len : length (q.l ++ x ∷ q.r) ≡ suc (length q.l) = omega (arith, length-append q.l (x ∷ q.r), ap length o.r_is) in
+          loosened q.l after len (omega (arith, ap length o.l_is)) (omega arith) (ap (λ z. sizes z) (sym o.after_is)) (ap (λ z. numbers z) (sym o.after_is)) (ap (λ z. q.l ++ (x.0, y.1) ∷ z) (sym o.b_is)) (sym list)
+          (rw o.after_is at d.f.fit) (across_in d o x.0) r two
 
-  module _ (t : Table K V) (path indices : List ℕ) (up size : ℕ) (rows : List (List (LevelNode K ℕ))) (a : List (K × ℕ)) (k : K) (m : ℕ) (k2 : K) (n : ℕ) (b : List (K × ℕ)) (p : Above t path indices up size rows (a ++ (k, m) ∷ (k2, n) ∷ b) (length a))
-      (r : ℕ) (wide : length path ≡ 17) (height : size ≤ 17) where
+  module _ {t : Table K V} {path indices : List ℕ} {up size : ℕ} (w : TwoAbove t path indices up size) (r : ℕ) (wide : length path ≡ 17) (height : size ≤ 17) where
+    open w use {rows, before as a, x, y, after as b, above as p}
+
     top : up < size
-    top = above_two t path indices up size rows a (k, m) (k2, n) b (length a) p
+    top = above_two rows a x y b p
 
     -- the parent of the entry
-    pub here : Seen t path indices up size rows a (k, m) ((k2, n) ∷ b) r
-    here = seen t path indices up size rows a (k, m) ((k2, n) ∷ b) p top r wide height
+    pub here : Seen t path indices up size rows a x (y ∷ b) r
+    here = seen a x (y ∷ b) p top r wide height
 
-    abbrev d : Spot t path indices up size rows a (k, m) ((k2, n) ∷ b)
+    abbrev d : Spot t path indices up size rows a x (y ∷ b)
     d = here.d
 
     abbrev ds : List (K × ℕ)
-    ds = d.q.l ++ (k, m) ∷ d.q.r
+    ds = d.q.l ++ x ∷ d.q.r
 
     module _ (cnt : ℕ) (value : Counts t (get_or path up r) cnt) where
       module _ (more : get_or indices up 0 + 1 < cnt) where
@@ -138,34 +139,34 @@ module _ {K V : Type 0} where
             (set (drop 1 (entry_keys ds)) (get_or indices up 0) key, entry_items ds, one.here, (let e = here.counted cnt value in omega (arith, item_count ds))),
           )
 
-          pub same_parent : (u : Table K V) (i : ℕ) → i ≡ get_or indices up 0 - 1 → ReadsKey t (get_or path up r) i key → Removes s u (get_or path up r) (get_or indices up 0) → Loosened t u path indices up size rows (a ++ (k, n) ∷ b) (length a)
+          pub same_parent : (u : Table K V) (i : ℕ) → i ≡ get_or indices up 0 - 1 → ReadsKey t (get_or path up r) i key → Removes s u (get_or path up r) (get_or indices up 0) → Loosened inner_content 4 8 t u path indices up size (map sizes rows) (flat_map numbers rows) (a ++ (x.0, y.1) ∷ b) (length a)
           same_parent u i i_is reads removes =
               let num_is = here.num_is in
               let u_is = removes (set (drop 1 (entry_keys ds)) (get_or indices up 0) key) (entry_items ds) one.here in
               let key_is = subst (λ (z : ℕ). slice_get (drop 1 (entry_keys ds)) z ≡ Some key) i_is (reads (drop 1 (entry_keys ds)) (entry_items ds) here.slot_is) in
               let written = s_is in
-              take_same t path indices up size rows a k m k2 n b d s u key (subst (λ (z : ℕ). get_or indices up 0 + 1 < z) (here.counted cnt value) more) key_is (rw num_is at written) (rw num_is at u_is)
+              take_same d s u key (subst (λ (z : ℕ). get_or indices up 0 + 1 < z) (here.counted cnt value) more) key_is (rw num_is at written) (rw num_is at u_is)
 
       module _ (less : cnt ≤ get_or indices up 0 + 1) where
-        o : Across d.q.l d.q.r d.q.after (k2, n) b
-        o = across (get_or path up 0) d.q.l (k, m) d.q.r d.q.after (k2, n) b d.f.fit d.q.b_is (omega (arith, here.counted cnt value, less, d.q.entry_is))
+        pub o : Across d.q.l d.q.r d.q.after y b
+        o = across (get_or path up 0) d.q.l x d.q.r d.q.after y b d.f.fit d.q.b_is (omega (arith, here.counted cnt value, less, d.q.entry_is))
 
         pub index_some : 1 ≤ get_or indices up 0
-        index_some = let e = index_is t path indices up size rows a k m k2 n b d o in omega arith
+        index_some = let e = index_is d o in omega arith
 
         pub last_key_asks : KeyAt t (get_or path up r) (get_or indices up 0 - 1)
         last_key_asks = here.low_key_asks (get_or indices up 0 - 1) (let e = index_some in omega arith)
 
         module _ (high : ℕ) (high_is : high ≡ suc up) where
-          above_is : Above t path indices high size d.q.rest (heads d.q.before ++ (o.z.0, get_or path up 0) ∷ (k2, o.q) ∷ heads o.rest) (length (heads d.q.before))
-          above_is = rw high_is (across_above t path indices up size rows a (k, m) (k2, n) b d o)
+          pub above_is : Above t path indices high size d.q.rest (heads d.q.before ++ (o.z.0, get_or path up 0) ∷ (y.0, o.q) ∷ heads o.rest) (length (heads d.q.before))
+          above_is = rw high_is (across_above d o)
 
-          pub rekey_asks : TwoAbove t path indices high size
-          rekey_asks = (d.q.rest, heads d.q.before, (o.z.0, get_or path up 0), k2, o.q, heads o.rest, above_is)
+          abbrev pub rekey_asks : TwoAbove t path indices high size
+          rekey_asks = record { rows = d.q.rest; before = heads d.q.before; x = (o.z.0, get_or path up 0); y = (y.0, o.q); after = heads o.rest; above = above_is }
 
           module _ (v : Table K V) (key : K) (rekeys : Rekeys t v path indices high size key) where
             rebuilt : Rebuilt t v path indices path indices high size d.q.rest (heads d.q.before ++ (o.z.0, get_or path up 0) ∷ (key, o.q) ∷ heads o.rest) (length (heads d.q.before)) (map sizes d.q.rest) []
-            rebuilt = rekeys d.q.rest (heads d.q.before) (o.z.0, get_or path up 0) k2 o.q (heads o.rest) above_is
+            rebuilt = rekeys rekey_asks
 
             slot_then : slice_get v.nodes (get_or path up 0) ≡ Some (inner_content ds)
             slot_then = rebuilt.frees.others (get_or path up 0) d.f.none_rest ∙ d.f.slot_is
@@ -176,10 +177,10 @@ module _ {K V : Type 0} where
               (drop 1 (entry_keys ds), entry_items ds, ap (λ z. slice_get v.nodes z) here.num_is ∙ slot_then, omega (arith, item_count ds, d.count_is)),
             )
 
-            pub next_parent : (u : Table K V) → ReadsKey t (get_or path up r) (get_or indices up 0 - 1) key → Removes v u (get_or path up r) (get_or indices up 0) → Loosened t u path indices up size rows (a ++ (k, n) ∷ b) (length a)
+            pub next_parent : (u : Table K V) → ReadsKey t (get_or path up r) (get_or indices up 0 - 1) key → Removes v u (get_or path up r) (get_or indices up 0) → Loosened inner_content 4 8 t u path indices up size (map sizes rows) (flat_map numbers rows) (a ++ (x.0, y.1) ∷ b) (length a)
             next_parent u reads removes =
                 let num_is = here.num_is in
-                let k_is = moved_key t path indices up size rows a k m k2 n b d o key (reads (drop 1 (entry_keys ds)) (entry_items ds) here.slot_is) in
+                let k_is = moved_key d o key (reads (drop 1 (entry_keys ds)) (entry_items ds) here.slot_is) in
                 let u_is = removes (drop 1 (entry_keys ds)) (entry_items ds) (ap (λ z. slice_get v.nodes z) num_is ∙ slot_then) in
                 let above = rebuilt in
-                take_over t path indices up size rows a k m k2 n b d o v u (rw (high_is, k_is) at above) slot_then (rw num_is at u_is)
+                take_over d o {v = v} u (rw (high_is, k_is) at above) slot_then (rw num_is at u_is)

@@ -3,7 +3,7 @@
 use Rattle.std.proofs.Common.{◌≡◌, ℕ, suc, ◌+◌, ◌≤◌, ◌<◌, Some, Option, List, [], ◌∷◌, ◌++◌, map, length, get_or, slice_get, refl, sym, ap, ◌∙◌, subst, append_assoc, length-append, arith, ◌≢◌}
 use Rattle.bforest_core.proofs.Words.{map-append, flat_map, remove, length-map, Content, Leaf, without_entry, Table, LevelNode, node, flat}
 use Rattle.bforest_core.proofs.Words.{heads, sizes, numbers, FitRow, Solid, Stacked, Tree, half_of, RowIn, leaf_content, entry_keys, count}
-use Rattle.bforest_core.proofs.Words.{Distinct, numbers_of, Above, Rebuilt, StandsIn, HasOthers, IsSingle, LeafLoss}
+use Rattle.bforest_core.proofs.Words.{Distinct, numbers_of, Above, OneAbove, Rebuilt, StandsIn, HasOthers, IsSingle, LeafLoss}
 use Rattle.bforest_core.proofs.Words.{nil_from_length, entry_count, IsUsed, with_node, head_of, entry_items}
 use Rattle.bforest_core.proofs.rows.LevelRows.{flat-append, sizes-append, FitRow-split, Solid-full, least-pos, heads-append}
 use Rattle.bforest_core.proofs.table.Tables.{count-append, counts, count-same, row-split, row-put, row-same, Puts, is_used, puts}
@@ -82,8 +82,8 @@ module _ {K V : Type 0} where
     pub none_chain : count (get_or path 0 0) t.chain ≡ 0
 
   -- a tree in which a path stands can be cut at the path's entry
-  pub leaf_at : (most : ℕ) (t : Table K V) (path indices : List ℕ) (size : ℕ) (tree : Tree K V) (place : ℕ) → StandsIn most t path indices size tree place → LeafAt most t path indices size tree place
-  leaf_at most t path indices size tree place s =
+  pub leaf_at : {most : ℕ} {t : Table K V} {path indices : List ℕ} {size : ℕ} {tree : Tree K V} {place : ℕ} → StandsIn most t path indices size tree place → LeafAt most t path indices size tree place
+  leaf_at {most} {t} {path} {indices} {tree} s =
       let at = s.stands.leaf in
       let n = get_or path 0 0 in
       let c = cut at.entries (get_or indices 0 0) at.within in
@@ -125,9 +125,9 @@ module _ {K V : Type 0} where
       }
 
   -- the leaf without the entry, under rows that have its first key
-  pub leaf_loss : (most : ℕ) (t u v : Table K V) (path indices : List ℕ) (size : ℕ) (tree : Tree K V) (place : ℕ) → (d : LeafAt most t path indices size tree place) → 1 ≤ length (d.l ++ d.r) → Puts t u (get_or path 0 0) (leaf_content (d.l ++ d.r)) →
+  pub leaf_loss : {most : ℕ} {t u v : Table K V} {path indices : List ℕ} {size : ℕ} {tree : Tree K V} {place : ℕ} → (d : LeafAt most t path indices size tree place) → 1 ≤ length (d.l ++ d.r) → Puts t u (get_or path 0 0) (leaf_content (d.l ++ d.r)) →
       Rebuilt u v path indices path indices 1 size tree.above (heads (d.before ++ node (get_or path 0 0) (d.l ++ d.r) ∷ d.after)) (length (heads d.before)) (map sizes tree.above) [] → LeafLoss most t v path indices size tree place
-  leaf_loss most t u v path indices size tree place d more w b =
+  leaf_loss {t} {u} {v} {path} {tree} {place} d more w b =
       let n = get_or path 0 0 in
       let old : List (K × V) = d.l ++ d.x ∷ d.r in
       let es : List (K × V) = d.l ++ d.r in
@@ -139,38 +139,42 @@ module _ {K V : Type 0} where
       let c2 = λ (m : ℕ). counts m d.before n es d.after b.rows' v.chain in
       let c7 = λ (m : ℕ). ap (λ z. count m z) (b.frees.chain_is ∙ w.chain_is) in
       let c8 = λ (m : ℕ). count-append m (numbers tree.leaves) (flat_map numbers tree.above) in
-      let c9 = λ (m : ℕ). b.numbers_are m in
       let in_u : RowIn leaf_content u.nodes row2 = row-put leaf_content t.nodes u.nodes d.before n old es d.after d.inside w.same w.here d.none in
       record {
-        before = d.before;
-        entries = es;
-        after = d.after;
-        rest = b.rows';
-        inside = row-same leaf_content u.nodes v.nodes row2 (λ m some. b.frees.others m (omega (arith, some, d.apart m, c1 m, c2 m))) in_u;
-        solid = d.solid;
-        fits = d.fit.2;
-        some = more;
-        lost_one = omega (arith, d.fit.0, len);
-        most_is = omega (arith, d.fit.1, len);
-        above = b.above;
-        entry_was = omega (arith, d.index_is, length-append d.l d.r);
-        apart = λ m. omega (arith, d.apart m, c1 m, c2 m, c7 m, c9 m);
-        flat_is = sym (ap (λ z. remove (flat z) place) d.leaves_are ∙ ap (λ z. remove (flat row) z) d.place_is ∙ remove_flat d.before n d.l d.x d.r d.after);
-        place_is = omega (arith, d.place_is, d.index_is);
-        leaf_was = λ fs slot. leaf_count fs old (slice_get t.nodes n) slot d.slot_is ∙ len;
-        sizes_were = ap sizes d.leaves_are ∙ sizes-append d.before (node n old ∷ d.after) ∙ ap (λ z. sizes d.before ++ z ∷ sizes d.after) len;
-        rest_sizes = b.sizes_are;
-        numbers_are = λ m. omega (arith, c0 m, c1 m, c2 m, c8 m, c9 m);
-        frees = frees-after t u v (numbers_of tree) (flat_map numbers tree.above) [] (λ m none. omega (arith, none, c8 m)) (frees-puts t u n (leaf_content es) (numbers_of tree) (omega (arith, c0 n, c1 n, c8 n, count-same n (numbers d.after))) w) b.frees;
+        loss = record {
+          before = d.before;
+          entries = es;
+          after = d.after;
+          rest = b.rows';
+          on_level = record {
+            inside = row-same leaf_content u.nodes v.nodes row2 (λ m some. b.frees.others m (omega (arith, some, d.apart m, c1 m, c2 m))) in_u;
+            solid = d.solid;
+            fits = d.fit.2;
+            some = more;
+            lost_one = omega (arith, d.fit.0, len);
+            most_is = omega (arith, d.fit.1, len);
+            above = b.above;
+            number_is = refl;
+            entry_was = omega (arith, d.index_is, length-append d.l d.r);
+            apart = λ m. omega (arith, d.apart m, c1 m, c2 m, c7 m, b.numbers_are m);
+          };
+          list_is = sym (ap (λ z. remove (flat z) place) d.leaves_are ∙ ap (λ z. remove (flat row) z) d.place_is ∙ remove_flat d.before n d.l d.x d.r d.after);
+          place_is = omega (arith, d.place_is, d.index_is);
+          was = λ fs slot. leaf_count fs old (slice_get t.nodes n) slot d.slot_is ∙ len;
+          sizes_were = ap (λ z. z ∷ map sizes tree.above) (ap sizes d.leaves_are ∙ sizes-append d.before (node n old ∷ d.after) ∙ ap (λ z. sizes d.before ++ z ∷ sizes d.after) len)
+              ∙ ap (λ z. (sizes d.before ++ suc (length es) ∷ sizes d.after) ∷ z) (sym b.sizes_are);
+          numbers_are = λ m. omega (arith, c0 m, c1 m, c2 m, c8 m, b.numbers_are m);
+          frees = frees-after (λ m none. omega (arith, none, c8 m)) (frees-puts (numbers_of tree) (omega (arith, c0 n, c1 n, c8 n, count-same n (numbers d.after))) w) b.frees;
+        };
       }
 
   -- a leaf with a key of this index
   abbrev pub LeafKeyAt : Table K V → ℕ → ℕ → Type 0
   LeafKeyAt t number index = (keys : List K) × (vals : List V) × (slice_get t.nodes number ≡ Some (Leaf keys vals)) × (index < length keys)
 
-  module _ (most : ℕ) (t : Table K V) (path indices : List ℕ) (size : ℕ) (tree : Tree K V) (place : ℕ) (s : StandsIn most t path indices size tree place) (read : ℕ) (num_is : read ≡ get_or path 0 0) where
-    d : LeafAt most t path indices size tree place
-    d = leaf_at most t path indices size tree place s
+  module _ {most : ℕ} {t : Table K V} {path indices : List ℕ} {size : ℕ} {tree : Tree K V} {place : ℕ} (s : StandsIn most t path indices size tree place) (read : ℕ) (num_is : read ≡ get_or path 0 0) where
+    pub d : LeafAt most t path indices size tree place
+    d = leaf_at s
 
     abbrev es : List (K × V)
     es = d.l ++ d.x ∷ d.r
@@ -226,7 +230,7 @@ module _ {K V : Type 0} where
           new_is = takes (entry_keys all) (entry_items all) (ap (λ z. slice_get t.nodes z) num_is ∙ has.3) ∙ ap (λ z. with_node t z (without_entry (leaf_content all) (get_or indices 0 0))) num_is;
         }
 
-    module _ (u : Table K V) (h : HasOthers t u path indices) where
+    module _ {u : Table K V} (h : HasOthers t u path indices) where
       abbrev all : List (K × V)
       all = h.x ∷ h.y ∷ h.more
 
@@ -244,15 +248,15 @@ module _ {K V : Type 0} where
       alone_loss low =
           let n = get_or path 0 0 in
           let then : List (LevelNode K V) = d.before ++ node n (d.l ++ d.r) ∷ d.after in
-          let a = above_written t u n (leaf_content (d.l ++ d.r)) path indices 1 size tree.above _ (length (heads d.before)) w d.none_rows d.above in
+          let a = above_written w d.none_rows d.above in
           let len = as_many_heads d.before n es (d.l ++ d.r) d.after (omega (arith, length-append d.l (d.x ∷ d.r))) more in
-          leaf_loss most t u u path indices size tree place d more w (rebuilt_same u path indices 1 size tree.above (heads then) (length (heads d.before)) (above_top u path indices 1 size tree.above _ (heads then) (length (heads d.before)) low len a))
+          leaf_loss d more w (rebuilt_same (above_top tree.above (heads then) low len a))
 
       -- the rows above, which name the leaf by its old first key
       above_then : (k : K) → ((rs : List (K × V)) → head_of (get_or path 0 0) (d.l ++ d.x ∷ rs) ≡ (k, get_or path 0 0) ∷ []) → Above u path indices 1 size tree.above (heads d.before ++ (k, get_or path 0 0) ∷ heads d.after) (length (heads d.before))
       above_then k head_is =
           subst (λ (z : List (K × ℕ)). Above u path indices 1 size tree.above z (length (heads d.before))) (heads-append d.before (node (get_or path 0 0) es ∷ d.after) ∙ ap (λ z. heads d.before ++ (z ++ heads d.after)) (head_is d.r))
-          (above_written t u (get_or path 0 0) (leaf_content (d.l ++ d.r)) path indices 1 size tree.above _ (length (heads d.before)) w d.none_rows d.above)
+          (above_written w d.none_rows d.above)
 
       -- an entry that is not the first was removed
       pub behind : 0 < get_or indices 0 0 → LeafLoss most t u path indices size tree place
@@ -262,14 +266,14 @@ module _ {K V : Type 0} where
           let a = above_then f.0.0 (λ rs. ap (λ z. head_of n (z ++ d.x ∷ rs)) f.2) in
           let new : heads d.before ++ ((f.0.0, n) ∷ heads d.after) ≡ heads (d.before ++ node n (d.l ++ d.r) ∷ d.after) = sym (heads-append d.before (node n (d.l ++ d.r) ∷ d.after) ∙ ap (λ z. heads d.before ++ (head_of n (z ++ d.r) ++ heads d.after)) f.2) in
           let b = subst (λ (z : List (K × ℕ)). Above u path indices 1 size tree.above z (length (heads d.before))) new a in
-          leaf_loss most t u u path indices size tree place d more w (rebuilt_same u path indices 1 size tree.above _ (length (heads d.before)) b)
+          leaf_loss d more w (rebuilt_same b)
 
       module _ (first : get_or indices 0 0 ≤ 0) where
         -- the entry after the removed one
         next : (y : K × V) × (others : List (K × V)) × (d.l ++ d.r ≡ y ∷ others)
         next = some_first (d.l ++ d.r) more
 
-        above : Above u path indices 1 size tree.above (heads d.before ++ (d.x.0, get_or path 0 0) ∷ heads d.after) (length (heads d.before))
+        pub above : Above u path indices 1 size tree.above (heads d.before ++ (d.x.0, get_or path 0 0) ∷ heads d.after) (length (heads d.before))
         above =
             let none = nil_from_length d.l (omega (arith, first, d.index_is)) in
             above_then d.x.0 (λ rs. ap (λ z. head_of (get_or path 0 0) (z ++ d.x ∷ rs)) none)
@@ -282,18 +286,17 @@ module _ {K V : Type 0} where
         first_asks = (entry_keys (next.0 ∷ next.1), entry_items (next.0 ∷ next.1), slot_then, omega (arith, leaf_keys (next.0 ∷ next.1)))
 
         -- the rows above meet what writing the new first key requires
-        pub above_asks : (rows : List (List (LevelNode K ℕ))) × (before : List (K × ℕ)) × (k : K) × (n : ℕ) × (after : List (K × ℕ)) × Above u path indices 1 size rows (before ++ (k, n) ∷ after) (length before)
-        above_asks = (tree.above, heads d.before, d.x.0, get_or path 0 0, heads d.after, above)
+        abbrev pub above_asks : OneAbove u path indices 1 size
+        above_asks = record { rows = tree.above; before = heads d.before; x = (d.x.0, get_or path 0 0); after = heads d.after; above = above }
 
         -- the first entry of the leaf was removed
         pub ahead : (v : Table K V) (key : K) → ((keys : List K) (vals : List V) → slice_get u.nodes read ≡ Some (Leaf keys vals) → slice_get keys 0 ≡ Some key) →
-            ((rows : List (List (LevelNode K ℕ))) (before : List (K × ℕ)) (k : K) (n : ℕ) (after : List (K × ℕ)) → Above u path indices 1 size rows (before ++ (k, n) ∷ after) (length before) →
-            Rebuilt u v path indices path indices 1 size rows (before ++ (key, n) ∷ after) (length before) (map sizes rows) []) →
+            ((w : OneAbove u path indices 1 size) → Rebuilt u v path indices path indices 1 size w.rows (w.before ++ (key, w.x.1) ∷ w.after) (length w.before) (map sizes w.rows) []) →
             LeafLoss most t v path indices size tree place
         ahead v key reads rekeys =
             let n = get_or path 0 0 in
             let key_is = some_same next.0.0 key (reads (entry_keys (next.0 ∷ next.1)) (entry_items (next.0 ∷ next.1)) slot_then) in
             let new : heads d.before ++ ((key, n) ∷ heads d.after) ≡ heads (d.before ++ node n (d.l ++ d.r) ∷ d.after) =
             ap (λ z. heads d.before ++ ((z, n) ∷ heads d.after)) (sym key_is) ∙ ap (λ z. heads d.before ++ (head_of n z ++ heads d.after)) (sym next.2) ∙ sym (heads-append d.before (node n (d.l ++ d.r) ∷ d.after)) in
-            leaf_loss most t u v path indices size tree place d more w
-            (subst (λ (z : List (K × ℕ)). Rebuilt u v path indices path indices 1 size tree.above z (length (heads d.before)) (map sizes tree.above) []) new (rekeys tree.above (heads d.before) d.x.0 n (heads d.after) above))
+            leaf_loss d more w
+            (subst (λ (z : List (K × ℕ)). Rebuilt u v path indices path indices 1 size tree.above z (length (heads d.before)) (map sizes tree.above) []) new (rekeys above_asks))

@@ -16,22 +16,22 @@ not_so none h = λ a. false≢true (sym none ∙ h.1 a)
 
 module _ {K V : Type 0} where
   -- the need at a full node, and at one with room
-  spot_full : (t : Table K V) (ms js up : _) {size rows list p : _} → (f : Spot t.nodes ms js up size rows list p) → length f.entries ≡ 8 → need_above (Some p) (map sizes rows) ≡ suc (need_above (Some (length f.before)) (map sizes f.rest))
-  spot_full t ms js up f eight =
+  spot_full : (t : Table K V) {ms js : List ℕ} {up size : ℕ} {rows : List (List (LevelNode K ℕ))} {list : List (K × ℕ)} {p : ℕ} → (f : Spot t.nodes ms js up size rows list p) → length f.entries ≡ 8 → need_above (Some p) (map sizes rows) ≡ suc (need_above (Some (length f.before)) (map sizes f.rest))
+  spot_full t {ms} {js} {up} f eight =
       rw (f.rows_are, f.row_is, f.place_is, sizes-append f.before (node (get_or ms up 0) f.entries ∷ f.after), gain_full f.before (length f.entries) (get_or js up 0) (sizes f.after) f.within eight) refl
 
-  spot_room : (t : Table K V) (ms js up : _) {size rows list p : _} → (f : Spot t.nodes ms js up size rows list p) → length f.entries < 8 → need_above (Some p) (map sizes rows) ≡ 1
-  spot_room t ms js up f room =
+  spot_room : (t : Table K V) {ms js : List ℕ} {up size : ℕ} {rows : List (List (LevelNode K ℕ))} {list : List (K × ℕ)} {p : ℕ} → (f : Spot t.nodes ms js up size rows list p) → length f.entries < 8 → need_above (Some p) (map sizes rows) ≡ 1
+  spot_room t {ms} {js} {up} f room =
       rw (f.rows_are, f.row_is, f.place_is, sizes-append f.before (node (get_or ms up 0) f.entries ∷ f.after), gain_room f.before (length f.entries) (get_or js up 0) (sizes f.after) f.within room) refl
 
   -- the need of a full leaf
-  pub leaf_need_full : (most : ℕ) (t : Table K V) (ms js : List ℕ) (tree : Tree K V) (place : ℕ) → (d : LeafSpot most t ms js tree place)
+  pub leaf_need_full : {most : ℕ} {t : Table K V} {ms js : List ℕ} {tree : Tree K V} {place : ℕ} → (d : LeafSpot most t ms js tree place)
       → length (d.l ++ d.r) ≡ most → need_above (leaf_gain most place (sizes tree.leaves)).0 (map sizes tree.above) ≡ need_above
       (Some (length d.before)) (map sizes tree.above)
-  leaf_need_full most t ms js tree place d full = ap (λ z. need_above z.0 (map sizes tree.above)) (full_gain most t ms js tree place d full)
+  leaf_need_full {most} {t} {ms} {js} {tree} {place} d full = ap (λ z. need_above z.0 (map sizes tree.above)) (full_gain d full)
 
   -- a level above the leaves, and the test whether the path's node there is full
-  module _ (t : Table K V) (ms js up size rows list p : _) (ab : Above t ms js up size rows list p) (other : up ≢ size) (wide : size ≤ length ms) (r : ℕ) where
+  module _ {t : Table K V} {ms js : List ℕ} {up size : ℕ} {rows : List (List (LevelNode K ℕ))} {list : List (K × ℕ)} {p : ℕ} (ab : Above t ms js up size rows list p) (other : up ≢ size) (wide : size ≤ length ms) (r : ℕ) where
     abbrev level : Spot t.nodes ms js up size rows list p
     level = spot t.nodes ms js up size rows list p (record { stacked = ab.stacked; inside = ab.inside; stands = ab.stands; height = ab.height }) other
 
@@ -75,15 +75,15 @@ module _ {K V : Type 0} where
 
         pub level_full : full ≡ true → (more : ℕ) → ((rows list at : _) → Above t ms js (up + 1) size rows list at → more ≡ need_above (Some at) (map sizes rows)) → more + 1 ≡ need_above (Some p) (map sizes rows)
         unfolding level_above
-        level_full is more needs = omega (arith, spot_full t ms js up level (tells.0 is), needs level_above.0 level_above.1 level_above.2 level_above.3)
+        level_full is more needs = omega (arith, spot_full t level (tells.0 is), needs level_above.0 level_above.1 level_above.2 level_above.3)
 
         pub level_room : full ≡ false → 1 ≡ need_above (Some p) (map sizes rows)
-        level_room none = sym (spot_room t ms js up level (omega (arith, not_so none tells, level.most_is)))
+        level_room none = sym (spot_room t level (omega (arith, not_so none tells, level.most_is)))
 
   -- the leaf, and the test whether it is full
-  module _ (most : _) (t : Table K V) (ms js size : _) (tree : Tree K V) (place : _) (p : Placed most t ms js size tree place) where
+  module _ {most : ℕ} {t : Table K V} {ms js : List ℕ} {size : ℕ} {tree : Tree K V} {place : ℕ} (p : Placed most t ms js size tree place) where
     abbrev leaf : LeafSpot most t ms js tree place
-    leaf = leaf_spot most t ms js size tree place p
+    leaf = leaf_spot p
 
     -- the rows above the leaf
     pub leaf_above : (rows : List (List (LevelNode K ℕ))) × (list : List (K × ℕ)) × (at : ℕ) × Above t ms js 1 size rows list at
@@ -128,7 +128,7 @@ module _ {K V : Type 0} where
 
           pub leaf_full : full ≡ true → (more : ℕ) → ((rows list at : _) → Above t ms js 1 size rows list at → more ≡ need_above (Some at) (map sizes rows)) → more ≡ need most place (sizes_of tree)
           unfolding leaf_above
-          leaf_full is more needs = needs leaf_above.0 leaf_above.1 leaf_above.2 leaf_above.3 ∙ sym (leaf_need_full most t ms js tree place leaf (leaf_tells.0 is))
+          leaf_full is more needs = needs leaf_above.0 leaf_above.1 leaf_above.2 leaf_above.3 ∙ sym (leaf_need_full leaf (leaf_tells.0 is))
 
           pub leaf_room : full ≡ false → 0 ≡ need most place (sizes_of tree)
-          leaf_room none = sym (ap (λ z. need_above z.0 (map sizes tree.above)) (room_gain most t ms js tree place leaf (omega (arith, not_so none leaf_tells, leaf.most_is))))
+          leaf_room none = sym (ap (λ z. need_above z.0 (map sizes tree.above)) (room_gain leaf (omega (arith, not_so none leaf_tells, leaf.most_is))))

@@ -37,8 +37,8 @@ top_tree leaves (row ∷ rows) ms js size place before es after is some s st siz
 
 module _ {K V : Type 0} where
   -- the root of a tree is the top of a path that stands in it
-  pub root-stands : (most : _) (tree : Tree K V) (ms js size place : _) → IsFit most tree → Stands ms js size tree place → root_of tree ≡ top_of ms size
-  root-stands most tree ms js size place fit at =
+  pub root-stands : {most : ℕ} {tree : Tree K V} {ms js : List ℕ} {size place : ℕ} → IsFit most tree → Stands ms js size tree place → root_of tree ≡ top_of ms size
+  root-stands {tree} {ms} {js} {size} fit at =
       top_tree tree.leaves tree.above ms js size (length at.leaf.before) at.leaf.before at.leaf.entries at.leaf.after at.leaf.row_is (omega (arith, at.leaf.within)) fit.stacked at.above at.size_is
 
   -- the root of a tree is the top of a path that points to a place in it
@@ -48,9 +48,10 @@ module _ {K V : Type 0} where
       top_tree tree.leaves tree.above ms js size (length at.before) at.before at.entries at.after at.leaves_are (omega (arith, f.1.0, least-pos (half_of most) (omega (arith, one)) at.after)) fit.stacked at.above at.size_is
 
   -- two paths through the same rows have the same top
-  pub top-same : (t : Table K V) (path indices path' indices' level size rows list place place' : _) → Above t path indices level size rows list place
+  pub top-same : {t : Table K V} {path indices path' indices' : List ℕ} {level size : ℕ} (rows : List (List (LevelNode K ℕ)))
+      {list : List (K × ℕ)} {place place' : ℕ} → Above t path indices level size rows list place
       → Above t path' indices' level size rows list place' → level < size → top_of path' size ≡ top_of path size
-  top-same t path indices path' indices' level size [] list place place' p q low = absurd (omega (arith, p.height, low))
-  top-same t path indices path' indices' level size (row ∷ rows) list place place' p q low =
+  top-same [] p q low = absurd (omega (arith, p.height, low))
+  top-same {path} {indices} {path'} {indices'} {level} {size} (row ∷ rows) {list} {place} {place'} p q low =
       let high : level + length rows ≡ size - 1 = omega (arith, p.height) in
       ap (λ z. get_or path' z 0) (sym high) ∙ sym (top_rows list path' indices' level row rows place' q.stacked q.stands) ∙ top_rows list path indices level row rows place p.stacked p.stands ∙ ap (λ z. get_or path z 0) high

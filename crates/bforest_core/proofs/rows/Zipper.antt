@@ -66,10 +66,10 @@ stands_here ms js up row before n e es after rest p solid row_is n_is e_is withi
 )
 
 module _ {K V : Type 0} where
-  pub parent : {t : Table K V} (ms js up : _) {size : _} (rows : _) (a : List (K × ℕ)) (x : K × ℕ) (b : List (K × ℕ)) → Above t ms js up size rows (a ++ x ∷ b) (length a) → up < size →
+  pub parent : {t : Table K V} {ms js : List ℕ} {up size : ℕ} (rows : List (List (LevelNode K ℕ))) (a : List (K × ℕ)) (x : K × ℕ) (b : List (K × ℕ)) → Above t ms js up size rows (a ++ x ∷ b) (length a) → up < size →
       Parent ms js up rows a x b
-  parent ms js up [] a x b p low = absurd (omega (arith, p.height, low))
-  parent ms js up (row ∷ rest) a x b p low =
+  parent [] a x b p low = absurd (omega (arith, p.height, low))
+  parent {ms} {js} {up} (row ∷ rest) a x b p low =
       let at = p.stands.0 in
       let n = get_or ms up 0 in
       let c = cut at.entries (get_or js up 0) at.within in
@@ -91,11 +91,12 @@ module _ {K V : Type 0} where
       }
 
   -- a level of two nodes or more has a row above it
-  pub above_two : (t : Table K V) (ms js up size rows : _) (a : List (K × ℕ)) (x y : K × ℕ) (b : List (K × ℕ)) (p : _) → Above t ms js up size rows (a ++ x ∷ y ∷ b) p → up < size
-  above_two t ms js up size [] a x y b p h = absurd (omega (arith, h.stacked, length-append a (x ∷ y ∷ b)))
-  above_two t ms js up size (row ∷ rest) a x y b p h = omega (arith, h.height)
+  pub above_two : {t : Table K V} {ms js : List ℕ} {up size : ℕ} (rows : List (List (LevelNode K ℕ))) (a : List (K × ℕ)) (x y : K × ℕ) (b : List (K × ℕ)) {p : ℕ} → Above t ms js up size rows (a ++ x ∷ y ∷ b) p → up < size
+  above_two [] a x y b h = absurd (omega (arith, h.stacked, length-append a (x ∷ y ∷ b)))
+  above_two (row ∷ rest) a x y b h = omega (arith, h.height)
 
-  cut_above : {t : Table K V} {ms js up size rows : _} {a : List (K × ℕ)} {x : K × ℕ} {b : List (K × ℕ)} → Above t ms js up size rows (a ++ x ∷ b) (length a) → (q : Parent ms js up rows a x b)
+  cut_above : {t : Table K V} {ms js : List ℕ} {up size : ℕ} {rows : List (List (LevelNode K ℕ))} {a : List (K × ℕ)} {x : K × ℕ}
+      {b : List (K × ℕ)} → Above t ms js up size rows (a ++ x ∷ b) (length a) → (q : Parent ms js up rows a x b)
       → Cut_above t ms js up size q.before (get_or ms up 0) q.l x q.r q.after q.rest
   cut_above p q = rw (q.rows_are, q.a_is, q.b_is) at p
 
@@ -132,9 +133,9 @@ module _ {K V : Type 0} where
     pub count_is : length (q.l ++ x ∷ q.r) ≡ get_or js up 0 + suc (length q.r)
     pub most_is : length (q.l ++ x ∷ q.r) ≤ 8
 
-  pub spot : (t : Table K V) (ms js up size rows : _) (a : List (K × ℕ)) (x : K × ℕ) (b : List (K × ℕ)) → Above t ms js up size rows (a ++ x ∷ b) (length a) → up < size → Spot t ms js up size rows a x b
-  spot t ms js up size rows a x b p low =
-      let q = parent ms js up rows a x b p low in
+  pub spot : {t : Table K V} {ms js : List ℕ} {up size : ℕ} {rows : List (List (LevelNode K ℕ))} (a : List (K × ℕ)) (x : K × ℕ) (b : List (K × ℕ)) → Above t ms js up size rows (a ++ x ∷ b) (length a) → up < size → Spot t ms js up size rows a x b
+  spot {t} {ms} {js} {up} {size} {rows} a x b p low =
+      let q = parent rows a x b p low in
       let w = cut_above p q in
       let f = facts t ms js up size q.before (get_or ms up 0) q.l x q.r q.after q.rest w in
       record { q = q; whole = w; f = f; count_is = omega (arith, length-append q.l (x ∷ q.r), q.entry_is); most_is = f.fit.1 }

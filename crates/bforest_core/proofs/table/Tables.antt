@@ -121,8 +121,8 @@ module _ {K V : Type 0} where
         limit_is = ap (λ z. z.limit) is;
       }
 
-  pub puts-then : (t u v : Table K V) (n : ℕ) (c d : Content K V) → Puts t u n c → Puts u v n d → Puts t v n d
-  puts-then t u v n c d p q = record {
+  pub puts-then : {t u v : Table K V} {n : ℕ} {c d : Content K V} → Puts t u n c → Puts u v n d → Puts t v n d
+  puts-then p q = record {
     here = q.here;
     same = λ m ne. q.same m ne ∙ p.same m ne;
     chain_is = q.chain_is ∙ p.chain_is;

@@ -20,8 +20,8 @@ every-map P Q f (x ∷ xs) e = (f x e.0, every-map P Q f xs e.1)
 
 module _ {K V : Type 0} where
   -- a tree is in any slots that agree on its numbers
-  pub tree-same : (old new : List (Content K V)) (tree : Tree K V) → ((m : ℕ) → 0 < count m (numbers_of tree) → slice_get new m ≡ slice_get old m) → IsIn old tree → IsIn new tree
-  tree-same old new tree same i = record {
+  pub tree-same : {old : List (Content K V)} (new : List (Content K V)) {tree : Tree K V} → ((m : ℕ) → 0 < count m (numbers_of tree) → slice_get new m ≡ slice_get old m) → IsIn old tree → IsIn new tree
+  tree-same {old} new {tree} same i = record {
     leaves_in = row-same leaf_content old new tree.leaves (λ m some. same m (omega (arith, some, count-append m (numbers tree.leaves) (flat_map numbers tree.above)))) i.leaves_in;
     rows_in = rows-same old new tree.above (λ m some. same m (omega (arith, some, count-append m (numbers tree.leaves) (flat_map numbers tree.above)))) i.rows_in;
   }
@@ -30,7 +30,7 @@ module _ {K V : Type 0} where
   pub trees-same : (old new : List (Content K V)) (trees : List (Tree K V)) → ((m : ℕ) → 0 < count m (flat_map numbers_of trees) → slice_get new m ≡ slice_get old m) → Every (IsIn old) trees → Every (IsIn new) trees
   trees-same old new [] same i = tt
   trees-same old new (tree ∷ trees) same i = (
-    tree-same old new tree (λ m some. same m (omega (arith, some, count-append m (numbers_of tree) (flat_map numbers_of trees)))) i.0,
+    tree-same new (λ m some. same m (omega (arith, some, count-append m (numbers_of tree) (flat_map numbers_of trees)))) i.0,
     trees-same old new trees (λ m some. same m (omega (arith, some, count-append m (numbers_of tree) (flat_map numbers_of trees)))) i.1,
   )
 

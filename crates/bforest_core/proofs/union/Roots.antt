@@ -45,21 +45,21 @@ module _ {K V : Type 0} where
       })
 
   -- the tree after an insertion under a root
-  pub exchanged : (most : ℕ) (old new : Table K V) (root : ℕ) (tree' : Tree K V) (taken : List ℕ) → IsUnion most old → IsTrue (is_root old.nodes root) → IsPlanted most new.nodes tree' →
+  pub exchanged : {most : ℕ} {old new : Table K V} (root : ℕ) {tree' : Tree K V} (taken : List ℕ) → IsUnion most old → IsTrue (is_root old.nodes root) → IsPlanted most new.nodes tree' →
       old.chain ≡ taken ++ new.chain → length new.nodes ≡ length old.nodes →
       ((m : ℕ) → count m (numbers_of tree') ≡ count m (numbers_of (tree_of old.nodes root)) + count m taken) →
       ((m : ℕ) → count m (numbers_of (tree_of old.nodes root)) + count m taken ≡ 0 → slice_get new.nodes m ≡ slice_get old.nodes m) →
       Exchanged most old new root tree'
-  exchanged most old new root tree' taken union is p chain_is slots nums others =
-      exchanged_by old new root union is p (traded old new (numbers_of (tree_of old.nodes root)) (numbers_of tree') taken [] new.chain union.1.free (rooted most old root union is).apart chain_is refl tt slots (λ m. omega (arith, nums m)) others)
+  exchanged {old = old} {new = new} root {tree' = tree'} taken union is p chain_is slots nums others =
+      exchanged_by old new root union is p (traded old new (numbers_of (tree_of old.nodes root)) (numbers_of tree') taken [] new.chain union.1.free (rooted _ old root union is).apart chain_is refl tt slots (λ m. omega (arith, nums m)) others)
 
   -- the tree after a removal under a root
-  pub exchanged-freed : (most : ℕ) (old new : Table K V) (root : ℕ) (tree' : Tree K V) (freed : List ℕ) → IsUnion most old → IsTrue (is_root old.nodes root) → IsPlanted most new.nodes tree' → Frees old new (numbers_of (tree_of old.nodes root)) freed →
+  pub exchanged-freed : {most : ℕ} {old new : Table K V} (root : ℕ) {tree' : Tree K V} {freed : List ℕ} → IsUnion most old → IsTrue (is_root old.nodes root) → IsPlanted most new.nodes tree' → Frees old new (numbers_of (tree_of old.nodes root)) freed →
       ((m : ℕ) → count m (numbers_of tree') + count m freed ≡ count m (numbers_of (tree_of old.nodes root))) → Exchanged most old new root tree'
-  exchanged-freed most old new root tree' freed union is p frees nums =
+  exchanged-freed {old = old} {new = new} root {tree' = tree'} {freed = freed} union is p frees nums =
       exchanged_by old new root union is p
       (traded old new (numbers_of (tree_of old.nodes root)) (numbers_of tree') [] freed old.chain union.1.free
-      (rooted most old root union is).apart refl frees.chain_is frees.freed_are frees.slots_are (λ m. omega (arith, nums m))
+      (rooted _ old root union is).apart refl frees.chain_is frees.freed_are frees.slots_are (λ m. omega (arith, nums m))
       (λ m none. frees.others m (omega (arith, none))))
 
   -- a replaced tree as a change of the table
@@ -76,9 +76,9 @@ module _ {K V : Type 0} where
   })
 
   -- the root whose tree lost all its entries is no root
-  pub uprooted-union : (most : ℕ) (old new : Table K V) (root : ℕ) (freed : List ℕ) → IsUnion most old → IsTrue (is_root old.nodes root) → Frees old new (numbers_of (tree_of old.nodes root)) freed → ((m : ℕ) → count m freed ≡ count m (numbers_of (tree_of old.nodes root))) →
+  pub uprooted-union : (most : ℕ) {old new : Table K V} (root : ℕ) {freed : List ℕ} → IsUnion most old → IsTrue (is_root old.nodes root) → Frees old new (numbers_of (tree_of old.nodes root)) freed → ((m : ℕ) → count m freed ≡ count m (numbers_of (tree_of old.nodes root))) →
       IsUnion most new × (¬ IsTrue (is_root new.nodes root)) × OthersKeep old.nodes new.nodes root root
-  uprooted-union most old new root freed union is frees nums =
+  uprooted-union most {old} {new} root {freed} union is frees nums =
       let r = rooted most old root union is in
       let tree = tree_of old.nodes root in
       let t = traded old new (numbers_of tree) [] [] freed old.chain union.1.free r.apart refl frees.chain_is frees.freed_are frees.slots_are (λ m. omega (arith, nums m)) (λ m none. frees.others m (omega (arith, none))) in

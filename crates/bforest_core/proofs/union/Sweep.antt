@@ -30,7 +30,7 @@ module _ {K V : Type 0} where
   under-same : {most : _} {old : List (Content K V)} (new : List (Content K V)) {leaves : List (LevelNode K V)} {lower : List (List (LevelNode K ℕ))} {top : _} → ((m : ℕ) → 0 < count m (numbers_under leaves lower) → slice_get new m ≡ slice_get old m)
       → Under most old leaves lower top → Under most new leaves lower top
   under-same {old = old} new {leaves = leaves} {lower = lower} same u =
-      let i = tree-same old new (record { leaves = leaves; above = lower }) same (record { leaves_in = u.leaves_in; rows_in = u.rows_in }) in
+      let i = tree-same new {tree = record { leaves = leaves; above = lower }} same (record { leaves_in = u.leaves_in; rows_in = u.rows_in }) in
       record { leaves_fit = u.leaves_fit; leaves_in = i.leaves_in; stacked = u.stacked; rows_in = i.rows_in }
 
   under_none : (most : ℕ) → IsLeafCapacity most → {slots : List (Content K V)} {leaves lower : _} → Under most slots leaves lower [] → (m : ℕ) → count m (numbers_under leaves lower) ≡ 0
@@ -109,7 +109,7 @@ module _ {K V : Type 0} where
           given = numbers_down now.nodes (length t.cut.lower_left) x.1 ++ t.swept.given;
           under = t.cut.right;
           height = t.cut.right_height ∙ t.swept.height;
-          frees = frees-then old now new (t.swept.own ++ own) own t.swept.given (numbers_down now.nodes (length t.cut.lower_left) x.1)
+          frees = frees-then
               (λ m z. omega (arith, z, n m))
               (λ m some. omega (
                 arith,
@@ -120,7 +120,7 @@ module _ {K V : Type 0} where
                 t.swept.split m,
                 t.cut.counted m,
               ))
-              (frees-wider old now t.swept.own (t.swept.own ++ own) t.swept.given (λ m z. omega (arith, z, n m)) t.swept.frees) g.frees;
+              (frees-wider (t.swept.own ++ own) (λ m z. omega (arith, z, n m)) t.swept.frees) g.frees;
           order =
               ap (λ z. z ++ t.swept.given) (sym (down-same now.nodes old.nodes (length t.cut.lower_left) x.1 (λ m some. sym (t.swept.frees.others m (omega (arith, some, g.counted m, apart m, count-append m (numbers_under leaves rows) old.chain, t.swept.split m, t.cut.counted m))))))
               ∙ ap (λ z. numbers_down old.nodes z x.1 ++ t.swept.given) (t.cut.left_height ∙ t.swept.height)
@@ -139,7 +139,7 @@ module _ {K V : Type 0} where
         let left = under_none most capacity (subst (λ z. Under most old.nodes s.left_leaves s.left_rows z) none s.under) in
         let whole = s.order ∙ ap (λ z. flat_map (numbers_down old.nodes (length rows)) (reverse z)) (take_all index (entry_items top) (omega (arith, past, length-map top (λ (e : K × ℕ). e.1)))) in
         subst (λ z. GivesAll old now (numbers_under leaves rows) z) whole (record {
-          frees = frees-wider old now s.own (numbers_under leaves rows) s.given (λ m zero. omega (arith, zero, s.split m)) s.frees;
+          frees = frees-wider (numbers_under leaves rows) (λ m zero. omega (arith, zero, s.split m)) s.frees;
           counted = λ m. omega (arith, s.counted m, s.split m, left m);
         })
 
@@ -183,9 +183,9 @@ module _ {K V : Type 0} where
       let apart : (m : ℕ) → 0 < count m below → count m (number ∷ []) ≡ 0 =
       λ m some. elim (cases_lt 0 (count m (number ∷ []))) [ inl here ↦ absurd (omega (arith, some, all.counted m, only_here m number own here s.alone)) | inr past ↦ omega (arith, past) ] in
       subst (λ z. GivesAll old (with_freed now number) (numbers_under leaves lower) z) (sym s.opened.down) (record {
-        frees = frees-then old now (with_freed now number) (numbers_under leaves lower) (number ∷ []) below (number ∷ [])
+        frees = frees-then
             (λ m zero. omega (arith, zero, s.opened.counted m)) apart
-            (frees-wider old now own (numbers_under leaves lower) below (λ m zero. omega (arith, zero, s.opened.counted m)) all.frees)
+            (frees-wider (numbers_under leaves lower) (λ m zero. omega (arith, zero, s.opened.counted m)) all.frees)
             (frees-one now (with_freed now number) number s.opened.content (number ∷ []) s.slot_is refl (omega (arith, count-same number [])));
         counted = λ m. omega (arith, s.opened.counted m, all.counted m, count-append m (number ∷ []) below);
       })

@@ -24,8 +24,8 @@ module _ {K V : Type 0} where
   numbers_parts m before tree after = omega (arith, ap (λ z. count m z) (flat_map-append numbers_of before (tree ∷ after)), count-append m (flat_map numbers_of before) (flat_map numbers_of (tree ∷ after)), count-append m (numbers_of tree) (flat_map numbers_of after))
 
   -- a tree of the witness is under its root
-  rooted_at : (most : ℕ) (table : Table K V) (root : ℕ) (before : List (Tree K V)) (tree : Tree K V) (after : List (Tree K V)) → root_of tree ≡ root → IsForest most table (before ++ tree ∷ after) → Rooted most table root tree
-  rooted_at most table root before tree after is f = record {
+  rooted_at : {most : ℕ} {table : Table K V} (root : ℕ) (before : List (Tree K V)) (tree : Tree K V) (after : List (Tree K V)) → root_of tree ≡ root → IsForest most table (before ++ tree ∷ after) → Rooted most table root tree
+  rooted_at {most} {table} root before tree after is f = record {
     before = before;
     after = after;
     forest = f;
@@ -43,7 +43,7 @@ module _ {K V : Type 0} where
   pub rooted : (most : ℕ) (table : Table K V) (root : ℕ) → IsUnion most table → IsTrue (is_root table.nodes root) → Rooted most table root (tree_of table.nodes root)
   rooted most table root union root_there =
       let r = tree-with union.0 root ((root-counts union.1 root).0 root_there) in
-      let s = rooted_at most table root r.0 r.1 r.2 r.4 (subst (λ z. IsForest most table z) r.3 union.1) in
+      let s = rooted_at root r.0 r.1 r.2 r.4 (subst (λ z. IsForest most table z) r.3 union.1) in
       subst (λ z. Rooted most table root z) (sym s.tree_is) s
 
   -- the tree computed from a root is in the slots

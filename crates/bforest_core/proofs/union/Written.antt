@@ -113,7 +113,7 @@ module _ {K V : Type 0} (most : ℕ) (table : Table K V) (root place path indice
       } in
       let same_root : root_of tree' ≡ root = ap (λ z. root_above z tree.above) hs ∙ r.root_is in
       let c = ap (λ z. count n (numbers z)) at.row_is ∙ count-row n at.before n at.entries at.after in
-      let e = exchanged most table new root tree' [] union s.root_is p (sym w.chain_is) w.slots_are
+      let e = exchanged root [] union s.root_is p (sym w.chain_is) w.slots_are
       (λ m. (let d = ap (λ z. count m (z ++ flat_map numbers tree.above)) ns in omega (arith, d)))
       (λ m zero_is. w.same m (λ (is : m ≡ n). (let d = ap (λ z. count z (numbers_of tree)) is in omega (arith, zero_is, d, c, count-append n (numbers tree.leaves) (flat_map numbers tree.above), count-same n (numbers at.after))))) in
       let changes = exchanged-changes e same_root w.limit_is in

@@ -3,7 +3,7 @@ ghost use Rattle.std.specs.Prelude.{insert, IfOk, IsOk, OnOk, OnErr, Ok, Err, �
 ghost use Rattle.bforest_core.specs.Table.{IsFullAt, NeedsGrowth, room, free_count};
 ghost use Rattle.bforest_core.specs.Levels.{LevelNode, sizes, Tree, sizes_of, most_levels, top_level};
 ghost use Rattle.bforest_core.specs.Sizes.{gain_above, need_above, growth, need};
-ghost use Rattle.bforest_core.specs.Climb.{top_of, Above, Grown, Halved, Inserted, LeafHalved, Placed};
+ghost use Rattle.bforest_core.specs.Climb.{top_of, Above, GrownBy, HalvedBy, Inserted, LeafHalved, OneAbove, Placed};
 ghost use Rattle.bforest_nodes.specs.Entries.{place};
 ghost use Rattle.bforest_core.specs.Trees.{IsUnion};
 ghost use Rattle.bforest_core.specs.Change.{Changes, TakesNodes};
@@ -244,19 +244,12 @@ impl<K: Copy, V: Copy, const N: usize> Path<K, V, N> {
         pool: &mut NodePool<K, V, N>,
     )
         requires height { self.old.size ≤ most_levels }
-        requires pending { (rows : List (List (LevelNode K ℕ))) × (before : List (K × ℕ)) × (first : K)
-            × (after : List (K × ℕ)) × Above pool.old self.old.node self.old.entry up self.old.size rows
-            (before ++ (first, left) ∷ after) (length before)
-            × (need_above (Some (length before)) (map sizes rows) ≤ suc (length pool.old.chain))
-            × (up + length (gain_above (Some (length before)) (map sizes rows)) ≤ most_levels) }
-        ensures { (rows : List (List (LevelNode K ℕ))) (before : List (K × ℕ)) (first : K)
-            (after : List (K × ℕ)) → Above pool.old self.old.node self.old.entry up self.old.size rows
-            (before ++ (first, left) ∷ after) (length before) → (taken : List ℕ)
-            × (suc (length taken) ≡ need_above (Some (length before)) (map sizes rows))
-            × Grown pool.old pool.new self.old.node self.old.entry self.new.node self.new.entry up
-            self.old.size self.new.size rows (before ++ (first, left) ∷ (half.key, half.node) ∷ after)
-            (if half.moved then suc (length before) else length before)
-            (gain_above (Some (length before)) (map sizes rows)) taken }
+        requires pending { (w : OneAbove pool.old self.old.node self.old.entry up self.old.size)
+            × (w.x.1 ≡ left) × (need_above (Some (length w.before)) (map sizes w.rows) ≤ suc (length pool.old.chain))
+            × (up + length (gain_above (Some (length w.before)) (map sizes w.rows)) ≤ most_levels) }
+        ensures { (w : OneAbove pool.old self.old.node self.old.entry up self.old.size) → w.x.1 ≡ left
+            → (taken : List ℕ) × GrownBy w (half.key, half.node) half.moved pool.new self.new.node self.new.entry
+            self.new.size taken }
     {
         if up == self.size {
             self.push_root(left, half, pool);
@@ -271,14 +264,9 @@ impl<K: Copy, V: Copy, const N: usize> Path<K, V, N> {
     fn push_root(&mut self, left: Node, half: RightHalf<K>, pool: &mut NodePool<K, V, N>)
         requires height { self.old.size ≤ top_level }
         requires room { 0 < length pool.old.chain }
-        ensures { (rows : List (List (LevelNode K ℕ))) (before : List (K × ℕ)) (first : K)
-            (after : List (K × ℕ)) → Above pool.old self.old.node self.old.entry self.old.size self.old.size
-            rows (before ++ (first, left) ∷ after) (length before) → (taken : List ℕ)
-            × (suc (length taken) ≡ need_above (Some (length before)) (map sizes rows))
-            × Grown pool.old pool.new self.old.node self.old.entry self.new.node self.new.entry self.old.size
-            self.old.size self.new.size rows (before ++ (first, left) ∷ (half.key, half.node) ∷ after)
-            (if half.moved then suc (length before) else length before)
-            (gain_above (Some (length before)) (map sizes rows)) taken }
+        ensures { (w : OneAbove pool.old self.old.node self.old.entry self.old.size self.old.size)
+            → w.x.1 ≡ left → (taken : List ℕ) × GrownBy w (half.key, half.node) half.moved pool.new
+            self.new.node self.new.entry self.new.size taken }
     {
         let root = pool.inner_node(left, half.key, half.node);
         self.node[self.size] = root;
@@ -291,16 +279,9 @@ impl<K: Copy, V: Copy, const N: usize> Path<K, V, N> {
     fn insert_here(&mut self, up: usize, half: RightHalf<K>, pool: &mut NodePool<K, V, N>) -> bool
         requires height { self.old.size ≤ most_levels }
         requires within { up < self.old.size }
-        requires pending { (rows : List (List (LevelNode K ℕ))) × (before : List (K × ℕ)) × (x : K × ℕ)
-            × (after : List (K × ℕ)) × Above pool.old self.old.node self.old.entry up self.old.size rows
-            (before ++ x ∷ after) (length before) }
-        ensures grown { result ≡ true → (rows : List (List (LevelNode K ℕ))) (before : List (K × ℕ))
-            (x : K × ℕ) (after : List (K × ℕ)) → Above pool.old self.old.node self.old.entry up self.old.size
-            rows (before ++ x ∷ after) (length before)
-            → (1 ≡ need_above (Some (length before)) (map sizes rows)) × Grown pool.old pool.new self.old.node
-            self.old.entry self.new.node self.new.entry up self.old.size self.new.size rows
-            (before ++ x ∷ (half.key, half.node) ∷ after) (if half.moved then suc (length before) else length before)
-            (gain_above (Some (length before)) (map sizes rows)) [] }
+        requires pending { OneAbove pool.old self.old.node self.old.entry up self.old.size }
+        ensures grown { result ≡ true → (w : OneAbove pool.old self.old.node self.old.entry up self.old.size)
+            → GrownBy w (half.key, half.node) half.moved pool.new self.new.node self.new.entry self.new.size [] }
         ensures full { result ≡ false → IsFullAt N pool.old.nodes (get_or self.old.node up 0) }
         ensures pool { result ≡ false → pool.new ≡ pool.old }
         ensures path { result ≡ false → self.new ≡ self.old }
@@ -328,14 +309,10 @@ impl<K: Copy, V: Copy, const N: usize> Path<K, V, N> {
         requires within { up < self.old.size }
         requires room { 0 < length pool.old.chain }
         requires full { IsFullAt N pool.old.nodes (get_or self.old.node up 0) }
-        requires pending { (rows : List (List (LevelNode K ℕ))) × (before : List (K × ℕ)) × (x : K × ℕ)
-            × (after : List (K × ℕ)) × Above pool.old self.old.node self.old.entry up self.old.size rows
-            (before ++ x ∷ after) (length before) }
-        ensures halved { (rows : List (List (LevelNode K ℕ))) (before : List (K × ℕ)) (x : K × ℕ)
-            (after : List (K × ℕ)) → Above pool.old self.old.node self.old.entry up self.old.size rows
-            (before ++ x ∷ after) (length before) → Halved pool.old pool.new self.old.node self.old.entry
-            self.new.node self.new.entry up self.old.size rows (before ++ x ∷ (half.key, half.node) ∷ after)
-            (length before) (if half.moved then suc (length before) else length before) result.key result.node result.moved }
+        requires pending { OneAbove pool.old self.old.node self.old.entry up self.old.size }
+        ensures halved { (w : OneAbove pool.old self.old.node self.old.entry up self.old.size)
+            → HalvedBy w (half.key, half.node) half.moved pool.new self.new.node self.new.entry result.key
+            result.node result.moved }
         ensures size { self.new.size ≡ self.old.size }
     {
         let node = self.node[up];

@@ -1,12 +1,12 @@
 //! Rebalancing on the way up, once an entry has gone: a node that underflows and its right sibling, under the same parent or another; a merged
 //! or emptied node, taken out of the rows above it; the separators above a node whose first key changed.
 ghost use Rattle.std.specs.Prelude.{◌≡◌, ℕ, suc, ◌+◌, ◌-◌, ◌<◌, ◌≤◌, List, [], ◌∷◌, ◌++◌, map, length, get_or, slice_get, Some, None, true, false};
-ghost use Rattle.bforest_nodes.specs.Content.{Content, IsLeafCapacity, entry_count};
-ghost use Rattle.bforest_core.specs.Levels.{LevelNode, sizes, half_of, most_levels};
+ghost use Rattle.std.specs.List.{flat_map};
+ghost use Rattle.bforest_core.specs.Levels.{LevelNode, numbers, sizes, most_levels};
 ghost use Rattle.bforest_core.specs.Sizes.{loss_above};
-ghost use Rattle.bforest_core.specs.Place.{inner_content, leaf_content};
-ghost use Rattle.bforest_core.specs.Climb.{Above, NextIs, nodes_up, SameBelow, top_of};
-ghost use Rattle.bforest_core.specs.Removal.{Rebuilt, OnLevel, Loosened, Healed, Joined, Dropped};
+ghost use Rattle.bforest_core.specs.Place.{inner_content};
+ghost use Rattle.bforest_core.specs.Climb.{Above, LastAbove, NextIs, nodes_up, OneAbove, SameBelow, top_of, TwoAbove};
+ghost use Rattle.bforest_core.specs.Removal.{Rebuilt, Loosened, Loses, Heals, Joins, Dropped};
 
 use crate::access::{child, entries, remove_child, separator, set_separator};
 use crate::path::{MIN_CHILDREN, Path};
@@ -17,12 +17,8 @@ impl<K: Copy, V: Copy, const N: usize> Path<K, V, N> {
     // The right neighbour of the path's node below level `up`, which may have another parent, with the key between the two.
     pub(super) fn right_sibling(&self, up: usize, pool: &NodePool<K, V, N>) -> Option<(K, Node)>
         requires height { self.now.size ≤ most_levels }
-        requires pending { (rows : List (List (LevelNode K ℕ))) × (before : List (K × ℕ)) × (x : K × ℕ)
-            × (after : List (K × ℕ)) × Above pool.now self.now.node self.now.entry up self.now.size rows
-            (before ++ x ∷ after) (length before) }
-        ensures { (rows : List (List (LevelNode K ℕ))) (before : List (K × ℕ)) (x : K × ℕ)
-            (after : List (K × ℕ)) → Above pool.now self.now.node self.now.entry up self.now.size rows
-            (before ++ x ∷ after) (length before) → NextIs result after }
+        requires pending { OneAbove pool.now self.now.node self.now.entry up self.now.size }
+        ensures { (w : OneAbove pool.now self.now.node self.now.entry up self.now.size) → NextIs result w.after }
     {
         if up == self.size {
             return None;
@@ -45,14 +41,10 @@ impl<K: Copy, V: Copy, const N: usize> Path<K, V, N> {
     // Updates the key between the path's node below level `up` and its right neighbour.
     pub(super) fn update_next_separator(&self, up: usize, key: K, pool: &mut NodePool<K, V, N>)
         requires height { self.now.size ≤ most_levels }
-        requires pending { (rows : List (List (LevelNode K ℕ))) × (before : List (K × ℕ)) × (x : K × ℕ)
-            × (first : K) × (n : ℕ) × (after : List (K × ℕ)) × Above pool.old self.now.node self.now.entry up
-            self.now.size rows (before ++ x ∷ (first, n) ∷ after) (length before) }
-        ensures { (rows : List (List (LevelNode K ℕ))) (before : List (K × ℕ)) (x : K × ℕ) (first : K) (n : ℕ)
-            (after : List (K × ℕ)) → Above pool.old self.now.node self.now.entry up self.now.size rows
-            (before ++ x ∷ (first, n) ∷ after) (length before) → Rebuilt pool.old pool.new self.now.node
-            self.now.entry self.now.node self.now.entry up self.now.size rows (before ++ x ∷ (key, n) ∷ after)
-            (length before) (map sizes rows) [] }
+        requires pending { TwoAbove pool.old self.now.node self.now.entry up self.now.size }
+        ensures { (w : TwoAbove pool.old self.now.node self.now.entry up self.now.size) → Rebuilt pool.old
+            pool.new self.now.node self.now.entry self.now.node self.now.entry up self.now.size w.rows
+            (w.before ++ w.x ∷ (key, w.y.1) ∷ w.after) (length w.before) (map sizes w.rows) [] }
     {
         let parent = self.node[up];
         let index = self.entry[up] as usize;
@@ -66,14 +58,10 @@ impl<K: Copy, V: Copy, const N: usize> Path<K, V, N> {
     // Updates the first key of the path's node below level `up`: its separator in the table, if it has one.
     pub(super) fn update_separator(&self, up: usize, key: K, pool: &mut NodePool<K, V, N>)
         requires height { self.now.size ≤ most_levels }
-        requires pending { (rows : List (List (LevelNode K ℕ))) × (before : List (K × ℕ)) × (first : K)
-            × (n : ℕ) × (after : List (K × ℕ)) × Above pool.old self.now.node self.now.entry up self.now.size
-            rows (before ++ (first, n) ∷ after) (length before) }
-        ensures { (rows : List (List (LevelNode K ℕ))) (before : List (K × ℕ)) (first : K) (n : ℕ)
-            (after : List (K × ℕ)) → Above pool.old self.now.node self.now.entry up self.now.size rows
-            (before ++ (first, n) ∷ after) (length before) → Rebuilt pool.old pool.new self.now.node
-            self.now.entry self.now.node self.now.entry up self.now.size rows (before ++ (key, n) ∷ after)
-            (length before) (map sizes rows) [] }
+        requires pending { OneAbove pool.old self.now.node self.now.entry up self.now.size }
+        ensures { (w : OneAbove pool.old self.now.node self.now.entry up self.now.size) → Rebuilt pool.old
+            pool.new self.now.node self.now.entry self.now.node self.now.entry up self.now.size w.rows
+            (w.before ++ (key, w.x.1) ∷ w.after) (length w.before) (map sizes w.rows) [] }
     {
         if up >= self.size {
             return;
@@ -89,14 +77,10 @@ impl<K: Copy, V: Copy, const N: usize> Path<K, V, N> {
     // Goes to the first entry of the next node on `level`, if there is one.
     pub(super) fn enter_next(&mut self, level: usize, pool: &NodePool<K, V, N>)
         requires height { self.old.size ≤ most_levels }
-        requires pending { (rows : List (List (LevelNode K ℕ))) × (before : List (K × ℕ)) × (x : K × ℕ)
-            × (y : K × ℕ) × (after : List (K × ℕ)) × Above pool.now self.old.node self.old.entry (suc level)
-            self.old.size rows (before ++ x ∷ y ∷ after) (length before) }
-        ensures moved { (rows : List (List (LevelNode K ℕ))) (before : List (K × ℕ)) (x : K × ℕ) (y : K × ℕ)
-            (after : List (K × ℕ)) → Above pool.now self.old.node self.old.entry (suc level) self.old.size
-            rows (before ++ x ∷ y ∷ after) (length before) → Above pool.now self.new.node self.new.entry
-            (suc level) self.old.size rows (before ++ x ∷ y ∷ after) (suc (length before))
-            × (get_or self.new.node level 0 ≡ y.1) }
+        requires pending { TwoAbove pool.now self.old.node self.old.entry (suc level) self.old.size }
+        ensures moved { (w : TwoAbove pool.now self.old.node self.old.entry (suc level) self.old.size) → Above
+            pool.now self.new.node self.new.entry (suc level) self.old.size w.rows
+            (w.before ++ w.x ∷ w.y ∷ w.after) (suc (length w.before)) × (get_or self.new.node level 0 ≡ w.y.1) }
         ensures first { get_or self.new.entry level 0 ≡ 0 }
         ensures nodes_below { SameBelow level self.old.node self.new.node }
         ensures entries_below { SameBelow level self.old.entry self.new.entry }
@@ -110,15 +94,11 @@ impl<K: Copy, V: Copy, const N: usize> Path<K, V, N> {
     // Removes the entry at the path from level `up`, and gives its key to the next one.
     fn remove_merged(&self, up: usize, pool: &mut NodePool<K, V, N>)
         requires height { self.now.size ≤ most_levels }
-        requires pending { (rows : List (List (LevelNode K ℕ))) × (before : List (K × ℕ)) × (first : K)
-            × (m : ℕ) × (next_first : K) × (n : ℕ) × (after : List (K × ℕ))
-            × Above pool.old self.now.node self.now.entry up self.now.size rows
-            (before ++ (first, m) ∷ (next_first, n) ∷ after) (length before) }
-        ensures { (rows : List (List (LevelNode K ℕ))) (before : List (K × ℕ)) (first : K) (m : ℕ)
-            (next_first : K) (n : ℕ) (after : List (K × ℕ)) → Above pool.old self.now.node self.now.entry up
-            self.now.size rows (before ++ (first, m) ∷ (next_first, n) ∷ after) (length before)
-            → Loosened pool.old pool.new self.now.node self.now.entry up self.now.size rows
-            (before ++ (first, n) ∷ after) (length before) }
+        requires pending { TwoAbove pool.old self.now.node self.now.entry up self.now.size }
+        ensures { (w : TwoAbove pool.old self.now.node self.now.entry up self.now.size)
+            → Loosened inner_content 4 8 pool.old pool.new self.now.node self.now.entry up self.now.size
+            (map sizes w.rows) (flat_map numbers w.rows) (w.before ++ (w.x.0, w.y.1) ∷ w.after)
+            (length w.before) }
     {
         let parent = self.node[up];
         let index = self.entry[up] as usize;
@@ -134,102 +114,28 @@ impl<K: Copy, V: Copy, const N: usize> Path<K, V, N> {
         }
     }
 
-    // Balances the path's leaf, which lost an entry, with its right neighbour. Returns whether the leaf was merged into it.
-    pub(super) fn rebalance_leaf(&mut self, pool: &mut NodePool<K, V, N>) -> bool
-        requires capacity { IsLeafCapacity N }
+    // Balances the path's node on `level`, which lost an entry, with its right neighbour, if it has fewer than `least` entries. Returns whether
+    // it was merged into the neighbour, to which the path leads then.
+    #[inline(always)]
+    pub(super) fn rebalance(
+        &mut self,
+        level: usize,
+        least: usize,
+        pool: &mut NodePool<K, V, N>,
+    ) -> bool
         requires height { self.old.size ≤ most_levels }
-        requires pending { (before : List (LevelNode K V)) × (n : ℕ) × (es : List (K × V))
-            × (after : List (LevelNode K V)) × (rest : List (List (LevelNode K ℕ)))
-            × OnLevel leaf_content (half_of N) N pool.old self.old.node self.old.entry 0 self.old.size before
-            n es after rest }
-        ensures healed { result ≡ false → (before : List (LevelNode K V)) (n : ℕ) (es : List (K × V))
-            (after : List (LevelNode K V)) (rest : List (List (LevelNode K ℕ)))
-            → OnLevel leaf_content (half_of N) N pool.old self.old.node self.old.entry 0 self.old.size before
-            n es after rest → Healed leaf_content (half_of N) N pool.old pool.new self.old.node self.old.entry
-            self.new.node self.new.entry 0 self.old.size before n es after rest }
-        ensures joined { result ≡ true → (before : List (LevelNode K V)) (n : ℕ) (es : List (K × V))
-            (after : List (LevelNode K V)) (rest : List (List (LevelNode K ℕ)))
-            → OnLevel leaf_content (half_of N) N pool.old self.old.node self.old.entry 0 self.old.size before
-            n es after rest → Joined leaf_content (half_of N) N pool.old pool.new self.old.node self.old.entry
-            self.new.node self.new.entry 0 self.old.size before n es after rest }
-        ensures size { self.new.size ≡ self.old.size }
-    {
-        let left = entries(pool, self.node[0]);
-        if left > N / 2 {
-            if self.entry[0] as usize == left {
-                self.enter_next(0, pool);
-            }
-            return false;
-        }
-        match self.right_sibling(1, pool) {
-            None => false,
-            Some(next) => self.join_leaf(next, pool),
-        }
-    }
-
-    // Balances the path's leaf, which lost an entry and is less than half full, with its right neighbour. Returns whether the leaf was merged
-    // into it.
-    pub(super) fn join_leaf(&mut self, next: (K, Node), pool: &mut NodePool<K, V, N>) -> bool
-        requires capacity { IsLeafCapacity N }
-        requires height { self.old.size ≤ most_levels }
-        requires next { (rows : List (List (LevelNode K ℕ))) (before : List (K × ℕ)) (x : K × ℕ)
-            (after : List (K × ℕ)) → Above pool.old self.old.node self.old.entry 1 self.old.size rows
-            (before ++ x ∷ after) (length before) → NextIs (Some next) after }
-        requires few { (content : Content K V)
-            → slice_get pool.old.nodes (get_or self.old.node 0 0) ≡ Some content
-            → entry_count content < half_of N }
-        requires pending { (before : List (LevelNode K V)) × (n : ℕ) × (es : List (K × V))
-            × (after : List (LevelNode K V)) × (rest : List (List (LevelNode K ℕ)))
-            × OnLevel leaf_content (half_of N) N pool.old self.old.node self.old.entry 0 self.old.size before
-            n es after rest }
-        ensures healed { result ≡ false → (before : List (LevelNode K V)) (n : ℕ) (es : List (K × V))
-            (after : List (LevelNode K V)) (rest : List (List (LevelNode K ℕ)))
-            → OnLevel leaf_content (half_of N) N pool.old self.old.node self.old.entry 0 self.old.size before
-            n es after rest → Healed leaf_content (half_of N) N pool.old pool.new self.old.node self.old.entry
-            self.new.node self.new.entry 0 self.old.size before n es after rest }
-        ensures joined { result ≡ true → (before : List (LevelNode K V)) (n : ℕ) (es : List (K × V))
-            (after : List (LevelNode K V)) (rest : List (List (LevelNode K ℕ)))
-            → OnLevel leaf_content (half_of N) N pool.old self.old.node self.old.entry 0 self.old.size before
-            n es after rest → Joined leaf_content (half_of N) N pool.old pool.new self.old.node self.old.entry
-            self.new.node self.new.entry 0 self.old.size before n es after rest }
-        ensures size { self.new.size ≡ self.old.size }
-    {
-        let leaf = self.node[0];
-        match pool.balance_nodes(leaf, next.0, next.1) {
-            Some(new_key) => {
-                self.update_next_separator(1, new_key, pool);
-                false
-            }
-            None => {
-                pool.free_node(leaf);
-                self.node[0] = next.1;
-                true
-            }
-        }
-    }
-
-    // Balances the inner node at `level`, which lost an entry, with its right neighbour. Returns whether the node was merged into it.
-    fn rebalance_inner(&mut self, level: usize, pool: &mut NodePool<K, V, N>) -> bool
-        requires height { self.old.size ≤ most_levels }
-        requires pending { (before : List (LevelNode K ℕ)) × (n : ℕ) × (es : List (K × ℕ))
-            × (after : List (LevelNode K ℕ)) × (rest : List (List (LevelNode K ℕ)))
-            × OnLevel inner_content 4 8 pool.old self.old.node self.old.entry level self.old.size before n es
-            after rest }
-        ensures healed { result ≡ false → (before : List (LevelNode K ℕ)) (n : ℕ) (es : List (K × ℕ))
-            (after : List (LevelNode K ℕ)) (rest : List (List (LevelNode K ℕ)))
-            → OnLevel inner_content 4 8 pool.old self.old.node self.old.entry level self.old.size before n es
-            after rest → Healed inner_content 4 8 pool.old pool.new self.old.node self.old.entry self.new.node
-            self.new.entry level self.old.size before n es after rest }
-        ensures joined { result ≡ true → (before : List (LevelNode K ℕ)) (n : ℕ) (es : List (K × ℕ))
-            (after : List (LevelNode K ℕ)) (rest : List (List (LevelNode K ℕ)))
-            → OnLevel inner_content 4 8 pool.old self.old.node self.old.entry level self.old.size before n es
-            after rest → Joined inner_content 4 8 pool.old pool.new self.old.node self.old.entry self.new.node
-            self.new.entry level self.old.size before n es after rest }
+        requires lost { Loses N least pool.old self.old.node self.old.entry level self.old.size }
+        ensures healed { result ≡ false
+            → (w : Loses N least pool.old self.old.node self.old.entry level self.old.size)
+            → Heals w pool.new self.new.node self.new.entry }
+        ensures joined { result ≡ true
+            → (w : Loses N least pool.old self.old.node self.old.entry level self.old.size)
+            → Joins w pool.new self.new.node self.new.entry }
         ensures size { self.new.size ≡ self.old.size }
     {
         let here = self.node[level];
         let left = entries(pool, here);
-        if left >= MIN_CHILDREN {
+        if left >= least {
             if self.entry[level] as usize == left {
                 self.enter_next(level, pool);
             }
@@ -254,20 +160,15 @@ impl<K: Copy, V: Copy, const N: usize> Path<K, V, N> {
     // Removes the entry of the path's node below level `up`, which was merged into its right neighbour, and gives its key to the neighbour.
     pub(super) fn merge_above(&mut self, up: usize, pool: &mut NodePool<K, V, N>)
         requires height { self.old.size ≤ most_levels }
-        requires pending { (rows : List (List (LevelNode K ℕ))) × (before : List (K × ℕ)) × (first : K)
-            × (m : ℕ) × (next_first : K) × (n : ℕ) × (after : List (K × ℕ))
-            × Above pool.old self.old.node self.old.entry up self.old.size rows
-            (before ++ (first, m) ∷ (next_first, n) ∷ after) (length before) }
-        ensures merged { (rows : List (List (LevelNode K ℕ))) (before : List (K × ℕ)) (first : K) (m : ℕ)
-            (next_first : K) (n : ℕ) (after : List (K × ℕ)) → Above pool.old self.old.node self.old.entry up
-            self.old.size rows (before ++ (first, m) ∷ (next_first, n) ∷ after) (length before)
+        requires pending { TwoAbove pool.old self.old.node self.old.entry up self.old.size }
+        ensures merged { (w : TwoAbove pool.old self.old.node self.old.entry up self.old.size)
             → (levels : ℕ) × Rebuilt pool.old pool.new self.old.node self.old.entry self.new.node
-            self.new.entry up self.old.size rows (before ++ (first, n) ∷ after) (length before)
-            (loss_above (Some (length before)) (map sizes rows)) (nodes_up self.old.node up levels) }
+            self.new.entry up self.old.size w.rows (w.before ++ (w.x.0, w.y.1) ∷ w.after) (length w.before)
+            (loss_above (Some (length w.before)) (map sizes w.rows)) (nodes_up self.old.node up levels) }
         ensures size { self.new.size ≡ self.old.size }
     {
         self.remove_merged(up, pool);
-        if self.rebalance_inner(up, pool) {
+        if self.rebalance(up, MIN_CHILDREN, pool) {
             self.merge_above(up + 1, pool);
         }
     }
@@ -275,14 +176,10 @@ impl<K: Copy, V: Copy, const N: usize> Path<K, V, N> {
     // Removes the entry of the path's node below level `up`, which was the rightmost and is empty, and the nodes that this empties.
     pub(super) fn remove_emptied(&self, up: usize, pool: &mut NodePool<K, V, N>)
         requires height { self.now.size ≤ most_levels }
-        requires pending { (rows : List (List (LevelNode K ℕ))) × (before : List (K × ℕ)) × (y : K × ℕ)
-            × (x : K × ℕ) × Above pool.old self.now.node self.now.entry up self.now.size rows
-            (before ++ y ∷ x ∷ []) (suc (length before)) }
-        ensures { (rows : List (List (LevelNode K ℕ))) (before : List (K × ℕ)) (y : K × ℕ) (x : K × ℕ)
-            → Above pool.old self.now.node self.now.entry up self.now.size rows (before ++ y ∷ x ∷ [])
-            (suc (length before)) → (levels : ℕ) × Dropped pool.old pool.new self.now.node self.now.size
-            rows (before ++ y ∷ []) (loss_above (Some (suc (length before))) (map sizes rows))
-            (nodes_up self.now.node up levels) }
+        requires pending { LastAbove pool.old self.now.node self.now.entry up self.now.size }
+        ensures { (w : LastAbove pool.old self.now.node self.now.entry up self.now.size) → (levels : ℕ)
+            × Dropped pool.old pool.new self.now.node self.now.size w.rows (w.before ++ w.y ∷ [])
+            (loss_above (Some (suc (length w.before))) (map sizes w.rows)) (nodes_up self.now.node up levels) }
     {
         let parent = self.node[up];
         if entries(pool, parent) == 1 {

@@ -1,11 +1,11 @@
 //! Removing the entry where a path is.
 ghost use Rattle.std.specs.Prelude.{remove, true, false, IfSome, ◌≡◌, ◌≢◌, ℕ, ◌+◌, ◌-◌, ◌<◌, ◌≤◌, ◌↔◌, List, [], ◌∷◌, ◌++◌, length, get_or, slice_get, Some, None};
-ghost use Rattle.bforest_nodes.specs.Content.{Content, IsLeafCapacity, entry_count};
-ghost use Rattle.bforest_core.specs.Levels.{LevelNode, flat, half_of, Tree, most_levels};
+ghost use Rattle.bforest_nodes.specs.Content.{IsLeafCapacity};
+ghost use Rattle.bforest_core.specs.Levels.{LevelNode, flat, Tree, most_levels};
 ghost use Rattle.bforest_core.specs.Sizes.{shrink};
 ghost use Rattle.bforest_core.specs.Table.{IsUsed, Table};
 ghost use Rattle.bforest_core.specs.Place.{IsPathAt, leaf_content, root_of, count};
-ghost use Rattle.bforest_core.specs.Removal.{UpTo, Trimmed, StandsIn, HasOthers, IsSingle, LeafLoss, Removed, Emptied};
+ghost use Rattle.bforest_core.specs.Removal.{UpTo, Trimmed, StandsIn, HasOthers, IsSingle, LeafLoss, Removed, Emptied, Unbalanced};
 ghost use Rattle.bforest_core.specs.Change.{Changes, Ends, GivesInOrder, GivesNodes, Shrinks};
 ghost use Rattle.bforest_core.specs.Trees.{IsUnion};
 
@@ -79,36 +79,23 @@ impl<K: Copy, V: Copy, const N: usize> Path<K, V, N> {
         if left > N / 2 {
             return Some(root);
         }
-        Some(self.fill_leaf(root, pool))
+        Some(self.rebalance_leaf(root, pool))
     }
 
-    // Fills the path's leaf, which lost an entry and is less than half full, from its right neighbour, or merges it into that, and so on
-    // upwards. Returns the tree's root.
-    fn fill_leaf(&mut self, root: Node, pool: &mut NodePool<K, V, N>) -> Node
+    // Balances the path's leaf, which lost an entry, with its right neighbour, and so on upwards. Returns the tree's root.
+    #[inline(always)]
+    fn rebalance_leaf(&mut self, root: Node, pool: &mut NodePool<K, V, N>) -> Node
         requires capacity { IsLeafCapacity N }
-        requires lost { (old : Table K V) × (tree : Tree K V) × (place : ℕ)
-            × StandsIn N old self.old.node self.old.entry self.old.size tree place
-            × LeafLoss N old pool.old self.old.node self.old.entry self.old.size tree place
-            × (root_of tree ≡ root) }
-        requires few { (content : Content K V)
-            → slice_get pool.old.nodes (get_or self.old.node 0 0) ≡ Some content
-            → entry_count content < half_of N }
-        ensures { (old : Table K V) (tree : Tree K V) (place : ℕ)
-            → StandsIn N old self.old.node self.old.entry self.old.size tree place
-            → LeafLoss N old pool.old self.old.node self.old.entry self.old.size tree place
-            → root_of tree ≡ root
-            → Removed N old pool.new self.old.node (λ now. Unit {0}) tree place result }
+        requires lost { Unbalanced N pool.old self.old.node self.old.entry self.old.size root }
+        ensures { (u : Unbalanced N pool.old self.old.node self.old.entry self.old.size root)
+            → Removed N u.old pool.new self.old.node (λ now. u.place < length (flat now.leaves)
+            → IsPathAt self.new.node self.new.entry self.new.size now u.place) u.tree u.place result }
     {
-        match self.right_sibling(1, pool) {
-            None => root,
-            Some(next) => {
-                if self.join_leaf(next, pool) {
-                    self.merge_above(1, pool);
-                    self.collapse_root(root, pool)
-                } else {
-                    root
-                }
-            }
+        if self.rebalance(0, N - N / 2, pool) {
+            self.merge_above(1, pool);
+            self.collapse_root(root, pool)
+        } else {
+            root
         }
     }
 
@@ -157,12 +144,7 @@ impl<K: Copy, V: Copy, const N: usize> Path<K, V, N> {
             self.size = 0;
             return root;
         }
-        if self.rebalance_leaf(pool) {
-            self.merge_above(1, pool);
-            self.collapse_root(root, pool)
-        } else {
-            root
-        }
+        self.rebalance_leaf(root, pool)
     }
 
     // Removes the entry from the path's leaf, which has others. If it was the first, the rows above get the key of the next.

@@ -17,14 +17,12 @@ returns-clause-ok g c =
     let all : c.loop-added._added ≡ c.args.count = omega arith in
     rw (c.loop-added.invariant.nodes, all, c.reserve.ensures.items, c.reserve.ensures.len)
 
-pub returns-in_err-reserve-clause-ok : goal.returns-in_err-reserve-clause-ok
-returns-in_err-reserve-clause-ok g c = let e = err_is _ _ c.from_residual.ensures.1 in rw e tt
-
-pub returns-in_err-reserve-clause-first : goal.returns-in_err-reserve-clause-first
-returns-in_err-reserve-clause-first g c = let e = err_is _ _ c.from_residual.ensures.1 in rw e tt
-
-pub returns-in_err-reserve-clause-err : goal.returns-in_err-reserve-clause-err
-returns-in_err-reserve-clause-err g c = let e = err_is _ _ c.from_residual.ensures.1 in rw e c.reserve.ensures.items
+pub returns-in_err-reserve : goal.returns-in_err-reserve
+returns-in_err-reserve g c = record {
+  ok = let e = err_is _ _ c.from_residual.ensures.1 in rw e tt;
+  first = let e = err_is _ _ c.from_residual.ensures.1 in rw e tt;
+  err = let e = err_is _ _ c.from_residual.ensures.1 in rw e c.reserve.ensures.items;
+}
 
 pub returns-clause-first : goal.returns-clause-first
 returns-clause-first g c =

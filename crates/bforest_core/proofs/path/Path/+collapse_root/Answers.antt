@@ -3,40 +3,40 @@ use Rattle.bforest_core.proofs.removal.Collapse.{trim_leaf, counted_asks, trim_s
 use Rattle.bforest_core.proofs.path.Path.+collapse_root.Goals as goal
 
 pub returns-then-self-eq1-clause-trimmed : goal.returns-then-self-eq1-clause-trimmed
-returns-then-self-eq1-clause-trimmed g t c = λ rows list u. ([], trim_leaf _ _ rows list c.args.root u c.if-self-eq1.true)
+returns-then-self-eq1-clause-trimmed g t c = λ rows list u. ([], trim_leaf rows u c.if-self-eq1.true)
 
 pub entries-count-requires : goal.entries-count-requires
 entries-count-requires g t c =
     let w = c.requires.rooted in
-    (search rules, counted_asks _ _ w.0 w.1 c.args.root w.2 (λ one. c.if-self-eq1.false one))
+    (search rules, counted_asks w.2 (λ one. c.if-self-eq1.false one))
 
 pub returns-then-count-gt1-clause-trimmed : goal.returns-then-count-gt1-clause-trimmed
-returns-then-count-gt1-clause-trimmed g t c = λ rows list u. ([], trim_stays _ _ rows list c.args.root u (λ one. c.if-self-eq1.false one) c.entries-count.result c.entries-count.ensures.value c.if-count-gt1.true)
+returns-then-count-gt1-clause-trimmed g t c = λ rows list u. ([], trim_stays u (λ one. c.if-self-eq1.false one) c.entries-count.result c.entries-count.ensures.value c.if-count-gt1.true)
 
 pub child-only-requires : goal.child-only-requires
 child-only-requires g t c =
     let w = c.requires.rooted in
-    (search rules, child_asks _ _ w.0 w.1 c.args.root w.2 (λ one. c.if-self-eq1.false one) c.entries-count.result c.entries-count.ensures.value c.if-count-gt1.false)
+    (search rules, child_asks w.2 (λ one. c.if-self-eq1.false one) c.entries-count.result c.entries-count.ensures.value c.if-count-gt1.false)
 
 pub free_node-requires : goal.free_node-requires
 free_node-requires g t c =
     let w = c.requires.rooted in
-    (search rules, free_asks _ _ w.0 w.1 c.args.root w.2 (λ one. c.if-self-eq1.false one) c.entries-count.result c.entries-count.ensures.value c.if-count-gt1.false)
+    (search rules, free_asks w.2 (λ one. c.if-self-eq1.false one) c.entries-count.result c.entries-count.ensures.value c.if-count-gt1.false)
 
 pub collapse_root-requires : goal.collapse_root-requires
 collapse_root-requires g t c κs within =
     let w = c.requires.rooted in
-    let next = trim_down _ _ w.0 w.1 c.args.root w.2 (λ one. c.if-self-eq1.false one) c.entries-count.result c.entries-count.ensures.value c.if-count-gt1.false c.child-only.result c.child-only.ensures c.free_node.new.self c.free_node.ensures.freed in
+    let next = trim_down w.2 (λ one. c.if-self-eq1.false one) c.entries-count.result c.entries-count.ensures.value c.if-count-gt1.false c.child-only.result c.child-only.ensures c.free_node.new.self c.free_node.ensures.freed in
     let less : c.args.self.now.size - 1 < t = omega (arith, c.decreases, w.2.height) in
     (less, (within.0, (within.1, ((λ a m. search rules), (search rules, (search rules, (omega (arith, c.requires.height), (_, w.1, next))))))))
 
 pub returns-clause-trimmed : goal.returns-clause-trimmed
 returns-clause-trimmed g t c = λ rows list u.
-    let next = trim_down _ _ rows list c.args.root u (λ one. c.if-self-eq1.false one) c.entries-count.result c.entries-count.ensures.value c.if-count-gt1.false c.child-only.result c.child-only.ensures c.free_node.new.self c.free_node.ensures.freed in
+    let next = trim_down u (λ one. c.if-self-eq1.false one) c.entries-count.result c.entries-count.ensures.value c.if-count-gt1.false c.child-only.result c.child-only.ensures c.free_node.new.self c.free_node.ensures.freed in
     let r = c.collapse_root.ensures.trimmed _ list next in (
       r.0 ++ c.args.root ∷ [],
-      trim_then _ _ rows list c.args.root u
+      trim_then u
           (λ one. c.if-self-eq1.false one) c.entries-count.result c.entries-count.ensures.value c.if-count-gt1.false c.child-only.result
-          c.child-only.ensures c.free_node.new.self c.free_node.ensures.freed c.collapse_root.new.pool c.collapse_root.new.self.size
-          c.collapse_root.result r.0 r.1,
+          c.child-only.ensures c.free_node.new.self c.free_node.ensures.freed
+          r.1,
     )

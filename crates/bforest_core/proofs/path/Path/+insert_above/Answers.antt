@@ -1,119 +1,80 @@
-use Rattle.std.proofs.Common.{rules, ◌≡◌, ℕ, ◌+◌, ◌≤◌, [], map, length, ap, ◌∙◌, arith, add-one, ◌<◌, suc, Bool, if◌then◌else◌, List, ◌∷◌, ◌++◌, get_or, Some}
-use Rattle.bforest_core.specs.Levels.{sizes}
+use Rattle.std.proofs.Common.{rules, ◌≡◌, ℕ, ◌+◌, ◌≤◌, [], map, length, sym, ap, ◌∙◌, arith, add-one, ◌<◌, suc, Bool, if◌then◌else◌, List, ◌∷◌, ◌++◌, get_or, Some}
 use Rattle.bforest_core.proofs.insertion.Rise.{gain-some, need_top, rise, sizes_halved, need_full}
-use Rattle.bforest_core.proofs.Words.{get_or_default, Table, IsFullAt, LevelNode, heads, sizes, need_above, gain_above, Above, Grown, Halved}
+use Rattle.bforest_core.proofs.Words.{get_or_default, Table, IsFullAt, OneAbove, heads, sizes, need_above, gain_above, Grown, GrownBy, HalvedBy}
 use Rattle.bforest_core.proofs.rows.Zipper.{spot}
 use Rattle.bforest_core.proofs.insertion.Halving.{full_is}
 use Rattle.bforest_core.proofs.path.Path.+insert_above.Goals as goal
 
 module _ {K V : Type 0} where
-  -- what the call ensures
-  abbrev Takes : Table K V → Table K V → List ℕ → List ℕ → List ℕ → List ℕ → ℕ → ℕ → ℕ → List (List (LevelNode K ℕ)) → List (K × ℕ) → K → ℕ → K → ℕ → List (K × ℕ) → Bool → Type 0
-  Takes old new ms js ms' js' up size size' rows a first left key child b moved =
-      (taken : List ℕ) × (suc (length taken) ≡ need_above (Some (length a)) (map sizes rows)) × Grown old new ms js ms' js' up size size' rows (a ++ (first, left) ∷ (key, child) ∷ b) (if moved then suc (length a) else length a) (gain_above (Some (length a)) (map sizes rows)) taken
-
-  -- what the call requires
-  abbrev Asks : Table K V → List ℕ → List ℕ → ℕ → ℕ → ℕ → Type 0
-  Asks t ms js up size left =
-      (rows : List (List (LevelNode K ℕ))) × (before : List (K × ℕ)) × (first : K) × (after : List (K × ℕ)) × Above t ms js up size rows (before ++ (first, left) ∷ after) (length before)
-      × (need_above (Some (length before)) (map sizes rows) ≤ suc (length t.chain)) × (up + length (gain_above (Some (length before)) (map sizes rows)) ≤ 17)
-
   -- a node is free for the split of a full node
-  room_then : (cap : ℕ) (t : Table K V) (ms js : List ℕ) (up size : ℕ) (rows : List (List (LevelNode K ℕ))) (a : List (K × ℕ)) (x : K × ℕ) (b : List (K × ℕ)) → Above t ms js up size rows (a ++ x ∷ b) (length a) → up < size →
-      IsFullAt cap t.nodes (get_or ms up 0) → need_above (Some (length a)) (map sizes rows) ≤ suc (length t.chain) → 0 < length t.chain
-  room_then cap t ms js up size rows a x b p low full enough =
-      let d = spot t ms js up size rows a x b p low in
-      omega (arith, enough, need_full t ms js up size rows a x b d (full_is cap t.nodes (get_or ms up 0) (d.q.l ++ x ∷ d.q.r) d.f.slot_is full))
+  room_then : (cap : ℕ) {t : Table K V} {ms js : List ℕ} {up size : ℕ} (w : OneAbove t ms js up size) → up < size →
+      IsFullAt cap t.nodes (get_or ms up 0) → need_above (Some (length w.before)) (map sizes w.rows) ≤ suc (length t.chain) → 0 < length t.chain
+  room_then cap {t} {ms} {up} w low full enough =
+      let d = spot w.before w.x w.after w.above low in
+      omega (arith, enough, need_full d (full_is cap t.nodes (get_or ms up 0) (d.q.l ++ w.x ∷ d.q.r) d.f.slot_is full))
 
   -- the node was split
-  module _ (t t2 : Table K V) (ms js ms2 js2 : List ℕ) (up size size2 : ℕ) (rows : List (List (LevelNode K ℕ))) (a : List (K × ℕ)) (first : K) (left : ℕ) (b : List (K × ℕ)) (key : K) (child : ℕ) (moved : Bool) (key2 : K) (right : ℕ) (moved2 : Bool)
-      (h : Halved t t2 ms js ms2 js2 up size rows (a ++ (first, left) ∷ (key, child) ∷ b) (length a) (if moved then suc (length a) else length a) key2 right moved2)
-      (r high : ℕ) (low : up < size) (wide : length ms ≡ 17) (height : size ≤ 17) (size2_is : size2 ≡ size) (high_is : high ≡ suc up) where
-    num_is : get_or ms up r ≡ get_or ms up 0
-    num_is = get_or_default ms up r 0 (omega (arith, low, wide, height))
+  module _ {t t2 : Table K V} {ms js ms2 js2 : List ℕ} {up size size2 : ℕ} (w : OneAbove t ms js up size) (child : K × ℕ) (moved : Bool) {key2 : K} {right : ℕ} {moved2 : Bool} (h : HalvedBy w child moved t2 ms2 js2 key2 right moved2)
+      (r : ℕ) (low : up < size) (wide : length ms ≡ 17) (height : size ≤ 17) (size2_is : size2 ≡ size) where
+    num_is : get_or ms up 0 ≡ get_or ms up r
+    num_is = sym (get_or_default ms up r 0 (omega (arith, low, wide, height)))
 
-    above_next : Above t2 ms2 js2 high size2 h.rest (heads h.before ++ (h.first.0, get_or ms up r) ∷ heads h.after) (length (heads h.before))
-    above_next = rw (high_is, size2_is, num_is) h.above
+    -- the rows one level up
+    abbrev next : OneAbove t2 ms2 js2 (up + 1) size2
+    next = record { rows = h.rest; before = heads h.before; x = (h.first.0, get_or ms up 0); after = heads h.after; above = rw (add-one, size2_is) h.above }
 
     -- the call one level up gets what it requires
-    next_asks : need_above (Some (length a)) (map sizes rows) ≤ suc (length t.chain) → up + length (gain_above (Some (length a)) (map sizes rows)) ≤ 17 → Asks t2 ms2 js2 high size2 (get_or ms up r)
+    next_asks : need_above (Some (length w.before)) (map sizes w.rows) ≤ suc (length t.chain) → up + length (gain_above (Some (length w.before)) (map sizes w.rows)) ≤ 17 →
+        (v : OneAbove t2 ms2 js2 (up + 1) size2) × (v.x.1 ≡ get_or ms up r) × (need_above (Some (length v.before)) (map sizes v.rows) ≤ suc (length t2.chain)) × (up + 1 + length (gain_above (Some (length v.before)) (map sizes v.rows)) ≤ 17)
     next_asks enough few =
-        let n = sizes_halved _ _ _ _ _ _ _ _ _ _ _ _ _ _ _ h in
-        (h.rest, heads h.before, h.first.0, heads h.after, above_next, omega (arith, n.0, enough, ap length h.chain_is), omega (arith, n.1, few, high_is))
+        let n = sizes_halved h in
+        (next, num_is, omega (arith, n.0, enough, ap length h.chain_is), omega (arith, n.1, few))
 
-    grown_next : (t3 : Table K V) (ms3 js3 : List ℕ) (size3 : ℕ) (taken : List ℕ) → Above t ms js up size rows (a ++ (first, left) ∷ b) (length a) →
-        Grown t2 t3 ms2 js2 ms3 js3 high size2 size3 h.rest (heads h.before ++ (h.first.0, get_or ms up r) ∷ (key2, right) ∷ heads h.after) (if moved2 then suc (length (heads h.before)) else length (heads h.before)) (gain_above (Some (length (heads h.before))) (map sizes h.rest)) taken →
-        Grown t t3 ms js ms3 js3 up size size3 rows (a ++ (first, left) ∷ (key, child) ∷ b) (if moved then suc (length a) else length a) (gain_above (Some (length a)) (map sizes rows)) (right ∷ taken)
-    grown_next t3 ms3 js3 size3 taken p g = rise t t2 t3 ms js ms2 js2 ms3 js3 up size size3 rows _ _ (length a) (length a) _ _ _ _ taken p h (rw (high_is, size2_is, num_is) at g)
+    grown_next : {t3 : Table K V} {ms3 js3 : List ℕ} {size3 : ℕ} {taken : List ℕ} →
+        Grown t2 t3 ms2 js2 ms3 js3 (up + 1) size2 size3 h.rest (heads h.before ++ (h.first.0, get_or ms up 0) ∷ (key2, right) ∷ heads h.after) (if moved2 then suc (length (heads h.before)) else length (heads h.before)) (gain_above (Some (length (heads h.before))) (map sizes h.rest)) taken →
+        Grown t t3 ms js ms3 js3 up size size3 w.rows (w.before ++ w.x ∷ child ∷ w.after) (if moved then suc (length w.before) else length w.before) (gain_above (Some (length w.before)) (map sizes w.rows)) (right ∷ taken)
+    grown_next g = rise w.above h (rw (add-one, size2_is) at g)
 
     -- what the call one level up ensures is what this one has to
-    next_takes : (t3 : Table K V) (ms3 js3 : List ℕ) (size3 : ℕ) →
-        ((rows2 : List (List (LevelNode K ℕ))) (a2 : List (K × ℕ)) (first2 : K) (b2 : List (K × ℕ)) → Above t2 ms2 js2 high size2 rows2 (a2 ++ (first2, get_or ms up r) ∷ b2) (length a2) → Takes t2 t3 ms2 js2 ms3 js3 high size2 size3 rows2 a2 first2 (get_or ms up r) key2 right b2 moved2) →
-        Above t ms js up size rows (a ++ (first, left) ∷ b) (length a) → Takes t t3 ms js ms3 js3 up size size3 rows a first left key child b moved
-    next_takes t3 ms3 js3 size3 takes p =
-        let n = sizes_halved _ _ _ _ _ _ _ _ _ _ _ _ _ _ _ h in
-        let w = takes h.rest (heads h.before) h.first.0 (heads h.after) above_next in
-        (right ∷ w.0, omega (arith, n.0, w.1), grown_next t3 ms3 js3 size3 w.0 p w.2)
+    next_takes : {t3 : Table K V} {ms3 js3 : List ℕ} {size3 : ℕ} → ((v : OneAbove t2 ms2 js2 (up + 1) size2) → v.x.1 ≡ get_or ms up r → (taken : List ℕ) × GrownBy v (key2, right) moved2 t3 ms3 js3 size3 taken) →
+        (taken : List ℕ) × GrownBy w child moved t3 ms3 js3 size3 taken
+    next_takes takes =
+        let n = sizes_halved h in
+        let g = takes next num_is in
+        (right ∷ g.0, (omega (arith, n.0, g.1.0), grown_next g.1.1))
 
 pub push_root-requires : goal.push_root-requires
 push_root-requires g t c =
     let w = c.requires.pending in
-    let top : length w.0 ≡ 0 = omega (arith, w.4.height, c.if-up-self.true) in
-    (search rules, (search rules, (omega (arith, w.6, gain-some (length w.1) (map sizes w.0), c.if-up-self.true), omega (arith, w.5, need_top (length w.1) w.0 top))))
+    let top : length w.0.rows ≡ 0 = omega (arith, w.0.above.height, c.if-up-self.true) in
+    (search rules, (search rules, (omega (arith, w.3, gain-some (length w.0.before) (map sizes w.0.rows), c.if-up-self.true), omega (arith, w.2, need_top (length w.0.before) w.0.rows top))))
 
 pub split_here-next-requires : goal.split_here-next-requires
 split_here-next-requires g t c =
     let w = c.requires.pending in
     let full = c.insert_here.ensures.full c.if-not-insert_here.true in
-    let low : c.args.up < c.args.self.now.size = omega (arith, w.4.height, c.if-up-self.false) in (
-      search rules,
-      (
-        search rules,
-        rw (c.insert_here.ensures.pool c.if-not-insert_here.true, c.insert_here.ensures.path c.if-not-insert_here.true) (
-          c.requires.height,
-          (
-            low,
-            (
-              room_then g.row.N c.args.pool.now c.args.self.now.node c.args.self.now.entry c.args.up
-                  c.args.self.now.size w.0 w.1 (w.2, c.args.left) w.3 w.4 low full w.5,
-              (full, (w.0, w.1, (w.2, c.args.left), w.3, w.4)),
-            ),
-          ),
-        ),
-      ),
-    )
+    let low : c.args.up < c.args.self.now.size = omega (arith, w.0.above.height, c.if-up-self.false) in
+    (search rules, (search rules, rw (c.insert_here.ensures.pool c.if-not-insert_here.true, c.insert_here.ensures.path c.if-not-insert_here.true) (c.requires.height, (low, (room_then g.row.N w.0 low full w.2, (full, w.0))))))
 
 pub insert_above-requires : goal.insert_above-requires
 insert_above-requires g t c κs within =
     let w = c.requires.pending in
     let path_is = c.insert_here.ensures.path c.if-not-insert_here.true in
-    let low : c.args.up < c.args.self.now.size = omega (arith, w.4.height, c.if-up-self.false) in
+    let low : c.args.up < c.args.self.now.size = omega (arith, w.0.above.height, c.if-up-self.false) in
     let size_is : c.split_here-next.new.self.size ≡ c.args.self.now.size = c.split_here-next.ensures.size ∙ ap (λ z. z.size) path_is in
     let halved = rw (c.insert_here.ensures.pool c.if-not-insert_here.true, path_is) at c.split_here-next.ensures.halved in
-    let asks = next_asks _ c.split_here-next.new.pool c.args.self.now.node c.args.self.now.entry c.split_here-next.new.self.node
-    c.split_here-next.new.self.entry c.args.up c.args.self.now.size c.split_here-next.new.self.size w.0 w.1 w.2 c.args.left w.3
-    c.args.half.key c.args.half.node c.args.half.moved c.split_here-next.result.key c.split_here-next.result.node
-    c.split_here-next.result.moved (halved w.0 w.1 (w.2, c.args.left) w.3 w.4) c.index-self-up.result (c.args.up + 1) low
-    (omega arith) c.requires.height size_is (add-one c.args.up) w.5 w.6 in
+    let asks = next_asks w.0 _ c.args.half.moved (halved w.0) c.index-self-up.result low (omega arith) c.requires.height size_is w.2 w.3 in
     (omega (arith, c.decreases, size_is, low), (within.0, (within.1, ((λ a m. search rules), (search rules, (search rules, (omega (arith, size_is, c.requires.height), rw path_is asks)))))))
 
 pub returns-then-not-insert_here : goal.returns-then-not-insert_here
-returns-then-not-insert_here g t c = λ rows a first b p.
+returns-then-not-insert_here g t c = λ w is.
     let path_is = c.insert_here.ensures.path c.if-not-insert_here.true in
     let size_is : c.split_here-next.new.self.size ≡ c.args.self.now.size = c.split_here-next.ensures.size ∙ ap (λ z. z.size) path_is in
     let halved = rw (c.insert_here.ensures.pool c.if-not-insert_here.true, path_is) at c.split_here-next.ensures.halved in
-    next_takes _ c.split_here-next.new.pool c.args.self.now.node c.args.self.now.entry c.split_here-next.new.self.node
-    c.split_here-next.new.self.entry c.args.up c.args.self.now.size c.split_here-next.new.self.size rows a first c.args.left b
-    c.args.half.key c.args.half.node c.args.half.moved c.split_here-next.result.key c.split_here-next.result.node
-    c.split_here-next.result.moved (halved rows a (first, c.args.left) b p) c.index-self-up.result (c.args.up + 1)
-    (omega (arith, p.height, c.if-up-self.false)) (omega arith) c.requires.height size_is
-    (add-one c.args.up) c.insert_above.new.pool c.insert_above.new.self.node c.insert_above.new.self.entry c.insert_above.new.self.size
-    (rw path_is at c.insert_above.ensures) p
+    next_takes w _ c.args.half.moved (halved w) c.index-self-up.result (omega (arith, w.above.height, c.if-up-self.false)) (omega arith) c.requires.height size_is (rw path_is at c.insert_above.ensures)
 
 pub returns-then-up-self : goal.returns-then-up-self
-returns-then-up-self g t c = λ rows a first b p. rw c.if-up-self.true (c.push_root.ensures rows a first b (rw c.if-up-self.true at p))
+returns-then-up-self g t c = rw c.if-up-self.true c.push_root.ensures
 
 pub returns-else-not-insert_here : goal.returns-else-not-insert_here
-returns-else-not-insert_here g t c = λ rows a first b p.
-    let w = c.insert_here.ensures.grown c.if-not-insert_here.false rows a (first, c.args.left) b p in
-    ([], w.0, w.1)
+returns-else-not-insert_here g t c = λ w is. ([], c.insert_here.ensures.grown c.if-not-insert_here.false w)

@@ -6,12 +6,12 @@ use Rattle.bforest_core.proofs.path.Path.+needed_above.Goals as goal
 pub node-requires : goal.node-requires
 node-requires g t c =
     let w = c.requires.pending in
-    (search rules, omega (arith, level_within c.args.pool.now c.args.self.now.node c.args.self.now.entry c.args.up c.args.self.now.size w.0 w.1 w.2 w.3 c.if-up-self.false (omega (arith, c.requires.height)) c.index-self-up.result))
+    (search rules, omega (arith, level_within w.3 c.if-up-self.false (omega (arith, c.requires.height)) c.index-self-up.result))
 
 pub is_full-requires : goal.is_full-requires
 is_full-requires g t c =
     let w = c.requires.pending in
-    (search rules, level_used c.args.pool.now c.args.self.now.node c.args.self.now.entry c.args.up c.args.self.now.size w.0 w.1 w.2 w.3 c.if-up-self.false (omega (arith, c.requires.height)) c.index-self-up.result c.node.result.now c.node.ensures.value)
+    (search rules, level_used w.3 c.if-up-self.false (omega (arith, c.requires.height)) c.index-self-up.result c.node.result.now c.node.ensures.value)
 
 pub needed_above-requires : goal.needed_above-requires
 needed_above-requires g t c κs within =
@@ -29,8 +29,8 @@ needed_above-requires g t c κs within =
                 search rules,
                 (
                   c.requires.height,
-                  level_above c.args.pool.now c.args.self.now.node c.args.self.now.entry c.args.up c.args.self.now.size w.0 w.1
-                      w.2 w.3 c.if-up-self.false (omega (arith, c.requires.height)) c.index-self-up.result,
+                  level_above
+                      w.3 c.if-up-self.false (omega (arith, c.requires.height)) c.index-self-up.result,
                 ),
               ),
             ),
@@ -41,13 +41,13 @@ needed_above-requires g t c κs within =
 
 pub returns-then-is_full-clause-value : goal.returns-then-is_full-clause-value
 returns-then-is_full-clause-value g t c = λ rows list place p.
-    level_full c.args.pool.now c.args.self.now.node c.args.self.now.entry c.args.up c.args.self.now.size rows list place p
+    level_full p
     c.if-up-self.false (omega (arith, c.requires.height)) c.index-self-up.result c.node.result.now c.node.ensures.value g.row.N
     c.is_full.result c.is_full.ensures.full c.if-is_full.true c.needed_above.result c.needed_above.ensures.value
 
 pub returns-else-is_full-clause-value : goal.returns-else-is_full-clause-value
 returns-else-is_full-clause-value g t c = λ rows list place p.
-    level_room c.args.pool.now c.args.self.now.node c.args.self.now.entry c.args.up c.args.self.now.size rows list place p
+    level_room p
     c.if-up-self.false (omega (arith, c.requires.height)) c.index-self-up.result c.node.result.now c.node.ensures.value g.row.N
     c.is_full.result c.is_full.ensures.full c.if-is_full.false
 

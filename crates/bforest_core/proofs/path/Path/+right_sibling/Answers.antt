@@ -5,58 +5,58 @@ use Rattle.bforest_core.proofs.path.Path.+right_sibling.Goals as goal
 pub overflow_add-index : goal.overflow_add-index
 overflow_add-index g t c =
     let w = c.requires.pending in
-    omega (arith, (here _ _ _ _ _ w.0 w.1 w.2 w.3 w.4 c.if-up-self.false c.index-self-up.result (omega arith) c.requires.height).small)
+    omega (arith, (here w c.if-up-self.false c.index-self-up.result (omega arith) c.requires.height).small)
 
 pub entries-requires : goal.entries-requires
 entries-requires g t c =
     let w = c.requires.pending in
-    (search rules, (here _ _ _ _ _ w.0 w.1 w.2 w.3 w.4 c.if-up-self.false c.index-self-up.result (omega arith) c.requires.height).node_asks)
+    (search rules, (here w c.if-up-self.false c.index-self-up.result (omega arith) c.requires.height).node_asks)
 
 pub separator-requires : goal.separator-requires
 separator-requires g t c =
     let w = c.requires.pending in
-    (search rules, (here _ _ _ _ _ w.0 w.1 w.2 w.3 w.4 c.if-up-self.false c.index-self-up.result (omega arith) c.requires.height).key_asks _ _ c.entries.ensures.value c.if-index-entries.true)
+    (search rules, (here w c.if-up-self.false c.index-self-up.result (omega arith) c.requires.height).key_asks _ _ c.entries.ensures.value c.if-index-entries.true)
 
 pub child-requires : goal.child-requires
 child-requires g t c =
     let w = c.requires.pending in
-    (search rules, item_asks _ _ _ _ _ w.0 w.1 w.2 w.3 w.4 c.if-up-self.false c.index-self-up.result (omega arith) c.requires.height c.entries.result c.entries.ensures.value c.if-index-entries.true)
+    (search rules, item_asks w c.if-up-self.false c.index-self-up.result (omega arith) c.requires.height c.entries.result c.entries.ensures.value c.if-index-entries.true)
 
 pub right_sibling-requires : goal.right_sibling-requires
 right_sibling-requires g t c κs within =
     let w = c.requires.pending in
-    let d = above_asks _ _ _ _ _ w.0 w.1 w.2 w.3 w.4 c.if-up-self.false c.index-self-up.result (omega arith) c.requires.height in
-    let falls = above_fewer _ _ _ _ _ w.0 w.1 w.2 w.3 w.4 c.if-up-self.false c.index-self-up.result (omega arith) c.requires.height t c.decreases in
+    let d = above_asks w c.if-up-self.false c.index-self-up.result (omega arith) c.requires.height in
+    let falls = above_fewer w c.if-up-self.false c.index-self-up.result (omega arith) c.requires.height t c.decreases in
     (falls, (within.0, (within.1, ((λ a' m'. search rules), (search rules, (search rules, (c.requires.height, d)))))))
 
 pub child-requires-in-Some : goal.child-requires-in-Some
 child-requires-in-Some g t c =
     let w = c.requires.pending in
-    (search rules, first_asks _ _ _ _ _ w.0 w.1 w.2 w.3 w.4 c.if-up-self.false c.index-self-up.result (omega arith) c.requires.height _ c.in-Some.next c.in-Some.is c.right_sibling.ensures)
+    (search rules, first_asks w c.if-up-self.false c.index-self-up.result (omega arith) c.requires.height _ c.in-Some.next c.in-Some.is c.right_sibling.ensures)
 
 pub returns-then-index-entries : goal.returns-then-index-entries
-returns-then-index-entries g t c = λ rows a x b p.
-    same_parent _ _ _ _ _ rows a x b p c.if-up-self.false c.index-self-up.result (omega arith) c.requires.height c.entries.result c.entries.ensures.value c.separator.result c.child.result c.if-index-entries.true c.separator.ensures c.child.ensures
+returns-then-index-entries g t c = λ w.
+    same_parent w c.if-up-self.false c.index-self-up.result (omega arith) c.requires.height c.entries.result c.entries.ensures.value c.separator.result c.child.result c.if-index-entries.true c.separator.ensures c.child.ensures
 
 pub returns-in-None : goal.returns-in-None
-returns-in-None g t c = λ rows a x b p.
-    none_right _ _ _ _ _ rows a x b p c.if-up-self.false c.index-self-up.result (omega arith) c.requires.height c.entries.result c.entries.ensures.value c.if-index-entries.false _ c.in-None.is c.right_sibling.ensures
+returns-in-None g t c = λ w.
+    none_right w c.if-up-self.false c.index-self-up.result (omega arith) c.requires.height c.entries.result c.entries.ensures.value c.if-index-entries.false _ c.in-None.is c.right_sibling.ensures
 
 pub returns-in-Some : goal.returns-in-Some
-returns-in-Some g t c = λ rows a x b p.
-    next_parent _ _ _ _ _ rows a x b p c.if-up-self.false c.index-self-up.result (omega arith) c.requires.height c.entries.result c.entries.ensures.value c.if-index-entries.false _ c.in-Some.next c.in-Some.is c.right_sibling.ensures c.child-in-Some.result c.child-in-Some.ensures
+returns-in-Some g t c = λ w.
+    next_parent w c.if-up-self.false c.index-self-up.result (omega arith) c.requires.height c.entries.result c.entries.ensures.value c.if-index-entries.false _ c.in-Some.next c.in-Some.is c.right_sibling.ensures c.child-in-Some.result c.child-in-Some.ensures
 
 pub bounds-self-up : goal.bounds-self-up
-bounds-self-up g t c = omega (arith, c.requires.pending.4.height, c.requires.height, c.if-up-self.false)
+bounds-self-up g t c = omega (arith, c.requires.pending.above.height, c.requires.height, c.if-up-self.false)
 
 pub bounds-self-up-2 : goal.bounds-self-up-2
-bounds-self-up-2 g t c = omega (arith, c.requires.pending.4.height, c.requires.height, c.if-up-self.false)
+bounds-self-up-2 g t c = omega (arith, c.requires.pending.above.height, c.requires.height, c.if-up-self.false)
 
 pub listed : goal.listed
-listed g t c = omega (arith, c.requires.pending.4.height, c.requires.height, c.if-up-self.false)
+listed g t c = omega (arith, c.requires.pending.above.height, c.requires.height, c.if-up-self.false)
 
 pub offset_bounds-self-up : goal.offset_bounds-self-up
-offset_bounds-self-up g t c = omega (arith, c.requires.pending.4.height, c.requires.height, c.if-up-self.false)
+offset_bounds-self-up g t c = omega (arith, c.requires.pending.above.height, c.requires.height, c.if-up-self.false)
 
 pub overflow_add-up : goal.overflow_add-up
-overflow_add-up g t c = omega (arith, c.requires.pending.4.height, c.requires.height, c.if-up-self.false)
+overflow_add-up g t c = omega (arith, c.requires.pending.above.height, c.requires.height, c.if-up-self.false)

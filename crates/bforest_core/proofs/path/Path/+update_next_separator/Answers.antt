@@ -6,45 +6,45 @@ use Rattle.bforest_core.proofs.path.Path.+update_next_separator.Goals as goal
 pub overflow_add-index : goal.overflow_add-index
 overflow_add-index g t c =
     let w = c.requires.pending in
-    omega (arith, (here _ _ _ _ _ w.0 w.1 w.2 w.3 w.4 w.5 w.6 c.index-self-up.result (omega arith) c.requires.height).small)
+    omega (arith, (here w c.index-self-up.result (omega arith) c.requires.height).small)
 
 pub entries-requires : goal.entries-requires
 entries-requires g t c =
     let w = c.requires.pending in
-    (search rules, (here _ _ _ _ _ w.0 w.1 w.2 w.3 w.4 w.5 w.6 c.index-self-up.result (omega arith) c.requires.height).node_asks)
+    (search rules, (here w c.index-self-up.result (omega arith) c.requires.height).node_asks)
 
 pub set_separator-requires : goal.set_separator-requires
 set_separator-requires g t c =
     let w = c.requires.pending in
-    let s = here _ _ _ _ _ w.0 w.1 w.2 w.3 w.4 w.5 w.6 c.index-self-up.result (omega arith) c.requires.height in
+    let s = here w c.index-self-up.result (omega arith) c.requires.height in
     (search rules, (s.used, s.key_asks _ _ c.entries.ensures.value c.if-index-entries.true))
 
 pub update_next_separator-requires : goal.update_next_separator-requires
 update_next_separator-requires g t c κs within =
     let w = c.requires.pending in
-    let d = above_asks _ _ _ _ _ w.0 w.1 w.2 w.3 w.4 w.5 w.6 c.index-self-up.result (omega arith) c.requires.height c.entries.result c.entries.ensures.value c.if-index-entries.false in
-    let falls = above_fewer _ _ _ _ _ w.0 w.1 w.2 w.3 w.4 w.5 w.6 c.index-self-up.result (omega arith) c.requires.height t c.decreases in
+    let d = above_asks w c.index-self-up.result (omega arith) c.requires.height c.entries.result c.entries.ensures.value c.if-index-entries.false in
+    let falls = above_fewer w c.index-self-up.result (omega arith) c.requires.height t c.decreases in
     (falls, (within.0, (within.1, ((λ a' m'. search rules), (search rules, (search rules, (c.requires.height, d)))))))
 
 pub returns-then-index-entries : goal.returns-then-index-entries
-returns-then-index-entries g t c = λ rows a x k n b p.
-    same_parent _ _ _ _ _ rows a x k n b p c.index-self-up.result (omega arith) c.requires.height c.entries.result c.entries.ensures.value c.set_separator.new.pool c.args.key c.if-index-entries.true c.set_separator.ensures
+returns-then-index-entries g t c = λ w.
+    same_parent w c.index-self-up.result (omega arith) c.requires.height c.entries.result c.entries.ensures.value c.set_separator.new.pool c.args.key c.if-index-entries.true c.set_separator.ensures
 
 pub returns-else-index-entries : goal.returns-else-index-entries
-returns-else-index-entries g t c = λ rows a x k n b p.
-    next_parent _ _ _ _ _ rows a x k n b p c.index-self-up.result (omega arith) c.requires.height c.entries.result c.entries.ensures.value c.if-index-entries.false c.update_next_separator.new.pool c.args.key c.update_next_separator.ensures
+returns-else-index-entries g t c = λ w.
+    next_parent w c.index-self-up.result (omega arith) c.requires.height c.entries.result c.entries.ensures.value c.if-index-entries.false c.update_next_separator.new.pool c.args.key c.update_next_separator.ensures
 
 pub bounds-self-up : goal.bounds-self-up
-bounds-self-up g t c = omega (arith, two_low _ _ _ _ _ c.requires.pending, c.requires.height)
+bounds-self-up g t c = omega (arith, two_low c.requires.pending, c.requires.height)
 
 pub bounds-self-up-2 : goal.bounds-self-up-2
-bounds-self-up-2 g t c = omega (arith, two_low _ _ _ _ _ c.requires.pending, c.requires.height)
+bounds-self-up-2 g t c = omega (arith, two_low c.requires.pending, c.requires.height)
 
 pub listed : goal.listed
-listed g t c = omega (arith, two_low _ _ _ _ _ c.requires.pending, c.requires.height)
+listed g t c = omega (arith, two_low c.requires.pending, c.requires.height)
 
 pub offset_bounds-self-up : goal.offset_bounds-self-up
-offset_bounds-self-up g t c = omega (arith, two_low _ _ _ _ _ c.requires.pending, c.requires.height)
+offset_bounds-self-up g t c = omega (arith, two_low c.requires.pending, c.requires.height)
 
 pub overflow_add-up : goal.overflow_add-up
-overflow_add-up g t c = omega (arith, two_low _ _ _ _ _ c.requires.pending, c.requires.height)
+overflow_add-up g t c = omega (arith, two_low c.requires.pending, c.requires.height)

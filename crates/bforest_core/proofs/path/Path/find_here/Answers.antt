@@ -16,14 +16,12 @@ returns-in-Equal g c =
     let e = here-equal c.args.root c.args.self.now at.place c.requires.union on c.entry_here-here.ensures (g.met.C.Comparator.total c.args.comp.now) c.args.key c.requires.increasing (sym c.cmp.ensures ∙ c.in-Equal.is) in
     record { value = e.value; present = e.present; absent = e.absent }
 
-pub returns-in-Greater-clause-value : goal.returns-in-Greater-clause-value
-returns-in-Greater-clause-value g c = search rules
-
-pub returns-in-Greater-clause-present : goal.returns-in-Greater-clause-present
-returns-in-Greater-clause-present g c = search rules
-
-pub returns-in-Greater-clause-absent : goal.returns-in-Greater-clause-absent
-returns-in-Greater-clause-absent g c = search rules
+pub returns-in-Greater : goal.returns-in-Greater
+returns-in-Greater g c = record {
+  value = search rules;
+  present = search rules;
+  absent = search rules;
+}
 
 pub returns-in_default : goal.returns-in_default
 returns-in_default g c =

@@ -9,26 +9,26 @@ use Rattle.bforest_core.proofs.path.Path.insert.Goals as goal
 pub put_here-requires : goal.put_here-requires
 put_here-requires g c =
     let w = c.requires.placed in
-    (search rules, (search rules, (tree_of c.args.pool.now.nodes w.root, w.place, placed-under _ _ w.root w.place _ _ _ c.requires.union w.placed)))
+    (search rules, (search rules, (tree_of c.args.pool.now.nodes w.root, w.place, placed-under _ _ c.requires.union w.placed)))
 
 -- where the leaf has room, the insertion under any root in whose tree the path stands
-put_at : (g : Over) (c : goal.After-root g) (root place : ℕ) → PlacedUnder c.args.pool.now.nodes root c.args.self.now.node c.args.self.now.entry c.args.self.now.size place →
+put_at : (g : Over) (c : goal.After-root g) {root place : ℕ} → PlacedUnder c.args.pool.now.nodes root c.args.self.now.node c.args.self.now.entry c.args.self.now.size place →
     Put g.row.N c.args.pool.now c.put_here.new.pool root place (c.args.key, c.args.value) c.args.self.now.node c.args.self.now.entry c.args.self.now.size
-put_at g c root place p = put-here _ c.args.pool.now c.put_here.new.pool root place _ _ _ _ c.requires.union p (c.put_here.ensures.inserted c.if-put_here.true _ place (placed-under _ c.args.pool.now root place _ _ _ c.requires.union p))
+put_at g c {root} {place} p = put-here c.requires.union p (c.put_here.ensures.inserted c.if-put_here.true _ place (placed-under _ c.args.pool.now c.requires.union p))
 
 pub root-requires : goal.root-requires
 root-requires g c =
     let w = c.requires.placed in
-    let put = put-here _ c.args.pool.now c.put_here.new.pool w.root w.place _ _ _ _ c.requires.union w.placed (c.put_here.ensures.inserted c.if-put_here.true _ w.place (placed-under _ c.args.pool.now w.root w.place _ _ _ c.requires.union w.placed)) in
+    let put = put-here c.requires.union w.placed (c.put_here.ensures.inserted c.if-put_here.true _ w.place (placed-under _ c.args.pool.now c.requires.union w.placed)) in
     (search rules, (put.some, put.low))
 
 pub returns-then-put_here : goal.returns-then-put_here
 returns-then-put_here g c = record {
-  inserted = λ at. rw c.root.ensures (put_at g c at.root at.place at.placed).is.changes;
-  account = λ at. (put_at g c at.root at.place at.placed).is.takes;
-  stands = λ at. rw c.root.ensures (put_at g c at.root at.place at.placed).is.stands;
-  same_root = λ at. rw c.root.ensures (put_at g c at.root at.place at.placed).is.same_root;
-  full = λ at. (λ is. absurd cc, λ short. absurd (omega (arith, short, (put_at g c at.root at.place at.placed).enough)));
+  inserted = λ at. rw c.root.ensures (put_at g c at.placed).is.changes;
+  account = λ at. (put_at g c at.placed).is.takes;
+  stands = λ at. rw c.root.ensures (put_at g c at.placed).is.stands;
+  same_root = λ at. rw c.root.ensures (put_at g c at.placed).is.same_root;
+  full = λ at. (λ is. absurd cc, λ short. absurd (omega (arith, short, (put_at g c at.placed).enough)));
   memory = λ at is. absurd cc;
   enough = λ at enough. refl;
   refused_pool = tt;

@@ -3,19 +3,19 @@ use Rattle.bforest_core.proofs.removal.PastEnd.{counted_asks, in_leaf, beside_as
 use Rattle.bforest_core.proofs.path.Path.is_past_end.Goals as goal
 
 pub entries-requires : goal.entries-requires
-entries-requires g c = (search rules, counted_asks _ _ _ _ _ _ c.requires.lost.1 c.requires.lost.2 c.requires.lost.3 c.index-self-0.result (omega arith))
+entries-requires g c = (search rules, counted_asks c.requires.lost.3 c.index-self-0.result (omega arith))
 
 pub returns-then-self-entries-clause-within : goal.returns-then-self-entries-clause-within
 returns-then-self-entries-clause-within g c = λ no old tree place l.
-    in_leaf _ _ _ _ _ _ tree place l c.index-self-0.result (omega arith) c.entries.result c.entries.ensures.value c.if-self-entries.true
+    in_leaf l c.index-self-0.result (omega arith) c.entries.result c.entries.ensures.value c.if-self-entries.true
 
 pub right_sibling-requires : goal.right_sibling-requires
-right_sibling-requires g c = (search rules, (search rules, (c.requires.height, beside_asks _ _ _ _ _ _ c.requires.lost.1 c.requires.lost.2 c.requires.lost.3)))
+right_sibling-requires g c = (search rules, (search rules, (c.requires.height, beside_asks c.requires.lost.3)))
 
 pub returns-clause-past : goal.returns-clause-past
 returns-clause-past g c = λ yes old tree place l.
-    behind_all _ _ _ _ _ _ tree place l c.index-self-0.result (omega arith) c.entries.result c.entries.ensures.value c.right_sibling.result c.is_none.result c.if-self-entries.false c.right_sibling.ensures c.is_none.ensures yes
+    behind_all l c.index-self-0.result (omega arith) c.entries.result c.entries.ensures.value c.right_sibling.result c.is_none.result c.if-self-entries.false c.right_sibling.ensures c.is_none.ensures yes
 
 pub returns-clause-within : goal.returns-clause-within
 returns-clause-within g c = λ no old tree place l.
-    one_follows _ _ _ _ _ _ tree place l c.right_sibling.result c.is_none.result c.right_sibling.ensures c.is_none.ensures no
+    one_follows l c.right_sibling.result c.is_none.result c.right_sibling.ensures c.is_none.ensures no

@@ -20,14 +20,14 @@ next_node-requires g c =
     let w = c.requires.stands in
     (search rules, (search rules, (c.requires.height, (w.0.above, heads w.0.leaves, length w.4.leaf.before, over_leaves c.requires.capacity w.2 w.3 w.4))))
 
-pub returns-then-not-next_node-clause-value : goal.returns-then-not-next_node-clause-value
-returns-then-not-next_node-clause-value g c = λ tree place fit inside s. sym (slice_get_past (flat tree.leaves) (suc place) (omega (arith, next_last c.requires.capacity fit inside s c.in_default.ensures.value (c.next_node.ensures.last c.if-not-next_node.true))))
-
-pub returns-then-not-next_node-clause-last : goal.returns-then-not-next_node-clause-last
-returns-then-not-next_node-clause-last g c = λ none tree place fit inside s. next_last c.requires.capacity fit inside s c.in_default.ensures.value (c.next_node.ensures.last c.if-not-next_node.true)
-
-pub returns-then-not-next_node-clause-same : goal.returns-then-not-next_node-clause-same
-returns-then-not-next_node-clause-same g c = λ none. c.next_node.ensures.same c.if-not-next_node.true
+pub returns-then-not-next_node : goal.returns-then-not-next_node
+returns-then-not-next_node g c = record {
+  value = λ tree place fit inside s. sym (slice_get_past (flat tree.leaves) (suc place) (omega (arith, next_last c.requires.capacity fit inside s c.in_default.ensures.value (c.next_node.ensures.last c.if-not-next_node.true))));
+  moved = search rules;
+  last = λ none tree place fit inside s. next_last c.requires.capacity fit inside s c.in_default.ensures.value (c.next_node.ensures.last c.if-not-next_node.true);
+  same = λ none. c.next_node.ensures.same c.if-not-next_node.true;
+  size = search rules;
+}
 
 pub entry_here-requires : goal.entry_here-requires
 entry_here-requires g c =

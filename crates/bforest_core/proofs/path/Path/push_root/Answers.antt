@@ -5,7 +5,7 @@ use Rattle.bforest_core.proofs.insertion.Rise.{settle_root}
 use Rattle.bforest_core.proofs.path.Path.push_root.Goals as goal
 
 pub returns : goal.returns
-returns g c = λ rows a first b p.
+returns g c = λ w is.
     let ms = c.args.self.now.node in
     let js = c.args.self.now.entry in
     let size = c.args.self.now.size in
@@ -13,8 +13,8 @@ returns g c = λ rows a first b p.
     let t = c.args.pool.now in
     let content = Inner (c.args.half.key ∷ []) (c.args.left ∷ c.args.half.node ∷ []) in
     let low : root < length t.nodes = omega (arith, c.inner_node-root.ensures.used.within, ap (λ z. length z.nodes) c.inner_node-root.ensures.table, length-with_front t t.chain content) in
-    settle_root t c.inner_node-root.new.self ms js (set ms size root) (set js size c.index_behind.result) size (size + 1) c.args.left root rows a first b c.args.half.key c.args.half.node c.args.half.moved p
-    (takes t c.inner_node-root.new.self root content c.inner_node-root.ensures.node c.inner_node-root.ensures.table low)
+    settle_root (set ms size root) (set js size c.index_behind.result) (size + 1) w.x.1 w.rows w.before w.x.0 w.after c.args.half.key c.args.half.node c.args.half.moved w.above
+    (rw is (takes t c.inner_node-root.new.self root content c.inner_node-root.ensures.node c.inner_node-root.ensures.table low))
     (omega arith)
     (get_or-set_same ms size root 0 (omega arith))
     (get_or-set_same js size c.index_behind.result 0 (omega arith) ∙ c.index_behind.ensures.value)

@@ -5,15 +5,15 @@ use Rattle.bforest_core.proofs.path.Path.put_here.Goals as goal
 pub put_entry-requires : goal.put_entry-requires
 put_entry-requires g c =
     let w = c.requires.placed in
-    (search rules, put_asks g.row.N c.args.pool.now c.args.self.now.node c.args.self.now.entry c.args.self.now.size w.0 w.1 w.2 c.index-self-0.result (omega arith))
+    (search rules, put_asks w.2 c.index-self-0.result (omega arith))
 
 pub returns : goal.returns
 returns g c =
     let w = c.requires.placed in
     record {
-      inserted = λ done tree place p. put_inserts g.row.N c.args.pool.now c.args.self.now.node c.args.self.now.entry c.args.self.now.size
-          tree place p c.index-self-0.result (omega arith) c.put_entry.new.pool c.args.key c.args.value c.put_entry.result
+      inserted = λ done tree place p. put_inserts
+          p c.index-self-0.result (omega arith) c.put_entry.new.pool c.args.key c.args.value c.put_entry.result
           c.put_entry.ensures.room c.put_entry.ensures.node done;
-      full = λ full. (put_full g.row.N c.args.pool.now c.args.self.now.node c.args.self.now.entry c.args.self.now.size w.0 w.1 w.2 c.index-self-0.result (omega arith) c.put_entry.new.pool c.args.key c.args.value c.put_entry.result c.put_entry.ensures.room c.put_entry.ensures.node full).0;
-      pool = λ full. (put_full g.row.N c.args.pool.now c.args.self.now.node c.args.self.now.entry c.args.self.now.size w.0 w.1 w.2 c.index-self-0.result (omega arith) c.put_entry.new.pool c.args.key c.args.value c.put_entry.result c.put_entry.ensures.room c.put_entry.ensures.node full).1;
+      full = λ full. (put_full w.2 c.index-self-0.result (omega arith) c.put_entry.new.pool c.args.key c.args.value c.put_entry.result c.put_entry.ensures.room c.put_entry.ensures.node full).0;
+      pool = λ full. (put_full w.2 c.index-self-0.result (omega arith) c.put_entry.new.pool c.args.key c.args.value c.put_entry.result c.put_entry.ensures.room c.put_entry.ensures.node full).1;
     }

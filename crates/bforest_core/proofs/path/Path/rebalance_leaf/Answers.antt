@@ -1,62 +1,40 @@
-use Rattle.std.proofs.Common.{rules, ℕ, ◌≤◌, ◌<◌, ◌/◌, refl, arith}
-use Rattle.bforest_core.proofs.Words.{IsLeafCapacity, half_of, leaf_content}
-use Rattle.bforest_core.proofs.removal.Asked.{beside_is}
-use Rattle.bforest_core.proofs.removal.Balance.{leaf_stored}
-use Rattle.bforest_core.proofs.removal.Rebalancing.{beside_asks, counted_asks, half_leaf, last_heals, past_asks, past_heals, stay_heals, under_here}
+use Rattle.std.proofs.Common.{rules, true, ◌≡◌, ℕ, List, ◌-◌, ◌/◌, ◌∙◌, arith}
+use Rattle.bforest_core.proofs.Words.{IsLeafCapacity, Loses, Table, Unbalanced, half_of}
+use Rattle.bforest_core.proofs.removal.Removing.{healed_removed, leaf_merge_asks, collapse_asks, joined_removed}
 use Rattle.bforest_core.proofs.path.Path.rebalance_leaf.Goals as goal
 
-under_half : (n m : ℕ) → IsLeafCapacity n → m ≤ n / 2 → m < half_of n
-under_half n m c low = omega (arith, c.odd)
+half_left : (n : ℕ) → IsLeafCapacity n → n - n / 2 ≡ half_of n
+half_left n c = omega (arith, c.odd)
 
-over_half : (n m : ℕ) → IsLeafCapacity n → n / 2 < m → half_of n ≤ m
-over_half n m c high = omega (arith, c.odd)
+-- the leaf, as rebalancing it requires it
+abbrev lost : {K V : Type 0} {n : ℕ} {table : Table K V} {path indices : List ℕ} {size root : ℕ} → IsLeafCapacity n → Unbalanced n table path indices size root → Loses n (n - n / 2) table path indices 0 size
+lost {n} capacity u =
+    let l = u.lost in
+    record { leaf = true; capacity = λ is. capacity; least_is = half_left n capacity; before = l.before; entries = l.entries; after = l.after; rest = l.rest; on = l.on_level; at_entry = λ some. u.at_entry (omega (arith, some, half_left n capacity)) }
 
-pub entries-left-requires : goal.entries-left-requires
-entries-left-requires g c =
-    let w = c.requires.pending in
-    (search rules, counted_asks leaf_content _ _ _ (half_leaf _ c.requires.capacity) (leaf_stored g.row.N) _ _ _ _ _ _ c.index-self-0.result refl (omega arith) c.requires.height w.0 w.1 w.2 w.3 w.4 w.5)
+pub rebalance-requires : goal.rebalance-requires
+rebalance-requires g c =
+    let u = c.requires.lost in
+    (search rules, (search rules, (omega (arith, u.stands.low, u.stands.stands.size_is), lost c.requires.capacity u)))
 
-pub enter_next-requires : goal.enter_next-requires
-enter_next-requires g c =
-    let w = c.requires.pending in (
-      search rules,
-      (
-        search rules,
-        (
-          c.requires.height,
-          past_asks leaf_content _ _ _ (half_leaf _ c.requires.capacity)
-              (leaf_stored g.row.N) _ _ _ _ _ _ c.index-self-0.result refl
-              (omega arith) c.requires.height w.0 w.1 w.2 w.3 w.4 w.5 c.entries-left.result c.entries-left.ensures.value c.if-self-left.true,
-        ),
-      ),
-    )
+pub merge_above-requires : goal.merge_above-requires
+merge_above-requires g c =
+    let u = c.requires.lost in
+    let j = c.rebalance.ensures.joined c.if-rebalance.true (lost c.requires.capacity u) in
+    (search rules, (search rules, (omega (arith, u.stands.low, u.stands.stands.size_is, c.rebalance.ensures.size), leaf_merge_asks u.stands u.lost u.root_is j c.rebalance.ensures.size)))
 
-pub returns-then-self-left-clause-healed : goal.returns-then-self-left-clause-healed
-returns-then-self-left-clause-healed g c = λ same before n es after rest p.
-    past_heals leaf_content _ _ _ (half_leaf _ c.requires.capacity) (leaf_stored g.row.N) _ _ _ _ _ _ c.index-self-0.result refl
-    (omega arith) c.requires.height before n es after rest p c.entries-left.result c.entries-left.ensures.value c.if-self-left.true
-    _ _ (over_half _ _ c.requires.capacity c.if-left.true)
-    c.enter_next.ensures.moved c.enter_next.ensures.first c.enter_next.ensures.nodes_below c.enter_next.ensures.entries_below c.enter_next.ensures.same_top
+pub collapse_root-requires : goal.collapse_root-requires
+collapse_root-requires g c =
+    let u = c.requires.lost in
+    let j = c.rebalance.ensures.joined c.if-rebalance.true (lost c.requires.capacity u) in
+    let size_is = c.merge_above.ensures.size ∙ c.rebalance.ensures.size in
+    (search rules, (search rules, (omega (arith, u.stands.low, u.stands.stands.size_is, size_is), collapse_asks u.stands u.lost u.root_is j c.rebalance.ensures.size c.merge_above.ensures.merged size_is)))
 
-pub returns-else-self-left-clause-healed : goal.returns-else-self-left-clause-healed
-returns-else-self-left-clause-healed g c = λ same before n es after rest p.
-    stay_heals leaf_content _ _ _ (half_leaf _ c.requires.capacity) (leaf_stored g.row.N) _ _ _ _ _ _ c.index-self-0.result refl
-    (omega arith) c.requires.height before n es after rest p c.entries-left.result c.entries-left.ensures.value
-    (over_half _ _ c.requires.capacity c.if-left.true) c.if-self-left.false
+pub returns-then-rebalance : goal.returns-then-rebalance
+returns-then-rebalance g c = λ u.
+    let j = c.rebalance.ensures.joined c.if-rebalance.true (lost c.requires.capacity u) in
+    joined_removed u.stands u.lost u.root_is j c.rebalance.ensures.size c.merge_above.ensures.merged (c.merge_above.ensures.size ∙ c.rebalance.ensures.size)
+    c.collapse_root.ensures.trimmed c.collapse_root.ensures.nodes c.collapse_root.ensures.entries
 
-pub right_sibling-requires : goal.right_sibling-requires
-right_sibling-requires g c =
-    let w = c.requires.pending in
-    (search rules, (search rules, (c.requires.height, beside_asks leaf_content _ _ _ (half_leaf _ c.requires.capacity) (leaf_stored g.row.N) _ _ _ _ _ _ c.index-self-0.result refl (omega arith) c.requires.height w.0 w.1 w.2 w.3 w.4 w.5)))
-
-pub join_leaf-requires : goal.join_leaf-requires
-join_leaf-requires g c =
-    let w = c.requires.pending in
-    let few = under_here leaf_content _ _ _ (half_leaf _ c.requires.capacity) (leaf_stored g.row.N) _ _ _ _ _ _ c.index-self-0.result refl
-    (omega arith) c.requires.height w.0 w.1 w.2 w.3 w.4 w.5 c.entries-left.result c.entries-left.ensures.value
-    (under_half _ _ c.requires.capacity c.if-left.false) in
-    (search rules, (search rules, (c.requires.capacity, (c.requires.height, (beside_is _ _ _ _ _ _ _ c.right_sibling.ensures c.in-Some.is, (few, w))))))
-
-pub returns-in-None-clause-healed : goal.returns-in-None-clause-healed
-returns-in-None-clause-healed g c = λ same before n es after rest p.
-    last_heals leaf_content _ _ _ (half_leaf _ c.requires.capacity) (leaf_stored g.row.N) _ _ _ _ _ _ c.index-self-0.result refl (omega arith) c.requires.height before n es after rest p c.in-None.ensures
+pub returns-else-rebalance : goal.returns-else-rebalance
+returns-else-rebalance g c = λ u. healed_removed u.stands u.lost u.root_is (c.rebalance.ensures.healed c.if-rebalance.false (lost c.requires.capacity u)) c.rebalance.ensures.size

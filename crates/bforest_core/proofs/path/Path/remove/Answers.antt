@@ -9,91 +9,71 @@ use Rattle.bforest_core.proofs.path.Path.remove.Goals as goal
 pub root-root-requires : goal.root-root-requires
 root-root-requires g c =
     let w = c.requires.stands in
-    let s = stands_in _ _ w.root w.place _ _ _ c.requires.union w.on in
+    let s = stands_in _ _ c.requires.union w.on in
     (search rules, (omega (arith, s.stands.size_is), omega (arith, s.stands.size_is, s.low)))
 
 pub entries-requires : goal.entries-requires
 entries-requires g c =
     let w = c.requires.stands in
-    (search rules, counted_asks _ _ _ _ _ _ w.place (stands_in _ _ w.root w.place _ _ _ c.requires.union w.on) _ (get_or_default c.args.self.now.node 0 c.index-self-0.result 0 (omega arith)))
+    (search rules, counted_asks (stands_in _ _ c.requires.union w.on) _ (get_or_default c.args.self.now.node 0 c.index-self-0.result 0 (omega arith)))
 
 pub remove_leaf-requires : goal.remove_leaf-requires
 remove_leaf-requires g c =
     let w = c.requires.stands in
-    let s = stands_in _ _ w.root w.place _ _ _ c.requires.union w.on in
+    let s = stands_in _ _ c.requires.union w.on in
     let tree = tree_of c.args.pool.now.nodes w.root in
     let num = get_or_default c.args.self.now.node 0 c.index-self-0.result 0 (omega arith) in
-    let alone = single _ _ _ _ _ tree w.place s _ num c.entries.result c.entries.ensures.value c.if-entries-eq1.true in
-    (search rules, (search rules, (c.requires.union.1.capacity, (leaf_used _ _ _ _ _ tree w.place s _ num, (c.args.pool.now, tree, w.place, s, root-stands g.row.N tree c.args.self.now.node _ _ w.place s.fit s.stands ∙ sym c.root-root.ensures, alone)))))
+    let alone = single s _ num c.entries.result c.entries.ensures.value c.if-entries-eq1.true in
+    (search rules, (search rules, (c.requires.union.1.capacity, (leaf_used s _ num, (c.args.pool.now, tree, w.place, s, root-stands s.fit s.stands ∙ sym c.root-root.ensures, alone)))))
 
 pub remove_entry-requires : goal.remove_entry-requires
 remove_entry-requires g c =
     let w = c.requires.stands in
-    let s = stands_in _ _ w.root w.place _ _ _ c.requires.union w.on in
+    let s = stands_in _ _ c.requires.union w.on in
     let tree = tree_of c.args.pool.now.nodes w.root in
-    let more = others _ _ _ _ _ tree w.place s _ (get_or_default c.args.self.now.node 0 c.index-self-0.result 0 (omega arith)) c.entries.result c.entries.ensures.value (λ one. c.if-entries-eq1.false one) in
-    (search rules, (search rules, (c.requires.union.1.capacity, ((tree, w.place, s, root-stands g.row.N tree c.args.self.now.node _ _ w.place s.fit s.stands ∙ sym c.root-root.ensures), more))))
+    let more = others s _ (get_or_default c.args.self.now.node 0 c.index-self-0.result 0 (omega arith)) c.entries.result c.entries.ensures.value (λ one. c.if-entries-eq1.false one) in
+    (search rules, (search rules, (c.requires.union.1.capacity, ((tree, w.place, s, root-stands s.fit s.stands ∙ sym c.root-root.ensures), more))))
 
 -- the effect of removing a leaf
-leaf_said : (g : Over) (c : goal.After-remove_leaf g) (root place : ℕ) → StandsUnder c.args.pool.now.nodes root c.args.self.now.node c.args.self.now.entry c.args.self.now.size place →
+leaf_said : (g : Over) (c : goal.After-remove_leaf g) {root place : ℕ} → StandsUnder c.args.pool.now.nodes root c.args.self.now.node c.args.self.now.entry c.args.self.now.size place →
     Said g.row.N c.args.pool.now c.remove_leaf.new.pool c.args.self.now.node root place (λ z. IsPathAt c.remove_leaf.new.self.node c.remove_leaf.new.self.entry c.remove_leaf.new.self.size z place) c.remove_leaf.result
-leaf_said g c root place u =
-    let s = stands_in g.row.N c.args.pool.now root place _ _ _ c.requires.union u in
+leaf_said g c {root} {place} u =
+    let s = stands_in g.row.N c.args.pool.now c.requires.union u in
     let tree = tree_of c.args.pool.now.nodes root in
-    let alone = single _ _ _ _ _ tree place s _ (get_or_default c.args.self.now.node 0 c.index-self-0.result 0 (omega arith)) c.entries.result c.entries.ensures.value c.if-entries-eq1.true in
-    outcome _ _ _ root place _ _ _ _ c.requires.union u c.remove_leaf.result (c.remove_leaf.ensures.removed c.args.pool.now tree place s alone) (λ none. c.remove_leaf.ensures.emptied none c.args.pool.now tree place s alone)
+    let alone = single s _ (get_or_default c.args.self.now.node 0 c.index-self-0.result 0 (omega arith)) c.entries.result c.entries.ensures.value c.if-entries-eq1.true in
+    outcome _ _ _ _ c.requires.union u c.remove_leaf.result (c.remove_leaf.ensures.removed c.args.pool.now tree place s alone) (λ none. c.remove_leaf.ensures.emptied none c.args.pool.now tree place s alone)
 
 -- the effect of removing an entry from a leaf that has others
-entry_said : (g : Over) (c : goal.After-remove_entry g) (root place : ℕ) → StandsUnder c.args.pool.now.nodes root c.args.self.now.node c.args.self.now.entry c.args.self.now.size place →
+entry_said : (g : Over) (c : goal.After-remove_entry g) {root place : ℕ} → StandsUnder c.args.pool.now.nodes root c.args.self.now.node c.args.self.now.entry c.args.self.now.size place →
     Said g.row.N c.args.pool.now c.remove_entry.new.pool c.args.self.now.node root place (λ z. IsPathAt c.remove_entry.new.self.node c.remove_entry.new.self.entry c.remove_entry.new.self.size z place) (Some c.remove_entry.result)
-entry_said g c root place u =
-    let s = stands_in g.row.N c.args.pool.now root place _ _ _ c.requires.union u in
-    removal _ _ _ root place _ _ _ _ c.requires.union u c.remove_entry.result (c.remove_entry.ensures (tree_of c.args.pool.now.nodes root) place s)
+entry_said g c {root} {place} u =
+    let s = stands_in g.row.N c.args.pool.now c.requires.union u in
+    removal _ _ _ _ c.requires.union u (c.remove_entry.ensures (tree_of c.args.pool.now.nodes root) place s)
 
-pub returns-then-entries-eq1-clause-removed : goal.returns-then-entries-eq1-clause-removed
-returns-then-entries-eq1-clause-removed g c = λ at. if_some _ _ c.remove_leaf.result (λ root' r. r.changes) (leaf_said g c at.root at.place at.on).some
+pub returns-then-entries-eq1 : goal.returns-then-entries-eq1
+returns-then-entries-eq1 g c = record {
+  removed = λ at. (leaf_said g c at.on).shrinks.changes;
+  account = λ at. (leaf_said g c at.on).shrinks.account;
+  order = λ at. (leaf_said g c at.on).shrinks.order;
+  stands = λ at. if_some _ _ c.remove_leaf.result (λ root' r. record { root_is = r.0; at = r.1 }) (leaf_said g c at.on).at;
+  same_root = λ at. (leaf_said g c at.on).shrinks.same_root;
+  last = λ at. (leaf_said g c at.on).shrinks.last;
+  ended = λ none at. (leaf_said g c at.on).shrinks.ended none;
+  end = search rules;
+  none_left = λ none at. (leaf_said g c at.on).shrinks.none_left none;
+  freed_root = λ at ne. (leaf_said g c at.on).shrinks.freed_root ne;
+}
 
-pub returns-then-entries-eq1-clause-account : goal.returns-then-entries-eq1-clause-account
-returns-then-entries-eq1-clause-account g c = λ at. (leaf_said g c at.root at.place at.on).gives
-
-pub returns-then-entries-eq1-clause-order : goal.returns-then-entries-eq1-clause-order
-returns-then-entries-eq1-clause-order g c = λ at. (leaf_said g c at.root at.place at.on).order
-
-pub returns-then-entries-eq1-clause-stands : goal.returns-then-entries-eq1-clause-stands
-returns-then-entries-eq1-clause-stands g c = λ at. if_some _ _ c.remove_leaf.result (λ root' r. record { root_is = r.changes.root_is; at = r.at }) (leaf_said g c at.root at.place at.on).some
-
-pub returns-then-entries-eq1-clause-same_root : goal.returns-then-entries-eq1-clause-same_root
-returns-then-entries-eq1-clause-same_root g c = λ at. if_some _ _ c.remove_leaf.result (λ root' r. r.same_root) (leaf_said g c at.root at.place at.on).some
-
-pub returns-then-entries-eq1-clause-last : goal.returns-then-entries-eq1-clause-last
-returns-then-entries-eq1-clause-last g c = λ at. (leaf_said g c at.root at.place at.on).last
-
-pub returns-then-entries-eq1-clause-ended : goal.returns-then-entries-eq1-clause-ended
-returns-then-entries-eq1-clause-ended g c = λ none at. (leaf_said g c at.root at.place at.on).ended none
-
-pub returns-then-entries-eq1-clause-none_left : goal.returns-then-entries-eq1-clause-none_left
-returns-then-entries-eq1-clause-none_left g c = λ none at. (leaf_said g c at.root at.place at.on).none_left none
-
-pub returns-then-entries-eq1-clause-freed_root : goal.returns-then-entries-eq1-clause-freed_root
-returns-then-entries-eq1-clause-freed_root g c = λ at ne. (leaf_said g c at.root at.place at.on).freed_root ne
-
-pub returns-else-entries-eq1-clause-removed : goal.returns-else-entries-eq1-clause-removed
-returns-else-entries-eq1-clause-removed g c = λ at. (entry_said g c at.root at.place at.on).some.changes
-
-pub returns-else-entries-eq1-clause-account : goal.returns-else-entries-eq1-clause-account
-returns-else-entries-eq1-clause-account g c = λ at. (entry_said g c at.root at.place at.on).gives
-
-pub returns-else-entries-eq1-clause-order : goal.returns-else-entries-eq1-clause-order
-returns-else-entries-eq1-clause-order g c = λ at. (entry_said g c at.root at.place at.on).order
-
-pub returns-else-entries-eq1-clause-stands : goal.returns-else-entries-eq1-clause-stands
-returns-else-entries-eq1-clause-stands g c = λ at. (let r = (entry_said g c at.root at.place at.on).some in record { root_is = r.changes.root_is; at = r.at })
-
-pub returns-else-entries-eq1-clause-same_root : goal.returns-else-entries-eq1-clause-same_root
-returns-else-entries-eq1-clause-same_root g c = λ at. (entry_said g c at.root at.place at.on).some.same_root
-
-pub returns-else-entries-eq1-clause-last : goal.returns-else-entries-eq1-clause-last
-returns-else-entries-eq1-clause-last g c = λ at. (entry_said g c at.root at.place at.on).last
-
-pub returns-else-entries-eq1-clause-freed_root : goal.returns-else-entries-eq1-clause-freed_root
-returns-else-entries-eq1-clause-freed_root g c = λ at ne. (entry_said g c at.root at.place at.on).freed_root ne
+pub returns-else-entries-eq1 : goal.returns-else-entries-eq1
+returns-else-entries-eq1 g c = record {
+  removed = λ at. (entry_said g c at.on).shrinks.changes;
+  account = λ at. (entry_said g c at.on).shrinks.account;
+  order = λ at. (entry_said g c at.on).shrinks.order;
+  stands = λ at. (let r = (entry_said g c at.on).at in record { root_is = r.0; at = r.1 });
+  same_root = λ at. (entry_said g c at.on).shrinks.same_root;
+  last = λ at. (entry_said g c at.on).shrinks.last;
+  ended = search rules;
+  end = search rules;
+  none_left = search rules;
+  freed_root = λ at ne. (entry_said g c at.on).shrinks.freed_root ne;
+}

@@ -7,16 +7,16 @@ use Rattle.bforest_core.proofs.path.Path.remove_leaf.Goals as goal
 pub free_node-requires : goal.free_node-requires
 free_node-requires g c =
     let w = c.requires.single in
-    (search rules, free_asks _ w.0 _ _ _ c.requires.capacity _ w.5 _ (get_or_default c.args.self.now.node 0 c.index-self-0.result 0 (omega arith)) w.1 w.2 w.3 c.requires.used)
+    (search rules, free_asks c.requires.capacity w.5 _ (get_or_default c.args.self.now.node 0 c.index-self-0.result 0 (omega arith)) w.3 c.requires.used)
 
 pub returns-then-self-eq1-clause-emptied : goal.returns-then-self-eq1-clause-emptied
 returns-then-self-eq1-clause-emptied g c = λ none old tree place s alone.
-    emptied_tree _ old _ _ _ c.requires.capacity _ alone _ (get_or_default c.args.self.now.node 0 c.index-self-0.result 0 (omega arith)) tree place s c.free_node.new.self c.free_node.ensures.freed c.if-self-eq1.true
+    emptied_tree c.requires.capacity alone _ (get_or_default c.args.self.now.node 0 c.index-self-0.result 0 (omega arith)) s c.free_node.new.self c.free_node.ensures.freed c.if-self-eq1.true
 
 pub remove_emptied-requires : goal.remove_emptied-requires
 remove_emptied-requires g c =
     let w = c.requires.single in
-    (search rules, (search rules, (omega (arith, w.3.low, w.3.stands.size_is), above_asks _ w.0 _ _ _ c.requires.capacity _ w.5 _ (get_or_default c.args.self.now.node 0 c.index-self-0.result 0 (omega arith)) w.1 w.2 w.3 c.free_node.new.self c.free_node.ensures.freed (λ e. c.if-self-eq1.false e))))
+    (search rules, (search rules, (omega (arith, w.3.low, w.3.stands.size_is), above_asks c.requires.capacity w.5 _ (get_or_default c.args.self.now.node 0 c.index-self-0.result 0 (omega arith)) w.3 c.free_node.new.self c.free_node.ensures.freed (λ e. c.if-self-eq1.false e))))
 
 pub collapse_root-top-requires : goal.collapse_root-top-requires
 collapse_root-top-requires g c =
@@ -26,8 +26,8 @@ collapse_root-top-requires g c =
         search rules,
         (
           omega (arith, w.3.low, w.3.stands.size_is),
-          collapse_asks _ w.0 _ _ _ c.requires.capacity _ w.5 _ (get_or_default c.args.self.now.node 0 c.index-self-0.result 0 (omega arith))
-              w.1 w.2 w.3 c.free_node.new.self c.free_node.ensures.freed
+          collapse_asks c.requires.capacity w.5 _ (get_or_default c.args.self.now.node 0 c.index-self-0.result 0 (omega arith))
+              w.3 c.free_node.new.self c.free_node.ensures.freed
               (λ e. c.if-self-eq1.false e) c.remove_emptied.new.pool c.remove_emptied.ensures c.args.root w.4,
         ),
       ),
@@ -36,10 +36,10 @@ collapse_root-top-requires g c =
 pub returns-clause-removed : goal.returns-clause-removed
 returns-clause-removed g c = λ old tree place s alone.
     let w = c.requires.single in
-    drop_removed _ old _ _ _ c.requires.capacity _ alone _ (get_or_default c.args.self.now.node 0 c.index-self-0.result 0 (omega arith))
-    tree place s c.free_node.new.self c.free_node.ensures.freed
+    drop_removed c.requires.capacity alone _ (get_or_default c.args.self.now.node 0 c.index-self-0.result 0 (omega arith))
+    s c.free_node.new.self c.free_node.ensures.freed
     (λ e. c.if-self-eq1.false e) c.remove_emptied.new.pool c.remove_emptied.ensures c.args.root
-    (stands_root _ _ _ _ _ _ tree w.1 place w.2 c.args.root s w.3 w.4)
+    (stands_root c.args.root s w.3 w.4)
     c.collapse_root-top.new.pool c.collapse_root-top.new.self.node c.collapse_root-top.new.self.entry c.collapse_root-top.new.self.size c.collapse_root-top.result c.collapse_root-top.ensures.trimmed
 
 pub returns-then-self-eq1-clause-removed : goal.returns-then-self-eq1-clause-removed

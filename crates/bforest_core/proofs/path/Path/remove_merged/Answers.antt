@@ -1,83 +1,83 @@
 use Rattle.std.proofs.Common.{rules, ◌+◌, arith, add-one}
-use Rattle.bforest_core.proofs.removal.Asked.{merge_low}
+use Rattle.bforest_core.proofs.removal.Asked.{two_low}
 use Rattle.bforest_core.proofs.removal.RemovingMerged.{here, key_asks, remove_asks, same_parent, index_some, last_key_asks, rekey_asks, remove_last_asks, next_parent}
 use Rattle.bforest_core.proofs.path.Path.remove_merged.Goals as goal
 
 pub bounds-self-up : goal.bounds-self-up
-bounds-self-up g c = omega (arith, merge_low _ _ _ _ _ c.requires.pending)
+bounds-self-up g c = omega (arith, two_low c.requires.pending)
 
 pub bounds-self-up-2 : goal.bounds-self-up-2
-bounds-self-up-2 g c = omega (arith, merge_low _ _ _ _ _ c.requires.pending)
+bounds-self-up-2 g c = omega (arith, two_low c.requires.pending)
 
 pub listed : goal.listed
-listed g c = omega (arith, merge_low _ _ _ _ _ c.requires.pending)
+listed g c = omega (arith, two_low c.requires.pending)
 
 pub offset_bounds-self-up : goal.offset_bounds-self-up
-offset_bounds-self-up g c = omega (arith, merge_low _ _ _ _ _ c.requires.pending)
+offset_bounds-self-up g c = omega (arith, two_low c.requires.pending)
 
 pub overflow_add-up : goal.overflow_add-up
-overflow_add-up g c = omega (arith, merge_low _ _ _ _ _ c.requires.pending)
+overflow_add-up g c = omega (arith, two_low c.requires.pending)
 
 pub overflow_add-index : goal.overflow_add-index
 overflow_add-index g c =
     let w = c.requires.pending in
-    omega (arith, (here _ _ _ _ _ w.0 w.1 w.2 w.3 w.4 w.5 w.6 w.7 c.index-self-up.result (omega arith) c.requires.height).small)
+    omega (arith, (here w c.index-self-up.result (omega arith) c.requires.height).small)
 
 pub entries-requires : goal.entries-requires
 entries-requires g c =
     let w = c.requires.pending in
-    (search rules, (here _ _ _ _ _ w.0 w.1 w.2 w.3 w.4 w.5 w.6 w.7 c.index-self-up.result (omega arith) c.requires.height).node_asks)
+    (search rules, (here w c.index-self-up.result (omega arith) c.requires.height).node_asks)
 
 pub separator-key-requires : goal.separator-key-requires
 separator-key-requires g c =
     let w = c.requires.pending in
-    (search rules, key_asks _ _ _ _ _ w.0 w.1 w.2 w.3 w.4 w.5 w.6 w.7 c.index-self-up.result (omega arith) c.requires.height c.entries.result c.entries.ensures.value c.if-index-entries.true c.saturating_sub.result (omega (arith, c.saturating_sub.ensures)))
+    (search rules, key_asks w c.index-self-up.result (omega arith) c.requires.height c.entries.result c.entries.ensures.value c.if-index-entries.true c.saturating_sub.result (omega (arith, c.saturating_sub.ensures)))
 
 pub set_separator-requires : goal.set_separator-requires
 set_separator-requires g c =
     let w = c.requires.pending in
-    let s = here _ _ _ _ _ w.0 w.1 w.2 w.3 w.4 w.5 w.6 w.7 c.index-self-up.result (omega arith) c.requires.height in
+    let s = here w c.index-self-up.result (omega arith) c.requires.height in
     (search rules, (s.used, s.key_asks _ _ c.entries.ensures.value c.if-index-entries.true))
 
 pub remove_child-answer-requires : goal.remove_child-answer-requires
 remove_child-answer-requires g c =
     let w = c.requires.pending in
-    (search rules, remove_asks _ _ _ _ _ w.0 w.1 w.2 w.3 w.4 w.5 w.6 w.7 c.index-self-up.result (omega arith) c.requires.height c.entries.result c.entries.ensures.value c.if-index-entries.true c.set_separator.new.pool c.separator-key.result c.set_separator.ensures)
+    (search rules, remove_asks w c.index-self-up.result (omega arith) c.requires.height c.entries.result c.entries.ensures.value c.if-index-entries.true c.set_separator.new.pool c.separator-key.result c.set_separator.ensures)
 
 pub overflow_sub-index : goal.overflow_sub-index
 overflow_sub-index g c =
     let w = c.requires.pending in
-    index_some _ _ _ _ _ w.0 w.1 w.2 w.3 w.4 w.5 w.6 w.7 c.index-self-up.result (omega arith) c.requires.height c.entries.result c.entries.ensures.value c.if-index-entries.false
+    index_some w c.index-self-up.result (omega arith) c.requires.height c.entries.result c.entries.ensures.value c.if-index-entries.false
 
 pub separator-key-requires-else-index-entries : goal.separator-key-requires-else-index-entries
 separator-key-requires-else-index-entries g c =
     let w = c.requires.pending in
-    (search rules, last_key_asks _ _ _ _ _ w.0 w.1 w.2 w.3 w.4 w.5 w.6 w.7 c.index-self-up.result (omega arith) c.requires.height c.entries.result c.entries.ensures.value c.if-index-entries.false)
+    (search rules, last_key_asks w c.index-self-up.result (omega arith) c.requires.height c.entries.result c.entries.ensures.value c.if-index-entries.false)
 
 pub update_next_separator-requires : goal.update_next_separator-requires
 update_next_separator-requires g c =
     let w = c.requires.pending in
-    (search rules, (search rules, (c.requires.height, rekey_asks _ _ _ _ _ w.0 w.1 w.2 w.3 w.4 w.5 w.6 w.7 c.index-self-up.result (omega arith) c.requires.height c.entries.result c.entries.ensures.value c.if-index-entries.false (c.args.up + 1) (add-one c.args.up))))
+    (search rules, (search rules, (c.requires.height, rekey_asks w c.index-self-up.result (omega arith) c.requires.height c.entries.result c.entries.ensures.value c.if-index-entries.false (c.args.up + 1) (add-one c.args.up))))
 
 pub remove_child-answer-requires-else-index-entries : goal.remove_child-answer-requires-else-index-entries
 remove_child-answer-requires-else-index-entries g c =
     let w = c.requires.pending in (
       search rules,
-      remove_last_asks _ _ _ _ _ w.0 w.1 w.2 w.3 w.4 w.5 w.6 w.7 c.index-self-up.result
+      remove_last_asks w c.index-self-up.result
           (omega arith) c.requires.height c.entries.result c.entries.ensures.value c.if-index-entries.false (c.args.up + 1)
           (add-one c.args.up) c.update_next_separator.new.pool c.separator-key-else-index-entries.result c.update_next_separator.ensures,
     )
 
 pub returns-then-index-entries : goal.returns-then-index-entries
-returns-then-index-entries g c = λ rows a k m k2 n b p.
-    same_parent _ _ _ _ _ rows a k m k2 n b p c.index-self-up.result
+returns-then-index-entries g c = λ w.
+    same_parent w c.index-self-up.result
     (omega arith) c.requires.height c.entries.result c.entries.ensures.value c.if-index-entries.true c.set_separator.new.pool
     c.separator-key.result c.set_separator.ensures c.remove_child-answer.new.pool c.saturating_sub.result c.saturating_sub.ensures
     c.separator-key.ensures c.remove_child-answer.ensures.node
 
 pub returns-else-index-entries : goal.returns-else-index-entries
-returns-else-index-entries g c = λ rows a k m k2 n b p.
-    next_parent _ _ _ _ _ rows a k m k2 n b p c.index-self-up.result
+returns-else-index-entries g c = λ w.
+    next_parent w c.index-self-up.result
     (omega arith) c.requires.height c.entries.result c.entries.ensures.value c.if-index-entries.false (c.args.up + 1)
     (add-one c.args.up) c.update_next_separator.new.pool c.separator-key-else-index-entries.result c.update_next_separator.ensures
     c.remove_child-answer-else-index-entries.new.pool c.separator-key-else-index-entries.ensures

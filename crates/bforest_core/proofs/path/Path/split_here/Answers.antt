@@ -5,15 +5,15 @@ use Rattle.bforest_core.proofs.path.Path.split_here.Goals as goal
 pub split_node-right-requires : goal.split_node-right-requires
 split_node-right-requires g c =
     let w = c.requires.pending in
-    (search rules, full_asks c.args.pool.now c.args.self.now.node c.args.self.now.entry c.args.up c.args.self.now.size w.0 w.1 w.2 w.3 w.4 c.index-self-up.result c.requires.within (omega arith) g.row.N c.args.pool.now c.requires.full c.requires.room)
+    (search rules, full_asks w c.index-self-up.result c.requires.within (omega arith) g.row.N c.args.pool.now c.requires.full c.requires.room)
 
 pub put_child-room-requires : goal.put_child-room-requires
 put_child-room-requires g c =
     let w = c.requires.pending in (
       search rules,
-      early_asks c.args.pool.now c.args.self.now.node c.args.self.now.entry c.args.up c.args.self.now.size w.0 w.1 w.2 w.3 w.4
+      early_asks w
           c.index-self-up.result c.requires.within (omega arith) g.row.N c.split_node-right.new.self c.requires.full
-          c.split_node-right.result.0 c.split_node-right.result.1 c.split_node-right.ensures.node c.split_node-right.ensures.used
+          c.split_node-right.ensures.node c.split_node-right.ensures.used
           c.split_node-right.ensures.split c.if-entry-lt-MIN_CHILDREN.true,
     )
 
@@ -21,31 +21,31 @@ pub put_child-room-requires-else-entry-lt-MIN_CHILDREN : goal.put_child-room-req
 put_child-room-requires-else-entry-lt-MIN_CHILDREN g c =
     let w = c.requires.pending in (
       search rules,
-      late_asks c.args.pool.now c.args.self.now.node c.args.self.now.entry c.args.up c.args.self.now.size w.0 w.1 w.2 w.3 w.4
+      late_asks w
           c.index-self-up.result c.requires.within (omega arith) g.row.N c.split_node-right.new.self c.requires.full
-          c.split_node-right.result.0 c.split_node-right.result.1 c.split_node-right.ensures.node c.split_node-right.ensures.used
+          c.split_node-right.ensures.node c.split_node-right.ensures.used
           c.split_node-right.ensures.split,
     )
 
 pub index_behind-requires-else-entry-lt-MIN_CHILDREN : goal.index_behind-requires-else-entry-lt-MIN_CHILDREN
 index_behind-requires-else-entry-lt-MIN_CHILDREN g c =
     let w = c.requires.pending in
-    omega (arith, index_small c.args.pool.now c.args.self.now.node c.args.self.now.entry c.args.up c.args.self.now.size w.0 w.1 w.2 w.3 w.4 c.index-self-up.result c.requires.within (omega arith))
+    omega (arith, index_small w c.index-self-up.result c.requires.within (omega arith))
 
 pub returns-then-entry-lt-MIN_CHILDREN-clause-halved : goal.returns-then-entry-lt-MIN_CHILDREN-clause-halved
-returns-then-entry-lt-MIN_CHILDREN-clause-halved g c = λ rows a x b p.
-    early_halves c.args.pool.now c.args.self.now.node c.args.self.now.entry c.args.up c.args.self.now.size rows a x b p
+returns-then-entry-lt-MIN_CHILDREN-clause-halved g c = λ w.
+    early_halves w
     c.index-self-up.result c.requires.within (omega arith) g.row.N c.split_node-right.new.self c.requires.full
-    c.split_node-right.result.0 c.split_node-right.result.1 c.split_node-right.ensures.node c.split_node-right.ensures.used
+    c.split_node-right.ensures.node c.split_node-right.ensures.used
     c.split_node-right.ensures.split c.put_child-room.new.pool c.args.half.key c.args.half.node c.args.half.moved
     c.put_child-room.result c.index_behind.result c.if-entry-lt-MIN_CHILDREN.true c.put_child-room.ensures.room
     c.put_child-room.ensures.node c.index_behind.ensures.value (omega arith)
 
 pub returns-else-entry-lt-MIN_CHILDREN-clause-halved : goal.returns-else-entry-lt-MIN_CHILDREN-clause-halved
-returns-else-entry-lt-MIN_CHILDREN-clause-halved g c = λ rows a x b p.
-    late_halves c.args.pool.now c.args.self.now.node c.args.self.now.entry c.args.up c.args.self.now.size rows a x b p
+returns-else-entry-lt-MIN_CHILDREN-clause-halved g c = λ w.
+    late_halves w
     c.index-self-up.result c.requires.within (omega arith) g.row.N c.split_node-right.new.self c.requires.full
-    c.split_node-right.result.0 c.split_node-right.result.1 c.split_node-right.ensures.node c.split_node-right.ensures.used
+    c.split_node-right.ensures.node c.split_node-right.ensures.used
     c.split_node-right.ensures.split c.put_child-room-else-entry-lt-MIN_CHILDREN.new.pool c.args.half.key c.args.half.node
     c.args.half.moved c.put_child-room-else-entry-lt-MIN_CHILDREN.result c.index_behind-else-entry-lt-MIN_CHILDREN.result
     c.if-entry-lt-MIN_CHILDREN.false c.put_child-room-else-entry-lt-MIN_CHILDREN.ensures.room

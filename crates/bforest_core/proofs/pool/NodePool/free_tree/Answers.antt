@@ -17,7 +17,7 @@ returns g c =
     let tree = tree_of c.args.self.now.nodes c.args.root in
     let u = under-root c.args.root c.requires.union c.requires.root in
     let all = c.free_below.ensures _ _ u.first u.under (rooted g.row.N c.args.self.now c.args.root c.requires.union c.requires.root).apart in
-    let gone = uprooted-union g.row.N c.args.self.now c.free_below.new.self c.args.root _ c.requires.union c.requires.root all.frees all.counted in
+    let gone = uprooted-union g.row.N c.args.root c.requires.union c.requires.root all.frees all.counted in
     let given = numbers_down c.args.self.now.nodes (length tree.above) c.args.root in
     record {
       ended = record { union = gone.0; root_gone = gone.1; others = gone.2; limit_is = all.frees.limit_is };

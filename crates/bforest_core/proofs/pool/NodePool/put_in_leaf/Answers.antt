@@ -6,14 +6,14 @@ pub put-requires : goal.put-requires
 put-requires g c =
     let w = c.requires.leaf in
     let e = w.4 in
-    (search rules, (leaf-used (g.C.Comparator.order c.args.comp.now) g.row.N c.args.self.now w.0 c.args.leaf c.args.key w.1 w.2 w.3 c.requires.union e, (e.entries, e.slot_is, e.increasing)))
+    (search rules, (leaf-used g.row.N c.requires.union e, (e.entries, e.slot_is, e.increasing)))
 
 pub returns-clause-put : goal.returns-clause-put
 returns-clause-put g c = λ root path indices size e.
-    puts-in-leaf (g.C.Comparator.order c.args.comp.now) g.row.N c.args.self.now root c.args.leaf c.args.key path indices size c.requires.union e c.args.value c.put.result c.put.new.pool (c.put.ensures.answer e.entries e.slot_is) (c.put.ensures.node e.entries e.slot_is)
+    puts-in-leaf g.row.N c.requires.union e c.args.value c.put.result c.put.new.pool (c.put.ensures.answer e.entries e.slot_is) (c.put.ensures.node e.entries e.slot_is)
 
 pub returns-clause-full : goal.returns-clause-full
 returns-clause-full g c =
     let w = c.requires.leaf in
     let e = w.4 in
-    is-full (g.C.Comparator.order c.args.comp.now) g.row.N c.args.self.now w.0 c.args.leaf c.args.key w.1 w.2 w.3 c.requires.union e c.args.value c.put.result c.put.new.pool (c.put.ensures.answer e.entries e.slot_is) (c.put.ensures.node e.entries e.slot_is)
+    is-full g.row.N c.requires.union e c.args.value c.put.result c.put.new.pool (c.put.ensures.answer e.entries e.slot_is) (c.put.ensures.node e.entries e.slot_is)

@@ -7,8 +7,8 @@ pub take-requires : goal.take-requires
 take-requires g c =
     let w = c.requires.leaf in
     let e = w.4 in
-    (search rules, (leaf-used (g.C.Comparator.order c.args.comp.now) g.row.N c.args.self.now w.0 c.args.leaf c.args.key w.1 w.2 w.3 c.requires.union e, (e.entries, e.slot_is, e.increasing)))
+    (search rules, (leaf-used g.row.N c.requires.union e, (e.entries, e.slot_is, e.increasing)))
 
 pub returns-clause-taken : goal.returns-clause-taken
 returns-clause-taken g c = λ root path indices size e.
-    takes-from-leaf (g.C.Comparator.order c.args.comp.now) g.row.N c.args.self.now root c.args.leaf c.args.key path indices size c.requires.union e c.take.result c.take.new.pool (c.take.ensures.answer e.entries e.slot_is) (c.take.ensures.node e.entries e.slot_is)
+    takes-from-leaf g.row.N c.requires.union e c.take.result c.take.new.pool (c.take.ensures.answer e.entries e.slot_is) (c.take.ensures.node e.entries e.slot_is)

@@ -7,7 +7,7 @@ use Rattle.bforest_core.proofs.table.Stored.{read_same}
 use Rattle.bforest_core.proofs.pool.NodePool.take_slot.Goals as goal
 
 -- the fields of a pool, and the front of its chain as read
-module _ {K V : Type 0} (n : ℕ) (nodes : List (Content K V)) (first : Option ℕ) (free limit : ℕ) (pool : IsPool n nodes first free limit)
+module _ {K V : Type 0} {n : ℕ} {nodes : List (Content K V)} {first : Option ℕ} {free limit : ℕ} (pool : IsPool n nodes first free limit)
     (t : Table K V) (view : record { nodes = nodes; chain = chain_from nodes free first; limit = limit } ≡ t) (room : 0 < length t.chain) where
   some : 0 < free
   some = omega (arith, pool.counted, room, ap (λ z. length z.chain) view)
@@ -37,16 +37,16 @@ module _ {K V : Type 0} (n : ℕ) (nodes : List (Content K V)) (first : Option �
 
 pub unwrap-node-requires : goal.unwrap-node-requires
 unwrap-node-requires g c =
-    rw c.expand.ensures.value (first_some _ _ (some _ c.self.inside.nodes.items c.self.inside.first c.self.inside.free c.self.inside.limit c.self.invariant _ c.self.view_is c.requires.room) c.self.invariant)
+    rw c.expand.ensures.value (first_some _ _ (some c.self.invariant _ c.self.view_is c.requires.room) c.self.invariant)
 
 pub index-requires : goal.index-requires
 index-requires g c =
-    omega (arith, within _ c.self.inside.nodes.items c.self.inside.first c.self.inside.free c.self.inside.limit c.self.invariant _ c.self.view_is c.requires.room c.number.result _ _ c.expand.ensures.value c.unwrap-node.ensures c.number.ensures.value)
+    omega (arith, within c.self.invariant _ c.self.view_is c.requires.room c.number.result _ _ c.expand.ensures.value c.unwrap-node.ensures c.number.ensures.value)
 
 pub next_free-self-inside-requires : goal.next_free-self-inside-requires
 next_free-self-inside-requires g c = (
   search rules,
-  is_free _ c.self.inside.nodes.items c.self.inside.first c.self.inside.free c.self.inside.limit c.self.invariant
+  is_free c.self.invariant
       _ c.self.view_is c.requires.room c.number.result _ _ c.expand.ensures.value c.unwrap-node.ensures c.number.ensures.value
       c.index.result.now (λ low. slice_get_read c.self.inside.nodes.items
       (length c.self.inside.nodes.items) c.number.result c.index.result.now refl low c.index.ensures),
@@ -54,11 +54,11 @@ next_free-self-inside-requires g c = (
 
 pub overflow_sub-self : goal.overflow_sub-self
 overflow_sub-self g c =
-    omega (arith, some _ c.self.inside.nodes.items c.self.inside.first c.self.inside.free c.self.inside.limit c.self.invariant _ c.self.view_is c.requires.room)
+    omega (arith, some c.self.invariant _ c.self.view_is c.requires.room)
 
 pub invariant_of-self : goal.invariant_of-self
 invariant_of-self g c =
-    (taken _ c.self.inside.nodes.items c.self.inside.first c.self.inside.free c.self.inside.limit c.self.invariant _ c.self.view_is
+    (taken c.self.invariant _ c.self.view_is
     c.requires.room c.number.result _ _ c.expand.ensures.value c.unwrap-node.ensures c.number.ensures.value c.index.result.now
     (λ low. slice_get_read c.self.inside.nodes.items
     (length c.self.inside.nodes.items) c.number.result c.index.result.now refl low c.index.ensures) c.next_free-self-inside.result
@@ -66,12 +66,12 @@ invariant_of-self g c =
 
 pub returns : goal.returns
 returns g c =
-    let after = taken _ c.self.inside.nodes.items c.self.inside.first c.self.inside.free c.self.inside.limit c.self.invariant
+    let after = taken c.self.invariant
     _ c.self.view_is c.requires.room c.number.result _ _ c.expand.ensures.value c.unwrap-node.ensures c.number.ensures.value
     c.index.result.now (λ low. slice_get_read c.self.inside.nodes.items
     (length c.self.inside.nodes.items) c.number.result c.index.result.now refl low c.index.ensures) c.next_free-self-inside.result
     c.next_free-self-inside.ensures in
-    let inside = within _ c.self.inside.nodes.items c.self.inside.first c.self.inside.free c.self.inside.limit c.self.invariant _ c.self.view_is c.requires.room c.number.result _ _ c.expand.ensures.value c.unwrap-node.ensures c.number.ensures.value in
+    let inside = within c.self.invariant _ c.self.view_is c.requires.room c.number.result _ _ c.expand.ensures.value c.unwrap-node.ensures c.number.ensures.value in
     record {
       node = rw (← c.self.view_is) (front_of-is _ _ _ c.self.invariant.linked ∙ sym c.expand.ensures.value ∙ c.unwrap-node.ensures);
       table = rw (← c.self.view_is, after.1) (rw (← c.self.view_is));
