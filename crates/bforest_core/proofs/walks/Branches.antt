@@ -18,39 +18,40 @@ module _ {K V : Type 0} {slots : List (Content K V)} {root code depth numbers ro
     pub low : index < length at.entries
     pub to_is : to ≡ length (flat at.before) + index
 
-  module _ {number index to : ℕ} (b : Branch number index to) where
-    pub branch-asks : ChildAsked slots number index
-    branch-asks = (drop 1 (entry_keys b.at.entries), entry_items b.at.entries, b.at.slot_is, omega (arith, b.low, item_count b.at.entries))
+module _ {K V : Type 0} {slots : List (Content K V)} {root code depth numbers rows list place : _} {p : CodedOver slots root code depth numbers rows list place} {some : depth ≢ 0} {number index to : ℕ} (b : Branch p some number index to) where
+  pub branch-asks : ChildAsked slots number index
+  branch-asks = (drop 1 (entry_keys b.at.entries), entry_items b.at.entries, b.at.slot_is, omega (arith, b.low, item_count b.at.entries))
 
-    pub branch-low : index < 8
-    branch-low = omega (arith, b.low, b.at.room)
+  pub branch-low : index < 8
+  branch-low = omega (arith, b.low, b.at.room)
 
-    -- what the child is, as it was read
-    pub branch-child : {child : ℕ} → ChildRead slots number index child → NumberAt list to child
-    branch-child {child} reads =
-        let w = b.at in
-        let e = read w.entries index b.low in
-        let item : slice_get (entry_items w.entries) index ≡ Some e.0.1 = items-read w.entries index ∙ ap (λ z. option_map (λ x. x.1) z) e.1 in
-        let same : e.0.1 ≡ child = some_same e.0.1 child (sym item ∙ reads (drop 1 (entry_keys w.entries)) (entry_items w.entries) w.slot_is) in
-        (e.0.0, ap (λ z. slice_get z to) (sym (here p some).flat_is) ∙ ap (λ z. slice_get (flat (here p some).row) z) b.to_is ∙ entry_at w.before number w.entries w.after index w.row_is e.1 ∙ ap (λ z. Some (e.0.0, z)) same)
+  -- what the child is, as it was read
+  pub branch-child : {child : ℕ} → ChildRead slots number index child → NumberAt list to child
+  branch-child {child} reads =
+      let w = b.at in
+      let e = read w.entries index b.low in
+      let item : slice_get (entry_items w.entries) index ≡ Some e.0.1 = items-read w.entries index ∙ ap (λ z. option_map (λ x. x.1) z) e.1 in
+      let same : e.0.1 ≡ child = some_same e.0.1 child (sym item ∙ reads (drop 1 (entry_keys w.entries)) (entry_items w.entries) w.slot_is) in
+      (e.0.0, ap (λ z. slice_get z to) (sym (here p some).flat_is) ∙ ap (λ z. slice_get (flat (here p some).row) z) b.to_is ∙ entry_at w.before number w.entries w.after index w.row_is e.1 ∙ ap (λ z. Some (e.0.0, z)) same)
 
-    -- the way to the child, by the way to the node
-    pub branch-way : {above others : _} → CodedOver slots root above (depth - 1) others (here p some).rest (heads (here p some).row) b.top → {code1 : ℕ} → code1 ≡ above * 8 + index
-        → CodedOver slots root code1 depth (number ∷ others) rows list to
-    branch-way {above} {others} q {code1} code_is =
-        let d = digit-put above index code1 branch-low code_is in
-        record {
-          stacked = p.stacked;
-          inside = p.inside;
-          coded = subst (λ z. Coded (number ∷ others) z code1 to) (sym (here p some).rows_are) (
-            record { before = b.at.before; entries = b.at.entries; after = b.at.after; row_is = b.at.row_is; within = omega (arith, d.0, b.low); place_is = omega (arith, d.0, b.to_is) },
-            subst (λ z. Coded others (here p some).rest z (length b.at.before)) (sym d.1)
-                (subst (λ z. Coded others (here p some).rest above z) (sym b.at.at) q.coded),
-          );
-          root_is = p.root_is;
-          depth_is = p.depth_is;
-        }
+  -- the way to the child, by the way to the node
+  pub branch-way : {above others : _} → CodedOver slots root above (depth - 1) others (here p some).rest (heads (here p some).row) b.top → {code1 : ℕ} → code1 ≡ above * 8 + index
+      → CodedOver slots root code1 depth (number ∷ others) rows list to
+  branch-way {above} {others} q {code1} code_is =
+      let d = digit-put above index code1 branch-low code_is in
+      record {
+        stacked = p.stacked;
+        inside = p.inside;
+        coded = subst (λ z. Coded (number ∷ others) z code1 to) (sym (here p some).rows_are) (
+          record { before = b.at.before; entries = b.at.entries; after = b.at.after; row_is = b.at.row_is; within = omega (arith, d.0, b.low); place_is = omega (arith, d.0, b.to_is) },
+          subst (λ z. Coded others (here p some).rest z (length b.at.before)) (sym d.1)
+              (subst (λ z. Coded others (here p some).rest above z) (sym b.at.at) q.coded),
+        );
+        root_is = p.root_is;
+        depth_is = p.depth_is;
+      }
 
+module _ {K V : Type 0} {slots : List (Content K V)} {root code depth numbers rows list place : _} (p : CodedOver slots root code depth numbers rows list place) (some : depth ≢ 0) where
   -- what the index of a node's last child asks
   pub last-asks : {number : ℕ} (top : ℕ) → NumberAt (heads (here p some).row) top number → LastAsked slots number
   last-asks {number} top n =
@@ -60,14 +61,14 @@ module _ {K V : Type 0} {slots : List (Content K V)} {root code depth numbers ro
   -- the node that was read, and the code's last digit
   module _ {parent : ℕ} (same : parent ≡ (here p some).number) {index : ℕ} (digit : code % 8 ≡ index) where
     -- the child to which the code goes
-    abbrev pub own : Branch parent index place
+    abbrev pub own : Branch p some parent index place
     own = record { top = (here p some).top; at = node-here p some same; low = omega (arith, (here p some).within, digit); to_is = omega (arith, (here p some).place_is, digit) }
 
     -- the child before, of the same node
     pub prev-some : 0 < index → 0 < place
     prev-some low = omega (arith, low, (here p some).place_is, digit)
 
-    abbrev pub prev-own : 0 < index → Branch parent (index - 1) (place - 1)
+    abbrev pub prev-own : 0 < index → Branch p some parent (index - 1) (place - 1)
     prev-own low = record { top = (here p some).top; at = node-here p some same; low = omega (arith, (here p some).within, digit); to_is = omega (arith, low, (here p some).place_is, digit) }
 
     module _ (none : index ≤ 0) where
@@ -89,7 +90,7 @@ module _ {K V : Type 0} {slots : List (Content K V)} {root code depth numbers ro
         pub last-some : 0 < place
         last-some = omega (arith, meets)
 
-        abbrev pub last-of : Branch number last (place - 1)
+        abbrev pub last-of : Branch p some number last (place - 1)
         last-of = record { top = top; at = node-before; low = omega (arith, last-is); to_is = omega (arith, meets) }
 
     -- what the number of children asks, and says
@@ -101,7 +102,7 @@ module _ {K V : Type 0} {slots : List (Content K V)} {root code depth numbers ro
       count-is = counts (inner_content (here p some).at.entries) (node-here p some same).slot_is ∙ item_count (here p some).at.entries
 
       -- the next child of the same node
-      abbrev pub next-own : index + 1 < count → Branch parent (index + 1) (suc place)
+      abbrev pub next-own : index + 1 < count → Branch p some parent (index + 1) (suc place)
       next-own low = record { top = (here p some).top; at = node-here p some same; low = omega (arith, low, count-is); to_is = omega (arith, (here p some).place_is, digit) }
 
       module _ (high : count ≤ index + 1) where
@@ -113,7 +114,7 @@ module _ {K V : Type 0} {slots : List (Content K V)} {root code depth numbers ro
         none-next last = omega (arith, past, (here p some).within, (here p some).place_is, ap length (here p some).flat_is, none-behind (here p some).at 4 (omega arith) (here p some).fit last)
 
         -- the first child of the node behind
-        abbrev pub first-of : {top number : ℕ} → top ≡ suc (here p some).top → NumberAt (heads (here p some).row) top number → Branch number 0 (suc place)
+        abbrev pub first-of : {top number : ℕ} → top ≡ suc (here p some).top → NumberAt (heads (here p some).row) top number → Branch p some number 0 (suc place)
         first-of {top} {number} behind n =
             let w = node-at inner_content slots 8 4 (omega arith) (here p some).row (here p some).fit (here p some).inside number top n in
             record { top = top; at = w; low = w.some; to_is = omega (arith, seam (here p some).at w behind, (here p some).place_is, (here p some).within, past) }

@@ -72,10 +72,10 @@ module _ {K V : Type 0} {slots : List (Content K V)} {root : ℕ} {spot : Spot} 
 
     module _ {Beside : ℕ → Type 0} {above : Spot} {number index1 : ℕ} (b : Stands Beside above number index1) where
       stands-asks : ChildAsked slots number index1
-      stands-asks = branch-asks p some b.branch
+      stands-asks = branch-asks b.branch
 
       stands-digit : index1 < 8
-      stands-digit = branch-low p some b.branch
+      stands-digit = branch-low b.branch
 
       stands-height : above.height ≡ spot.height
       stands-height = b.way.height_is ∙ sym over.depth_is
@@ -88,7 +88,7 @@ module _ {K V : Type 0} {slots : List (Content K V)} {root : ℕ} {spot : Spot} 
       stands-spot {next} below =
           let q = (here p some).over in
           let beside : CodedOver slots root above.code (suc spot.height - 1) b.others rest parents b.branch.top = record { stacked = q.stacked; inside = q.inside; coded = b.way.coded; root_is = q.root_is; depth_is = q.depth_is } in
-          way-of (branch-way p some b.branch beside refl) next below.code (below.height ∙ ap suc stands-height) (λ more. sym below.parent)
+          way-of (branch-way b.branch beside refl) next below.code (below.height ∙ ap suc stands-height) (λ more. sym below.parent)
           (λ more. b.way.parent_is (omega (arith, more, stands-height)) ∙ sym below.grand)
 
     own-at : Stands (λ to. to ≡ place) spot node index
@@ -106,7 +106,7 @@ module _ {K V : Type 0} {slots : List (Content K V)} {root : ℕ} {spot : Spot} 
   leads-on {next} b reads numbers rows list place p =
       let parent = λ (low : 0 < suc spot.height). first-kept p some node said ∙ sym b.parent in
       let grand = λ (low : 1 < suc spot.height). (its p).parent_is (omega (arith, low)) ∙ sym b.grand in
-      (way-of p next b.code b.height parent grand, branch-child p some (own p some (same p) index-is) reads)
+      (way-of p next b.code b.height parent grand, branch-child (own p some (same p) index-is) reads)
 
   -- the child that was read is the one beside
   said-some : {Beside AtEnd : ℕ → ℕ → Type 0} {above : Spot} {number index1 : ℕ} → ((numbers rows list place : _) (p : Way numbers rows list place) → Stands p (Beside place) above number index1) →
@@ -114,7 +114,7 @@ module _ {K V : Type 0} {slots : List (Content K V)} {root : ℕ} {spot : Spot} 
   said-some {number = number} stands b reads = record {
     some = λ numbers rows list place p.
         let w = stands numbers rows list place p in
-        (w.to, w.is, number ∷ w.others, stands-spot p w b, branch-child p some w.branch reads);
+        (w.to, w.is, number ∷ w.others, stands-spot p w b, branch-child w.branch reads);
     none = λ bad. absurd (let no = bad in cc);
   }
 
