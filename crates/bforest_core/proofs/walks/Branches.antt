@@ -3,7 +3,7 @@ use Rattle.std.proofs.Common.{◌≡◌, ◌≢◌, ℕ, suc, ◌+◌, ◌-◌, 
 use Rattle.bforest_core.proofs.Words.{Content, entry_items, entry_keys, flat, heads, inner_content}
 use Rattle.bforest_core.specs.Spots.{Coded, CodedOver, NumberAt}
 use Rattle.bforest_core.proofs.table.Stored.{item_count, some_same}
-use Rattle.bforest_core.proofs.walks.Codes.{digit-put, here, node-here}
+use Rattle.bforest_core.proofs.walks.Codes.{Lowest, digit-put, here, node-here}
 use Rattle.bforest_core.proofs.walks.LeafSearch.{items-read}
 use Rattle.bforest_core.proofs.walks.Reading.{ChildAsked, ChildRead, CountAsked, CountRead, LastAsked, LastRead}
 use Rattle.bforest_core.proofs.walks.RowNodes.{NodeIn, entry_at, node-at, none-behind, seam}
@@ -52,40 +52,44 @@ module _ {K V : Type 0} {slots : List (Content K V)} {root code depth numbers ro
       }
 
 module _ {K V : Type 0} {slots : List (Content K V)} {root code depth numbers rows list place : _} (p : CodedOver slots root code depth numbers rows list place) (some : depth ≢ 0) where
+  -- the lowest node of the way
+  abbrev pub h : Lowest slots root code depth numbers rows list place
+  h = here p some
+
   -- what the index of a node's last child asks
-  pub last-asks : {number : ℕ} (top : ℕ) → NumberAt (heads (here p some).row) top number → LastAsked slots number
+  pub last-asks : {number : ℕ} (top : ℕ) → NumberAt (heads h.row) top number → LastAsked slots number
   last-asks {number} top n =
-      let w = node-at inner_content slots 8 4 (omega arith) (here p some).row (here p some).fit (here p some).inside number top n in
+      let w = node-at inner_content slots 8 4 (omega arith) h.row h.fit h.inside number top n in
       (inner_content w.entries, w.slot_is, omega (arith, w.some, item_count w.entries))
 
   -- the node that was read, and the code's last digit
-  module _ {parent : ℕ} (same : parent ≡ (here p some).number) {index : ℕ} (digit : code % 8 ≡ index) where
+  module _ {parent : ℕ} (same : parent ≡ h.number) {index : ℕ} (digit : code % 8 ≡ index) where
     -- the child to which the code goes
     abbrev pub own : Branch p some parent index place
-    own = record { top = (here p some).top; at = node-here p some same; low = omega (arith, (here p some).within, digit); to_is = omega (arith, (here p some).place_is, digit) }
+    own = record { top = h.top; at = node-here p some same; low = omega (arith, h.within, digit); to_is = omega (arith, h.place_is, digit) }
 
     -- the child before, of the same node
     pub prev-some : 0 < index → 0 < place
-    prev-some low = omega (arith, low, (here p some).place_is, digit)
+    prev-some low = omega (arith, low, h.place_is, digit)
 
     abbrev pub prev-own : 0 < index → Branch p some parent (index - 1) (place - 1)
-    prev-own low = record { top = (here p some).top; at = node-here p some same; low = omega (arith, (here p some).within, digit); to_is = omega (arith, low, (here p some).place_is, digit) }
+    prev-own low = record { top = h.top; at = node-here p some same; low = omega (arith, h.within, digit); to_is = omega (arith, low, h.place_is, digit) }
 
     module _ (none : index ≤ 0) where
       -- the first child of the first node is the first of its level
-      pub none-prev : (here p some).top ≡ 0 → place ≡ 0
-      none-prev first = omega (arith, (here p some).place_is, none, digit, none_flat (here p some).at.before ((here p some).at.at ∙ first))
+      pub none-prev : h.top ≡ 0 → place ≡ 0
+      none-prev first = omega (arith, h.place_is, none, digit, none_flat h.at.before (h.at.at ∙ first))
 
       -- the last child of the node before
-      module _ {top number : ℕ} (before : suc top ≡ (here p some).top) (n : NumberAt (heads (here p some).row) top number) {last : ℕ} (says : LastRead slots number last) where
-        abbrev node-before : NodeIn inner_content slots 8 (here p some).row number top
-        node-before = node-at inner_content slots 8 4 (omega arith) (here p some).row (here p some).fit (here p some).inside number top n
+      module _ {top number : ℕ} (before : suc top ≡ h.top) (n : NumberAt (heads h.row) top number) {last : ℕ} (says : LastRead slots number last) where
+        abbrev node-before : NodeIn inner_content slots 8 h.row number top
+        node-before = node-at inner_content slots 8 4 (omega arith) h.row h.fit h.inside number top n
 
         pub last-is : suc last ≡ length node-before.entries
         last-is = omega (arith, says (inner_content node-before.entries) node-before.slot_is, item_count node-before.entries, node-before.some)
 
         pub meets : place ≡ length (flat node-before.before) + suc last
-        meets = omega (arith, seam node-before (here p some).at (sym before), last-is, none, digit, (here p some).place_is)
+        meets = omega (arith, seam node-before h.at (sym before), last-is, none, digit, h.place_is)
 
         pub last-some : 0 < place
         last-some = omega (arith, meets)
@@ -95,26 +99,26 @@ module _ {K V : Type 0} {slots : List (Content K V)} {root code depth numbers ro
 
     -- what the number of children asks, and says
     pub count-asks : CountAsked slots parent
-    count-asks = (inner_content (here p some).at.entries, (node-here p some same).slot_is, tt)
+    count-asks = (inner_content h.at.entries, (node-here p some same).slot_is, tt)
 
     module _ {count : ℕ} (counts : CountRead slots parent count) where
-      pub count-is : count ≡ length (here p some).at.entries
-      count-is = counts (inner_content (here p some).at.entries) (node-here p some same).slot_is ∙ item_count (here p some).at.entries
+      pub count-is : count ≡ length h.at.entries
+      count-is = counts (inner_content h.at.entries) (node-here p some same).slot_is ∙ item_count h.at.entries
 
       -- the next child of the same node
       abbrev pub next-own : index + 1 < count → Branch p some parent (index + 1) (suc place)
-      next-own low = record { top = (here p some).top; at = node-here p some same; low = omega (arith, low, count-is); to_is = omega (arith, (here p some).place_is, digit) }
+      next-own low = record { top = h.top; at = node-here p some same; low = omega (arith, low, count-is); to_is = omega (arith, h.place_is, digit) }
 
       module _ (high : count ≤ index + 1) where
-        pub past : length (here p some).at.entries ≤ code % 8 + 1
+        pub past : length h.at.entries ≤ code % 8 + 1
         past = omega (arith, high, count-is, digit)
 
         -- the last child of the last node is the last of its level
-        pub none-next : suc (here p some).top ≡ length (heads (here p some).row) → suc place ≡ length list
-        none-next last = omega (arith, past, (here p some).within, (here p some).place_is, ap length (here p some).flat_is, none-behind (here p some).at 4 (omega arith) (here p some).fit last)
+        pub none-next : suc h.top ≡ length (heads h.row) → suc place ≡ length list
+        none-next last = omega (arith, past, h.within, h.place_is, ap length h.flat_is, none-behind h.at 4 (omega arith) h.fit last)
 
         -- the first child of the node behind
-        abbrev pub first-of : {top number : ℕ} → top ≡ suc (here p some).top → NumberAt (heads (here p some).row) top number → Branch p some number 0 (suc place)
+        abbrev pub first-of : {top number : ℕ} → top ≡ suc h.top → NumberAt (heads h.row) top number → Branch p some number 0 (suc place)
         first-of {top} {number} behind n =
-            let w = node-at inner_content slots 8 4 (omega arith) (here p some).row (here p some).fit (here p some).inside number top n in
-            record { top = top; at = w; low = w.some; to_is = omega (arith, seam (here p some).at w behind, (here p some).place_is, (here p some).within, past) }
+            let w = node-at inner_content slots 8 4 (omega arith) h.row h.fit h.inside number top n in
+            record { top = top; at = w; low = w.some; to_is = omega (arith, seam h.at w behind, h.place_is, h.within, past) }
