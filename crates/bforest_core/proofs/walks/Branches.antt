@@ -10,7 +10,8 @@ use Rattle.bforest_core.proofs.walks.RowNodes.{NodeIn, entry_at, node-at, none-b
 use Rattle.bforest_core.proofs.walks.Steps.{read}
 use Rattle.bforest_core.proofs.walks.TopNode.{none_flat}
 
-module _ {K V : Type 0} {slots : List (Content K V)} {root code depth numbers rows list place : _} (p : CodedOver slots root code depth numbers rows list place) (some : depth ≢ 0) where
+module _ {K V : Type 0} {slots : List (Content K V)} {root code depth numbers rows list place : _}
+    (p : CodedOver slots root code depth numbers rows list place) (some : depth ≢ 0) where
   -- the child at an index of the node with this number on the level above is at this place
   pub record Branch (number index to : ℕ) : Type 0 where
     pub top : ℕ
@@ -18,7 +19,8 @@ module _ {K V : Type 0} {slots : List (Content K V)} {root code depth numbers ro
     pub low : index < length at.entries
     pub to_is : to ≡ length (flat at.before) + index
 
-module _ {K V : Type 0} {slots : List (Content K V)} {root code depth numbers rows list place : _} {p : CodedOver slots root code depth numbers rows list place} {some : depth ≢ 0} {number index to : ℕ} (b : Branch p some number index to) where
+module _ {K V : Type 0} {slots : List (Content K V)} {root code depth numbers rows list place : _}
+    {p : CodedOver slots root code depth numbers rows list place} {some : depth ≢ 0} {number index to : ℕ} (b : Branch p some number index to) where
   pub branch-asks : ChildAsked slots number index
   branch-asks = (drop 1 (entry_keys b.at.entries), entry_items b.at.entries, b.at.slot_is, omega (arith, b.low, item_count b.at.entries))
 
@@ -31,11 +33,15 @@ module _ {K V : Type 0} {slots : List (Content K V)} {root code depth numbers ro
       let w = b.at in
       let e = read w.entries index b.low in
       let item : slice_get (entry_items w.entries) index ≡ Some e.0.1 = items-read w.entries index ∙ ap (λ z. option_map (λ x. x.1) z) e.1 in
-      let same : e.0.1 ≡ child = some_same e.0.1 child (sym item ∙ reads (drop 1 (entry_keys w.entries)) (entry_items w.entries) w.slot_is) in
-      (e.0.0, ap (λ z. slice_get z to) (sym (here p some).flat_is) ∙ ap (λ z. slice_get (flat (here p some).row) z) b.to_is ∙ entry_at w.before number w.entries w.after index w.row_is e.1 ∙ ap (λ z. Some (e.0.0, z)) same)
+      let same : e.0.1 ≡ child = some_same e.0.1 child (sym item ∙ reads (drop 1 (entry_keys w.entries)) (entry_items w.entries) w.slot_is) in (
+        e.0.0,
+        ap (λ z. slice_get z to) (sym (here p some).flat_is) ∙ ap (λ z. slice_get (flat (here p some).row) z) b.to_is
+            ∙ entry_at w.before number w.entries w.after index w.row_is e.1 ∙ ap (λ z. Some (e.0.0, z)) same,
+      )
 
   -- the way to the child, by the way to the node
-  pub branch-way : {above others : _} → CodedOver slots root above (depth - 1) others (here p some).rest (heads (here p some).row) b.top → {code1 : ℕ} → code1 ≡ above * 8 + index
+  pub branch-way : {above others : _} → CodedOver slots root above (depth - 1) others (here p some).rest (heads (here p some).row) b.top → {code1 : ℕ}
+      → code1 ≡ above * 8 + index
       → CodedOver slots root code1 depth (number ∷ others) rows list to
   branch-way {above} {others} q {code1} code_is =
       let d = digit-put above index code1 branch-low code_is in
@@ -43,7 +49,14 @@ module _ {K V : Type 0} {slots : List (Content K V)} {root code depth numbers ro
         stacked = p.stacked;
         inside = p.inside;
         coded = subst (λ z. Coded (number ∷ others) z code1 to) (sym (here p some).rows_are) (
-          record { before = b.at.before; entries = b.at.entries; after = b.at.after; row_is = b.at.row_is; within = omega (arith, d.0, b.low); place_is = omega (arith, d.0, b.to_is) },
+          record {
+            before = b.at.before;
+            entries = b.at.entries;
+            after = b.at.after;
+            row_is = b.at.row_is;
+            within = omega (arith, d.0, b.low);
+            place_is = omega (arith, d.0, b.to_is);
+          },
           subst (λ z. Coded others (here p some).rest z (length b.at.before)) (sym d.1)
               (subst (λ z. Coded others (here p some).rest above z) (sym b.at.at) q.coded),
         );
@@ -51,7 +64,8 @@ module _ {K V : Type 0} {slots : List (Content K V)} {root code depth numbers ro
         depth_is = p.depth_is;
       }
 
-module _ {K V : Type 0} {slots : List (Content K V)} {root code depth numbers rows list place : _} (p : CodedOver slots root code depth numbers rows list place) (some : depth ≢ 0) where
+module _ {K V : Type 0} {slots : List (Content K V)} {root code depth numbers rows list place : _}
+    (p : CodedOver slots root code depth numbers rows list place) (some : depth ≢ 0) where
   -- the lowest node of the way
   abbrev pub h : Lowest slots root code depth numbers rows list place
   h = here p some
