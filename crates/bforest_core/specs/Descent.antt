@@ -107,12 +107,14 @@ module _ {K V : Type 0} (most : ℕ) (slots : List (Content K V)) (Side : List (
   -- leaves and rows lie under a node of this level, which is on one side of it
   abbrev pub HasBelow : Type 0
   HasBelow =
-      (leaves : List (LevelNode K V)) × (lower : List (List (LevelNode K ℕ))) × (before : List (K × ℕ)) × (first : K) × (after : List (K × ℕ)) × Side before after × Under most slots leaves lower (before ++ (first, number) ∷ after) × (level ≡ length lower)
+      (leaves : List (LevelNode K V)) × (lower : List (List (LevelNode K ℕ))) × (before : List (K × ℕ)) × (first : K) × (after : List (K × ℕ))
+      × Side before after × Under most slots leaves lower (before ++ (first, number) ∷ after) × (level ≡ length lower)
 
   -- what is said of the leaves and rows under that node and of its place in the level, whichever they are
   abbrev pub OnBelow : (List (LevelNode K V) → List (List (LevelNode K ℕ)) → ℕ → Type 0) → Type 0
   OnBelow Said =
-      (leaves : List (LevelNode K V)) (lower : List (List (LevelNode K ℕ))) (before : List (K × ℕ)) (first : K) (after : List (K × ℕ)) → Side before after → Under most slots leaves lower (before ++ (first, number) ∷ after) → level ≡ length lower → Said leaves lower (length before)
+      (leaves : List (LevelNode K V)) (lower : List (List (LevelNode K ℕ))) (before : List (K × ℕ)) (first : K) (after : List (K × ℕ)) → Side before after
+      → Under most slots leaves lower (before ++ (first, number) ∷ after) → level ≡ length lower → Said leaves lower (length before)
 
 -- the tree is in the slots under this root, fit, not empty, and at most 17 levels high
 pub record IsRooted {K V : Type 0} (most : ℕ) (slots : List (Content K V)) (root : ℕ) (tree : Tree K V) : Type 0 where

@@ -122,7 +122,8 @@ module _ {K V : Type 0} (slots : List (Content K V)) (root code depth : ℕ) whe
 
   -- the node beside the one at which the way of a code ends, with its spot, or nothing where that one is at an end of its level
   pub record IsBesideOf (Beside AtEnd : ℕ → ℕ → Type 0) (found : Option (Spot × ℕ)) : Type 0 where
-    pub some : IfSome found (λ next. OnWay slots root code depth (λ numbers rows list place. (to : ℕ) × Beside place to × (others : List ℕ) × IsWay others next.0 rows to × NumberAt list to next.1))
+    pub some : IfSome found (λ next. OnWay slots root code depth (λ numbers rows list place. (to : ℕ) × Beside place to ×
+        (others : List ℕ) × IsWay others next.0 rows to × NumberAt list to next.1))
     pub none : found ≡ None → OnWay slots root code depth (λ numbers rows list place. AtEnd place (length list))
 
   -- the next node, or the one before

@@ -7,7 +7,8 @@ use Rattle.bforest_core.specs.Climb.{SameBelow}
 
 -- the rows from a level up stand over these nodes and are in the slots, and the path leads through them to
 -- the node at this place
-pub record Over {K V : Type 0} (slots : List (Content K V)) (path indices : List ℕ) (level size : ℕ) (rows : List (List (LevelNode K ℕ))) (list : List (K × ℕ)) (place : ℕ) : Type 0 where
+pub record Over {K V : Type 0} (slots : List (Content K V)) (path indices : List ℕ) (level size : ℕ) (rows : List (List (LevelNode K ℕ))) (list : List (K × ℕ))
+    (place : ℕ) : Type 0 where
   pub stacked : Stacked list rows
   pub inside : RowsIn slots rows
   pub stands : StandsAbove path indices level rows place
@@ -15,7 +16,8 @@ pub record Over {K V : Type 0} (slots : List (Content K V)) (path indices : List
 
 -- the path leads to the node at this place of a level through the rows above; below, and in its index on that
 -- level, it is unchanged
-pub record Moved {K : Type 0} (path indices path' indices' : List ℕ) (level : ℕ) (rows : List (List (LevelNode K ℕ))) (list : List (K × ℕ)) (place : ℕ) : Type 0 where
+pub record Moved {K : Type 0} (path indices path' indices' : List ℕ) (level : ℕ) (rows : List (List (LevelNode K ℕ))) (list : List (K × ℕ))
+    (place : ℕ) : Type 0 where
   pub head : K × ℕ
   pub head_is : slice_get list place ≡ Some head
   pub node_is : get_or path' level 0 ≡ head.1
@@ -48,7 +50,8 @@ module _ {K V : Type 0} (slots : List (Content K V)) (path indices : List ℕ) w
 
   -- what is said of the rows from a level up, whichever they are
   abbrev pub OnOver : ℕ → ℕ → (List (List (LevelNode K ℕ)) → List (K × ℕ) → ℕ → Type 0) → Type 0
-  OnOver level size Said = (rows : List (List (LevelNode K ℕ))) (list : List (K × ℕ)) (place : ℕ) → Over slots path indices level size rows list place → Said rows list place
+  OnOver level size Said =
+      (rows : List (List (LevelNode K ℕ))) (list : List (K × ℕ)) (place : ℕ) → Over slots path indices level size rows list place → Said rows list place
 
   -- on this level the path's node has a child behind the path's, or none
   abbrev pub MoreAt : ℕ → Type 0

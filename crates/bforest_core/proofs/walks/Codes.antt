@@ -133,6 +133,10 @@ module _ {K V : Type 0} {n : ℕ} {table : Table K V} (union : IsUnion n table) 
     abbrev pub other : spot.height ≢ 0
     other = λ none. omega (arith, none, some)
 
+    -- the lowest node of the way, the leaf's parent
+    abbrev pub it : Lowest table.nodes root spot.code spot.height s.numbers (tree_of table.nodes root).above (heads (tree_of table.nodes root).leaves) place
+    it = here spot-over other
+
     abbrev pub its : spot.parent ≡ (here spot-over other).number
     its = kept-same (tree_of table.nodes root).above spot-over other spot.parent (s.parent_is some)
 

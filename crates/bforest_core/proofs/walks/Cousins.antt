@@ -1,20 +1,24 @@
 -- The step of a spot to the next leaf and to the one before, and the place of a spot's leaf.
-use Rattle.std.proofs.Common.{◌≡◌, ◌≢◌, ℕ, suc, ◌+◌, ◌-◌, ◌*◌, ◌/◌, ◌%◌, ◌≤◌, ◌<◌, List, [], ◌∷◌, drop, get_or, length, slice_get, take, Some, inl, inr, refl, sym, ap, subst, ◌∙◌, arith}
+use Rattle.std.proofs.Common.{◌≡◌, ◌≢◌, ℕ, suc, ◌+◌, ◌-◌, ◌*◌, ◌/◌, ◌%◌, ◌≤◌, ◌<◌, List, [], ◌∷◌}
+use Rattle.std.proofs.Common.{drop, get_or, length, slice_get, take, Some, inl, inr, refl, sym, ap, subst, ◌∙◌, arith}
 use Rattle.bforest_core.proofs.Words.{cases_lt, eqb_tells, take_at, IsUnion, LevelNode, Table, entry_count, flat, heads, inner_content, tree_of}
 use Rattle.bforest_core.specs.Spots.{Coded, CodedOver, HasNext, HasPrev, IsLeafAt, IsNextOf, IsPrevOf, IsSpotAt, NumberAt, leaf_count, leaf_place, place_by}
 use Rattle.bforest_core.specs.declared.spot.Spot.{Spot}
 use Rattle.bforest_core.proofs.table.Stored.{some_same, item_count}
-use Rattle.bforest_core.proofs.walks.Branches.{Branch, branch-asks, branch-child, branch-way, count-asks, first-of, last-asks, last-of, last-some, next-own, none-next, none-prev, prev-own, prev-some}
-use Rattle.bforest_core.proofs.walks.Codes.{far-spot, here, its, kept-same, last-leaf, leaf-at, other, spot-over, way-none, way-of}
+use Rattle.bforest_core.proofs.walks.Branches.{Branch, branch-asks, branch-child, branch-way, count-asks, first-of, last-asks}
+use Rattle.bforest_core.proofs.walks.Branches.{last-of, last-some, next-own, none-next, none-prev, prev-own, prev-some}
+use Rattle.bforest_core.proofs.walks.Codes.{far-spot, here, it, its, kept-same, last-leaf, leaf-at, other, spot-over, way-none, way-of}
 use Rattle.bforest_core.proofs.walks.Reading.{ChildAsked, ChildRead, CountAsked, CountRead, LastAsked, LastRead}
 
 -- a code leads to one place
-pub coded-place : {K : Type 0} (numbers : List ℕ) (rows : List (List (LevelNode K ℕ))) (code place : ℕ) → Coded numbers rows code place → place_by rows code ≡ place
+pub coded-place : {K : Type 0} (numbers : List ℕ) (rows : List (List (LevelNode K ℕ))) (code place : ℕ) → Coded numbers rows code place
+    → place_by rows code ≡ place
 coded-place numbers [] code place c = sym c.1
 coded-place numbers (row ∷ rows) code place c =
     let at = c.0 in
     let up = coded-place (drop 1 numbers) rows (code / 8) (length at.before) c.1 in
-    let front : take (place_by rows (code / 8)) row ≡ at.before = ap (λ z. take z row) up ∙ ap (λ z. take (length at.before) z) at.row_is ∙ take_at at.before _ (length at.before) refl in
+    let front : take (place_by rows (code / 8)) row ≡ at.before = ap (λ z. take z row) up ∙ ap (λ z. take (length at.before) z) at.row_is
+    ∙ take_at at.before _ (length at.before) refl in
     ap (λ z. length (flat z) + code % 8) front ∙ sym at.place_is
 
 -- the place of a spot's leaf
@@ -22,7 +26,8 @@ pub place-is : {K V : Type 0} {table : Table K V} {root : ℕ} {spot : Spot} {pl
 place-is {table = table} {root = root} {spot = spot} {place = place} s = coded-place s.numbers (tree_of table.nodes root).above spot.code place s.coded
 
 -- a leaf on the level of a spot's leaf, as a child of a node above it
-module _ {K V : Type 0} {n : ℕ} {table : Table K V} (union : IsUnion n table) {root : ℕ} {spot : Spot} {place : ℕ} (s : IsSpotAt table root spot place) (some : 0 < spot.height) where
+module _ {K V : Type 0} {n : ℕ} {table : Table K V} (union : IsUnion n table) {root : ℕ} {spot : Spot} {place : ℕ} (s : IsSpotAt table root spot place)
+    (some : 0 < spot.height) where
   abbrev over : CodedOver table.nodes root spot.code spot.height s.numbers (tree_of table.nodes root).above (heads (tree_of table.nodes root).leaves) place
   over = spot-over union s
 
@@ -30,27 +35,30 @@ module _ {K V : Type 0} {n : ℕ} {table : Table K V} (union : IsUnion n table) 
   Leaf = Branch over (other union s some)
 
   -- the way to the leaf, and the leaf as it was read
-  there : {number digit to : ℕ} (b : Leaf number digit to) {above others : _} → CodedOver table.nodes root above (spot.height - 1) others (here over (other union s some)).rest (heads (here over (other union s some)).row) b.top → {next : Spot} {leaf : ℕ} → next.code ≡ above * 8 + digit → next.parent ≡ number → next.height ≡ spot.height → (1 < spot.height → get_or others 0 0 ≡ next.grand) → ChildRead table.nodes number digit leaf →
+  there : {number digit to : ℕ} (b : Leaf number digit to) {above others : _} → CodedOver table.nodes root above (spot.height - 1) others
+      (it union s some).rest (heads (it union s some).row) b.top → {next : Spot} {leaf : ℕ} → next.code ≡ above * 8 + digit → next.parent ≡ number
+      → next.height ≡ spot.height → (1 < spot.height → get_or others 0 0 ≡ next.grand) → ChildRead table.nodes number digit leaf →
       IsSpotAt table root next to × IsLeafAt table root to leaf
   there b q {next} code parent height grand reads = (
-    far-spot union s (way-of (branch-way over (other union s some) b q refl) next code height (λ low. sym parent) grand),
-    leaf-at union root s.root_is (branch-child over (other union s some) b reads),
+    far-spot union s (way-of (branch-way b q refl) next code height (λ low. sym parent) grand),
+    leaf-at union root s.root_is (branch-child b reads),
   )
 
   -- how many children the parent has
   abbrev count : ℕ
-  count = length (here over (other union s some)).at.entries
+  count = length (it union s some).at.entries
 
-  abbrev slot : slice_get table.nodes spot.parent ≡ Some (inner_content (here over (other union s some)).at.entries)
-  slot = ap (slice_get table.nodes) (its union s some) ∙ (here over (other union s some)).at.slot_is
+  abbrev slot : slice_get table.nodes spot.parent ≡ Some (inner_content (it union s some).at.entries)
+  slot = ap (slice_get table.nodes) (its union s some) ∙ (it union s some).at.slot_is
 
   counts : CountRead table.nodes spot.parent count
-  counts content found = sym (ap entry_count (some_same content (inner_content (here over (other union s some)).at.entries) (sym found ∙ slot)) ∙ item_count (here over (other union s some)).at.entries)
+  counts content found =
+      sym (ap entry_count (some_same content (inner_content (it union s some).at.entries) (sym found ∙ slot)) ∙ item_count (it union s some).at.entries)
 
   -- where no sibling is behind it, the leaf is the last of its parent
   high : (HasNext table spot → ⊥) → count ≤ spot.code % 8 + 1
   high last = elim (cases_lt (spot.code % 8 + 1) count) [
-    | inl low ↦ absurd (last (record { some = some; entries = (here over (other union s some)).at.entries; parent = slot; within = low }))
+    | inl low ↦ absurd (last (record { some = some; entries = (it union s some).at.entries; parent = slot; within = low }))
     | inr past ↦ past
   ]
 
@@ -62,25 +70,31 @@ module _ {K V : Type 0} {n : ℕ} {table : Table K V} (union : IsUnion n table) 
 module _ {K V : Type 0} {n : ℕ} {table : Table K V} (union : IsUnion n table) {root : ℕ} {spot : Spot} {place : ℕ} (s : IsSpotAt table root spot place) where
   module _ (h : HasNext table spot) where
     abbrev behind : Branch (spot-over union s) (other union s h.some) spot.parent (spot.code % 8 + 1) (suc place)
-    behind = next-own (spot-over union s) (other union s h.some) (its union s h.some) refl (λ content found. sym (ap entry_count (some_same content (inner_content h.entries) (sym found ∙ h.parent)) ∙ item_count h.entries)) h.within
+    behind =
+        next-own (spot-over union s) (other union s h.some) (its union s h.some) refl
+        (λ content found. sym (ap entry_count (some_same content (inner_content h.entries) (sym found ∙ h.parent)) ∙ item_count h.entries)) h.within
 
     pub sibling-asks : ChildAsked table.nodes spot.parent (spot.code % 8 + 1)
-    sibling-asks = branch-asks (spot-over union s) (other union s h.some) behind
+    sibling-asks = branch-asks behind
 
-    pub sibling-behind : {next : Spot} {child : ℕ} → next.code ≡ spot.code + 1 → next.parent ≡ spot.parent → next.grand ≡ spot.grand → next.height ≡ spot.height → ChildRead table.nodes spot.parent (spot.code % 8 + 1) child → IsSpotAt table root next (suc place) × IsLeafAt table root (suc place) child
+    pub sibling-behind : {next : Spot} {child : ℕ} → next.code ≡ spot.code + 1 → next.parent ≡ spot.parent → next.grand ≡ spot.grand
+        → next.height ≡ spot.height → ChildRead table.nodes spot.parent (spot.code % 8 + 1) child → IsSpotAt table root next (suc place)
+        × IsLeafAt table root (suc place) child
     sibling-behind code parent grand height reads =
-        there union s h.some behind (here (spot-over union s) (other union s h.some)).over (omega (arith, code)) parent height (λ low. s.grand_is low ∙ sym grand) reads
+        there union s h.some behind (it union s h.some).over (omega (arith, code)) parent height (λ low. s.grand_is low ∙ sym grand) reads
 
   module _ (h : HasPrev spot) where
     abbrev before : Branch (spot-over union s) (other union s h.0) spot.parent (spot.code % 8 - 1) (place - 1)
     before = prev-own (spot-over union s) (other union s h.0) (its union s h.0) refl h.1
 
     pub before-asks : ChildAsked table.nodes spot.parent (spot.code % 8 - 1)
-    before-asks = branch-asks (spot-over union s) (other union s h.0) before
+    before-asks = branch-asks before
 
-    pub sibling-before : {next : Spot} {child : ℕ} → next.code ≡ spot.code - 1 → next.parent ≡ spot.parent → next.grand ≡ spot.grand → next.height ≡ spot.height → ChildRead table.nodes spot.parent (spot.code % 8 - 1) child → (0 < place) × IsSpotAt table root next (place - 1) × IsLeafAt table root (place - 1) child
+    pub sibling-before : {next : Spot} {child : ℕ} → next.code ≡ spot.code - 1 → next.parent ≡ spot.parent → next.grand ≡ spot.grand
+        → next.height ≡ spot.height → ChildRead table.nodes spot.parent (spot.code % 8 - 1) child → (0 < place) × IsSpotAt table root next (place - 1)
+        × IsLeafAt table root (place - 1) child
     sibling-before code parent grand height reads =
-        let r = there union s h.0 before (here (spot-over union s) (other union s h.0)).over (omega (arith, code, h.1)) parent height (λ low. s.grand_is low ∙ sym grand) reads in
+        let r = there union s h.0 before (it union s h.0).over (omega (arith, code, h.1)) parent height (λ low. s.grand_is low ∙ sym grand) reads in
         (prev-some (spot-over union s) (other union s h.0) (its union s h.0) refl h.1, r.0, r.1)
 
   -- a leaf without a grandparent and without a sibling behind it is the last of the tree
@@ -91,8 +105,10 @@ module _ {K V : Type 0} {n : ℕ} {table : Table K V} (union : IsUnion n table) 
   ]
     where
       below : 0 < spot.height → suc place ≡ leaf_count table root
-      below some = last-leaf union root s.root_is (none-next (spot-over union s) (other union s some) (its union s some) refl (counts union s some) (high union s some last)
-          (way-none table.nodes root _ _ _ _ (here (spot-over union s) (other union s some)).over (omega (arith, low, some))).1)
+      below some =
+          last-leaf union root s.root_is (none-next (spot-over union s) (other union s some) (its union s some) refl (counts union s some)
+          (high union s some last)
+          (way-none table.nodes root _ _ _ _ (it union s some).over (omega (arith, low, some))).1)
 
   -- and without one before it, the first
   pub first-low : (HasPrev spot → ⊥) → spot.height < 2 → place ≡ 0
@@ -103,7 +119,7 @@ module _ {K V : Type 0} {n : ℕ} {table : Table K V} (union : IsUnion n table) 
     where
       below : 0 < spot.height → place ≡ 0
       below some = none-prev (spot-over union s) (other union s some) (its union s some) refl (nought union s some first)
-          (way-none table.nodes root _ _ _ _ (here (spot-over union s) (other union s some)).over (omega (arith, low, some))).2
+          (way-none table.nodes root _ _ _ _ (it union s some).over (omega (arith, low, some))).2
 
   -- the leaves with the same grandparent and another parent
   module _ (deep : 2 ≤ spot.height) where
@@ -114,8 +130,9 @@ module _ {K V : Type 0} {n : ℕ} {table : Table K V} (union : IsUnion n table) 
     more = λ none. omega (arith, none, deep)
 
     -- the way to the parent
-    abbrev up : CodedOver table.nodes root (spot.code / 8) (spot.height - 1) (drop 1 s.numbers) (here (spot-over union s) (other union s some)).rest (heads (here (spot-over union s) (other union s some)).row) (here (spot-over union s) (other union s some)).top
-    up = (here (spot-over union s) (other union s some)).over
+    abbrev up : CodedOver table.nodes root (spot.code / 8) (spot.height - 1) (drop 1 s.numbers) (it union s some).rest (heads (it union s some).row)
+        (it union s some).top
+    up = (it union s some).over
 
     abbrev grand-is : spot.grand ≡ (here up more).number
     grand-is = kept-same _ up more spot.grand (s.grand_is (omega (arith, deep)))
@@ -125,64 +142,77 @@ module _ {K V : Type 0} {n : ℕ} {table : Table K V} (union : IsUnion n table) 
     grand-count = count-asks up more grand-is refl
 
     module _ (last : HasNext table spot → ⊥) {children : ℕ} (says : CountRead table.nodes spot.grand children) (low : spot.code / 8 % 8 + 1 < children) where
-      abbrev next-up : Branch up more spot.grand (spot.code / 8 % 8 + 1) (suc (here (spot-over union s) (other union s some)).top)
+      abbrev next-up : Branch up more spot.grand (spot.code / 8 % 8 + 1) (suc (it union s some).top)
       next-up = next-own up more grand-is refl says low
 
       pub parent-asks : ChildAsked table.nodes spot.grand (spot.code / 8 % 8 + 1)
-      parent-asks = branch-asks up more next-up
+      parent-asks = branch-asks next-up
 
       module _ {parent : ℕ} (reads : ChildRead table.nodes spot.grand (spot.code / 8 % 8 + 1) parent) where
         abbrev next-leaf : Branch (spot-over union s) (other union s some) parent 0 (suc place)
-        next-leaf = first-of (spot-over union s) (other union s some) (its union s some) refl (counts union s some) (high union s some last) refl (branch-child up more next-up reads)
+        next-leaf =
+            first-of (spot-over union s) (other union s some) (its union s some) refl (counts union s some) (high union s some last) refl
+            (branch-child next-up reads)
 
         -- what the first child of the next parent asks
         pub cousin-asks : ChildAsked table.nodes parent 0
-        cousin-asks = branch-asks (spot-over union s) (other union s some) next-leaf
+        cousin-asks = branch-asks next-leaf
 
         -- the next leaf is that child
-        pub cousin : {next : Spot} {leaf : ℕ} → next.code ≡ (spot.code / 8 + 1) * 8 → next.parent ≡ parent → next.grand ≡ spot.grand → next.height ≡ spot.height → ChildRead table.nodes parent 0 leaf → IsSpotAt table root next (suc place) × IsLeafAt table root (suc place) leaf
+        pub cousin : {next : Spot} {leaf : ℕ} → next.code ≡ (spot.code / 8 + 1) * 8 → next.parent ≡ parent → next.grand ≡ spot.grand
+            → next.height ≡ spot.height → ChildRead table.nodes parent 0 leaf → IsSpotAt table root next (suc place) × IsLeafAt table root (suc place) leaf
         cousin code parent_is grand height found =
-            there union s some next-leaf (branch-way up more next-up (here up more).over {code1 = spot.code / 8 + 1} (omega arith)) (omega (arith, code)) parent_is height (λ low. sym grand) found
+            there union s some next-leaf (branch-way next-up (here up more).over {code1 =
+            spot.code / 8 + 1} (omega arith)) (omega (arith, code)) parent_is height (λ low. sym grand) found
 
     module _ (first : HasPrev spot → ⊥) (low : 0 < spot.code / 8 % 8) where
-      abbrev prev-up : Branch up more spot.grand (spot.code / 8 % 8 - 1) ((here (spot-over union s) (other union s some)).top - 1)
+      abbrev prev-up : Branch up more spot.grand (spot.code / 8 % 8 - 1) ((it union s some).top - 1)
       prev-up = prev-own up more grand-is refl low
 
       pub parent-before-asks : ChildAsked table.nodes spot.grand (spot.code / 8 % 8 - 1)
-      parent-before-asks = branch-asks up more prev-up
+      parent-before-asks = branch-asks prev-up
 
       module _ {parent : ℕ} (reads : ChildRead table.nodes spot.grand (spot.code / 8 % 8 - 1) parent) where
-        abbrev parent-at : NumberAt (heads (here (spot-over union s) (other union s some)).row) ((here (spot-over union s) (other union s some)).top - 1) parent
-        parent-at = branch-child up more prev-up reads
+        abbrev parent-at : NumberAt (heads (it union s some).row) ((it union s some).top - 1) parent
+        parent-at = branch-child prev-up reads
 
         pub cousin-last-asks : LastAsked table.nodes parent
         cousin-last-asks = last-asks (spot-over union s) (other union s some) _ parent-at
 
         module _ {last : ℕ} (says : LastRead table.nodes parent last) where
-          abbrev next-to : suc ((here (spot-over union s) (other union s some)).top - 1) ≡ (here (spot-over union s) (other union s some)).top
+          abbrev next-to : suc ((it union s some).top - 1) ≡ (it union s some).top
           next-to = omega (arith, prev-some up more grand-is refl low)
 
           abbrev leaf-before : Branch (spot-over union s) (other union s some) parent last (place - 1)
           leaf-before = last-of (spot-over union s) (other union s some) (its union s some) refl (nought union s some first) next-to parent-at says
 
           pub cousin-before-asks : ChildAsked table.nodes parent last
-          cousin-before-asks = branch-asks (spot-over union s) (other union s some) leaf-before
+          cousin-before-asks = branch-asks leaf-before
 
           -- the leaf before is the last child of the parent before
-          pub cousin-before : {next : Spot} {leaf : ℕ} → next.code ≡ (spot.code / 8 - 1) * 8 + last → next.parent ≡ parent → next.grand ≡ spot.grand → next.height ≡ spot.height → ChildRead table.nodes parent last leaf → (0 < place) × IsSpotAt table root next (place - 1) × IsLeafAt table root (place - 1) leaf
+          pub cousin-before : {next : Spot} {leaf : ℕ} → next.code ≡ (spot.code / 8 - 1) * 8 + last → next.parent ≡ parent → next.grand ≡ spot.grand
+              → next.height ≡ spot.height → ChildRead table.nodes parent last leaf → (0 < place) × IsSpotAt table root next (place - 1)
+              × IsLeafAt table root (place - 1) leaf
           cousin-before code parent_is grand height found =
-              let r = there union s some leaf-before (branch-way up more prev-up (here up more).over {code1 = spot.code / 8 - 1} (omega (arith, low))) code parent_is height (λ low. sym grand) found in
+              let r = there union s some leaf-before (branch-way prev-up (here up more).over {code1 = spot.code / 8 - 1} (omega (arith, low))) code parent_is
+              height (λ low. sym grand) found in
               (last-some (spot-over union s) (other union s some) (its union s some) refl (nought union s some first) next-to parent-at says, r.0, r.1)
 
 -- what is said of the node behind or before, to which a way from the root leads, of a spot
 module _ {K V : Type 0} {n : ℕ} {table : Table K V} (union : IsUnion n table) {root : ℕ} {spot far : Spot} {leaf : ℕ} where
-  pub far-behind : IsNextOf table.nodes root spot.code spot.height (Some (far, leaf)) → (place : ℕ) → IsSpotAt table root spot place → IsSpotAt table root far (suc place) × IsLeafAt table root (suc place) leaf
+  pub far-behind : IsNextOf table.nodes root spot.code spot.height (Some (far, leaf)) → (place : ℕ) → IsSpotAt table root spot place
+      → IsSpotAt table root far (suc place) × IsLeafAt table root (suc place) leaf
   far-behind says place s =
       let r = says.some s.numbers (tree_of table.nodes root).above (heads (tree_of table.nodes root).leaves) place (spot-over union s) in
       (subst (IsSpotAt table root far) r.1 (far-spot union s r.3), subst (λ z. IsLeafAt table root z leaf) r.1 (leaf-at union root s.root_is r.4))
 
-  pub far-before : IsPrevOf table.nodes root spot.code spot.height (Some (far, leaf)) → (place : ℕ) → IsSpotAt table root spot place → (0 < place) × IsSpotAt table root far (place - 1) × IsLeafAt table root (place - 1) leaf
+  pub far-before : IsPrevOf table.nodes root spot.code spot.height (Some (far, leaf)) → (place : ℕ) → IsSpotAt table root spot place → (0 < place)
+      × IsSpotAt table root far (place - 1) × IsLeafAt table root (place - 1) leaf
   far-before says place s =
       let r = says.some s.numbers (tree_of table.nodes root).above (heads (tree_of table.nodes root).leaves) place (spot-over union s) in
-      let to : r.0 ≡ place - 1 = omega (arith, r.1) in
-      (omega (arith, r.1), subst (IsSpotAt table root far) to (far-spot union s r.3), subst (λ z. IsLeafAt table root z leaf) to (leaf-at union root s.root_is r.4))
+      let to : r.0 ≡ place - 1 = omega (arith, r.1) in (
+        omega (arith, r.1),
+        subst (IsSpotAt table root far) to (far-spot union s r.3),
+        subst (λ z. IsLeafAt table root z leaf) to
+            (leaf-at union root s.root_is r.4),
+      )

@@ -41,7 +41,8 @@ pub moved : (Of : ℕ → ℕ → Type 0) {spot next : Spot} {node index : ℕ} 
 moved Of {spot} {next} b says = subst (Of next.code) (sym b.height) (subst (λ z. Of z (suc spot.height)) (sym b.code) says)
 
 -- with no levels, no digits
-code-none : {K V : Type 0} {slots : List (Content K V)} {root code depth numbers : _} (rows : _) {list place : _} → CodedOver slots root code depth numbers rows list place → depth ≡ 0 → code ≡ 0
+code-none : {K V : Type 0} {slots : List (Content K V)} {root code depth numbers : _} (rows : _) {list place : _}
+    → CodedOver slots root code depth numbers rows list place → depth ≡ 0 → code ≡ 0
 code-none [] p none = p.coded.0
 code-none (row ∷ rows) p none = absurd (omega (arith, p.depth_is, none))
 

@@ -1,5 +1,6 @@
 -- The node beside the one at which the way of a code ends, one level further down: each answer of `next_below` and `prev_below` is one of these.
-use Rattle.std.proofs.Common.{◌≡◌, ◌≢◌, ℕ, suc, ◌+◌, ◌-◌, ◌*◌, ◌/◌, ◌%◌, ◌≤◌, ◌<◌, List, ◌∷◌, drop, length, Some, None, Option, refl, sym, ap, subst, ◌∙◌, arith}
+use Rattle.std.proofs.Common.{◌≡◌, ◌≢◌, ℕ, suc, ◌+◌, ◌-◌, ◌*◌, ◌/◌, ◌%◌, ◌≤◌, ◌<◌, List}
+use Rattle.std.proofs.Common.{◌∷◌, drop, length, Some, None, Option, refl, sym, ap, subst, ◌∙◌, arith}
 use Rattle.bforest_core.proofs.Words.{Content, LevelNode, heads}
 use Rattle.bforest_core.specs.Spots.{Coded, CodedOver, HasWay, IsBefore, IsBehind, IsBesideOf, IsNextOf, IsPrevOf, IsWay, Leads, NumberAt, OnWay}
 use Rattle.bforest_core.specs.declared.spot.Spot.{Spot}
@@ -72,10 +73,10 @@ module _ {K V : Type 0} {slots : List (Content K V)} {root : ℕ} {spot : Spot} 
 
     module _ {Beside : ℕ → Type 0} {above : Spot} {number index1 : ℕ} (b : Stands Beside above number index1) where
       stands-asks : ChildAsked slots number index1
-      stands-asks = branch-asks p some b.branch
+      stands-asks = branch-asks b.branch
 
       stands-digit : index1 < 8
-      stands-digit = branch-low p some b.branch
+      stands-digit = branch-low b.branch
 
       stands-height : above.height ≡ spot.height
       stands-height = b.way.height_is ∙ sym over.depth_is
@@ -87,8 +88,9 @@ module _ {K V : Type 0} {slots : List (Content K V)} {root : ℕ} {spot : Spot} 
       stands-spot : {next : Spot} → IsBelow above number index1 next → IsWay (number ∷ b.others) next rows b.to
       stands-spot {next} below =
           let q = (here p some).over in
-          let beside : CodedOver slots root above.code (suc spot.height - 1) b.others rest parents b.branch.top = record { stacked = q.stacked; inside = q.inside; coded = b.way.coded; root_is = q.root_is; depth_is = q.depth_is } in
-          way-of (branch-way p some b.branch beside refl) next below.code (below.height ∙ ap suc stands-height) (λ more. sym below.parent)
+          let beside : CodedOver slots root above.code (suc spot.height - 1) b.others rest parents
+          b.branch.top = record { stacked = q.stacked; inside = q.inside; coded = b.way.coded; root_is = q.root_is; depth_is = q.depth_is } in
+          way-of (branch-way b.branch beside refl) next below.code (below.height ∙ ap suc stands-height) (λ more. sym below.parent)
           (λ more. b.way.parent_is (omega (arith, more, stands-height)) ∙ sym below.grand)
 
     own-at : Stands (λ to. to ≡ place) spot node index
@@ -106,21 +108,25 @@ module _ {K V : Type 0} {slots : List (Content K V)} {root : ℕ} {spot : Spot} 
   leads-on {next} b reads numbers rows list place p =
       let parent = λ (low : 0 < suc spot.height). first-kept p some node said ∙ sym b.parent in
       let grand = λ (low : 1 < suc spot.height). (its p).parent_is (omega (arith, low)) ∙ sym b.grand in
-      (way-of p next b.code b.height parent grand, branch-child p some (own p some (same p) index-is) reads)
+      (way-of p next b.code b.height parent grand, branch-child (own p some (same p) index-is) reads)
 
   -- the child that was read is the one beside
-  said-some : {Beside AtEnd : ℕ → ℕ → Type 0} {above : Spot} {number index1 : ℕ} → ((numbers rows list place : _) (p : Way numbers rows list place) → Stands p (Beside place) above number index1) →
-      {next : Spot} {child : ℕ} → IsBelow above number index1 next → ChildRead slots number index1 child → IsBesideOf slots root code (suc spot.height) Beside AtEnd (Some (next, child))
+  said-some : {Beside AtEnd : ℕ → ℕ → Type 0} {above : Spot} {number index1 : ℕ}
+      → ((numbers rows list place : _) (p : Way numbers rows list place) → Stands p (Beside place) above number index1) →
+      {next : Spot} {child : ℕ} → IsBelow above number index1 next → ChildRead slots number index1 child
+      → IsBesideOf slots root code (suc spot.height) Beside AtEnd (Some (next, child))
   said-some {number = number} stands b reads = record {
     some = λ numbers rows list place p.
         let w = stands numbers rows list place p in
-        (w.to, w.is, number ∷ w.others, stands-spot p w b, branch-child p some w.branch reads);
+        (w.to, w.is, number ∷ w.others, stands-spot p w b, branch-child w.branch reads);
     none = λ bad. absurd (let no = bad in cc);
   }
 
   -- nothing is beside it, where nothing is beside the node
-  said-none : {Beside AtEnd : ℕ → ℕ → Type 0} → ((numbers rows list place : _) (p : Way numbers rows list place) → AtEnd (top p) (length (parents p)) → AtEnd place (length list)) →
-      {up found : Option (Spot × ℕ)} → up ≡ None → found ≡ None → IsBesideOf slots root spot.code spot.height Beside AtEnd up → IsBesideOf slots root code (suc spot.height) Beside AtEnd found
+  said-none : {Beside AtEnd : ℕ → ℕ → Type 0} → ((numbers rows list place : _) (p : Way numbers rows list place) → AtEnd (top p) (length (parents p))
+      → AtEnd place (length list)) →
+      {up found : Option (Spot × ℕ)} → up ≡ None → found ≡ None → IsBesideOf slots root spot.code spot.height Beside AtEnd up
+      → IsBesideOf slots root code (suc spot.height) Beside AtEnd found
   said-none {Beside} {AtEnd} ends nothing is says =
       subst (IsBesideOf slots root code (suc spot.height) Beside AtEnd) (sym is) record {
         some = tt;
@@ -134,7 +140,8 @@ module _ {K V : Type 0} {slots : List (Content K V)} {root : ℕ} {spot : Spot} 
     -- the next child of the same node
     module _ (low : index + 1 < count) where
       next-at : {numbers rows list place : _} (p : Way numbers rows list place) → Stands p (IsBehind place) spot node (index + 1)
-      next-at {numbers} {place = place} p = record { to = suc place; is = refl; branch = next-own p some (same p) index-is counts low; others = drop 1 numbers; way = its p }
+      next-at {numbers} {place =
+          place} p = record { to = suc place; is = refl; branch = next-own p some (same p) index-is counts low; others = drop 1 numbers; way = its p }
 
       pub next-asked : There → ChildAsked slots node (index + 1)
       next-asked o = stands-asks o.4 (next-at o.4)
@@ -142,48 +149,62 @@ module _ {K V : Type 0} {slots : List (Content K V)} {root : ℕ} {spot : Spot} 
       pub next-digit : There → index + 1 < 8
       next-digit o = stands-digit o.4 (next-at o.4)
 
-      pub next-said : {next : Spot} {child : ℕ} → IsBelow spot node (index + 1) next → ChildRead slots node (index + 1) child → IsNextOf slots root code (suc spot.height) (Some (next, child))
+      pub next-said : {next : Spot} {child : ℕ} → IsBelow spot node (index + 1) next → ChildRead slots node (index + 1) child
+          → IsNextOf slots root code (suc spot.height) (Some (next, child))
       next-said b reads = said-some (λ numbers rows list place p. next-at p) b reads
 
     module _ (high : count ≤ index + 1) where
-      pub last-said : {up found : Option (Spot × ℕ)} → up ≡ None → found ≡ None → IsNextOf slots root spot.code spot.height up → IsNextOf slots root code (suc spot.height) found
+      pub last-said : {up found : Option (Spot × ℕ)} → up ≡ None → found ≡ None → IsNextOf slots root spot.code spot.height up
+          → IsNextOf slots root code (suc spot.height) found
       last-said nothing is says = said-none (λ numbers rows list place p. none-next p some (same p) index-is counts high) nothing is says
 
       -- the first child of the node behind
-      module _ {up : Option (Spot × ℕ)} {above : Spot} {number : ℕ} (up_is : up ≡ Some (above, number)) (on : IsNextOf slots root spot.code spot.height up) where
-        turn-at : {numbers rows list place : _} (p : Way numbers rows list place) → Stands p (IsBehind place) above number 0
-        turn-at {numbers} {place = place} p =
-            let w = (subst (IsNextOf slots root spot.code spot.height) up_is on).some (drop 1 numbers) (rest p) (parents p) (top p) (over p) in
-            record { to = suc place; is = refl; branch = first-of p some (same p) index-is counts high w.1 w.4; others = w.2; way = w.3 }
+      module _ {up : Option (Spot × ℕ)} {above : Spot} {number : ℕ} (up_is : up ≡ Some (above, number)) (on : IsNextOf slots root spot.code spot.height up)
+        where
+          turn-at : {numbers rows list place : _} (p : Way numbers rows list place) → Stands p (IsBehind place) above number 0
+          turn-at {numbers} {place = place} p =
+              let w = (subst (IsNextOf slots root spot.code spot.height) up_is on).some (drop 1 numbers) (rest p) (parents p) (top p) (over p) in
+              record { to = suc place; is = refl; branch = first-of p some (same p) index-is counts high w.1 w.4; others = w.2; way = w.3 }
 
-        pub turn-low : There → spot.height < 16 → (above.code < 35184372088832) × (above.height < 16)
-        turn-low o low = stands-low o.4 (turn-at o.4) low
+          pub turn-low : There → spot.height < 16 → (above.code < 35184372088832) × (above.height < 16)
+          turn-low o low = stands-low o.4 (turn-at o.4) low
 
-        pub turn-asked : There → ChildAsked slots number 0
-        turn-asked o = stands-asks o.4 (turn-at o.4)
+          pub turn-asked : There → ChildAsked slots number 0
+          turn-asked o = stands-asks o.4 (turn-at o.4)
 
-        pub turn-said : {next : Spot} {child : ℕ} → IsBelow above number 0 next → ChildRead slots number 0 child → IsNextOf slots root code (suc spot.height) (Some (next, child))
-        turn-said b reads = said-some (λ numbers rows list place p. turn-at p) b reads
+          pub turn-said : {next : Spot} {child : ℕ} → IsBelow above number 0 next → ChildRead slots number 0 child
+              → IsNextOf slots root code (suc spot.height) (Some (next, child))
+          turn-said b reads = said-some (λ numbers rows list place p. turn-at p) b reads
 
   -- the child before, of the same node
   module _ (low : 0 < index) where
     prev-at : {numbers rows list place : _} (p : Way numbers rows list place) → Stands p (IsBefore place) spot node (index - 1)
     prev-at {numbers} {place = place} p =
-        record { to = place - 1; is = omega (arith, prev-some p some (same p) index-is low); branch = prev-own p some (same p) index-is low; others = drop 1 numbers; way = its p }
+        record {
+          to =
+              place - 1;
+          is = omega (arith, prev-some p some (same p) index-is low);
+          branch = prev-own p some (same p) index-is low;
+          others = drop 1 numbers;
+          way = its p;
+        }
 
     pub prev-asked : There → ChildAsked slots node (index - 1)
     prev-asked o = stands-asks o.4 (prev-at o.4)
 
-    pub prev-said : {next : Spot} {child : ℕ} → IsBelow spot node (index - 1) next → ChildRead slots node (index - 1) child → IsPrevOf slots root code (suc spot.height) (Some (next, child))
+    pub prev-said : {next : Spot} {child : ℕ} → IsBelow spot node (index - 1) next → ChildRead slots node (index - 1) child
+        → IsPrevOf slots root code (suc spot.height) (Some (next, child))
     prev-said b reads = said-some (λ numbers rows list place p. prev-at p) b reads
 
   module _ (none : index ≤ 0) where
-    pub first-said : {up found : Option (Spot × ℕ)} → up ≡ None → found ≡ None → IsPrevOf slots root spot.code spot.height up → IsPrevOf slots root code (suc spot.height) found
+    pub first-said : {up found : Option (Spot × ℕ)} → up ≡ None → found ≡ None → IsPrevOf slots root spot.code spot.height up
+        → IsPrevOf slots root code (suc spot.height) found
     first-said nothing is says = said-none (λ numbers rows list place p. none-prev p some (same p) index-is none) nothing is says
 
     -- the last child of the node before
     module _ {up : Option (Spot × ℕ)} {above : Spot} {number : ℕ} (up_is : up ≡ Some (above, number)) (on : IsPrevOf slots root spot.code spot.height up) where
-      before : {numbers rows list place : _} (p : Way numbers rows list place) → (to : ℕ) × IsBefore (top p) to × (others : List ℕ) × IsWay others above (rest p) to × NumberAt (parents p) to number
+      before : {numbers rows list place : _} (p : Way numbers rows list place) → (to : ℕ) × IsBefore (top p) to × (others : List ℕ)
+          × IsWay others above (rest p) to × NumberAt (parents p) to number
       before {numbers} p = (subst (IsPrevOf slots root spot.code spot.height) up_is on).some (drop 1 numbers) (rest p) (parents p) (top p) (over p)
 
       pub back-count : There → LastAsked slots number
@@ -193,7 +214,15 @@ module _ {K V : Type 0} {slots : List (Content K V)} {root : ℕ} {spot : Spot} 
         back-at : {numbers rows list place : _} (p : Way numbers rows list place) → Stands p (IsBefore place) above number last
         back-at {place = place} p =
             let w = before p in
-            record { to = place - 1; is = omega (arith, last-some p some (same p) index-is none w.1 w.4 says); branch = last-of p some (same p) index-is none w.1 w.4 says; others = w.2; way = w.3 }
+            record {
+              to =
+                  place - 1;
+              is = omega (arith, last-some p some (same p) index-is none w.1 w.4 says);
+              branch = last-of p some (same p) index-is none w.1 w.4
+                  says;
+              others = w.2;
+              way = w.3;
+            }
 
         pub back-low : There → spot.height < 16 → (above.code < 35184372088832) × (above.height < 16)
         back-low o low = stands-low o.4 (back-at o.4) low
@@ -204,5 +233,6 @@ module _ {K V : Type 0} {slots : List (Content K V)} {root : ℕ} {spot : Spot} 
         pub back-digit : There → last < 8
         back-digit o = stands-digit o.4 (back-at o.4)
 
-        pub back-said : {next : Spot} {child : ℕ} → IsBelow above number last next → ChildRead slots number last child → IsPrevOf slots root code (suc spot.height) (Some (next, child))
+        pub back-said : {next : Spot} {child : ℕ} → IsBelow above number last next → ChildRead slots number last child
+            → IsPrevOf slots root code (suc spot.height) (Some (next, child))
         back-said b reads = said-some (λ numbers rows list place p. back-at p) b reads

@@ -1,5 +1,6 @@
 -- A node at a place of a row, and the nodes beside it.
-use Rattle.std.proofs.Common.{◌≡◌, ℕ, suc, ◌+◌, ◌≤◌, List, [], ◌∷◌, ◌++◌, length, take, slice_get, Some, refl, sym, ap, subst, ◌∙◌, arith, append_assoc, length-append}
+use Rattle.std.proofs.Common.{◌≡◌, ℕ, suc, ◌+◌, ◌≤◌, List, [], ◌∷◌, ◌++◌, length}
+use Rattle.std.proofs.Common.{take, slice_get, Some, refl, sym, ap, subst, ◌∙◌, arith, append_assoc, length-append}
 use Rattle.bforest_core.proofs.Words.{nil_from_length, take_at, slice_get_within, Content, LevelNode, node, flat, heads, FitRow, RowIn}
 use Rattle.bforest_core.specs.Spots.{NumberAt}
 use Rattle.bforest_core.proofs.rows.LevelRows.{flat-append, least-pos, FitRow-split}
@@ -20,12 +21,15 @@ pub no_heads : {K X : Type 0} (half most : ℕ) → 1 ≤ half → (row : List (
 no_heads half most one row f none = nil_from_length row (sym (fit_full half most one row f) ∙ ap length none)
 
 -- an entry of a node is an entry of the row
-pub entry_at : {K X : Type 0} {row : List (LevelNode K X)} (before : List (LevelNode K X)) (n : ℕ) (es : List (K × X)) (after : List (LevelNode K X)) (i : ℕ) {x : K × X} → row ≡ before ++ node n es ∷ after → slice_get es i ≡ Some x → slice_get (flat row) (length (flat before) + i) ≡ Some x
+pub entry_at : {K X : Type 0} {row : List (LevelNode K X)} (before : List (LevelNode K X)) (n : ℕ) (es : List (K × X)) (after : List (LevelNode K X)) (i : ℕ)
+    {x : K × X} → row ≡ before ++ node n es ∷ after → slice_get es i ≡ Some x → slice_get (flat row) (length (flat before) + i) ≡ Some x
 entry_at before n es after i {x = x} row_is found =
-    ap (λ z. slice_get (flat z) (length (flat before) + i)) row_is ∙ ap (λ z. slice_get z (length (flat before) + i)) (flat-append before (node n es ∷ after)) ∙ slice_get-append-add (flat before) (es ++ flat after) i ∙ slice_get-append_left es (flat after) i x found
+    ap (λ z. slice_get (flat z) (length (flat before) + i)) row_is ∙ ap (λ z. slice_get z (length (flat before) + i)) (flat-append before (node n es ∷ after))
+    ∙ slice_get-append-add (flat before) (es ++ flat after) i ∙ slice_get-append_left es (flat after) i x found
 
 -- a list cut at one place is cut into the same parts
-same-cut : {A : Type 0} (b1 : List A) (x1 : A) (a1 b2 : List A) (x2 : A) (a2 : List A) → b1 ++ x1 ∷ a1 ≡ b2 ++ x2 ∷ a2 → length b1 ≡ length b2 → (b1 ≡ b2) × (x1 ≡ x2)
+same-cut : {A : Type 0} (b1 : List A) (x1 : A) (a1 b2 : List A) (x2 : A) (a2 : List A) → b1 ++ x1 ∷ a1 ≡ b2 ++ x2 ∷ a2 → length b1 ≡ length b2 → (b1 ≡ b2)
+    × (x1 ≡ x2)
 same-cut [] x1 a1 [] x2 a2 e l = (refl, cc)
 same-cut [] x1 a1 (y ∷ b2) x2 a2 e l = absurd (omega (arith, l))
 same-cut (y ∷ b1) x1 a1 [] x2 a2 e l = absurd (omega (arith, l))
@@ -47,16 +51,27 @@ module _ {K V X : Type 0} (content : List (K × X) → Content K V) (slots : Lis
     pub room : length entries ≤ most
 
   module _ (half : ℕ) (one : 1 ≤ half) (row : List (LevelNode K X)) (fit : FitRow half most row) (inside : RowIn content slots row) where
-    abbrev pub node-in : (number place : ℕ) (before : List (LevelNode K X)) (entries : List (K × X)) (after : List (LevelNode K X)) → row ≡ before ++ node number entries ∷ after → length before ≡ place → NodeIn row number place
+    abbrev pub node-in : (number place : ℕ) (before : List (LevelNode K X)) (entries : List (K × X)) (after : List (LevelNode K X))
+        → row ≡ before ++ node number entries ∷ after → length before ≡ place → NodeIn row number place
     node-in number place before entries after row_is at =
         let f = (FitRow-split half most before (node number entries) after (subst (FitRow half most) row_is fit)).1 in
         let i = (row-split content slots before (node number entries ∷ after) (subst (RowIn content slots) row_is inside)).1.0 in
-        record { before = before; entries = entries; after = after; row_is = row_is; at = at; slot_is = i; some = omega (arith, f.0, least-pos half one after); room = f.1 }
+        record {
+          before = before;
+          entries = entries;
+          after = after;
+          row_is = row_is;
+          at = at;
+          slot_is = i;
+          some = omega (arith, f.0, least-pos half one after);
+          room = f.1;
+        }
 
     pub node-at : (number place : ℕ) → NumberAt (heads row) place number → NodeIn row number place
     node-at number place m =
         let c = cut (heads row) place (slice_get_within (heads row) place (m.0, number) m.1) in
-        let same : c.x ≡ (m.0, number) = some_same c.x (m.0, number) (sym (ap (λ z. slice_get z place) c.es_is ∙ slice_get_at c.l c.x c.r place c.place_is) ∙ m.1) in
+        let same : c.x ≡ (m.0, number) = some_same c.x (m.0, number) (sym (ap (λ z. slice_get z place) c.es_is ∙ slice_get_at c.l c.x c.r place c.place_is)
+        ∙ m.1) in
         let s = seen half most one row c.l m.0 number c.r fit (c.es_is ∙ ap (λ z. c.l ++ z ∷ c.r) same) in
         node-in number place s.before (s.e ∷ s.es) s.after s.row_is (s.before_is ∙ c.place_is)
 
@@ -68,18 +83,43 @@ module _ {K V X : Type 0} {content : List (K × X) → Content K V} {slots most 
       node-number same
 
   -- the entries of the node are those in front of the next node's
-  pub seam : {number1 place1 : ℕ} (b : NodeIn content slots most row number1 place1) → place1 ≡ suc place → length (flat b.before) ≡ length (flat a.before) + length a.entries
+  pub seam : {number1 place1 : ℕ} (b : NodeIn content slots most row number1 place1) → place1 ≡ suc place
+      → length (flat b.before) ≡ length (flat a.before) + length a.entries
   seam {number1} b next =
       let k = length b.before in
       let x = node number a.entries in
       let two : b.before ≡ a.before ++ x ∷ [] = sym (take_at b.before (node number1 b.entries ∷ b.after) k refl)
       ∙ ap (λ z. take k z) (sym b.row_is ∙ a.row_is ∙ sym (append_assoc a.before (x ∷ []) a.after))
       ∙ take_at (a.before ++ x ∷ []) a.after k (omega (arith, a.at, b.at, next, length-append a.before (x ∷ []))) in
-      omega (arith, ap (λ z. length (flat z)) two, ap length (flat-append a.before (x ∷ [])), length-append (flat a.before) (a.entries ++ []), length-append a.entries [])
+      omega (
+        arith,
+        ap (λ z. length (flat z)) two,
+        ap length (flat-append a.before (x ∷ [])),
+        length-append (flat a.before) (a.entries ++ []),
+        length-append
+            a.entries [],
+      )
 
   -- the entries of the last node of a row end the row's entries
-  pub none-behind : (half : ℕ) → 1 ≤ half → FitRow half most row → suc place ≡ length (heads row) → length (flat row) ≡ length (flat a.before) + length a.entries
+  pub none-behind : (half : ℕ) → 1 ≤ half → FitRow half most row → suc place ≡ length (heads row)
+      → length (flat row) ≡ length (flat a.before) + length a.entries
   none-behind half one fit last =
       let x = node number a.entries in
-      let none = nil_from_length a.after (omega (arith, last, a.at, fit_full half most one row fit, ap length a.row_is, length-append a.before (x ∷ a.after))) in
-      omega (arith, ap (λ z. length (flat z)) a.row_is, ap length (flat-append a.before (x ∷ a.after)), length-append (flat a.before) (a.entries ++ flat a.after), length-append a.entries (flat a.after), ap (λ z. length (flat z)) none)
+      let none = nil_from_length a.after (omega (
+        arith,
+        last,
+        a.at,
+        fit_full half most one row fit,
+        ap length a.row_is,
+        length-append a.before
+            (x ∷ a.after),
+      )) in
+      omega (
+        arith,
+        ap (λ z. length (flat z)) a.row_is,
+        ap length (flat-append a.before (x ∷ a.after)),
+        length-append (flat a.before)
+            (a.entries ++ flat a.after),
+        length-append a.entries (flat a.after),
+        ap (λ z. length (flat z)) none,
+      )

@@ -1,9 +1,11 @@
 -- A path's node goes to the next one, or to the previous one, by its turn: the lowest level above it where the path can go on.
-use Rattle.std.proofs.Common.{◌≡◌, ◌≢◌, ℕ, zero, suc, ◌+◌, ◌-◌, ◌≤◌, ◌<◌, List, length, get_or, slice_get, Some, Bool, false, IsTrue, ◌↔◌, inl, inr, refl, sym, subst, ◌∙◌, arith}
+use Rattle.std.proofs.Common.{◌≡◌, ◌≢◌, ℕ, zero, suc, ◌+◌, ◌-◌, ◌≤◌, ◌<◌, List, length, get_or}
+use Rattle.std.proofs.Common.{slice_get, Some, Bool, false, IsTrue, ◌↔◌, inl, inr, refl, sym, subst, ◌∙◌, arith}
 use Rattle.bforest_core.proofs.Words.{cases_lt, false≢true, Content, HasOver, LastAt, MoreAt, OnLevels, OnOver, heads, inner_content, Over}
 use Rattle.bforest_core.specs.Steps.{AreFirst, AreLast, Turned, TurnedBack, TurnedBy}
 use Rattle.bforest_core.proofs.walks.Steps.{not_less, only, spot}
-use Rattle.bforest_core.proofs.walks.Turns.{ChildAt, Went, back_asks, before_turn, first_moves, first_turn, last_moves, last_turn, next_turn, turn_asks, turn_moves}
+use Rattle.bforest_core.proofs.walks.Turns.{ChildAt, Went, back_asks, before_turn, first_moves}
+use Rattle.bforest_core.proofs.walks.Turns.{first_turn, last_moves, last_turn, next_turn, turn_asks, turn_moves}
 use Rattle.bforest_core.proofs.walks.Reading.{LastAsked, LastRead}
 
 -- two runs of levels, one above the other
@@ -12,7 +14,8 @@ both low between high below above i from to =
     elim (cases_lt i between) [ inl less ↦ below i from less | inr more ↦ above i more to ]
 
 -- a level lower
-down : {AtEnd Moves Moves' : ℕ → Type 0} {level from size : ℕ} → TurnedBy AtEnd Moves level from size → level < from → (AtEnd from → Moves' (from - 1)) → TurnedBy AtEnd Moves' level (from - 1) size
+down : {AtEnd Moves Moves' : ℕ → Type 0} {level from size : ℕ} → TurnedBy AtEnd Moves level from size → level < from → (AtEnd from → Moves' (from - 1))
+    → TurnedBy AtEnd Moves' level (from - 1) size
 down {from = from} t low goes = record {
   height = t.height;
   within = omega (arith, t.within);
@@ -54,18 +57,21 @@ module _ {K V : Type 0} (slots : List (Content K V)) (path indices : List ℕ) w
       (λ entries slot. not_less (get_or indices level 0 + 1) (length entries) (λ more. false≢true (sym is ∙ (test entries slot).1 more)))
 
   -- where each child up to the root is the last, the node is the last of its level
-  pub all-last : (steps : ℕ) {level : ℕ} {size rows list place : _} → Over slots path indices (suc level) size rows list place → size ≡ suc level + steps → size ≤ 17 → AreLast slots path indices (suc level) size → suc place ≡ length list
+  pub all-last : (steps : ℕ) {level : ℕ} {size rows list place : _} → Over slots path indices (suc level) size rows list place → size ≡ suc level + steps
+      → size ≤ 17 → AreLast slots path indices (suc level) size → suc place ≡ length list
   all-last zero p is height last = (only p (omega (arith, is))).1
   all-last (suc steps) {level} {size} p is height last =
       last_moves p refl (λ e. omega (arith, e, is)) height (last (suc level) (omega arith) (omega (arith, is)))
       (λ rows list place o. all-last steps o (omega (arith, is)) height (λ i from to. last i (omega (arith, from)) to))
 
   -- and where each is the first, it is the first
-  pub all-first : (steps : ℕ) {level : ℕ} {size rows list place : _} → Over slots path indices (suc level) size rows list place → size ≡ suc level + steps → size ≤ 17 → AreFirst indices (suc level) size → place ≡ 0
+  pub all-first : (steps : ℕ) {level : ℕ} {size rows list place : _} → Over slots path indices (suc level) size rows list place → size ≡ suc level + steps
+      → size ≤ 17 → AreFirst indices (suc level) size → place ≡ 0
   all-first zero p is height first = (only p (omega (arith, is))).0
   all-first (suc steps) {level} {size} p is height first =
       first_moves p refl (λ e. omega (arith, e, is)) height
-      (λ rows list place o. all-first steps o (omega (arith, is)) height (λ i from to. first i (omega (arith, from)) to)) (omega (arith, first (suc level) (omega arith) (omega (arith, is))))
+      (λ rows list place o. all-first steps o (omega (arith, is)) height (λ i from to. first i (omega (arith, from)) to))
+      (omega (arith, first (suc level) (omega arith) (omega (arith, is))))
 
   -- the path's node on level `from` has moved, and the path goes on down from it
   module _ {level from : ℕ} (low : level < from) where
@@ -74,12 +80,17 @@ module _ {K V : Type 0} (slots : List (Content K V)) (path indices : List ℕ) w
       pub down-asks : HasOver slots path indices (suc level) size → ChildAt slots path1 (from - 1) 0
       down-asks w =
           let o = over-up (from - suc level) (suc (from - 1)) w.3 (omega (arith, low)) (omega (arith, low, t.within)) in
-          turn_asks {up = from} o.3 (omega (arith, low)) (λ e. omega (arith, e, t.within)) t.height (first_turn o.3 (omega (arith, low)) (λ e. omega (arith, e, t.within)) t.height (t.ends from (omega (arith, low)) (omega arith)) t.moved)
+          turn_asks {up =
+          from} o.3 (omega (arith, low)) (λ e. omega (arith, e, t.within)) t.height (first_turn o.3 (omega (arith, low)) (λ e. omega (arith, e, t.within))
+          t.height (t.ends from (omega (arith, low)) (omega arith)) t.moved)
 
       -- the path went there, and that child is the next node of its level
-      pub down-turned : {path2 indices2 : List ℕ} → Went slots path1 indices1 (from - 1) 0 path2 indices2 → Turned slots path indices path2 indices2 level (from - 1) size
+      pub down-turned : {path2 indices2 : List ℕ} → Went slots path1 indices1 (from - 1) 0 path2 indices2
+          → Turned slots path indices path2 indices2 level (from - 1) size
       down-turned g = down t low (λ last rows list place p.
-          turn_moves {up = from} p (omega (arith, low)) (λ e. omega (arith, e, t.within)) t.height (first_turn p (omega (arith, low)) (λ e. omega (arith, e, t.within)) t.height last t.moved) g)
+          turn_moves {up =
+          from} p (omega (arith, low)) (λ e. omega (arith, e, t.within)) t.height (first_turn p (omega (arith, low)) (λ e. omega (arith, e, t.within))
+          t.height last t.moved) g)
 
     module _ {path1 indices1 size : _} (t : TurnedBack slots path indices path1 indices1 level from size) (r : ℕ) (wide : 17 ≤ length path1) where
       -- the node meets what reading its last index requires
@@ -94,19 +105,24 @@ module _ {K V : Type 0} (slots : List (Content K V)) (path indices : List ℕ) w
         last-goes w =
             let o = over-up (from - suc level) (suc (from - 1)) w.3 (omega (arith, low)) (omega (arith, low, t.within)) in
             turn_asks {up = from} o.3 (omega (arith, low)) (λ e. omega (arith, e, t.within)) t.height
-            (last_turn o.3 (omega (arith, low)) (λ e. omega (arith, e, t.within)) t.height t.moved r wide (omega (arith, t.ends from (omega (arith, low)) (omega arith))) says).1
+            (last_turn o.3 (omega (arith, low)) (λ e. omega (arith, e, t.within)) t.height t.moved r wide
+            (omega (arith, t.ends from (omega (arith, low)) (omega arith))) says).1
 
         -- the path went there, and that child is the previous node of its level
-        pub back-turned : {path2 indices2 : List ℕ} → Went slots path1 indices1 (from - 1) last path2 indices2 → TurnedBack slots path indices path2 indices2 level (from - 1) size
+        pub back-turned : {path2 indices2 : List ℕ} → Went slots path1 indices1 (from - 1) last path2 indices2
+            → TurnedBack slots path indices path2 indices2 level (from - 1) size
         back-turned g = down t low (λ first rows list place p.
             let w = last_turn {up = from} p (omega (arith, low)) (λ e. omega (arith, e, t.within)) t.height t.moved r wide (omega (arith, first)) says in
             (w.0, turn_moves {up = from} p (omega (arith, low)) (λ e. omega (arith, e, t.within)) t.height w.1 g))
 
   -- the turn, where the path goes to the next child
-  module _ {level turn size : ℕ} (height : size ≤ 17) (within : (level + 2 ≤ turn) × (turn ≤ size)) (here : AreLast slots path indices (suc level) (level + 2)) (last : AreLast slots path indices (level + 2) turn) where
+  module _ {level turn size : ℕ} (height : size ≤ 17) (within : (level + 2 ≤ turn) × (turn ≤ size)) (here : AreLast slots path indices (suc level) (level + 2))
+      (last : AreLast slots path indices (level + 2) turn) where
     -- where no level has a further child, the node is the last
     pub far-last : turn ≡ size → OnOver slots path indices (suc level) size (λ rows list place. suc place ≡ length list)
-    far-last end rows list place p = all-last (size - suc level) p (omega (arith, within)) height (subst (λ z. AreLast slots path indices (suc level) z) end (both (suc level) (level + 2) turn here last))
+    far-last end rows list place p =
+        all-last (size - suc level) p (omega (arith, within)) height (subst (λ z. AreLast slots path indices (suc level) z) end
+        (both (suc level) (level + 2) turn here last))
 
     module _ (other : turn ≢ size) (more : MoreAt slots path indices turn) where
       pub turn-goes : HasOver slots path indices (suc level) size → ChildAt slots path (turn - 1) (get_or indices turn 0 + 1)
@@ -114,7 +130,8 @@ module _ {K V : Type 0} (slots : List (Content K V)) (path indices : List ℕ) w
           let o = over-up (turn - suc level - 1 + 1) (suc (turn - 1)) w.3 (omega (arith, within)) (omega (arith, within)) in
           turn_asks {up = turn} o.3 (omega (arith, within)) other height (next_turn o.3 (omega (arith, within)) other height more)
 
-      pub turned : {path1 indices1 : List ℕ} → Went slots path indices (turn - 1) (get_or indices turn 0 + 1) path1 indices1 → Turned slots path indices path1 indices1 level (turn - 1) size
+      pub turned : {path1 indices1 : List ℕ} → Went slots path indices (turn - 1) (get_or indices turn 0 + 1) path1 indices1
+          → Turned slots path indices path1 indices1 level (turn - 1) size
       turned g = record {
         height = height;
         within = omega (arith, within);
@@ -126,7 +143,8 @@ module _ {K V : Type 0} (slots : List (Content K V)) (path indices : List ℕ) w
   module _ {level turn size : ℕ} (height : size ≤ 17) (within : (level + 1 ≤ turn) × (turn ≤ size)) (first : AreFirst indices (level + 1) turn) where
     -- where no level has a child before, the node is the first
     pub far-first : turn ≡ size → OnOver slots path indices (suc level) size (λ rows list place. place ≡ 0)
-    far-first end rows list place p = all-first (size - suc level) p (omega (arith, end, within)) height (λ i above below. first i (omega (arith, above)) (omega (arith, below, end)))
+    far-first end rows list place p =
+        all-first (size - suc level) p (omega (arith, end, within)) height (λ i above below. first i (omega (arith, above)) (omega (arith, below, end)))
 
     module _ (other : turn ≢ size) (some : 0 < get_or indices turn 0) where
       pub before-goes : HasOver slots path indices (suc level) size → ChildAt slots path (turn - 1) (get_or indices turn 0 - 1)
@@ -134,7 +152,8 @@ module _ {K V : Type 0} (slots : List (Content K V)) (path indices : List ℕ) w
           let o = over-up (turn - suc level) (suc (turn - 1)) w.3 (omega (arith, within)) (omega (arith, within)) in
           turn_asks {up = turn} o.3 (omega (arith, within)) other height (before_turn o.3 (omega (arith, within)) other height some).1
 
-      pub turned-back : {path1 indices1 : List ℕ} → Went slots path indices (turn - 1) (get_or indices turn 0 - 1) path1 indices1 → TurnedBack slots path indices path1 indices1 level (turn - 1) size
+      pub turned-back : {path1 indices1 : List ℕ} → Went slots path indices (turn - 1) (get_or indices turn 0 - 1) path1 indices1
+          → TurnedBack slots path indices path1 indices1 level (turn - 1) size
       turned-back g = record {
         height = height;
         within = omega (arith, within, other);

@@ -1,6 +1,7 @@
 -- Moving a path's node to the next or the previous one of its level, once the node above it is there.
 use Rattle.std.proofs.Common.{◌≡◌, ◌≢◌, ℕ, suc, ◌+◌, ◌-◌, ◌≤◌, ◌<◌, List, ◌∷◌, length, get_or, slice_get, option_map, Some, refl, sym, ap, subst, ◌∙◌, arith}
-use Rattle.bforest_core.proofs.Words.{Content, flat, heads, inner_content, entry_items, SameBelow, StandsAbove, Advances, LastAt, MoreAt, OnOver, Over, Moved, Retreats}
+use Rattle.bforest_core.proofs.Words.{Content, flat, heads, inner_content, entry_items, SameBelow, StandsAbove}
+use Rattle.bforest_core.proofs.Words.{Advances, LastAt, MoreAt, OnOver, Over, Moved, Retreats}
 use Rattle.bforest_core.proofs.rows.Zipper.{stands-same}
 use Rattle.bforest_core.proofs.table.Stored.{some_same, item_count}
 use Rattle.bforest_core.proofs.walks.LeafSearch.{items-read}
@@ -13,11 +14,15 @@ use Rattle.bforest_core.proofs.walks.Reading.{LastAsked, LastRead}
 module _ {K V : Type 0} where
   -- what going to a child requires
   abbrev pub ChildAt : List (Content K V) → List ℕ → ℕ → ℕ → Type 0
-  ChildAt slots path level index = (level ≤ 15) × ((index ≤ 255) × ((entries : List (K × ℕ)) × (slice_get slots (get_or path (suc level) 0) ≡ Some (inner_content entries)) × (index < length entries)))
+  ChildAt slots path level index =
+      (level ≤ 15) × ((index ≤ 255) × ((entries : List (K × ℕ)) × (slice_get slots (get_or path (suc level) 0) ≡ Some (inner_content entries))
+      × (index < length entries)))
 
   -- the child to which the path goes is the entry's
   abbrev pub Reads : List (Content K V) → List ℕ → List ℕ → ℕ → ℕ → Type 0
-  Reads slots path path' level index = (entries : List (K × ℕ)) → slice_get slots (get_or path (suc level) 0) ≡ Some (inner_content entries) → slice_get (entry_items entries) index ≡ Some (get_or path' level 0)
+  Reads slots path path' level index =
+      (entries : List (K × ℕ)) → slice_get slots (get_or path (suc level) 0) ≡ Some (inner_content entries)
+      → slice_get (entry_items entries) index ≡ Some (get_or path' level 0)
 
   -- the path went from the node above to its child at an index
   pub record Went (slots : List (Content K V)) (path indices : List ℕ) (level index : ℕ) (path' indices' : List ℕ) : Type 0 where
@@ -26,15 +31,22 @@ module _ {K V : Type 0} where
     pub entry : get_or indices' (suc level) 0 ≡ index
     pub entries : SameBut (suc level) indices indices'
 
-  pub went : {slots : List (Content K V)} {path indices path' indices' : List ℕ} {level index : ℕ} → Reads slots path path' level index → SameBut level path path' → get_or indices' (suc level) 0 ≡ index → SameBut (suc level) indices indices' → Went slots path indices level index path' indices'
+  pub went : {slots : List (Content K V)} {path indices path' indices' : List ℕ} {level index : ℕ} → Reads slots path path' level index
+      → SameBut level path path' → get_or indices' (suc level) 0 ≡ index → SameBut (suc level) indices indices'
+      → Went slots path indices level index path' indices'
   went child nodes entry entries = record { child = child; nodes = nodes; entry = entry; entries = entries }
 
-  module _ {slots : List (Content K V)} {path indices : _} {level up : ℕ} {size rows list place : _} (p : Over slots path indices (suc level) size rows list place) (up_is : up ≡ suc level) (other : up ≢ size) (height : size ≤ 17) where
+  module _ {slots : List (Content K V)} {path indices : _} {level up : ℕ} {size rows list place : _}
+      (p : Over slots path indices (suc level) size rows list place) (up_is : up ≡ suc level) (other : up ≢ size) (height : size ≤ 17) where
     pub here : Spot slots path indices up size rows list place
     here = spot slots path indices up size rows list place (subst (λ z. Over slots path indices z size rows list place) (sym up_is) p) other
 
     abbrev stay : Within inner_content slots 8 path indices up here.row here.rest (length here.before)
-    stay = record { node = node-in inner_content slots 8 4 (omega arith) here.row here.fit here.inside (get_or path up 0) (length here.before) here.before here.entries here.after here.row_is refl; stands = here.over.stands }
+    stay = record {
+      node = node-in inner_content slots 8 4 (omega arith) here.row here.fit here.inside (get_or path up 0) (length
+          here.before) here.before here.entries here.after here.row_is refl;
+      stands = here.over.stands;
+    }
 
     -- the node meets what the test for a child requires
     pub has_asks : (up ≤ 16) × ((entries : List (K × ℕ)) × (slice_get slots (get_or path up 0) ≡ Some (inner_content entries)))
@@ -66,14 +78,21 @@ module _ {K V : Type 0} where
       turn_moves {path'} {indices'} g =
           let w = t.on in
           let e = read w.node.entries index t.low in
-          let above = stands-same path1 indices1 path' indices' (suc up) here.rest t.at (λ i high. g.nodes i (λ e. omega (arith, e, up_is, high))) (λ i high. g.entries i (λ e. omega (arith, e, up_is, high))) w.stands in
-          let at = at_node w.node.before w.node.entries w.node.after w.node.row_is (g.nodes up (λ e. omega (arith, e, up_is))) (ap (λ z. get_or indices' z 0) up_is ∙ g.entry) t.low t.to_is in
-          let stands : StandsAbove path' indices' up (here.row ∷ here.rest) to = (at, subst (λ z. StandsAbove path' indices' (suc up) here.rest z) (sym w.node.at) above) in
+          let above = stands-same path1 indices1 path' indices' (suc up) here.rest t.at (λ i high. g.nodes i (λ e. omega (arith, e, up_is, high)))
+          (λ i high. g.entries i (λ e. omega (arith, e, up_is, high))) w.stands in
+          let at = at_node w.node.before w.node.entries w.node.after w.node.row_is (g.nodes up (λ e. omega (arith, e, up_is)))
+          (ap (λ z. get_or indices' z 0) up_is ∙ g.entry) t.low t.to_is in
+          let stands : StandsAbove path' indices' up (here.row ∷ here.rest) to = (
+            at,
+            subst (λ z. StandsAbove path' indices' (suc up) here.rest z)
+                (sym w.node.at) above,
+          ) in
           record {
             head = e.0;
             head_is = ap (λ z. slice_get z to) (sym here.flat_is) ∙ ap (λ z. slice_get (flat here.row) z) t.to_is
                 ∙ entry_at w.node.before (get_or path1 up 0) w.node.entries w.node.after index w.node.row_is e.1;
-            node_is = some_same (get_or path' level 0) e.0.1 (sym (g.child w.node.entries slot_below) ∙ items-read w.node.entries index ∙ ap (λ z. option_map (λ w. w.1) z) e.1);
+            node_is = some_same (get_or path' level 0) e.0.1 (sym (g.child w.node.entries slot_below) ∙ items-read w.node.entries index
+                ∙ ap (λ z. option_map (λ w. w.1) z) e.1);
             stands = subst (λ z. StandsAbove path' indices' z rows to) up_is (subst (λ z. StandsAbove path' indices' up z to) (sym here.rows_are) stands);
             nodes_below = λ i low. g.nodes i (λ e. omega (arith, e, low)) ∙ t.nodes_below i (omega (arith, low, up_is));
             entries_below = λ i low. g.entries i (λ e. omega (arith, e, low)) ∙ t.entries_below i (omega (arith, low, up_is));
@@ -83,24 +102,53 @@ module _ {K V : Type 0} where
     pub before_turn : 0 < get_or indices up 0 → (0 < place) × Turn path indices (get_or indices up 0 - 1) (place - 1)
     before_turn some = (
       omega (arith, some, here.place_is),
-      record { at = length here.before; on = stay; nodes_below = λ i low. refl; entries_below = λ i low. refl; low = omega (arith, here.within); to_is = omega (arith, some, here.place_is) },
+      record {
+        at =
+            length here.before;
+        on = stay;
+        nodes_below = λ i low. refl;
+        entries_below = λ i low. refl;
+        low = omega (arith, here.within);
+        to_is = omega
+            (arith, some, here.place_is);
+      },
     )
 
     -- the next child
     pub next_turn : MoreAt slots path indices up → Turn path indices (get_or indices up 0 + 1) (suc place)
     next_turn more =
-        record { at = length here.before; on = stay; nodes_below = λ i low. refl; entries_below = λ i low. refl; low = more here.entries here.slot_is; to_is = omega (arith, here.place_is) }
+        record {
+          at =
+              length here.before;
+          on = stay;
+          nodes_below = λ i low. refl;
+          entries_below = λ i low. refl;
+          low = more here.entries here.slot_is;
+          to_is = omega
+              (arith, here.place_is);
+        }
 
     -- the first child of the first node is the first of the level
     pub first_moves : OnOver slots path indices (suc up) size (λ rows list place. place ≡ 0) → get_or indices up 0 ≤ 0 → place ≡ 0
     first_moves first none = omega (arith, here.place_is, none, none_flat here.before (first here.rest (heads here.row) (length here.before) here.over))
 
     -- the last child of the last node is the last of the level
-    pub last_moves : LastAt slots path indices up → OnOver slots path indices (suc up) size (λ rows list place. suc place ≡ length list) → suc place ≡ length list
-    last_moves past last = omega (arith, here.place_is, here.within, past here.entries here.slot_is, ap length here.flat_is, none-behind stay.node 4 (omega arith) here.fit (last here.rest (heads here.row) (length here.before) here.over))
+    pub last_moves : LastAt slots path indices up → OnOver slots path indices (suc up) size (λ rows list place. suc place ≡ length list)
+        → suc place ≡ length list
+    last_moves past last =
+        omega (
+          arith,
+          here.place_is,
+          here.within,
+          past here.entries here.slot_is,
+          ap length here.flat_is,
+          none-behind stay.node 4 (omega arith) here.fit
+              (last here.rest (heads here.row) (length here.before) here.over),
+        )
 
     -- the first child of the next node
-    pub first_turn : {path1 indices1 : List ℕ} → LastAt slots path indices up → Advances slots path indices path1 indices1 up size → Turn path1 indices1 0 (suc place)
+    pub first_turn : {path1 indices1 : List ℕ} → LastAt slots path indices up → Advances slots path indices path1 indices1 up size
+        → Turn path1 indices1 0 (suc place)
     first_turn past goes =
         let m = goes here.rest (heads here.row) (length here.before) here.over in
         let on = there inner_content slots 8 4 (omega arith) here.row here.fit here.inside m in
