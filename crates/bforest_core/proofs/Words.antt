@@ -2,7 +2,7 @@
 pub use Rattle.bforest_core.specs.Chain.{IsChain, IsPool, chain_from, next_of}
 pub use Rattle.bforest_core.specs.Change.{AtUnder, Changes, Ends, EntryTaken, GivesInOrder, GivesNodes, KeepsTrees, LeafTaken, PlacedUnder, Plants, Shrinks}
 pub use Rattle.bforest_core.specs.Change.{StandsUnder, TakesNodes, node_count}
-pub use Rattle.bforest_core.specs.Climb.{Above, Grown, GrownBy, Halved, HalvedBy, Inserted, LastAbove, LeafHalved, NextIs, OneAbove, Placed, SameBelow, TwoAbove, nodes_up, top_of}
+pub use Rattle.bforest_core.specs.Climb.{Above, Grown, GrownBy, Halved, HalvedBy, Inserted, LastAbove, LeafHalved, NextIs, OneAbove, Parted, Placed, SameBelow, TwoAbove, nodes_up, top_of}
 pub use Rattle.bforest_core.specs.Leaves.{EndsIn, EndsOn, Narrows, PutsInLeaf, SearchEndsAt, TakesFromLeaf, entry_up_to}
 pub use Rattle.bforest_core.specs.Descent.{Descended, Reached, GoesThrough, HasBelow, IsFirst, IsFrom, IsLast, IsRooted, IsUpTo, Led, OnBelow, SameAbove, StackedTo, StandsTo}
 pub use Rattle.bforest_core.specs.Descent.{SearchThrough, Under, child_index}

@@ -1,5 +1,6 @@
 -- Lemmas on insertion.
 pub mod Grow
+pub mod Parted
 pub mod Rise
 pub mod Halving
 pub mod Insertion

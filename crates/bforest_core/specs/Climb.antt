@@ -1,6 +1,7 @@
 -- What the calls of a path state of the rows above a level, and of a whole tree.
 use Rattle.std.specs.Prelude.{◌≡◌, ◌≢◌, ℕ, zero, suc, ◌+◌, ◌-◌, ◌≤◌, ◌<◌, Bool, if◌then◌else◌, List, [], ◌∷◌, ◌++◌, map, length, insert, get_or, slice_get, Some, None, Option}
 use Rattle.std.specs.List.{flat_map}
+use Rattle.bforest_nodes.specs.Content.{Content}
 use Rattle.bforest_core.specs.Table.{Table}
 use Rattle.bforest_core.specs.Levels.{LevelNode, node, flat, head_of, heads, sizes, numbers, FitRow, Stacked, Topped, Tree, IsFit, half_of, sizes_of}
 use Rattle.bforest_core.specs.Sizes.{gain_above, inner_gain, leaf_gain, growth, need, need_above}
@@ -85,34 +86,40 @@ module _ {K V : Type 0} where
       (suc (length taken) ≡ need_above (Some (length w.before)) (map sizes w.rows))
       × Grown old new path indices path' indices' level size size' w.rows (w.before ++ w.x ∷ right ∷ w.after) (if moved then suc (length w.before) else length w.before) (gain_above (Some (length w.before)) (map sizes w.rows)) taken
 
-  -- the path's full node on a level is split, with the new child inserted: the rows above lack only the right
-  -- half, whose number and first key are given, and the path leads to the half with its place
-  pub record Halved (old new : Table K V) (path indices path' indices' : List ℕ) (level size : ℕ) (rows : List (List (LevelNode K ℕ))) (list : List (K × ℕ)) (was place : ℕ) (key : K) (right : ℕ) (moved : Bool) : Type 0 where
-    pub before : List (LevelNode K ℕ)
-    pub entries : List (K × ℕ)
-    pub after : List (LevelNode K ℕ)
+  -- the path's node on a level is split, with a new entry: the level's entries are `list`, the rows above lack only
+  -- the right half, whose number and first key are given, and the path leads to the half with its place
+  pub record Parted {X : Type 0} (content : List (K × X) → Content K V) (half most : ℕ) (old new : Table K V) (path path' indices' : List ℕ) (level size : ℕ) (list : List (K × X)) (place : ℕ) (key : K) (right : ℕ) (moved : Bool) : Type 0 where
+    pub before : List (LevelNode K X)
+    pub entries : List (K × X)
+    pub after : List (LevelNode K X)
     pub rest : List (List (LevelNode K ℕ))
-    pub first : K × ℕ
-    pub others : List (K × ℕ)
-    pub next : K × ℕ
-    pub more : List (K × ℕ)
-    pub rows_were : rows ≡ (before ++ node (get_or path level 0) entries ∷ after) ∷ rest
-    pub head_is : head_of (get_or path level 0) entries ≡ (first.0, get_or path level 0) ∷ []
+    pub first : K × X
+    pub others : List (K × X)
+    pub next : K × X
+    pub more : List (K × X)
     pub key_is : key ≡ next.0
     pub flat_is : flat (before ++ node (get_or path level 0) (first ∷ others) ∷ node right (next ∷ more) ∷ after) ≡ list
-    pub fit : FitRow 4 8 (before ++ node (get_or path level 0) (first ∷ others) ∷ node right (next ∷ more) ∷ after)
-    pub inside : RowIn inner_content new.nodes (before ++ node (get_or path level 0) (first ∷ others) ∷ node right (next ∷ more) ∷ after)
-    pub gain_is : inner_gain was (sizes (before ++ node (get_or path level 0) entries ∷ after)) ≡ (Some (length (heads before)), sizes (before ++ node (get_or path level 0) (first ∷ others) ∷ node right (next ∷ more) ∷ after))
+    pub fit : FitRow half most (before ++ node (get_or path level 0) (first ∷ others) ∷ node right (next ∷ more) ∷ after)
+    pub inside : RowIn content new.nodes (before ++ node (get_or path level 0) (first ∷ others) ∷ node right (next ∷ more) ∷ after)
     pub above : Above new path' indices' (suc level) size rest (heads before ++ (first.0, get_or path level 0) ∷ heads after) (length (heads before))
     pub at : IsAt (before ++ node (get_or path level 0) (first ∷ others) ∷ node right (next ∷ more) ∷ after) (get_or path' level 0) (get_or indices' level 0) place
     pub at_is : length at.before ≡ (if moved then suc (length (heads before)) else length (heads before))
+    pub apart : Distinct ((numbers (before ++ node (get_or path level 0) entries ∷ after) ++ flat_map numbers rest) ++ old.chain)
     pub slots_same : (number : ℕ) → number ≢ get_or path level 0 → number ≢ right → slice_get new.nodes number ≡ slice_get old.nodes number
     pub chain_is : old.chain ≡ right ∷ new.chain
     pub slots_are : length new.nodes ≡ length old.nodes
     pub limit_is : new.limit ≡ old.limit
+    pub nodes_above : SameAbove level path path'
+
+  -- the path's full node on a level is split, with the new child inserted, which changes no first key above
+  pub record Halved (old new : Table K V) (path indices path' indices' : List ℕ) (level size : ℕ) (rows : List (List (LevelNode K ℕ))) (list : List (K × ℕ)) (was place : ℕ) (key : K) (right : ℕ) (moved : Bool) : Type 0 where
+    pub parted : Parted inner_content 4 8 old new path path' indices' level size list place key right moved
+    pub open parted use *
+    pub rows_were : rows ≡ (before ++ node (get_or path level 0) entries ∷ after) ∷ rest
+    pub head_is : head_of (get_or path level 0) entries ≡ (first.0, get_or path level 0) ∷ []
+    pub gain_is : inner_gain was (sizes (before ++ node (get_or path level 0) entries ∷ after)) ≡ (Some (length (heads before)), sizes (before ++ node (get_or path level 0) (first ∷ others) ∷ node right (next ∷ more) ∷ after))
     pub nodes_below : SameBelow level path path'
     pub entries_below : SameBelow level indices indices'
-    pub nodes_above : SameAbove level path path'
 
   -- the path's full node in these rows is split, with the node `right` inserted behind the path's below
   abbrev pub HalvedBy : {old : Table K V} {path indices : List ℕ} {level size : ℕ} → OneAbove old path indices level size → K × ℕ → Bool → Table K V → List ℕ → List ℕ → K → ℕ → Bool → Type 0
@@ -145,31 +152,13 @@ module _ {K V : Type 0} where
     pub same_root : length tree'.above ≡ length tree.above → root_of tree' ≡ root_of tree
     pub new_root : length tree'.above ≢ length tree.above → 0 < count (root_of tree') taken
 
-  -- the path's full leaf is split, with the entry inserted: the rows above, under the new first keys, lack
-  -- only the right half, whose number and first key are given, and the path leads to the half with its place
+  -- the path's full leaf is split, with the entry inserted: the rows above are those of the tree, under the new
+  -- first keys
   pub record LeafHalved (most : ℕ) (old new : Table K V) (path path' indices' : List ℕ) (size : ℕ) (tree : Tree K V) (place : ℕ) (entry : K × V) (key : K) (right : ℕ) (moved : Bool) : Type 0 where
-    pub before : List (LevelNode K V)
-    pub entries : List (K × V)
-    pub after : List (LevelNode K V)
-    pub rows : List (List (LevelNode K ℕ))
-    pub first : K × V
-    pub others : List (K × V)
-    pub next : K × V
-    pub more : List (K × V)
+    pub parted : Parted leaf_content (half_of most) most old new path path' indices' 0 size (insert (flat tree.leaves) place entry) place key right moved
+    pub open parted use *
     pub leaves_were : tree.leaves ≡ before ++ node (get_or path 0 0) entries ∷ after
-    pub key_is : key ≡ next.0
-    pub flat_is : flat (before ++ node (get_or path 0 0) (first ∷ others) ∷ node right (next ∷ more) ∷ after) ≡ insert (flat tree.leaves) place entry
-    pub fit : FitRow (half_of most) most (before ++ node (get_or path 0 0) (first ∷ others) ∷ node right (next ∷ more) ∷ after)
-    pub inside : RowIn leaf_content new.nodes (before ++ node (get_or path 0 0) (first ∷ others) ∷ node right (next ∷ more) ∷ after)
     pub gain_is : leaf_gain most place (sizes tree.leaves) ≡ (Some (length (heads before)), sizes (before ++ node (get_or path 0 0) (first ∷ others) ∷ node right (next ∷ more) ∷ after))
-    pub above : Above new path' indices' 1 size rows (heads before ++ (first.0, get_or path 0 0) ∷ heads after) (length (heads before))
-    pub topped : Topped (heads before ++ (first.0, get_or path 0 0) ∷ heads after) rows
-    pub sizes_above : map sizes rows ≡ map sizes tree.above
-    pub numbers_above : flat_map numbers rows ≡ flat_map numbers tree.above
-    pub at : IsAt (before ++ node (get_or path 0 0) (first ∷ others) ∷ node right (next ∷ more) ∷ after) (get_or path' 0 0) (get_or indices' 0 0) place
-    pub at_is : length at.before ≡ (if moved then suc (length (heads before)) else length (heads before))
-    pub slots_same : (number : ℕ) → number ≢ get_or path 0 0 → number ≢ right → slice_get new.nodes number ≡ slice_get old.nodes number
-    pub chain_is : old.chain ≡ right ∷ new.chain
-    pub slots_are : length new.nodes ≡ length old.nodes
-    pub limit_is : new.limit ≡ old.limit
-    pub nodes_above : SameAbove 0 path path'
+    pub topped : Topped (heads before ++ (first.0, get_or path 0 0) ∷ heads after) rest
+    pub sizes_above : map sizes rest ≡ map sizes tree.above
+    pub numbers_above : flat_map numbers rest ≡ flat_map numbers tree.above

@@ -1,10 +1,11 @@
 -- A level with a split node, and the levels above it.
-use Rattle.std.proofs.Common.{◌≡◌, ℕ, suc, ◌+◌, ◌-◌, ◌≤◌, ◌<◌, ◌≢◌, Bool, if◌then◌else◌, List, [], ◌∷◌, ◌++◌, map, length, get_or, slice_get, Some, refl, sym, ap, ◌∙◌, subst, length-append, arith, true, false, append_assoc}
-use Rattle.bforest_core.proofs.Words.{flat_map, length-map, Inner, Table, LevelNode, node, heads, sizes, numbers, Stacked, Topped, gain_above, need_above, inner_content, count, Distinct, IsAt, StandsAbove, Above, Grown, Halved, flat}
+use Rattle.std.proofs.Common.{◌≡◌, ℕ, suc, ◌+◌, ◌-◌, ◌≤◌, ◌<◌, ◌≢◌, Bool, if◌then◌else◌, List, [], ◌∷◌, ◌++◌, map, length, get_or, Some, refl, sym, ap, ◌∙◌, subst, length-append, arith, true, false, append_assoc}
+use Rattle.bforest_core.proofs.Words.{flat_map, Inner, Table, LevelNode, node, heads, sizes, numbers, Stacked, Topped, gain_above, need_above, inner_content, count, Above, Grown, Halved, flat}
 use Rattle.bforest_core.proofs.rows.LevelRows.{heads-append, flat-append, sizes-append}
-use Rattle.bforest_core.proofs.table.Tables.{counts, count-append, count-same, row-same, absent_ne, Takes, row-put, rows-same, ne_from_count, Puts}
+use Rattle.bforest_core.proofs.table.Tables.{counts, count-append, count-same, absent_ne, Takes, row-put, rows-same, ne_from_count, Puts}
 use Rattle.bforest_core.proofs.rows.Zipper.{Spot, stands_here, stands-same}
-use Rattle.bforest_core.proofs.insertion.Grow.{gain_spot, gain_full, head-grown, FitRow-put, gain_room, heads-halved, one_more}
+use Rattle.bforest_core.proofs.insertion.Parted.{Rises, chain_is, halves, inside, numbers_are, others_same, over, same_top, stands_at, stands_over, tops}
+use Rattle.bforest_core.proofs.insertion.Grow.{gain_spot, gain_full, head-grown, FitRow-put, gain_room}
 
 -- 1 where the path moved on, else 0
 abbrev pub step : Bool → ℕ
@@ -69,11 +70,6 @@ module _ {K V : Type 0} where
         },
       )
 
--- a level with a split node has a level above it
-pub gain-some : (p : ℕ) (levels : List (List ℕ)) → 1 ≤ length (gain_above (Some p) levels)
-gain-some p [] = omega arith
-gain-some p (level ∷ levels) = omega arith
-
 module _ {K V : Type 0} where
   -- the need and the number of levels above a level with a split node, from those one level up
   pub sizes_halved : {t u : Table K V} {ms js ms' js' : List ℕ} {up size : ℕ} {rows : List (List (LevelNode K ℕ))} {list : List (K × ℕ)} {was p : ℕ} {key : K} {right : ℕ} {moved : Bool} → (h : Halved t u ms js ms' js' up size rows list was p key right moved) →
@@ -87,48 +83,34 @@ module _ {K V : Type 0} where
   pub rise : {t u v : Table K V} {ms js ms' js' ms'' js'' : List ℕ} {up size size' : ℕ} {rows : List (List (LevelNode K ℕ))}
       {hs list : List (K × ℕ)} {q was p : ℕ} {key : K} {right : ℕ} {moved : Bool} {taken : List ℕ} → Above t ms js up size rows hs q
       → (h : Halved t u ms js ms' js' up size rows list was p key right moved) →
-      Grown u v ms' js' ms'' js'' (suc up) size size' h.rest (heads h.before ++ (h.first.0, get_or ms up 0) ∷ (key, right) ∷ heads h.after) (if moved then suc (length (heads h.before)) else length (heads h.before)) (gain_above (Some (length (heads h.before))) (map sizes h.rest)) taken →
+      Rises h.parted v ms'' js'' size' taken →
       Grown t v ms js ms'' js'' up size size' rows list p (gain_above (Some was) (map sizes rows)) (right ∷ taken)
-  rise {t} {u} {v} {ms} {ms''} {js''} {up} {size} {rows} {hs} {was} {p} {key} {right} {taken} ab h g =
+  rise {t} {v = v} {ms} {up} {rows} {was} {taken} ab h g =
       let n = get_or ms up 0 in
       let row : List (LevelNode K ℕ) = h.before ++ node n h.entries ∷ h.after in
-      let row2 : List (LevelNode K ℕ) = h.before ++ node n (h.first ∷ h.others) ∷ node right (h.next ∷ h.more) ∷ h.after in
-      let d = subst (λ (z : List (List (LevelNode K ℕ))). Distinct (flat_map numbers z ++ t.chain)) h.rows_were ab.apart in
-      let tops = λ (old : List (K × ℕ)) (top : Topped old rows). subst (λ (z : List (List (LevelNode K ℕ))). Topped old z) h.rows_were top in
-      let c = λ (m : ℕ). counts m h.before n h.entries h.after h.rest t.chain in
-      let c2 = λ (m : ℕ). counts m h.before n (h.first ∷ h.others) (node right (h.next ∷ h.more) ∷ h.after) g.rows' v.chain in
-      let chain_is : t.chain ≡ right ∷ (taken ++ v.chain) = h.chain_is ∙ ap (λ z. right ∷ z) g.chain_is in
-      let c7 = λ (m : ℕ). ap (λ z. count m z) chain_is in
-      let c8 = λ (m : ℕ). count-append m taken v.chain in
-      let nums_m = λ (m : ℕ). ap (λ z. count m (flat_map numbers z)) h.rows_were in
-      let hs = heads-halved h.before h.after n right h.first h.others h.next h.more key h.key_is in
       let hs0 : heads row ≡ heads h.before ++ (h.first.0, n) ∷ heads h.after = heads-append h.before _ ∙ ap (λ z. heads h.before ++ (z ++ heads h.after)) h.head_is in
-      let quiet : (m : ℕ) → 0 < count m (numbers row2) → slice_get v.nodes m ≡ slice_get u.nodes m = λ m some. g.others m (omega (arith, some, d m, c m, c2 m, c7 m, c8 m)) in
-      let here_m = g.nodes_below up (omega arith) in
-      let here_j = g.entries_below up (omega arith) in
-      let at2 : IsAt row2 (get_or ms'' up 0) (get_or js'' up 0) p = record { before = h.at.before; entries = h.at.entries; after = h.at.after; row_is = rw here_m h.at.row_is; within = rw here_j h.at.within; place_is = rw here_j h.at.place_is } in
+      let nums = λ (m : ℕ). ap (λ z. count m (flat_map numbers z)) h.rows_were in
+      let own = λ (m : ℕ). count-append m (numbers row ++ flat_map numbers h.rest) t.chain in
+      let tops_were = λ (old : List (K × ℕ)) (top : Topped old rows). subst (λ (z : List (List (LevelNode K ℕ))). Topped old z) h.rows_were top in
       record {
-        rows' = row2 ∷ g.rows';
+        rows' = halves h.parted g ∷ g.rows';
         above = record {
-          stacked = (h.flat_is, h.fit, subst (λ (z : List (K × ℕ)). Stacked z g.rows') (sym hs) g.above.stacked);
-          inside = (row-same inner_content u.nodes v.nodes row2 quiet h.inside, g.above.inside);
-          stands = (at2, subst (λ (z : ℕ). StandsAbove ms'' js'' (suc up) g.rows' z) (sym h.at_is) g.above.stands);
+          stacked = (h.flat_is, h.fit, over h.parted g);
+          inside = (inside h.parted g, g.above.inside);
+          stands = (stands_at h.parted g, stands_over h.parted g);
           height = omega (arith, g.above.height);
-          apart = λ m. omega (arith, d m, c m, c2 m, c7 m, c8 m, g.numbers_are m);
+          apart = λ m. omega (arith, h.apart m, own m, numbers_are h.parted g m, ap (λ z. count m z) (chain_is h.parted g), count-append m taken v.chain, count-append m (numbers (halves h.parted g) ++ flat_map numbers g.rows') v.chain);
         };
-        topped = λ old le top. (
-          omega (arith, le, (tops old top).0),
-          subst (λ (z : List (K × ℕ)). Topped z g.rows') (sym hs) (g.topped (heads row) (omega (arith, ap length hs0, one_more (heads h.before) (h.first.0, n) (key, right) (heads h.after))) (tops old top).1),
-        );
-        sizes_are = ap (λ z. sizes row2 ∷ z) g.sizes_are ∙ sym (ap (λ z. gain_above (Some was) (map sizes z)) h.rows_were ∙ ap (λ z. z.1 ∷ gain_above z.0 (map sizes h.rest)) h.gain_is);
-        numbers_are = λ m. omega (arith, nums_m m, c m, c2 m, g.numbers_are m);
-        others = λ m z. g.others m (omega (arith, z, nums_m m, c m)) ∙ h.slots_same m (absent_ne m n (numbers h.after) (omega (arith, z, nums_m m, c m))) (absent_ne m right taken (omega (arith, z)));
-        chain_is = chain_is;
+        topped = λ old le top. (omega (arith, le, (tops_were old top).0), tops h.parted g (subst (λ (z : List (K × ℕ)). Topped z h.rest) hs0 (tops_were old top).1));
+        sizes_are = ap (λ z. sizes (halves h.parted g) ∷ z) g.sizes_are ∙ sym (ap (λ z. gain_above (Some was) (map sizes z)) h.rows_were ∙ ap (λ z. z.1 ∷ gain_above z.0 (map sizes h.rest)) h.gain_is);
+        numbers_are = λ m. omega (arith, nums m, numbers_are h.parted g m);
+        others = λ m z. others_same h.parted g m (omega (arith, z, nums m));
+        chain_is = chain_is h.parted g;
         slots_are = g.slots_are ∙ h.slots_are;
         limit_is = g.limit_is ∙ h.limit_is;
         nodes_below = λ i low. g.nodes_below i (omega (arith, low)) ∙ h.nodes_below i low;
         entries_below = λ i low. g.entries_below i (omega (arith, low)) ∙ h.entries_below i low;
-        same_top = λ same. g.same_top same ∙ h.nodes_above (size - 1) (omega (arith, same, g.above.height, ap length g.sizes_are, length-map g.rows' sizes, gain-some (length (heads h.before)) (map sizes h.rest)));
+        same_top = same_top h.parted g;
         new_top = λ other. omega (arith, g.new_top other);
       }
 

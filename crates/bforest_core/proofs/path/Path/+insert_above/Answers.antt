@@ -1,5 +1,6 @@
 use Rattle.std.proofs.Common.{rules, ◌≡◌, ℕ, ◌+◌, ◌≤◌, [], map, length, sym, ap, ◌∙◌, arith, add-one, ◌<◌, suc, Bool, if◌then◌else◌, List, ◌∷◌, ◌++◌, get_or, Some}
-use Rattle.bforest_core.proofs.insertion.Rise.{gain-some, need_top, rise, sizes_halved, need_full}
+use Rattle.bforest_core.proofs.insertion.Parted.{gain-some}
+use Rattle.bforest_core.proofs.insertion.Rise.{need_top, rise, sizes_halved, need_full}
 use Rattle.bforest_core.proofs.Words.{get_or_default, Table, IsFullAt, OneAbove, heads, sizes, need_above, gain_above, Grown, GrownBy, HalvedBy}
 use Rattle.bforest_core.proofs.rows.Zipper.{spot}
 use Rattle.bforest_core.proofs.insertion.Halving.{full_is}

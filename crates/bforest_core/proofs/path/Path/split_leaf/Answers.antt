@@ -21,13 +21,13 @@ insert_above-requires g c =
     let h = c.halve_leaf-half.ensures.halved w.0 w.1 w.2 in
     let here = get_or_default c.args.self.now.node 0 c.index-self-0.result 0 (omega arith) in
     let few : c.halve_leaf-half.new.self.size ≤ 17 = omega (arith, c.requires.height, c.halve_leaf-half.ensures.size) in
-    (search rules, (search rules, (few, (record { rows = h.rows; before = heads h.before; x = (h.first.0, get_or c.args.self.now.node 0 0); after = heads h.after; above = rw c.halve_leaf-half.ensures.size h.above }, sym here, omega (arith, above_leaf need_above h, w.3, ap length h.chain_is), omega (arith, ap length (above_leaf gain_above h), w.4)))))
+    (search rules, (search rules, (few, (record { rows = h.rest; before = heads h.before; x = (h.first.0, get_or c.args.self.now.node 0 0); after = heads h.after; above = rw c.halve_leaf-half.ensures.size h.above }, sym here, omega (arith, above_leaf need_above h, w.3, ap length h.chain_is), omega (arith, ap length (above_leaf gain_above h), w.4)))))
 
 pub returns : goal.returns
 returns g c = record {
   inserted = λ tree place p.
       let h = c.halve_leaf-half.ensures.halved tree place p in
       let here = get_or_default c.args.self.now.node 0 c.index-self-0.result 0 (omega arith) in
-      let r = c.insert_above.ensures (record { rows = h.rows; before = heads h.before; x = (h.first.0, get_or c.args.self.now.node 0 0); after = heads h.after; above = rw c.halve_leaf-half.ensures.size h.above }) (sym here) in
+      let r = c.insert_above.ensures (record { rows = h.rest; before = heads h.before; x = (h.first.0, get_or c.args.self.now.node 0 0); after = heads h.after; above = rw c.halve_leaf-half.ensures.size h.above }) (sym here) in
       inserted c.halve_leaf-half.ensures.size p h r.1.0 r.1.1;
 }
