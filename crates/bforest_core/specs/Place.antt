@@ -102,10 +102,6 @@ pub record PlacedAt {K V : Type 0} (path indices : List ℕ) (size : ℕ) (tree 
   pub points : PointsAt path indices size tree place
   pub first : get_or indices 0 0 ≡ 0 → points.before ≡ []
 
--- the path is at the end, with no node
-abbrev pub is_at_end : ℕ → Type 0
-is_at_end size = size ≡ 0
-
 module _ {K V : Type 0} where
   -- the path stands at this entry of the tree, or at the end with no node, whose place is after all entries
   abbrev pub IsPathAt : List ℕ → List ℕ → ℕ → Tree K V → ℕ → Type 0

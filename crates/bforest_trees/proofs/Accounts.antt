@@ -26,4 +26,4 @@ module _ {K X : Type 0} (f : Forest K X) where
   -- in a union of trees the free slots and the nodes add up to the slots
   pub accounted : (most : ℕ) → IsUnion most f → IsAccounted f
   accounted most union =
-      account most f union ∙ (λ j. length f.chain + sum_by (λ n. nodes-is n j) (upto-is (length f.nodes) j))
+      account f union ∙ (λ j. length f.chain + sum_by (λ n. nodes-is n j) (upto-is (length f.nodes) j))

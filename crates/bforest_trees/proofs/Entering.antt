@@ -121,4 +121,4 @@ module _ {K X : Type 0} (most : ℕ) (cmp : K → K → Ordering) (f : Forest K 
 pub ends-at-root : {K X : Type 0} (most : ℕ) (cmp : K → K → Ordering) → IsTotalOrder cmp → (p f : Forest K X) (n : ℕ) (k : K) → p ≡ f → IsUnion most p → list_at f n ≢ [] → IsLeaf (slot f.nodes n) → IsIncreasing cmp (list_at f n) → EndsIn cmp p n k n (lone n) (lone 0) 1
 ends-at-root {K} {X} most cmp total p f n k is union live leaf up =
     let root = live-root p n (subst (λ (z : Forest K X). list_at z n ≢ []) (sym is) live) in
-    ends-alone cmp total most p n k union root (subst (λ (z : Forest K X). IsLeaf (slot z.nodes n)) (sym is) leaf) (subst (IsIncreasing cmp) (list-root p n root) (subst (λ (z : Forest K X). IsIncreasing cmp (list_at z n)) (sym is) up))
+    ends-alone cmp total p n k union root (subst (λ (z : Forest K X). IsLeaf (slot z.nodes n)) (sym is) leaf) (subst (IsIncreasing cmp) (list-root p n root) (subst (λ (z : Forest K X). IsIncreasing cmp (list_at z n)) (sym is) up))

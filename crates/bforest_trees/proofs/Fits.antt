@@ -2,8 +2,8 @@
 use Rattle.bforest_trees.specs.Forest.{Forest, list_at, sizes_at, slots_of}
 use Rattle.bforest_core.proofs.union.Forests.{root-among}
 use Rattle.bforest_core.proofs.union.Unions.{rooted}
-use Rattle.bforest_core.proofs.walks.Descent.{some_leaf}
-use Rattle.bforest_core.proofs.walks.Steps.{fit_full}
+use Rattle.bforest_core.proofs.rows.LevelRows.{some_leaf}
+use Rattle.bforest_core.proofs.walks.RowNodes.{fit_full}
 use Rattle.bforest_core.specs.Levels.{FitRow, LevelNode, Stacked, Topped, flat, half_of, heads, node, sizes, sizes_of}
 use Rattle.bforest_core.specs.Place.{count, numbers_of}
 use Rattle.bforest_core.specs.Sizes.{IsFitAbove, IsFitFor, IsFitLevel}
@@ -46,7 +46,7 @@ module _ {K X : Type 0} (most : ℕ) (f : Forest K X) (union : IsUnion most f) (
       let leaves = (tree_of f.nodes n).leaves in (
         sizes-sum leaves,
         sizes-fit (half_of most) most leaves r.fit.leaves_fit,
-        above-fit (heads leaves) (tree_of f.nodes n).above (length (sizes leaves)) (fit_full (half_of most) most (some_leaf most union.1.capacity) leaves r.fit.leaves_fit ∙ sym (sizes-count leaves)) r.fit.stacked r.fit.topped,
+        above-fit (heads leaves) (tree_of f.nodes n).above (length (sizes leaves)) (fit_full (half_of most) most (some_leaf union.1.capacity) leaves r.fit.leaves_fit ∙ sym (sizes-count leaves)) r.fit.stacked r.fit.topped,
       )
 
   -- the sizes of a number are fit for its list

@@ -113,7 +113,7 @@ module _ {K V : Type 0} {table : Table K V} {handle : Option ℕ} {look : Look K
   held-read : (index : ℕ) (entry : K × V) → slice_get look.keys.now index ≡ Some entry.0 → slice_get look.vals.now index ≡ Some entry.1 → Some entry ≡ slice_get (list_of table handle) (start + index)
   held-read index entry key value =
       let es = h.from.leaf.entries in
-      let found = pair_read es index entry.0 entry.1 (ap (λ z. slice_get z index) (sym h.keys) ∙ key) (ap (λ z. slice_get z index) (sym h.vals) ∙ value) in
+      let found = pair_read es index (ap (λ z. slice_get z index) (sym h.keys) ∙ key) (ap (λ z. slice_get z index) (sym h.vals) ∙ value) in
       sym (from-read h.from index (slice_get_within es index entry found) ∙ found)
 
   -- a look at an index of its leaf
@@ -408,7 +408,7 @@ module _ {K V : Type 0} {cmp : K → K → Ordering} (table : Table K V) (root :
       told : (index ≡ place cmp s.leaf.entries key) × (o ≡ value_for cmp s.leaf.entries key)
       told =
           let slots = table.nodes in
-          looked cmp s.leaf.entries key s.tells.increasing o index
+          looked cmp s.leaf.entries key s.tells.increasing o
           (read_as slots number found s.leaf.slot_is (λ z. IfSome o (λ v. search_of cmp (keys_of z) key ≡ Ok index)) present)
           (read_as slots number found s.leaf.slot_is (λ z. IfSome o (λ v. slice_get (vals_of z) index ≡ Some v)) reads)
           (read_as slots number found s.leaf.slot_is (λ z. o ≡ None → search_of cmp (keys_of z) key ≡ Err index) absent)

@@ -180,7 +180,7 @@ module _ {K V : Type 0} (table : Table K V) where
 
     pub taken : (old new : Reader K V n) (entry : K × V) → IsReader table old → slice_get old.keys.now old.index ≡ Some entry.0 → slice_get old.vals.now old.index ≡ Some entry.1 → new ≡ record old { index = old.index + 1 } → Taken old new entry
     taken old new entry r key value is =
-        let found = pair_read r.entries old.index entry.0 entry.1 (ap (λ z. slice_get z old.index) (sym r.keys) ∙ key) (ap (λ z. slice_get z old.index) (sym r.vals) ∙ value) in
+        let found = pair_read r.entries old.index (ap (λ z. slice_get z old.index) (sym r.keys) ∙ key) (ap (λ z. slice_get z old.index) (sym r.vals) ∙ value) in
         let low = slice_get_within r.entries old.index entry found in
         let some : 1 ≤ length r.entries = omega (arith, low) in
         let keys : 1 ≤ length old.keys.now = omega (arith, some, key-count old r) in

@@ -110,7 +110,7 @@ module _ {K V : Type 0} {n : ℕ} {table : Table K V} (union : IsUnion n table) 
           (high union s some last)
           (way-none table.nodes root _ _ _ _ (it union s some).over (omega (arith, low, some))).1)
 
-  -- and without one before it, the first
+  -- a leaf without a grandparent and without a sibling before it is the first of the tree
   pub first-low : (HasPrev spot → ⊥) → spot.height < 2 → place ≡ 0
   first-low first low = elim (eqb_tells spot.height 0) [
     | inl none ↦ (way-none table.nodes root _ _ _ _ (spot-over union s) none.1).2

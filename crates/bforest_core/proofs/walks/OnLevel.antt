@@ -4,7 +4,7 @@ use Rattle.std.proofs.Common.{◌∷◌, drop, length, Some, None, Option, refl,
 use Rattle.bforest_core.proofs.Words.{Content, LevelNode, heads}
 use Rattle.bforest_core.specs.Spots.{Coded, CodedOver, HasWay, IsBefore, IsBehind, IsBesideOf, IsNextOf, IsPrevOf, IsWay, Leads, NumberAt, OnWay}
 use Rattle.bforest_core.specs.declared.spot.Spot.{Spot}
-use Rattle.bforest_core.proofs.walks.Branches.{Branch, branch-asks, branch-child, branch-low, branch-way, count-asks, first-of, last-asks, last-of, last-some}
+use Rattle.bforest_core.proofs.walks.Branches.{Branch, branch-asks, branch-child, branch-way, count-asks, first-of, last-asks, last-of, last-some}
 use Rattle.bforest_core.proofs.walks.Branches.{next-own, none-next, none-prev, own, prev-own, prev-some}
 use Rattle.bforest_core.proofs.walks.Codes.{IsBelow, code-low, digit-put, first-kept, here, read-same, way-of}
 use Rattle.bforest_core.proofs.walks.Reading.{ChildAsked, ChildRead, CountAsked, CountRead, LastAsked, LastRead}
@@ -22,7 +22,7 @@ module _ {K V : Type 0} {slots : List (Content K V)} {root : ℕ} {spot : Spot} 
   abbrev There : Type 0
   There = HasWay slots root code (suc spot.height)
 
-  some : suc spot.height ≢ 0
+  pub some : suc spot.height ≢ 0
   some = λ none. omega (arith, none)
 
   index-is : code % 8 ≡ index
@@ -40,7 +40,7 @@ module _ {K V : Type 0} {slots : List (Content K V)} {root : ℕ} {spot : Spot} 
       (leads numbers rows list place (subst (λ z. CodedOver slots root spot.code z numbers rows list place) level-is over)).1
 
   module _ {numbers : List ℕ} {rows : List (List (LevelNode K ℕ))} {list : List (K × ℕ)} {place : ℕ} (p : Way numbers rows list place) where
-    same : node ≡ (here p some).number
+    pub same : node ≡ (here p some).number
     same = read-same p some node said
 
     -- the rows above the child's parent, that row, and the parent's place there
@@ -54,7 +54,7 @@ module _ {K V : Type 0} {slots : List (Content K V)} {root : ℕ} {spot : Spot} 
     top = (here p some).top
 
     -- the way to the node
-    over : CodedOver slots root spot.code spot.height (drop 1 numbers) rest parents top
+    pub over : CodedOver slots root spot.code spot.height (drop 1 numbers) rest parents top
     over =
         let q = (here p some).over in
         let coded = subst (λ z. Coded (drop 1 numbers) rest z top) above-is q.coded in
@@ -64,7 +64,7 @@ module _ {K V : Type 0} {slots : List (Content K V)} {root : ℕ} {spot : Spot} 
     its = (leads (drop 1 numbers) rest parents top over).0
 
     -- the child at an index of a node, of which this is the spot, stands beside the way's end
-    record Stands (Beside : ℕ → Type 0) (above : Spot) (number index1 : ℕ) : Type 0 where
+    pub record Stands (Beside : ℕ → Type 0) (above : Spot) (number index1 : ℕ) : Type 0 where
       pub to : ℕ
       pub is : Beside to
       pub branch : Branch p some number index1 to
@@ -72,16 +72,10 @@ module _ {K V : Type 0} {slots : List (Content K V)} {root : ℕ} {spot : Spot} 
       pub way : IsWay others above rest branch.top
 
     module _ {Beside : ℕ → Type 0} {above : Spot} {number index1 : ℕ} (b : Stands Beside above number index1) where
-      stands-asks : ChildAsked slots number index1
-      stands-asks = branch-asks b.branch
-
-      stands-digit : index1 < 8
-      stands-digit = branch-low b.branch
-
-      stands-height : above.height ≡ spot.height
+      pub stands-height : above.height ≡ spot.height
       stands-height = b.way.height_is ∙ sym over.depth_is
 
-      stands-low : spot.height < 16 → (above.code < 35184372088832) × (above.height < 16)
+      pub stands-low : spot.height < 16 → (above.code < 35184372088832) × (above.height < 16)
       stands-low low = (code-low 15 rest b.others above.code b.branch.top b.way.coded (omega (arith, low, over.depth_is)), omega (arith, low, stands-height))
 
       -- the spot of that child
@@ -93,11 +87,11 @@ module _ {K V : Type 0} {slots : List (Content K V)} {root : ℕ} {spot : Spot} 
           way-of (branch-way b.branch beside refl) next below.code (below.height ∙ ap suc stands-height) (λ more. sym below.parent)
           (λ more. b.way.parent_is (omega (arith, more, stands-height)) ∙ sym below.grand)
 
-    own-at : Stands (λ to. to ≡ place) spot node index
+    pub own-at : Stands (λ to. to ≡ place) spot node index
     own-at = record { to = place; is = refl; branch = own p some same index-is; others = drop 1 numbers; way = its }
 
   pub index-asked : There → ChildAsked slots node index
-  index-asked o = stands-asks o.4 (own-at o.4)
+  index-asked o = branch-asks (own-at o.4).branch
 
   pub code-low-here : There → spot.height < 16 → spot.code < 35184372088832
   code-low-here o low = (stands-low o.4 (own-at o.4) low).0
@@ -139,15 +133,9 @@ module _ {K V : Type 0} {slots : List (Content K V)} {root : ℕ} {spot : Spot} 
   module _ {count : ℕ} (counts : CountRead slots node count) where
     -- the next child of the same node
     module _ (low : index + 1 < count) where
-      next-at : {numbers rows list place : _} (p : Way numbers rows list place) → Stands p (IsBehind place) spot node (index + 1)
+      pub next-at : {numbers rows list place : _} (p : Way numbers rows list place) → Stands p (IsBehind place) spot node (index + 1)
       next-at {numbers} {place =
           place} p = record { to = suc place; is = refl; branch = next-own p some (same p) index-is counts low; others = drop 1 numbers; way = its p }
-
-      pub next-asked : There → ChildAsked slots node (index + 1)
-      next-asked o = stands-asks o.4 (next-at o.4)
-
-      pub next-digit : There → index + 1 < 8
-      next-digit o = stands-digit o.4 (next-at o.4)
 
       pub next-said : {next : Spot} {child : ℕ} → IsBelow spot node (index + 1) next → ChildRead slots node (index + 1) child
           → IsNextOf slots root code (suc spot.height) (Some (next, child))
@@ -161,16 +149,10 @@ module _ {K V : Type 0} {slots : List (Content K V)} {root : ℕ} {spot : Spot} 
       -- the first child of the node behind
       module _ {up : Option (Spot × ℕ)} {above : Spot} {number : ℕ} (up_is : up ≡ Some (above, number)) (on : IsNextOf slots root spot.code spot.height up)
         where
-          turn-at : {numbers rows list place : _} (p : Way numbers rows list place) → Stands p (IsBehind place) above number 0
+          pub turn-at : {numbers rows list place : _} (p : Way numbers rows list place) → Stands p (IsBehind place) above number 0
           turn-at {numbers} {place = place} p =
               let w = (subst (IsNextOf slots root spot.code spot.height) up_is on).some (drop 1 numbers) (rest p) (parents p) (top p) (over p) in
               record { to = suc place; is = refl; branch = first-of p some (same p) index-is counts high w.1 w.4; others = w.2; way = w.3 }
-
-          pub turn-low : There → spot.height < 16 → (above.code < 35184372088832) × (above.height < 16)
-          turn-low o low = stands-low o.4 (turn-at o.4) low
-
-          pub turn-asked : There → ChildAsked slots number 0
-          turn-asked o = stands-asks o.4 (turn-at o.4)
 
           pub turn-said : {next : Spot} {child : ℕ} → IsBelow above number 0 next → ChildRead slots number 0 child
               → IsNextOf slots root code (suc spot.height) (Some (next, child))
@@ -178,7 +160,7 @@ module _ {K V : Type 0} {slots : List (Content K V)} {root : ℕ} {spot : Spot} 
 
   -- the child before, of the same node
   module _ (low : 0 < index) where
-    prev-at : {numbers rows list place : _} (p : Way numbers rows list place) → Stands p (IsBefore place) spot node (index - 1)
+    pub prev-at : {numbers rows list place : _} (p : Way numbers rows list place) → Stands p (IsBefore place) spot node (index - 1)
     prev-at {numbers} {place = place} p =
         record {
           to =
@@ -188,9 +170,6 @@ module _ {K V : Type 0} {slots : List (Content K V)} {root : ℕ} {spot : Spot} 
           others = drop 1 numbers;
           way = its p;
         }
-
-    pub prev-asked : There → ChildAsked slots node (index - 1)
-    prev-asked o = stands-asks o.4 (prev-at o.4)
 
     pub prev-said : {next : Spot} {child : ℕ} → IsBelow spot node (index - 1) next → ChildRead slots node (index - 1) child
         → IsPrevOf slots root code (suc spot.height) (Some (next, child))
@@ -211,7 +190,7 @@ module _ {K V : Type 0} {slots : List (Content K V)} {root : ℕ} {spot : Spot} 
       back-count o = last-asks o.4 some _ (before o.4).4
 
       module _ {last : ℕ} (says : LastRead slots number last) where
-        back-at : {numbers rows list place : _} (p : Way numbers rows list place) → Stands p (IsBefore place) above number last
+        pub back-at : {numbers rows list place : _} (p : Way numbers rows list place) → Stands p (IsBefore place) above number last
         back-at {place = place} p =
             let w = before p in
             record {
@@ -223,15 +202,6 @@ module _ {K V : Type 0} {slots : List (Content K V)} {root : ℕ} {spot : Spot} 
               others = w.2;
               way = w.3;
             }
-
-        pub back-low : There → spot.height < 16 → (above.code < 35184372088832) × (above.height < 16)
-        back-low o low = stands-low o.4 (back-at o.4) low
-
-        pub back-asked : There → ChildAsked slots number last
-        back-asked o = stands-asks o.4 (back-at o.4)
-
-        pub back-digit : There → last < 8
-        back-digit o = stands-digit o.4 (back-at o.4)
 
         pub back-said : {next : Spot} {child : ℕ} → IsBelow above number last next → ChildRead slots number last child
             → IsPrevOf slots root code (suc spot.height) (Some (next, child))

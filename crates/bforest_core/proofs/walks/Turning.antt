@@ -64,7 +64,7 @@ module _ {K V : Type 0} (slots : List (Content K V)) (path indices : List ℕ) w
       last_moves p refl (λ e. omega (arith, e, is)) height (last (suc level) (omega arith) (omega (arith, is)))
       (λ rows list place o. all-last steps o (omega (arith, is)) height (λ i from to. last i (omega (arith, from)) to))
 
-  -- and where each is the first, it is the first
+  -- where each child up to the root is the first, the node is the first of its level
   pub all-first : (steps : ℕ) {level : ℕ} {size rows list place : _} → Over slots path indices (suc level) size rows list place → size ≡ suc level + steps
       → size ≤ 17 → AreFirst indices (suc level) size → place ≡ 0
   all-first zero p is height first = (only p (omega (arith, is))).0

@@ -178,8 +178,8 @@ impl<K: Copy, V: Copy, const N: usize> Path<K, V, N> {
         requires over { HasOver pool.now.nodes self.old.node self.old.entry (suc level) self.old.size }
         ensures moved { result ≡ true → Advances pool.now.nodes self.old.node self.old.entry self.new.node
             self.new.entry level self.old.size }
-        ensures last { result ≡ false → OnOver pool.now.nodes self.old.node self.old.entry (suc level) self.old.size
-            (λ rows list place. suc place ≡ length list) }
+        ensures last { result ≡ false → OnOver pool.now.nodes self.old.node self.old.entry (suc level)
+            self.old.size (λ rows list place. suc place ≡ length list) }
         ensures same { result ≡ false → self.new ≡ self.old }
         ensures size { self.new.size ≡ self.old.size }
     {
@@ -204,8 +204,8 @@ impl<K: Copy, V: Copy, const N: usize> Path<K, V, N> {
         requires last { AreLast pool.now.nodes self.old.node self.old.entry (suc level) (level + 2) }
         ensures moved { result ≡ true → Advances pool.now.nodes self.old.node self.old.entry self.new.node
             self.new.entry level self.old.size }
-        ensures last { result ≡ false → OnOver pool.now.nodes self.old.node self.old.entry (suc level) self.old.size
-            (λ rows list place. suc place ≡ length list) }
+        ensures last { result ≡ false → OnOver pool.now.nodes self.old.node self.old.entry (suc level)
+            self.old.size (λ rows list place. suc place ≡ length list) }
         ensures same { result ≡ false → self.new ≡ self.old }
         ensures size { self.new.size ≡ self.old.size }
     {
@@ -401,8 +401,8 @@ impl<K: Copy, V: Copy, const N: usize> Path<K, V, N> {
         requires over { HasOver pool.now.nodes self.old.node self.old.entry (suc level) self.old.size }
         ensures moved { result ≡ true → Retreats pool.now.nodes self.old.node self.old.entry self.new.node
             self.new.entry level self.old.size }
-        ensures first { result ≡ false → OnOver pool.now.nodes self.old.node self.old.entry (suc level) self.old.size
-            (λ rows list place. place ≡ 0) }
+        ensures first { result ≡ false → OnOver pool.now.nodes self.old.node self.old.entry (suc level)
+            self.old.size (λ rows list place. place ≡ 0) }
         ensures same { result ≡ false → self.new ≡ self.old }
         ensures size { self.new.size ≡ self.old.size }
     {

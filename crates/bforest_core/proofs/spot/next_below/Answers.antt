@@ -1,7 +1,7 @@
 use Rattle.std.proofs.Common.{rules, ◌+◌, ◌<◌, arith}
 use Rattle.bforest_core.proofs.walks.Codes.{is-below}
-use Rattle.bforest_core.proofs.walks.OnLevel.{code-low-here, count-asked, last-said, next-asked, next-digit, next-said}
-use Rattle.bforest_core.proofs.walks.OnLevel.{turn-asked, turn-low, turn-said}
+use Rattle.bforest_core.proofs.walks.Branches.{branch-asks, branch-low}
+use Rattle.bforest_core.proofs.walks.OnLevel.{code-low-here, count-asked, last-said, next-at, next-said, stands-low, turn-at, turn-said}
 use Rattle.bforest_core.proofs.spot.next_below.Goals as goal
 
 pub child_count-requires : goal.child_count-requires
@@ -13,13 +13,13 @@ below-requires-clause-code g c = let r = c.requires.above in code-low-here c.req
 pub below-requires-clause-index : goal.below-requires-clause-index
 below-requires-clause-index g c =
     let r = c.requires.above in
-    let low : c.args.index + 1 < 8 = next-digit c.requires.index r.2 c.child_count.ensures.value c.if-index-child_count.true r.1 in
+    let low : c.args.index + 1 < 8 = branch-low (next-at c.requires.index r.2 c.child_count.ensures.value c.if-index-child_count.true r.1.4).branch in
     omega (arith, low)
 
 pub child-requires : goal.child-requires
 child-requires g c =
     let r = c.requires.above in
-    (search rules, next-asked c.requires.index r.2 c.child_count.ensures.value c.if-index-child_count.true r.1)
+    (search rules, branch-asks (next-at c.requires.index r.2 c.child_count.ensures.value c.if-index-child_count.true r.1.4).branch)
 
 pub returns-then-index-child_count : goal.returns-then-index-child_count
 returns-then-index-child_count g c = record {
@@ -37,17 +37,17 @@ returns-in_err-spot g c = record {
 pub below-requires-2-clause-code : goal.below-requires-2-clause-code
 below-requires-2-clause-code g c =
     let r = c.requires.above in
-    (turn-low c.requires.index r.2 c.child_count.ensures.value c.if-index-child_count.false c.in_ok-spot.was r.3 r.1 c.requires.low).0
+    (stands-low c.requires.index r.2 r.1.4 (turn-at c.requires.index r.2 c.child_count.ensures.value c.if-index-child_count.false c.in_ok-spot.was r.3 r.1.4) c.requires.low).0
 
 pub below-requires-2-clause-height : goal.below-requires-2-clause-height
 below-requires-2-clause-height g c =
     let r = c.requires.above in
-    (turn-low c.requires.index r.2 c.child_count.ensures.value c.if-index-child_count.false c.in_ok-spot.was r.3 r.1 c.requires.low).1
+    (stands-low c.requires.index r.2 r.1.4 (turn-at c.requires.index r.2 c.child_count.ensures.value c.if-index-child_count.false c.in_ok-spot.was r.3 r.1.4) c.requires.low).1
 
 pub child-requires-2 : goal.child-requires-2
 child-requires-2 g c =
     let r = c.requires.above in
-    (search rules, turn-asked c.requires.index r.2 c.child_count.ensures.value c.if-index-child_count.false c.in_ok-spot.was r.3 r.1)
+    (search rules, branch-asks (turn-at c.requires.index r.2 c.child_count.ensures.value c.if-index-child_count.false c.in_ok-spot.was r.3 r.1.4).branch)
 
 pub returns : goal.returns
 returns g c = record {

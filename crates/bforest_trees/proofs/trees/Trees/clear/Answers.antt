@@ -8,7 +8,7 @@ use Rattle.std.proofs.Common.{[], subst, sym, ◌≡◌}
 
 pub invariant_of-self : goal.invariant_of-self
 invariant_of-self g c =
-    subst (λ (z : Table g.row.K.Denot g.row.V.Denot). IsUnion g.row.N z) (sym c.clear.ensures.empty) (IsUnion-empty g.row.N c.self.inside.pool.limit c.self.invariant.1.capacity)
+    subst (λ (z : Table g.row.K.Denot g.row.V.Denot). IsUnion g.row.N z) (sym c.clear.ensures.empty) (IsUnion-empty c.self.inside.pool.limit c.self.invariant.1.capacity)
 
 pub returns : goal.returns
 returns g c = record {

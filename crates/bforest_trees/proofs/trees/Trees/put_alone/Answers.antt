@@ -70,7 +70,7 @@ put_at-requires g c =
             c.requires.root,
             rw (wrote.refused c.in-Err.index c.in-Err.is, c.set_index.ensures.size, c.set_root_node.ensures.size)
                 (placed-alone c.self.inside.pool.nodes c.args.root (lone c.args.root)
-                (set (lone 0) 0 c.in-Err.index) _ _ _ (sym (ap (λ z. get_or z 0 0) c.set_index.ensures.node ∙ c.set_root_node.ensures.leaf))
+                (set (lone 0) 0 c.in-Err.index) _ _ (sym (ap (λ z. get_or z 0 0) c.set_index.ensures.node ∙ c.set_root_node.ensures.leaf))
                 (sym c.set_index.ensures.index) (wrote.placed c.in-Err.index c.in-Err.is)),
           ),
           rw (same, ap (λ z. get_or z 0 0) c.set_index.ensures.node ∙ c.set_root_node.ensures.leaf)
@@ -94,5 +94,5 @@ returns-in-Err g c =
     (rw same (wrote.full c.in-Err.index c.in-Err.is))
     (rw (wrote.refused c.in-Err.index c.in-Err.is, c.set_index.ensures.size, c.set_root_node.ensures.size)
     (placed-alone c.self.inside.pool.nodes c.args.root (lone c.args.root)
-    (set (lone 0) 0 c.in-Err.index) _ _ _ (sym (ap (λ z. get_or z 0 0) c.set_index.ensures.node ∙ c.set_root_node.ensures.leaf))
+    (set (lone 0) 0 c.in-Err.index) _ _ (sym (ap (λ z. get_or z 0 0) c.set_index.ensures.node ∙ c.set_root_node.ensures.leaf))
     (sym c.set_index.ensures.index) (wrote.placed c.in-Err.index c.in-Err.is))))
