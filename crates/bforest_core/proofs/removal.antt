@@ -18,3 +18,6 @@ pub mod RemovingMerged
 pub mod RemovingEmptied
 pub mod Healing
 pub mod LeafTake
+pub mod Losses
+pub mod Untrimmed
+pub mod LeafAt

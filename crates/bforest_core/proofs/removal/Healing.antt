@@ -11,7 +11,8 @@ use Rattle.bforest_core.proofs.removal.LeafEmptied.{emptied_tree}
 use Rattle.bforest_core.proofs.removal.PastEnd.{alone_last}
 use Rattle.bforest_core.proofs.removal.Removal.{outcome, removal, stands_in}
 use Rattle.bforest_core.proofs.removal.Removing.{kept_removed}
-use Rattle.bforest_core.proofs.removal.Taking.{LeafAt, alone_loss, leaf_at, leaf_count, leaf_keys, some_first}
+use Rattle.bforest_core.proofs.removal.Taking.{alone_loss}
+use Rattle.bforest_core.proofs.removal.LeafAt.{LeafAt, leaf_at, leaf_count, leaf_keys, some_first}
 
 -- a node that is written and freed is a node that is freed
 freed_again : {K V : Type 0} (t : Table K V) (n : ℕ) (c : Content K V) → with_freed (with_node t n c) n ≡ with_freed t n

@@ -5,12 +5,12 @@ use Rattle.bforest_core.proofs.Words.{shrink, RowIn, leaf_content, count, Distin
 use Rattle.bforest_core.proofs.rows.LevelRows.{flat-append, heads-append, sizes-append, Solid-full}
 use Rattle.bforest_core.proofs.table.Tables.{count-append, counts, count-same, row-split, row-same, ne_from_count}
 use Rattle.bforest_core.proofs.rows.Tops.{root-stands}
-use Rattle.bforest_core.proofs.removal.Merge.{loss_at}
+use Rattle.bforest_core.proofs.removal.Losses.{loss_at}
 use Rattle.bforest_core.proofs.removal.Frees.{freed_other, frees-one, frees-first}
 use Rattle.bforest_core.proofs.removal.RemovingEmptied.{fit_solid, LastOf, last_of_solid, last_heads, above_freed, Drops}
 use Rattle.bforest_core.proofs.removal.Collapse.{heads-flat}
-use Rattle.bforest_core.proofs.removal.Taking.{remove_flat, leaf_count, LeafAt, leaf_at}
-use Rattle.bforest_core.proofs.removal.Removing.{Untrimmed, up_to, trimmed_removed}
+use Rattle.bforest_core.proofs.removal.LeafAt.{remove_flat, leaf_count, LeafAt, leaf_at}
+use Rattle.bforest_core.proofs.removal.Untrimmed.{Untrimmed, up_to, trimmed_removed}
 
 -- no node follows a node of one entry
 none_after : {K X : Type 0} (half most m : ℕ) (es : List (K × X)) (after : List (LevelNode K X)) → 2 ≤ half → length es ≡ 1 → FitRow half most (node m es ∷ after) → after ≡ []

@@ -1,57 +1,11 @@
--- Removing an entry from a level, in `shrink` and in the rows: its row is rebalanced, then those above.
-use Rattle.std.proofs.Common.{◌≡◌, ℕ, zero, suc, ◌+◌, ◌-◌, ◌≤◌, ◌<◌, Option, None, true, false, Bool, if◌then◌else◌, option_map, List, [], ◌∷◌, ◌++◌, map, length, get_or, Some, refl, sym, ap, ◌∙◌, subst, append_assoc, length-append, arith}
-use Rattle.std.proofs.lemmas.Bool.{lt-ltb, le-ltb}
-use Rattle.bforest_core.proofs.Words.{loss, past, flat_map, Content, Table, LevelNode, node, flat, heads, head_of, sizes, numbers, FitRow, rebalanced, loss_above, RowIn, inner_content, count, nodes_up, Above, TwoAbove, SameBelow, top_of, Frees, Rebuilt, Loosened, Healed, Joined, Loses, least, false≢true}
+-- Removing an entry from a level of leaves or inner nodes: its row is rebalanced, then those above.
+use Rattle.std.proofs.Common.{◌≡◌, ℕ, suc, ◌+◌, ◌≤◌, ◌<◌, false, Bool, List, [], ◌∷◌, ◌++◌, map, length, get_or, Some, refl, sym, ap, ◌∙◌, subst, append_assoc, length-append, arith}
+use Rattle.bforest_core.proofs.Words.{flat_map, Content, Table, LevelNode, node, flat, heads, head_of, sizes, numbers, FitRow, rebalanced, loss_above, RowIn, inner_content, count, nodes_up, Above, TwoAbove, SameBelow, top_of, Frees, Rebuilt, Loosened, Healed, Joined, Loses, least, false≢true}
 use Rattle.bforest_core.proofs.rows.LevelRows.{flat-append, heads-append, sizes-append, FitRow-join, FitRow-split, Solid-full, least-pos}
 use Rattle.bforest_core.proofs.table.Tables.{count-append, count-same, count-row, counts, row-same}
 use Rattle.bforest_core.proofs.rows.Zipper.{stands_here}
 use Rattle.bforest_core.proofs.removal.Frees.{only_here, frees-then, frees-after, frees-wider}
-
--- the index of the node after `k` others, if it is removed
-abbrev pub placed : ℕ → Bool → Option ℕ
-placed k b = if b then Some k else None
-
-one_placed : (k : ℕ) (b : Bool) → option_map (λ index. suc index) (placed k b) ≡ placed (suc k) b
-one_placed k true = refl
-one_placed k false = refl
-
--- the sizes after the node behind these lost an entry
-pub loss_at : {K X : Type 0} (q : ℕ) (before : List (LevelNode K X)) (m e : ℕ) (after : List ℕ) → e < suc m → loss q (length (flat before) + e) (sizes before ++ suc m ∷ after) ≡ (placed (length before) (rebalanced q m after).0, sizes before ++ (rebalanced q m after).1)
-loss_at q [] m e after low =
-    let z : 0 + e ≡ e = omega arith in
-    let a = lt-ltb e (suc m) low in
-    let s : suc m - 1 ≡ m = omega arith in
-    rw (z, a, s) refl
-loss_at {K} {X} q (node k fs ∷ before) m e after low =
-    let len : length (flat (node k fs ∷ before)) + e ≡ length fs + (length (flat before) + e) = omega (arith, length-append fs (flat before)) in
-    let a = le-ltb (length fs + (length (flat before) + e)) (length fs) (omega arith) in
-    let s : length fs + (length (flat before) + e) - length fs ≡ length (flat before) + e = omega arith in
-    let ih = loss_at {K = K} {X = X} q before m e after low in
-    rw (len, a, s) (ap (λ z. past (length fs) z) ih ∙ ap (λ z. (z, length fs ∷ (sizes before ++ (rebalanced q m after).1))) (one_placed (length before) (rebalanced q m after).0))
-
--- the levels after a removal at a place of the lowest, whose nodes have at most `q` entries
-abbrev pub lost : ℕ → ℕ → List (List ℕ) → List (List ℕ)
-lost q place [] = []
-lost q place (level ∷ levels) = (loss q place level).1 ∷ loss_above (loss q place level).0 levels
-
--- a level of inner nodes is one of those above another
-pub lost_above : (place : ℕ) (levels : List (List ℕ)) → lost 8 place levels ≡ loss_above (Some place) levels
-lost_above place [] = refl
-lost_above place (level ∷ levels) = refl
-
--- a removal in one level, for a known outcome of its rebalancing
-pub loss_level : {K X : Type 0} (q : ℕ) (before : List (LevelNode K X)) (m e p : ℕ) (after : List ℕ) (levels all : List (List ℕ)) → all ≡ (sizes before ++ suc m ∷ after) ∷ levels
-    → e ≤ m → p ≡ length (flat before) + e
-    → lost q p all ≡ (sizes before ++ (rebalanced q m after).1) ∷ loss_above (placed (length before) (rebalanced q m after).0) levels
-loss_level q before m e p after levels all all_is low p_is =
-    let l = loss_at q before m e after (omega (arith, low)) in
-    ap (λ z. lost q p z) all_is ∙ rw p_is (ap (λ z. z.1 ∷ loss_above z.0 levels) l)
-
--- two paths that agree from a level up have the same nodes there
-pub nodes_up-same : (path path' : List ℕ) (level count : ℕ) → ((i : ℕ) → level ≤ i → get_or path' i 0 ≡ get_or path i 0) → nodes_up path' level count ≡ nodes_up path level count
-nodes_up-same path path' level zero same = refl
-nodes_up-same path path' level (suc count) same =
-    ap (λ z. z ++ get_or path' level 0 ∷ []) (nodes_up-same path path' (suc level) count (λ i above. same i (omega (arith, above)))) ∙ ap (λ z. nodes_up path (suc level) count ++ z ∷ []) (same level (omega arith))
+use Rattle.bforest_core.proofs.removal.Losses.{placed, lost, lost_above, loss_level, nodes_up-same}
 
 -- a level that lost an entry is rebalanced, with the rows above it: its entries are `list`, nodes of these numbers
 -- were freed, and the path goes through one of its nodes

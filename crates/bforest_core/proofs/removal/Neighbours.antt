@@ -7,7 +7,7 @@ use Rattle.bforest_core.proofs.table.Tables.{row-split}
 use Rattle.bforest_core.proofs.rows.Zipper.{Spot, stands-same}
 use Rattle.bforest_core.proofs.table.Stored.{item_count, slice_get_at, some_same}
 use Rattle.bforest_core.proofs.removal.Asked.{ChildAt, Counts, ReadsKey, ReadsChild, Beside, Seen, seen}
-use Rattle.bforest_core.proofs.removal.Taking.{no_nodes, some_first}
+use Rattle.bforest_core.proofs.removal.LeafAt.{no_nodes, some_first}
 use Rattle.bforest_core.proofs.removal.Lifted.{headed, NextNode, next_of, rows_above}
 
 second : {X Y : Type 0} (f : X → Y) (l : List X) (x y : X) (r : List X) → slice_get (map f (l ++ x ∷ y ∷ r)) (suc (length l)) ≡ Some (f y)

@@ -5,7 +5,7 @@ use Rattle.bforest_core.proofs.rows.LevelRows.{HeadIs, head-is}
 use Rattle.bforest_core.proofs.table.Tables.{row-split}
 use Rattle.bforest_core.proofs.removal.Lifted.{headed, top_one}
 use Rattle.bforest_core.proofs.removal.Asked.{NodeAt, Beside}
-use Rattle.bforest_core.proofs.removal.Taking.{no_nodes, leaf_keys}
+use Rattle.bforest_core.proofs.removal.LeafAt.{no_nodes, leaf_keys}
 use Rattle.bforest_core.proofs.removal.Collapse.{heads-flat}
 
 module _ {K V : Type 0} {most : ℕ} {t v : Table K V} {path indices : List ℕ} {size : ℕ} {tree : Tree K V} {place : ℕ} (l : LeafLoss most t v path indices size tree place) where

@@ -4,7 +4,7 @@ use Rattle.bforest_core.proofs.Words.{get_or_default, flat_map, content_at, half
 use Rattle.bforest_core.proofs.rows.LevelRows.{least-pos, head-is, HeadIs}
 use Rattle.bforest_core.proofs.table.Tables.{row-split, is_used}
 use Rattle.bforest_core.proofs.rows.Zipper.{apart_here}
-use Rattle.bforest_core.proofs.removal.Taking.{no_nodes}
+use Rattle.bforest_core.proofs.removal.LeafAt.{no_nodes}
 use Rattle.bforest_core.proofs.removal.Lifted.{headed, NextNode, next_of}
 use Rattle.bforest_core.proofs.removal.Balance.{IsHalf, IsStored, kind_half, kind_stored, AllRight, Spread, all_right_at, spread_at}
 use Rattle.bforest_core.proofs.removal.Asked.{NodeAt, Counts, Beside, Rekeys, Enters}

@@ -9,9 +9,9 @@ use Rattle.bforest_core.proofs.removal.Frees.{frees-puts, freed_other, frees-fir
 use Rattle.bforest_core.proofs.rows.Zipper.{Cut_above, Facts, facts, Spot, above_two}
 use Rattle.bforest_core.proofs.rows.Contents.{removed_last}
 use Rattle.bforest_core.proofs.removal.Lifted.{heads-put, above_same, rows_above}
-use Rattle.bforest_core.proofs.removal.Taking.{some_first, no_nodes}
+use Rattle.bforest_core.proofs.removal.LeafAt.{some_first, no_nodes}
 use Rattle.bforest_core.proofs.removal.Collapse.{heads-flat}
-use Rattle.bforest_core.proofs.removal.Merge.{placed, loss_level, lost_above}
+use Rattle.bforest_core.proofs.removal.Losses.{placed, loss_level, lost_above}
 use Rattle.bforest_core.proofs.removal.Asked.{Counts, Removes, Seen, seen}
 use Rattle.bforest_core.proofs.rows.Tops.{top_rows}
 use Rattle.bforest_core.proofs.removal.Rebalance.{rebalanced_last}

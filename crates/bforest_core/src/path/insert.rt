@@ -245,11 +245,12 @@ impl<K: Copy, V: Copy, const N: usize> Path<K, V, N> {
     )
         requires height { self.old.size ≤ most_levels }
         requires pending { (w : OneAbove pool.old self.old.node self.old.entry up self.old.size)
-            × (w.x.1 ≡ left) × (need_above (Some (length w.before)) (map sizes w.rows) ≤ suc (length pool.old.chain))
+            × (w.x.1 ≡ left)
+            × (need_above (Some (length w.before)) (map sizes w.rows) ≤ suc (length pool.old.chain))
             × (up + length (gain_above (Some (length w.before)) (map sizes w.rows)) ≤ most_levels) }
         ensures { (w : OneAbove pool.old self.old.node self.old.entry up self.old.size) → w.x.1 ≡ left
-            → (taken : List ℕ) × GrownBy w (half.key, half.node) half.moved pool.new self.new.node self.new.entry
-            self.new.size taken }
+            → (taken : List ℕ) × GrownBy w (half.key, half.node) half.moved pool.new self.new.node
+            self.new.entry self.new.size taken }
     {
         if up == self.size {
             self.push_root(left, half, pool);
@@ -281,7 +282,8 @@ impl<K: Copy, V: Copy, const N: usize> Path<K, V, N> {
         requires within { up < self.old.size }
         requires pending { OneAbove pool.old self.old.node self.old.entry up self.old.size }
         ensures grown { result ≡ true → (w : OneAbove pool.old self.old.node self.old.entry up self.old.size)
-            → GrownBy w (half.key, half.node) half.moved pool.new self.new.node self.new.entry self.new.size [] }
+            → GrownBy w (half.key, half.node) half.moved pool.new self.new.node self.new.entry
+            self.new.size [] }
         ensures full { result ≡ false → IsFullAt N pool.old.nodes (get_or self.old.node up 0) }
         ensures pool { result ≡ false → pool.new ≡ pool.old }
         ensures path { result ≡ false → self.new ≡ self.old }

@@ -18,7 +18,8 @@ impl<K: Copy, V: Copy, const N: usize> Path<K, V, N> {
     pub(super) fn right_sibling(&self, up: usize, pool: &NodePool<K, V, N>) -> Option<(K, Node)>
         requires height { self.now.size ≤ most_levels }
         requires pending { OneAbove pool.now self.now.node self.now.entry up self.now.size }
-        ensures { (w : OneAbove pool.now self.now.node self.now.entry up self.now.size) → NextIs result w.after }
+        ensures { (w : OneAbove pool.now self.now.node self.now.entry up self.now.size)
+            → NextIs result w.after }
     {
         if up == self.size {
             return None;
@@ -80,7 +81,8 @@ impl<K: Copy, V: Copy, const N: usize> Path<K, V, N> {
         requires pending { TwoAbove pool.now self.old.node self.old.entry (suc level) self.old.size }
         ensures moved { (w : TwoAbove pool.now self.old.node self.old.entry (suc level) self.old.size) → Above
             pool.now self.new.node self.new.entry (suc level) self.old.size w.rows
-            (w.before ++ w.x ∷ w.y ∷ w.after) (suc (length w.before)) × (get_or self.new.node level 0 ≡ w.y.1) }
+            (w.before ++ w.x ∷ w.y ∷ w.after) (suc (length w.before))
+            × (get_or self.new.node level 0 ≡ w.y.1) }
         ensures first { get_or self.new.entry level 0 ≡ 0 }
         ensures nodes_below { SameBelow level self.old.node self.new.node }
         ensures entries_below { SameBelow level self.old.entry self.new.entry }
@@ -179,7 +181,8 @@ impl<K: Copy, V: Copy, const N: usize> Path<K, V, N> {
         requires pending { LastAbove pool.old self.now.node self.now.entry up self.now.size }
         ensures { (w : LastAbove pool.old self.now.node self.now.entry up self.now.size) → (levels : ℕ)
             × Dropped pool.old pool.new self.now.node self.now.size w.rows (w.before ++ w.y ∷ [])
-            (loss_above (Some (suc (length w.before))) (map sizes w.rows)) (nodes_up self.now.node up levels) }
+            (loss_above (Some (suc (length w.before))) (map sizes w.rows))
+            (nodes_up self.now.node up levels) }
     {
         let parent = self.node[up];
         if entries(pool, parent) == 1 {
