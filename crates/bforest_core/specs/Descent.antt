@@ -1,12 +1,12 @@
 -- Descending a tree: the leaves and rows below some of its nodes, and where a path stands there.
-use Rattle.std.specs.Prelude.{◌≡◌, ◌≢◌, ℕ, suc, ◌+◌, ◌-◌, ◌≤◌, ◌<◌, true, false, List, [], ◌∷◌, ◌++◌, length, get_or, slice_get, slice_set, Some}
+use Rattle.std.specs.Prelude.{◌≡◌, ◌≢◌, ℕ, suc, ◌+◌, ◌≤◌, ◌<◌, true, false, List, [], ◌∷◌, ◌++◌, length, get_or, slice_get, slice_set, Some}
 use Rattle.std.specs.declared.cmp.Ordering.{Ordering}
 use Rattle.std.specs.declared.cmp.Ordering.TheVariants.{Greater}
 use Rattle.bforest_nodes.specs.Content.{Content}
 use Rattle.bforest_nodes.specs.Search.{count_up_to}
 use Rattle.bforest_nodes.specs.Entries.{IsIncreasing, is_present, place, value_for}
 use Rattle.bforest_core.specs.Levels.{LevelNode, node, flat, heads, FitRow, half_of, Tree, IsFit, top_level}
-use Rattle.bforest_core.specs.Place.{RowIn, RowsIn, leaf_content, IsAt, IsIn, root_of, StandsAbove}
+use Rattle.bforest_core.specs.Place.{RowIn, RowsIn, leaf_content, IsAt, IsIn, root_of}
 
 -- the two paths agree above a level
 abbrev pub SameAbove : ℕ → List ℕ → List ℕ → Type 0

@@ -2,7 +2,7 @@
 use Rattle.std.proofs.Common.{◌≡◌, zero, suc, ◌+◌, ◌≤◌, List, ◌∷◌, ◌++◌, map, length, refl, sym, ap, ◌∙◌, subst, length-append, arith, ℕ, []}
 use Rattle.bforest_core.proofs.Words.{flat_map, remove, flat_map-append, Table, LevelNode, node, flat, heads, sizes, numbers, FitRow, Stacked, Tree, half_of, trimmed, RowIn, RowsIn, leaf_content, count, root_above, root_of, numbers_of, Stands}
 use Rattle.bforest_core.proofs.Words.{IsPathAt, nodes_up, Frees, UpTo, Trimmed, StandsIn, Removed, sizes_of}
-use Rattle.bforest_core.proofs.walks.Steps.{fit_full}
+use Rattle.bforest_core.proofs.walks.RowNodes.{fit_full}
 use Rattle.bforest_core.proofs.table.Tables.{count-append, row-same, rows-same}
 use Rattle.bforest_core.proofs.rows.Tops.{root-stands}
 use Rattle.bforest_core.proofs.removal.Frees.{frees-then}

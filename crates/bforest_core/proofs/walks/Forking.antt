@@ -1,5 +1,5 @@
 -- Two searches that go to the same child of a node: each answer of `goes_along` is one of these.
-use Rattle.std.proofs.Common.{◌≡◌, ℕ, suc, ◌-◌, ◌<◌, ◌≤◌, List, [], ◌∷◌, Some, arith, false, length, refl, slice_get, subst, sym, ap, true, ◌∙◌}
+use Rattle.std.proofs.Common.{◌≡◌, ℕ, suc, ◌<◌, ◌≤◌, List, [], ◌∷◌, Some, arith, false, length, refl, slice_get, subst, sym, ap, true, ◌∙◌}
 use Rattle.bforest_core.proofs.Words.{Content, Inner, IsStrictlySortedBy, IsTotalOrder, child_index, slice_get_within}
 use Rattle.bforest_core.proofs.table.Stored.{some_same}
 use Rattle.bforest_nodes.specs.Content.{keys_of}
