@@ -2,17 +2,15 @@
 //!
 //! `driver` prints the table, `driver --count` its instructions and memory alone, and `driver --others` the rows of small maps and sets, beside
 //! what a user would pick instead of a forest. `driver --compare` reads runs that were made elsewhere and compares their checksums, and
-//! `driver --growth MOST [FILE]` prints how the cost of a call grows with a map's size, and draws it into a file.
+//! `driver --growth MOST` prints how the cost of a call grows with a map's size.
 //! `driver --one SIDE KIND NUMBERS` makes one run in a process of its own, whose instructions and memory can be counted.
 //!
 //! Each run builds its maps from nothing. The cost of a phase is the difference of two runs, of which one has the phase, or more rounds of it.
 
 mod others;
-mod picture;
 mod runs;
 mod sets;
 
-use picture::{picture, Growth};
 use runs::{run, Kind, Side, Work, KINDS, OTHERS, SIDES};
 use std::process::{exit, Command};
 use std::time::Duration;
@@ -510,11 +508,10 @@ fn print_all(program: &str, tables: &Tables) {
     print_counts(program, tables);
 }
 
-// Prints how the cost of a call grows with the size of a map, and draws it into a file, if one is named.
-fn print_growth(program: &str, most: u32, file: Option<&String>) {
+// Prints how the cost of a call grows with the size of a map.
+fn print_growth(program: &str, most: u32) {
     println!("Wall time of a call in nanoseconds, best of 3, of one above 1000000:");
     println!("{:37} {:>9}{}", "", "size", heads(SIDES));
-    let mut phases: Vec<Growth> = vec![];
     let mut size = 10;
     while size <= most {
         let repeats = 1_000_000u32.div_ceil(size);
@@ -525,18 +522,9 @@ fn print_growth(program: &str, most: u32, file: Option<&String>) {
             for row in &rows {
                 let of_row = of_sides(SIDES, |side| costs.of_row(side, row));
                 println!("{:37} {:>9}{}", row.name, row.size, columns(&of_row, 1));
-                match phases.iter_mut().find(|phase| phase.name == row.name) {
-                    Some(phase) => phase.costs.push((size, of_row)),
-                    None => phases.push(Growth { name: row.name, costs: vec![(size, of_row)] }),
-                }
             }
         }
         size = size.saturating_mul(10);
-    }
-    let Some(file) = file else { return };
-    if let Err(error) = std::fs::write(file, picture(&phases)) {
-        eprintln!("{file}: {error}");
-        exit(1);
     }
 }
 
@@ -571,12 +559,12 @@ fn main() {
         Some("--compare") => compare(),
         Some("--growth") => {
             let most = words.get(2).and_then(|word| word.parse().ok()).unwrap_or(1_000_000);
-            print_growth(program, most, words.get(3));
+            print_growth(program, most);
         }
         Some("--one") => make_one(&words[2..]),
         Some("--timed") => time_one(&words[2..]),
         Some(_) => {
-            eprintln!("usage: driver [--count | --others | --compare | --growth MOST [FILE]]");
+            eprintln!("usage: driver [--count | --others | --compare | --growth MOST]");
             exit(2);
         }
     }
