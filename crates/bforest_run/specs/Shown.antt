@@ -37,72 +37,58 @@ refusal_text Full = codes "full"
 abbrev pub counts_text : (levels slots free : ℕ) → List ℕ
 counts_text levels slots free = codes "levels " ++ decimal levels ++ codes " slots " ++ decimal slots ++ codes " free " ++ decimal free
 
+-- Texts from those of a value, of an entry, and of the value that an insertion met.
+module _ {V : Type 0} (value_text : Option V → List ℕ) (entry_text : ℕ × V → List ℕ) (old_text : Option V → List ℕ) where
+  abbrev pub pair_text : Option (ℕ × V) → List ℕ
+  pair_text (Some e) = entry_text e
+  pair_text None = codes "none"
+
+  abbrev pub put_text : Result (Option V) OutOfMemory → List ℕ
+  put_text (Ok old) = old_text old
+  put_text (Err why) = refusal_text why
+
+  abbrev pub seen_text : Seen ℕ V → List ℕ
+  seen_text (seen.Pair pair) = pair_text pair
+  seen_text (seen.Key key) = number_text key
+  seen_text (seen.Value value) = value_text value
+  seen_text (seen.Put result) = put_text result
+  seen_text (seen.Flag so) = truth_text so
+  seen_text seen.Done = codes "ok"
+
+  abbrev pub answer_text : Answer ℕ V → List ℕ
+  answer_text (answer.Value value) = value_text value
+  answer_text (answer.Pair pair) = pair_text pair
+  answer_text (answer.Put result) = put_text result
+  answer_text (answer.Pairs pairs) = codes "[" ++ texts entry_text pairs.items ++ codes "]"
+  answer_text (answer.Script sights) = texts seen_text sights.items
+  answer_text answer.Done = codes "ok"
+  answer_text answer.NoIndex = codes "no index"
+  answer_text answer.Dead = codes "dead"
+  answer_text answer.Unordered = codes "unordered"
+  answer_text answer.NotOffered = codes "not offered"
+
 -- Texts for maps: an entry is its key and its value, with a colon between them.
 abbrev pub entry_text : ℕ × ℕ → List ℕ
 entry_text e = decimal e.0 ++ codes ":" ++ decimal e.1
 
-abbrev pub pair_text : Option (ℕ × ℕ) → List ℕ
-pair_text (Some e) = entry_text e
-pair_text None = codes "none"
-
-abbrev pub put_text : Result (Option ℕ) OutOfMemory → List ℕ
-put_text (Ok None) = codes "new"
-put_text (Ok (Some old)) = codes "old:" ++ decimal old
-put_text (Err why) = refusal_text why
-
-abbrev pub seen_text : Seen ℕ ℕ → List ℕ
-seen_text (seen.Pair pair) = pair_text pair
-seen_text (seen.Key key) = number_text key
-seen_text (seen.Value value) = number_text value
-seen_text (seen.Put result) = put_text result
-seen_text (seen.Flag so) = truth_text so
-seen_text seen.Done = codes "ok"
+abbrev pub old_text : Option ℕ → List ℕ
+old_text None = codes "new"
+old_text (Some old) = codes "old:" ++ decimal old
 
 abbrev pub map_text : Answer ℕ ℕ → List ℕ
-map_text (answer.Value value) = number_text value
-map_text (answer.Pair pair) = pair_text pair
-map_text (answer.Put result) = put_text result
-map_text (answer.Pairs pairs) = codes "[" ++ texts entry_text pairs.items ++ codes "]"
-map_text (answer.Script sights) = texts seen_text sights.items
-map_text answer.Done = codes "ok"
-map_text answer.NoIndex = codes "no index"
-map_text answer.Dead = codes "dead"
-map_text answer.Unordered = codes "unordered"
-map_text answer.NotOffered = codes "not offered"
+map_text = answer_text number_text entry_text old_text
 
 -- Texts for sets: an entry is its key, and a value is whether the key is present.
 abbrev pub key_text : ℕ × Unit {0} → List ℕ
 key_text e = decimal e.0
 
-abbrev pub found_text : Option (ℕ × Unit {0}) → List ℕ
-found_text (Some e) = key_text e
-found_text None = codes "none"
-
 abbrev pub present_text : Option (Unit {0}) → List ℕ
 present_text (Some it) = codes "true"
 present_text None = codes "false"
 
-abbrev pub put_key_text : Result (Option (Unit {0})) OutOfMemory → List ℕ
-put_key_text (Ok None) = codes "new"
-put_key_text (Ok (Some it)) = codes "old"
-put_key_text (Err why) = refusal_text why
-
-abbrev pub seen_key_text : Seen ℕ (Unit {0}) → List ℕ
-seen_key_text (seen.Pair pair) = found_text pair
-seen_key_text (seen.Key key) = number_text key
-seen_key_text (seen.Value value) = present_text value
-seen_key_text (seen.Put result) = put_key_text result
-seen_key_text (seen.Flag so) = truth_text so
-seen_key_text seen.Done = codes "ok"
+abbrev pub old_key_text : Option (Unit {0}) → List ℕ
+old_key_text None = codes "new"
+old_key_text (Some it) = codes "old"
 
 abbrev pub set_text : Answer ℕ (Unit {0}) → List ℕ
-set_text (answer.Value value) = present_text value
-set_text (answer.Pair pair) = found_text pair
-set_text (answer.Put result) = put_key_text result
-set_text (answer.Pairs pairs) = codes "[" ++ texts key_text pairs.items ++ codes "]"
-set_text (answer.Script sights) = texts seen_key_text sights.items
-set_text answer.Done = codes "ok"
-set_text answer.NoIndex = codes "no index"
-set_text answer.Dead = codes "dead"
-set_text answer.Unordered = codes "unordered"
-set_text answer.NotOffered = codes "not offered"
+set_text = answer_text present_text key_text old_key_text

@@ -11,7 +11,7 @@ use crate::line::Line;
 use crate::order::ORDERS;
 use crate::parse::map_line;
 use crate::shown::{Counts, Truth};
-use crate::shown_map::Shown;
+use crate::shown_answer::Shown;
 use crate::word::HANDLE_COUNT;
 use bforest::{Map, MapForest};
 use bforest_calls::{Answer, Call, make};

@@ -1,8 +1,0 @@
-use Rattle.bforest_run.proofs.shown_set.MoreEntriesDisplay.fmt.Given as goal
-use Rattle.bforest_run.specs.Shown.{key_text, more_texts}
-use Rattle.std.proofs.Common.{take}
-use Rattle.std.specs.Fmt.{HasWritten, IsPlainFormatter}
-
--- the entries before the index are written
-abbrev pub invariant-entries : goal.invariant-entries
-invariant-entries g l = IsPlainFormatter l.initial.f → HasWritten g.W.Write.write_str_gives l.initial.f (more_texts key_text (take l.entry-index l.entry-items)) l.f
