@@ -121,7 +121,8 @@ fn compare_in<K: Copy, V: Copy, C: Comparator<K>, T: Collection<K, V>>(
     requires ready { T.ready }
     requires compares { (h : ℕ) × (c : ℕ) × IsComparing T.READS h c call.now }
     requires live { IsLive (T.trees forest.old) (T.number handle.old) }
-    requires increasing { IsIncreasing (C.order comp.now) (list_of (T.trees forest.old) (T.number handle.old)) }
+    requires increasing { IsIncreasing (C.order comp.now)
+        (list_of (T.trees forest.old) (T.number handle.old)) }
     ensures makes { IfOk result (λ given. Makes T.most (C.order comp.now) call.now
         (record { forest = T.trees forest.old; number = T.number handle.old }) given
         (record { forest = T.trees forest.new; number = T.number handle.new })) }

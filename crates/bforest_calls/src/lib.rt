@@ -12,4 +12,5 @@ mod steps;
 pub use call::{Act, Answer, Call, Look, Seen, Side};
 pub use collection::Collection;
 pub use engine::make;
-pub use run::{run_map, run_set};
+pub use maps::run_map;
+pub use sets::run_set;

@@ -1,23 +1,52 @@
-//! Maps, as the engine asks for them.
+//! Lists of calls on maps, and maps as the engine asks for them.
 ghost use Rattle.bforest.specs.Bounds.{entries_between};
 ghost use Rattle.bforest.specs.Cursor.{Goes, IsCursor, entries, forest_now, map_now, spot};
 ghost use Rattle.bforest.specs.Forest.{IsLive, list_of};
 ghost use Rattle.bforest.specs.Memory.{IsReadable};
 ghost use Rattle.bforest_calls.specs.Looks.{all_taken};
+ghost use Rattle.bforest_calls.specs.Machine.{MayStopAt, Run};
 ghost use Rattle.bforest_calls.specs.State.{Retained, WritesAt, is_listed};
 ghost use Rattle.bforest_calls.specs.Steps.{ActsBy, LooksBy, TakesFrom, map_view};
 ghost use Rattle.bforest_nodes.specs.Entries.{IsIncreasing};
 ghost use Rattle.std.proofs.Common.{◌∙◌};
 ghost use Rattle.std.proofs.lemmas.List.{get_or_default};
-ghost use Rattle.std.specs.Prelude.{IfOk, None, is_some, refl, slice_get, true, unwrap_or, ◌≡◌};
+ghost use Rattle.std.specs.Prelude.{IfOk, None, OnErr, is_some, map, refl, slice_get, take, true, unwrap_or, ◌≡◌, ℕ};
 
-use crate::call::{Act, Look, Seen, Side};
+use crate::call::{Act, Answer, Call, Look, Seen, Side};
 use crate::collection::Collection;
+use crate::run::run;
 use crate::steps::{Steps, each};
 use bforest::{Comparator, Map, MapCursor, MapCursorMut, MapForest, MapRange, OutOfMemory};
 use std::alloc::{AllocError, Global};
 use std::cmp::Ordering;
 use std::ops::Bound;
+
+/// Makes the calls in order, on maps, and returns one answer for each. Handles and orders may be any: each call tests them.
+///
+/// Room for all answers is taken first, and room for the answer of a call before that call changes anything.
+///
+/// # Errors
+///
+/// `AllocError` where memory for the answers was refused: then the first calls, up to some number, were made, each whole. It ends before the
+/// first call, or at a call that is answered by a list.
+pub fn run_map<K: Copy, V: Copy, C: Comparator<K>>(
+    alloc: Global,
+    calls: &[Call<K, V>],
+    comps: &[C],
+    handles: &mut [Map<K, V>],
+    forest: &mut MapForest<K, V>,
+) -> Result<Vec<Answer<K, V>>, AllocError>
+    // The answers are those of a run of the machine, from the old state to the new one.
+    ensures run { IfOk result (λ answers. Run 7 true (map C.order comps.now)
+        (record { forest = forest.old; handles = handles.old }) calls.now answers.items
+        (record { forest = forest.new; handles = handles.new })) }
+    // Where memory was refused, the first n calls were made, each whole.
+    ensures err { OnErr result ((n : ℕ) × (answers : _) × Run 7 true (map C.order comps.now)
+        (record { forest = forest.old; handles = handles.old }) (take n calls.now) answers
+        (record { forest = forest.new; handles = handles.new }) × MayStopAt calls.now n) }
+{
+    run(alloc, calls, comps, handles, forest)
+}
 
 impl<K: Copy, V: Copy> Collection<K, V> for Map<K, V> {
     type Forest = MapForest<K, V>;
@@ -26,9 +55,9 @@ impl<K: Copy, V: Copy> Collection<K, V> for Map<K, V> {
 
     ghost READS = { true };
 
-    ghost number = { λ map. map };
+    ghost number = { λ handle. handle };
 
-    ghost numbers = { λ maps. maps };
+    ghost numbers = { λ handles. handles };
 
     ghost trees = { λ forest. forest };
 

@@ -1,24 +1,54 @@
-//! Sets, as the engine asks for them: the value of a key is the unit.
+//! Lists of calls on sets, and sets as the engine asks for them: the value of a key is the unit.
 ghost use Rattle.bforest.specs.Bounds.{entries_between};
 ghost use Rattle.bforest.specs.Forest.{IsLive, list_of};
 ghost use Rattle.bforest.specs.Memory.{IsSetReadable};
 ghost use Rattle.bforest.specs.Set.{as_put, as_removed};
 ghost use Rattle.bforest.specs.SetCursor.{IsCursor};
 ghost use Rattle.bforest_calls.specs.Looks.{all_taken, with_each};
+ghost use Rattle.bforest_calls.specs.Machine.{MayStopAt, Run};
 ghost use Rattle.bforest_calls.specs.State.{Retained, is_listed};
 ghost use Rattle.bforest_calls.specs.Steps.{ActsBy, TakesFrom, set_view};
 ghost use Rattle.bforest_nodes.specs.Entries.{IsIncreasing};
 ghost use Rattle.std.proofs.Common.{◌∙◌};
 ghost use Rattle.std.proofs.lemmas.List.{get_or_default};
-ghost use Rattle.std.specs.Prelude.{IfOk, None, false, option_map, refl, ◌≡◌};
+ghost use Rattle.std.specs.Prelude.{IfOk, None, OnErr, false, map, option_map, refl, take, ◌≡◌, ℕ};
 
-use crate::call::{Act, Look, Seen, Side};
+use crate::call::{Act, Answer, Call, Look, Seen, Side};
 use crate::collection::Collection;
+use crate::run::run;
 use crate::steps::{Steps, each};
 use bforest::{Comparator, OutOfMemory, Set, SetCursor, SetForest, SetRange};
 use std::alloc::{AllocError, Global};
 use std::cmp::Ordering;
 use std::ops::Bound;
+
+/// Makes the calls in order, on sets, and returns one answer for each. The only value is the unit: [`Call::Get`] is
+/// `contains`, and an insertion answers the unit where the key was present. [`Call::Read`] is not offered.
+///
+/// Room for all answers is taken first, and room for the answer of a call before that call changes anything.
+///
+/// # Errors
+///
+/// `AllocError` where memory for the answers was refused: then the first calls, up to some number, were made, each whole. It ends before the
+/// first call, or at a call that is answered by a list.
+pub fn run_set<K: Copy, C: Comparator<K>>(
+    alloc: Global,
+    calls: &[Call<K, ()>],
+    comps: &[C],
+    handles: &mut [Set<K>],
+    forest: &mut SetForest<K>,
+) -> Result<Vec<Answer<K, ()>>, AllocError>
+    // The answers are those of a run of the machine, from the old state to the new one.
+    ensures run { IfOk result (λ answers. Run 15 false (map C.order comps.now)
+        (record { forest = forest.old; handles = handles.old }) calls.now answers.items
+        (record { forest = forest.new; handles = handles.new })) }
+    // Where memory was refused, the first n calls were made, each whole.
+    ensures err { OnErr result ((n : ℕ) × (answers : _) × Run 15 false (map C.order comps.now)
+        (record { forest = forest.old; handles = handles.old }) (take n calls.now) answers
+        (record { forest = forest.new; handles = handles.new }) × MayStopAt calls.now n) }
+{
+    run(alloc, calls, comps, handles, forest)
+}
 
 impl<K: Copy> Collection<K, ()> for Set<K> {
     type Forest = SetForest<K>;
@@ -27,9 +57,9 @@ impl<K: Copy> Collection<K, ()> for Set<K> {
 
     ghost READS = { false };
 
-    ghost number = { λ set. set };
+    ghost number = { λ handle. handle };
 
-    ghost numbers = { λ sets. sets };
+    ghost numbers = { λ handles. handles };
 
     ghost trees = { λ forest. forest };
 
