@@ -1,8 +1,8 @@
 //! A tree of one of the capacities that lines can name. Callers need no capacity as a parameter.
 
+use crate::plain::Plain;
 use crate::tree::{Detail, Tree};
 use bforest_core::OutOfMemory;
-use bforest_model::Plain;
 use std::alloc::{AllocError, Global};
 
 /// A tree whose leaves hold at most 3, 7, 15 or 255 entries.

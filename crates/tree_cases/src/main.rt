@@ -3,7 +3,9 @@
 #![tactic(auto)]
 
 mod any;
+mod level;
 mod pair;
+mod plain;
 mod tree;
 mod trial;
 mod words;

@@ -5,8 +5,8 @@ ghost use Rattle.bforest_core.specs.Trees.{IsUnion};
 ghost use Rattle.tree_cases.specs.Ordered.{CanGoOn, IsOrderedAt};
 ghost use Rattle.std.specs.Prelude.{IfOk, IfSome, OnErr, ℕ, ◌<◌, ◌≡◌, ◌≢◌};
 
+use crate::plain::Plain;
 use bforest_core::{Node, NodePool, OutOfMemory, Path};
-use bforest_model::Plain;
 use std::alloc::{AllocError, Global};
 use std::marker::Model;
 use std::process::Abort;

@@ -1,9 +1,9 @@
 //! A tree beside the plain program: each change is made to both, and then both are compared.
 
 use crate::any::AnyTree;
+use crate::plain::Plain;
 use crate::words::{Stop, keys, number};
 use bforest_core::OutOfMemory;
-use bforest_model::Plain;
 use std::alloc::{AllocError, Global};
 
 /// A tree, and the state of the plain program after the same calls.
