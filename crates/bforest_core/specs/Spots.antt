@@ -1,6 +1,7 @@
 -- The place of a leaf in its tree as a number, with an octal digit for each level of inner nodes.
-use Rattle.std.specs.Prelude.{◌≡◌, ℕ, suc, ◌+◌, ◌<◌, ◌/◌, ◌%◌, IfSome, IsTrue, List, [], ◌∷◌, ◌++◌, drop, length, get_or, slice_get, take, Option, Some, None, ◌≤◌}
-use Rattle.bforest_nodes.specs.Content.{Content}
+use Rattle.std.proofs.Math.Logic.{◌⊎◌}
+use Rattle.std.specs.Prelude.{◌≡◌, ℕ, suc, ◌+◌, ◌-◌, ◌<◌, ◌/◌, ◌%◌, IfSome, IsTrue, List, [], ◌∷◌, ◌++◌, drop, length, get_or, slice_get, take, Option, Some, None, ◌≤◌, ◌*◌, ◌^◌}
+use Rattle.bforest_nodes.specs.Content.{Content, entry_count}
 use Rattle.bforest_core.specs.Descent.{Under}
 use Rattle.bforest_core.specs.Levels.{LevelNode, flat, node, Stacked}
 use Rattle.bforest_core.specs.Place.{IsAt, RowsIn, inner_content, leaf_content, root_above}
@@ -132,6 +133,47 @@ module _ {K V : Type 0} (slots : List (Content K V)) (root code depth : ℕ) whe
 
   abbrev pub IsPrevOf : Option (Spot × ℕ) → Type 0
   IsPrevOf = IsBesideOf IsBefore IsFirstPlace
+
+-- a node has a child behind the one at an index, or before it
+abbrev pub HasNextChild : {K V : Type 0} → Content K V → ℕ → Type 0
+HasNextChild content index = index + 1 < entry_count content
+
+abbrev pub HasPrevChild : {K V : Type 0} → Content K V → ℕ → Type 0
+HasPrevChild content index = 0 < index
+
+module _ {K V : Type 0} (slots : List (Content K V)) (root : ℕ) (here : Spot) (node : ℕ) (HasBeside : Content K V → ℕ → Type 0) (Beside AtEnd : ℕ → ℕ → Type 0) where
+  -- the child of a node beside the one at an index was found, or there is none, and what was found further up stays
+  abbrev pub IsLower : ℕ → Option (Spot × ℕ) → Option (Spot × ℕ) → Type 0
+  IsLower index above found =
+      ((child : Spot × ℕ) × (found ≡ Some child) × IsBesideOf slots root (here.code * 8 + index) (suc here.height) Beside AtEnd (Some child) × (child.0.height ≡ suc here.height))
+      ⊎ ((content : Content K V) × (slice_get slots node ≡ Some content) × (¬ HasBeside content index) × (found ≡ above))
+
+module _ {K V : Type 0} (slots : List (Content K V)) (root code height : ℕ) where
+  -- the way of a code is followed down to this node, with some levels left
+  pub record Followed (left : ℕ) (spot : Spot) (node : ℕ) : Type 0 where
+    pub low : left ≤ height
+    pub height_is : spot.height ≡ height - left
+    pub code_is : spot.code ≡ code / 2 ^ (3 * left)
+    pub leads : Leads slots root spot.code spot.height spot node
+
+  module _ (HasBeside : Content K V → ℕ → Type 0) where
+    -- on the way of a code the node with this many levels left has no child beside the one to which the way goes
+    pub record EndsAt (left : ℕ) : Type 0 where
+      pub spot : Spot
+      pub node : ℕ
+      pub content : Content K V
+      pub way : Followed left spot node
+      pub slot_is : slice_get slots node ≡ Some content
+      pub none : ¬ HasBeside content (code / 2 ^ (3 * (left - 1)) % 8)
+
+    -- this is the lowest node beside the way of a code, as far as the way was followed, and its spot
+    pub record IsTurn (Beside AtEnd : ℕ → ℕ → Type 0) (left : ℕ) (spot : Spot) (number : ℕ) : Type 0 where
+      pub level : ℕ
+      pub height_is : spot.height ≡ height - level
+      pub within : level ≤ height
+      pub low : left ≤ level
+      pub beside : IsBesideOf slots root (code / 2 ^ (3 * level)) (height - level) Beside AtEnd (Some (spot, number))
+      pub ends : (j : ℕ) → left < j → j ≤ level → EndsAt j
 
 module _ {K V : Type 0} (most : ℕ) (slots : List (Content K V)) (Side : List (K × ℕ) → List (K × ℕ) → Type 0) (spot : Spot) (number : ℕ) where
   -- a spot's way goes to a node on one side of its level, under which lie some leaves and rows

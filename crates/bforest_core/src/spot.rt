@@ -9,7 +9,7 @@ ghost use Rattle.bforest_core.specs.Trees.{IsUnion, is_root, tree_of};
 ghost use Rattle.bforest_nodes.specs.Content.{Inner, IsLeafCapacity};
 ghost use Rattle.bforest_nodes.specs.Entries.{IsIncreasing};
 ghost use Rattle.bforest_core.specs.Descent.{IsFirst, IsLast, SearchThrough, child_index};
-ghost use Rattle.bforest_core.specs.Spots.{HasNext, HasNoParent, HasPrev, HasUnder, HasWay, IsLeafAt, IsNextOf, IsPrevOf, IsSpotAt, IsWay, Leads, NumberAt, OnUnder, OnWay, SpotOn, leaf_count, leaf_place};
+ghost use Rattle.bforest_core.specs.Spots.{IsLower, Leads, HasNext, HasNextChild, HasNoParent, HasPrev, HasPrevChild, HasUnder, HasWay, IsBefore, IsBehind, IsFirstPlace, IsLastPlace, IsLeafAt, IsNextOf, IsPrevOf, IsSpotAt, IsTurn, IsWay, NumberAt, OnUnder, OnWay, SpotOn, leaf_count, leaf_place};
 
 use crate::access::{child, child_count, follow, last_index, separator};
 use crate::pool::NodePool;
@@ -194,9 +194,7 @@ impl Spot {
             };
             return Some((spot, leaf));
         }
-        // The answer is made anew: handed on whole, it would lie in memory, and the answers of all other ways with it.
-        let (spot, leaf) = next_far(self.code, self.height, root, pool)?;
-        Some((spot, leaf))
+        next_far(self.code, self.height, root, pool)
     }
 
     /// The leaf before, and its place, if there is one. A spot without a parent has none.
@@ -283,9 +281,7 @@ impl Spot {
             };
             return Some((spot, leaf));
         }
-        // The answer is made anew: handed on whole, it would lie in memory, and the answers of all other ways with it.
-        let (spot, leaf) = prev_far(self.code, self.height, root, pool)?;
-        Some((spot, leaf))
+        prev_far(self.code, self.height, root, pool)
     }
 
     /// The leaf in which a search for `key` ends in the tree under `root`, and its place.
@@ -364,9 +360,9 @@ fn goes_along<K: Copy, V: Copy, const N: usize, C: Comparator<K>>(
     index == last_index(pool, node) || comp.cmp(key, separator(pool, node, index)).is_lt()
 }
 
-// The node behind the one at which the way of a code ends, and its spot, if there is one. The way is followed from the root down, and
-// with it, level by level, the way to the node behind.
-#[inline(never)]
+// The node behind the one at which the way of a code ends, and its spot, if there is one: the way turns to the next child as low as it can, and
+// goes on to the first children.
+#[inline(always)]
 fn next_far<K: Copy, V: Copy, const N: usize>(
     code: u64,
     height: u32,
@@ -377,23 +373,44 @@ fn next_far<K: Copy, V: Copy, const N: usize>(
     requires over { HasWay pool.now.nodes root code height }
     ensures next { IsNextOf pool.now.nodes root code height result }
 {
+    let (mut here, mut next) = turn_on(code, height, root, pool)?;
+    while here.height < height {
+        here = here.below(next, 0);
+        next = child(pool, next, 0);
+    }
+    Some((here, next))
+}
+
+// The lowest next child beside the way of a code, and its spot, if there is one.
+#[inline(always)]
+fn turn_on<K: Copy, V: Copy, const N: usize>(
+    code: u64,
+    height: u32,
+    root: Node,
+    pool: &NodePool<K, V, N>,
+) -> Option<(Spot, Node)>
+    requires low { height ≤ 16 }
+    requires over { HasWay pool.now.nodes root code height }
+    ensures some { IfSome result (λ turn.
+        IsTurn pool.now.nodes root code height HasNextChild IsBehind IsLastPlace 0 turn.0 turn.1) }
+    ensures none { result ≡ None → IsNextOf pool.now.nodes root code height None }
+{
     let (mut here, mut node) = (Spot::root(root), root);
     let mut next = None;
     let mut left = height;
     while left > 0 {
         left -= 1;
         let index = ((code >> (3 * left)) % 8) as usize;
-        next = next_below(next, &here, node, index, pool);
+        next = lower_next(next, &here, node, index, pool);
         here = here.below(node, index);
         node = child(pool, node, index);
     }
     next
 }
 
-// One level further down: the node behind the child of `node` at an index, where `here` is the spot of `node`, and `above` the node
-// behind it, if there is one.
+// The child of `node` behind the one at an index, and its spot, where there is one; else what was found further up. `here` is the spot of `node`.
 #[inline(always)]
-fn next_below<K: Copy, V: Copy, const N: usize>(
+fn lower_next<K: Copy, V: Copy, const N: usize>(
     above: Option<(Spot, Node)>,
     here: &Spot,
     node: Node,
@@ -402,23 +419,20 @@ fn next_below<K: Copy, V: Copy, const N: usize>(
 ) -> Option<(Spot, Node)>
     requires low { here.now.height < 16 }
     requires index { index < 8 }
-    requires above { (root : ℕ) × HasWay pool.now.nodes root (here.now.code * 8 + index) (suc here.now.height)
-        × Leads pool.now.nodes root here.now.code here.now.height here.now node
-        × IsNextOf pool.now.nodes root here.now.code here.now.height above }
-    ensures next { (root : ℕ) → Leads pool.now.nodes root here.now.code here.now.height here.now node
-        → IsNextOf pool.now.nodes root here.now.code here.now.height above
-        → IsNextOf pool.now.nodes root (here.now.code * 8 + index) (suc here.now.height) result }
+    requires way { (root : ℕ) × HasWay pool.now.nodes root (here.now.code * 8 + index) (suc here.now.height)
+        × Leads pool.now.nodes root here.now.code here.now.height here.now node }
+    ensures lower { (root : ℕ) → Leads pool.now.nodes root here.now.code here.now.height here.now node
+        → IsLower pool.now.nodes root here.now node HasNextChild IsBehind IsLastPlace index above result }
 {
     if index + 1 < child_count(pool, node) {
         return Some((here.below(node, index + 1), child(pool, node, index + 1)));
     }
-    let (spot, next) = above?;
-    Some((spot.below(next, 0), child(pool, next, 0)))
+    above
 }
 
-// The node before the one at which the way of a code ends, and its spot, if there is one. The way is followed from the root down, and
-// with it, level by level, the way to the node before.
-#[inline(never)]
+// The node before the one at which the way of a code ends, and its spot, if there is one: the way turns to the child before as low as it can,
+// and goes on to the last children.
+#[inline(always)]
 fn prev_far<K: Copy, V: Copy, const N: usize>(
     code: u64,
     height: u32,
@@ -429,23 +443,45 @@ fn prev_far<K: Copy, V: Copy, const N: usize>(
     requires over { HasWay pool.now.nodes root code height }
     ensures before { IsPrevOf pool.now.nodes root code height result }
 {
+    let (mut here, mut before) = turn_back(code, height, root, pool)?;
+    while here.height < height {
+        let last = last_index(pool, before);
+        here = here.below(before, last);
+        before = child(pool, before, last);
+    }
+    Some((here, before))
+}
+
+// The lowest child before the way of a code, and its spot, if there is one.
+#[inline(always)]
+fn turn_back<K: Copy, V: Copy, const N: usize>(
+    code: u64,
+    height: u32,
+    root: Node,
+    pool: &NodePool<K, V, N>,
+) -> Option<(Spot, Node)>
+    requires low { height ≤ 16 }
+    requires over { HasWay pool.now.nodes root code height }
+    ensures some { IfSome result (λ turn.
+        IsTurn pool.now.nodes root code height HasPrevChild IsBefore IsFirstPlace 0 turn.0 turn.1) }
+    ensures none { result ≡ None → IsPrevOf pool.now.nodes root code height None }
+{
     let (mut here, mut node) = (Spot::root(root), root);
     let mut before = None;
     let mut left = height;
     while left > 0 {
         left -= 1;
         let index = ((code >> (3 * left)) % 8) as usize;
-        before = prev_below(before, &here, node, index, pool);
+        before = lower_prev(before, &here, node, index, pool);
         here = here.below(node, index);
         node = child(pool, node, index);
     }
     before
 }
 
-// One level further down: the node before the child of `node` at an index, where `here` is the spot of `node`, and `above` the node
-// before it, if there is one.
+// The child of `node` before the one at an index, and its spot, where there is one; else what was found further up. `here` is the spot of `node`.
 #[inline(always)]
-fn prev_below<K: Copy, V: Copy, const N: usize>(
+fn lower_prev<K: Copy, V: Copy, const N: usize>(
     above: Option<(Spot, Node)>,
     here: &Spot,
     node: Node,
@@ -454,19 +490,15 @@ fn prev_below<K: Copy, V: Copy, const N: usize>(
 ) -> Option<(Spot, Node)>
     requires low { here.now.height < 16 }
     requires index { index < 8 }
-    requires above { (root : ℕ) × HasWay pool.now.nodes root (here.now.code * 8 + index) (suc here.now.height)
-        × Leads pool.now.nodes root here.now.code here.now.height here.now node
-        × IsPrevOf pool.now.nodes root here.now.code here.now.height above }
-    ensures before { (root : ℕ) → Leads pool.now.nodes root here.now.code here.now.height here.now node
-        → IsPrevOf pool.now.nodes root here.now.code here.now.height above
-        → IsPrevOf pool.now.nodes root (here.now.code * 8 + index) (suc here.now.height) result }
+    requires way { (root : ℕ) × HasWay pool.now.nodes root (here.now.code * 8 + index) (suc here.now.height)
+        × Leads pool.now.nodes root here.now.code here.now.height here.now node }
+    ensures lower { (root : ℕ) → Leads pool.now.nodes root here.now.code here.now.height here.now node
+        → IsLower pool.now.nodes root here.now node HasPrevChild IsBefore IsFirstPlace index above result }
 {
     if index > 0 {
         return Some((here.below(node, index - 1), child(pool, node, index - 1)));
     }
-    let (spot, before) = above?;
-    let last = last_index(pool, before);
-    Some((spot.below(before, last), child(pool, before, last)))
+    above
 }
 
 // From a node at this place, the first of its level, down to the first leaf below it.

@@ -1,13 +1,14 @@
 -- The way of a code followed from the root down, digit by digit: the answers of `next_far` and `prev_far`.
-use Rattle.std.proofs.Common.{◌≡◌, ℕ, zero, suc, ◌+◌, ◌-◌, ◌*◌, ◌/◌, ◌%◌, ◌^◌, ◌≤◌, ◌<◌, List, [], ◌∷◌, sym, ap, subst, ◌∙◌, arith}
+use Rattle.std.proofs.Common.{◌≡◌, ℕ, zero, suc, Some, None, Option, slice_get, inl, inr, IfSome, refl, ◌+◌, ◌-◌, ◌*◌, ◌/◌, ◌%◌, ◌^◌, ◌≤◌, ◌<◌, List, [], ◌∷◌, sym, ap, subst, ◌∙◌, arith}
 use Rattle.std.proofs.lemmas.Nat.{shr-shr}
-use Rattle.bforest_core.proofs.Words.{Content}
-use Rattle.bforest_core.specs.Spots.{CodedOver, HasWay, Leads}
+use Rattle.bforest_core.proofs.Words.{Content, eqb_tells}
+use Rattle.bforest_core.specs.Spots.{CodedOver, EndsAt, Followed, HasWay, IsBesideOf, IsLower, IsTurn, Leads}
 use Rattle.bforest_core.specs.declared.spot.Spot.{Spot}
 use Rattle.bforest_core.proofs.walks.Codes.{above-asks}
 use Rattle.bforest_core.proofs.walks.Codes.{IsBelow, root-leads}
 use Rattle.bforest_core.proofs.walks.OnLevel.{leads-on}
 use Rattle.bforest_core.proofs.walks.Reading.{ChildRead}
+use Rattle.bforest_core.proofs.table.Stored.{some_same}
 
 -- a code without its last digits
 up-code : (code n : ℕ) → code / 2 ^ (3 * n) / 8 ≡ code / 2 ^ (3 * suc n)
@@ -27,13 +28,6 @@ module _ {K V : Type 0} {slots : List (Content K V)} {root code height : ℕ} (o
       let above = above-asks w.4 (λ none. omega (arith, none, low)) in
       let level : height - n - 1 ≡ height - suc n = omega arith in
       subst (λ z. HasWay slots root z (height - suc n)) (up-code code n) (subst (HasWay slots root (code / 2 ^ (3 * n) / 8)) level above)
-
--- the way of a code is followed down to this node, with some levels left
-pub record Followed {K V : Type 0} (slots : List (Content K V)) (root code height left : ℕ) (spot : Spot) (node : ℕ) : Type 0 where
-  pub low : left ≤ height
-  pub height_is : spot.height ≡ height - left
-  pub code_is : spot.code ≡ code / 2 ^ (3 * left)
-  pub leads : Leads slots root spot.code spot.height spot node
 
 -- what is said of a code and its levels holds of a spot that has them, one level further down
 pub moved : (Of : ℕ → ℕ → Type 0) {spot next : Spot} {node index : ℕ} → IsBelow spot node index next →
@@ -97,3 +91,74 @@ module _ {K V : Type 0} {slots : List (Content K V)} {root code height left : �
           code_is = b.code ∙ turn-code;
           leads = moved (λ c d. Leads slots root c d next child) b (leads-on (omega arith) f.leads b reads);
         }
+
+-- what was found so far beside the way of a code, with some levels left: the lowest node, or nothing where there is none
+pub record Turning {K V : Type 0} (slots : List (Content K V)) (root code height : ℕ) (HasBeside : Content K V → ℕ → Type 0) (Beside AtEnd : ℕ → ℕ → Type 0) (left : ℕ) (here : Spot) (found : Option (Spot × ℕ)) : Type 0 where
+  pub some : (turn : Spot × ℕ) → found ≡ Some turn → IsTurn slots root code height HasBeside Beside AtEnd left turn.0 turn.1
+  pub none : found ≡ None → IsBesideOf slots root here.code here.height Beside AtEnd None
+
+-- what is said of each value that there may be
+if-found : {A : Type 0} {Says : A → Type 0} (found : Option A) → ((it : A) → found ≡ Some it → Says it) → IfSome found Says
+if-found None says = tt
+if-found (Some it) says = says it refl
+
+module _ {K V : Type 0} {slots : List (Content K V)} {root code height : ℕ} {HasBeside : Content K V → ℕ → Type 0} {Beside AtEnd : ℕ → ℕ → Type 0} where
+  -- at the root nothing was found
+  pub turning-none : {here : Spot} → IsBesideOf slots root here.code here.height Beside AtEnd None → Turning slots root code height HasBeside Beside AtEnd height here None
+  turning-none end = record { some = λ turn is. absurd (let no = is in cc); none = λ none. end }
+
+  module _ {left : ℕ} {here : Spot} {node : ℕ} (f : Followed slots root code height left here node) where
+    -- at the end of the way
+    pub turning-ends : {found : Option (Spot × ℕ)} → Turning slots root code height HasBeside Beside AtEnd left here found → left ≤ 0 →
+        IfSome found (λ turn. IsTurn slots root code height HasBeside Beside AtEnd 0 turn.0 turn.1)
+        × (found ≡ None → IsBesideOf slots root code height Beside AtEnd None)
+    turning-ends {found = found} t low =
+        let nought : left ≡ 0 = omega (arith, low) in
+        (if-found found (λ turn is. subst (λ z. IsTurn slots root code height HasBeside Beside AtEnd z turn.0 turn.1) nought (t.some turn is)), λ none. ended f (λ c d. IsBesideOf slots root c d Beside AtEnd None) low (t.none none))
+
+    module _ (some : 0 < left) where
+      -- a node beside the way on the level below is the lowest
+      turn-here : {child : Spot × ℕ} → IsBesideOf slots root (here.code * 8 + digit f some) (suc here.height) Beside AtEnd (Some child) → child.0.height ≡ suc here.height →
+          IsTurn slots root code height HasBeside Beside AtEnd (left - 1) child.0 child.1
+      turn-here {child} beside height_is = record {
+        level = left - 1;
+        height_is = height_is ∙ turn-height f some;
+        within = omega (arith, f.low);
+        low = omega arith;
+        beside = subst (λ z. IsBesideOf slots root (code / 2 ^ (3 * (left - 1))) z Beside AtEnd (Some child)) (turn-height f some)
+            (subst (λ z. IsBesideOf slots root z (suc here.height) Beside AtEnd (Some child)) (turn-code f some) beside);
+        ends = λ j more less. absurd (omega (arith, more, less));
+      }
+
+      module _ {content : Content K V} (slot_is : slice_get slots node ≡ Some content) (ends_here : ¬ HasBeside content (digit f some)) where
+        -- what was found further up stays the lowest
+        turn-above : {spot : Spot} {number : ℕ} → IsTurn slots root code height HasBeside Beside AtEnd left spot number →
+            IsTurn slots root code height HasBeside Beside AtEnd (left - 1) spot number
+        turn-above t = record {
+          level = t.level;
+          height_is = t.height_is;
+          within = t.within;
+          low = omega (arith, t.low);
+          beside = t.beside;
+          ends = λ j more less. elim (eqb_tells j left) [
+            | inl same ↦ subst (EndsAt slots root code height HasBeside) (sym same.1) (record { spot = here; node = node; content = content; way = f; slot_is = slot_is; none = ends_here })
+            | inr other ↦ t.ends j (omega (arith, more, other.1)) less
+          ];
+        }
+
+      -- one level further down
+      pub turning-on : {above found : Option (Spot × ℕ)} {next : Spot} → IsLower slots root here node HasBeside Beside AtEnd (digit f some) above found →
+          Turning slots root code height HasBeside Beside AtEnd left here above →
+          ((content : Content K V) → slice_get slots node ≡ Some content → ¬ HasBeside content (digit f some) → IsBesideOf slots root here.code here.height Beside AtEnd None →
+          IsBesideOf slots root (here.code * 8 + digit f some) (suc here.height) Beside AtEnd None) → IsBelow here node (digit f some) next →
+          Turning slots root code height HasBeside Beside AtEnd (left - 1) next found
+      turning-on lower t ends b = elim lower [
+        | inl w ↦ record {
+          some = λ turn is. subst (λ z. IsTurn slots root code height HasBeside Beside AtEnd (left - 1) z.0 z.1) (some_same w.0 turn (sym w.1 ∙ is)) (turn-here w.2 w.3);
+          none = λ none. absurd (let no = sym w.1 ∙ none in cc);
+        }
+        | inr w ↦ record {
+          some = λ turn is. turn-above w.1 w.2 (t.some turn (sym w.3 ∙ is));
+          none = λ none. moved (λ c d. IsBesideOf slots root c d Beside AtEnd None) b (ends w.0 w.1 w.2 (t.none (sym w.3 ∙ none)));
+        }
+      ]

@@ -1,0 +1,31 @@
+use Rattle.std.proofs.Common.{rules, arith, refl, inl, inr}
+use Rattle.bforest_core.proofs.walks.Codes.{is-below}
+use Rattle.bforest_core.proofs.walks.OnLevel.{code-low-here, count-asked, next-asked, next-said}
+use Rattle.bforest_core.proofs.spot.lower_next.Goals as goal
+
+pub child_count-requires : goal.child_count-requires
+child_count-requires g c = let w = c.requires.way in (search rules, count-asked c.requires.index w.2 w.1)
+
+pub below-requires-clause-code : goal.below-requires-clause-code
+below-requires-clause-code g c = let w = c.requires.way in code-low-here c.requires.index w.2 w.1 c.requires.low
+
+pub child-requires : goal.child-requires
+child-requires g c =
+    let w = c.requires.way in
+    (search rules, next-asked c.requires.index w.2 c.child_count.ensures.value c.if-index-child_count.true w.1)
+
+pub returns-then-index-child_count : goal.returns-then-index-child_count
+returns-then-index-child_count g c = record {
+  lower = λ root leads.
+      let b = is-below c.below.ensures.code c.below.ensures.parent c.below.ensures.grand c.below.ensures.height in
+      let said = next-said c.requires.index leads c.child_count.ensures.value c.if-index-child_count.true b c.child.ensures in
+      inl ((c.below.result, c.child.result), refl, said, c.below.ensures.height);
+}
+
+pub returns : goal.returns
+returns g c = record {
+  lower = λ root leads.
+      let w = c.requires.way in
+      let n = count-asked c.requires.index w.2 w.1 in
+      inr (n.0, n.1, (λ more. absurd (omega (arith, more, c.child_count.ensures.value n.0 n.1, c.if-index-child_count.false))), refl);
+}
