@@ -194,7 +194,15 @@ impl Spot {
             };
             return Some((spot, leaf));
         }
-        next_far(self.code, self.height, root, pool)
+        // The height stays as it is, and the compiler sees it.
+        let (far, leaf) = next_far(self.code, self.height, root, pool)?;
+        let spot = Spot {
+            code: far.code,
+            parent: far.parent,
+            grand: far.grand,
+            height: self.height,
+        };
+        Some((spot, leaf))
     }
 
     /// The leaf before, and its place, if there is one. A spot without a parent has none.
@@ -281,7 +289,15 @@ impl Spot {
             };
             return Some((spot, leaf));
         }
-        prev_far(self.code, self.height, root, pool)
+        // The height stays as it is, and the compiler sees it.
+        let (far, leaf) = prev_far(self.code, self.height, root, pool)?;
+        let spot = Spot {
+            code: far.code,
+            parent: far.parent,
+            grand: far.grand,
+            height: self.height,
+        };
+        Some((spot, leaf))
     }
 
     /// The leaf in which a search for `key` ends in the tree under `root`, and its place.

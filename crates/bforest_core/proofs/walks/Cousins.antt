@@ -216,3 +216,15 @@ module _ {K V : Type 0} {n : ℕ} {table : Table K V} (union : IsUnion n table) 
         subst (λ z. IsLeafAt table root z leaf) to
             (leaf-at union root s.root_is r.4),
       )
+
+-- a spot is told by its code and its ancestors, since all leaves of a tree have one height
+pub same-spot : {K V : Type 0} {table : Table K V} {root : ℕ} {here far spot : Spot} {place to : ℕ} → IsSpotAt table root here place → IsSpotAt table root far to →
+    spot.code ≡ far.code → spot.parent ≡ far.parent → spot.grand ≡ far.grand → spot.height ≡ here.height → IsSpotAt table root spot to
+same-spot {table = table} {root = root} {to = to} h f code parent grand height = record {
+  root_is = f.root_is;
+  numbers = f.numbers;
+  coded = subst (λ z. Coded f.numbers (tree_of table.nodes root).above z to) (sym code) f.coded;
+  parent_is = λ low. f.parent_is (omega (arith, low, height, h.height_is, f.height_is)) ∙ sym parent;
+  grand_is = λ low. f.grand_is (omega (arith, low, height, h.height_is, f.height_is)) ∙ sym grand;
+  height_is = height ∙ h.height_is;
+}

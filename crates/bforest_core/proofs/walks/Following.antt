@@ -162,3 +162,38 @@ module _ {K V : Type 0} {slots : List (Content K V)} {root code height : ℕ} {H
           none = λ none. moved (λ c d. IsBesideOf slots root c d Beside AtEnd None) b (ends w.0 w.1 w.2 (t.none (sym w.3 ∙ none)));
         }
       ]
+
+-- the lowest node beside a way, on the way down to the level on which the way ends
+module _ {K V : Type 0} {slots : List (Content K V)} {root code height : ℕ} {HasBeside : Content K V → ℕ → Type 0} {Beside AtEnd : ℕ → ℕ → Type 0} {spot : Spot} {number : ℕ}
+    (t : IsTurn slots root code height HasBeside Beside AtEnd 0 spot number) where
+  pub turn-more : spot.height < height → 0 < t.level
+  turn-more low = omega (arith, low, t.height_is)
+
+  -- there it is the node beside the one at which the way ends
+  pub turn-done : height ≤ spot.height → IsBesideOf slots root code height Beside AtEnd (Some (spot, number))
+  turn-done past =
+      let none : t.level ≡ 0 = omega (arith, past, t.height_is, t.within) in
+      let same : code / 2 ^ (3 * t.level) ≡ code = ap (λ z. code / 2 ^ (3 * z)) none ∙ up-none code in
+      let whole : height - t.level ≡ height = omega (arith, none) in
+      subst (λ z. IsBesideOf slots root z height Beside AtEnd (Some (spot, number))) same
+      (subst (λ z. IsBesideOf slots root (code / 2 ^ (3 * t.level)) z Beside AtEnd (Some (spot, number))) whole t.beside)
+
+  module _ (some : 0 < t.level) where
+    -- the way's node on this level
+    abbrev pub turn-end : EndsAt slots root code height HasBeside t.level
+    turn-end = t.ends t.level some (omega arith)
+
+    abbrev pub turn-digit : ℕ
+    turn-digit = code / 2 ^ (3 * (t.level - 1)) % 8
+
+    pub turn-beside : IsBesideOf slots root turn-end.spot.code turn-end.spot.height Beside AtEnd (Some (spot, number))
+    turn-beside =
+        subst (λ z. IsBesideOf slots root z turn-end.spot.height Beside AtEnd (Some (spot, number))) (sym turn-end.way.code_is)
+        (subst (λ z. IsBesideOf slots root (code / 2 ^ (3 * t.level)) z Beside AtEnd (Some (spot, number))) (sym turn-end.way.height_is) t.beside)
+
+    pub turn-down : {child : Spot × ℕ} → IsBesideOf slots root (turn-end.spot.code * 8 + turn-digit) (suc turn-end.spot.height) Beside AtEnd (Some child) → child.0.height ≡ suc spot.height →
+        IsTurn slots root code height HasBeside Beside AtEnd 0 child.0 child.1
+    unfolding turn-here
+    turn-down beside height_is =
+        let h = turn-here {HasBeside = HasBeside} turn-end.way some beside (height_is ∙ ap suc (t.height_is ∙ sym turn-end.way.height_is)) in
+        record { level = t.level - 1; height_is = h.height_is; within = h.within; low = omega arith; beside = h.beside; ends = λ j more less. t.ends j more (omega (arith, less)) }

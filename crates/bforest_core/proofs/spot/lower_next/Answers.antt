@@ -1,6 +1,7 @@
 use Rattle.std.proofs.Common.{rules, arith, refl, inl, inr}
 use Rattle.bforest_core.proofs.walks.Codes.{is-below}
-use Rattle.bforest_core.proofs.walks.OnLevel.{code-low-here, count-asked, next-asked, next-said}
+use Rattle.bforest_core.proofs.walks.Branches.{branch-asks}
+use Rattle.bforest_core.proofs.walks.OnLevel.{code-low-here, count-asked, next-at, next-said}
 use Rattle.bforest_core.proofs.spot.lower_next.Goals as goal
 
 pub child_count-requires : goal.child_count-requires
@@ -12,7 +13,7 @@ below-requires-clause-code g c = let w = c.requires.way in code-low-here c.requi
 pub child-requires : goal.child-requires
 child-requires g c =
     let w = c.requires.way in
-    (search rules, next-asked c.requires.index w.2 c.child_count.ensures.value c.if-index-child_count.true w.1)
+    (search rules, branch-asks (next-at c.requires.index w.2 c.child_count.ensures.value c.if-index-child_count.true w.1.4).branch)
 
 pub returns-then-index-child_count : goal.returns-then-index-child_count
 returns-then-index-child_count g c = record {

@@ -1,13 +1,14 @@
 use Rattle.std.proofs.Common.{rules, arith, refl, inl, inr}
 use Rattle.bforest_core.proofs.walks.Codes.{is-below}
-use Rattle.bforest_core.proofs.walks.OnLevel.{code-low-here, count-asked, prev-asked, prev-said}
+use Rattle.bforest_core.proofs.walks.Branches.{branch-asks}
+use Rattle.bforest_core.proofs.walks.OnLevel.{code-low-here, count-asked, prev-at, prev-said}
 use Rattle.bforest_core.proofs.spot.lower_prev.Goals as goal
 
 pub below-requires-clause-code : goal.below-requires-clause-code
 below-requires-clause-code g c = let w = c.requires.way in code-low-here c.requires.index w.2 w.1 c.requires.low
 
 pub child-requires : goal.child-requires
-child-requires g c = let w = c.requires.way in (search rules, prev-asked c.requires.index w.2 c.if-index-gt0.true w.1)
+child-requires g c = let w = c.requires.way in (search rules, branch-asks (prev-at c.requires.index w.2 c.if-index-gt0.true w.1.4).branch)
 
 pub returns-then-index-gt0 : goal.returns-then-index-gt0
 returns-then-index-gt0 g c = record {

@@ -1,50 +1,56 @@
-use Rattle.std.proofs.Common.{rules, arith}
-use Rattle.bforest_core.specs.Spots.{IsPrevOf}
-use Rattle.bforest_core.proofs.walks.Following.{begun, ended, moved, turn-high, turn-way, turned}
-use Rattle.bforest_core.proofs.walks.Codes.{is-below, root-first}
-use Rattle.bforest_core.proofs.walks.OnLevel.{code-low-here, index-asked}
+use Rattle.std.proofs.Common.{rules, arith, refl, ◌<◌}
+use Rattle.bforest_core.proofs.walks.Branches.{branch-asks, branch-low}
+use Rattle.bforest_core.proofs.walks.Codes.{is-below}
+use Rattle.bforest_core.proofs.walks.Following.{turn-beside, turn-done, turn-down, turn-end, turn-high, turn-more, turn-way}
+use Rattle.bforest_core.proofs.walks.OnLevel.{back-at, back-count, back-said, stands-low}
 use Rattle.bforest_core.proofs.spot.prev_far.Goals as goal
 
-pub loop-left-init : goal.loop-left-init
-loop-left-init g c =
-    let r = c.root-here in
-    (begun c.requires.over r.result r.ensures.code r.ensures.height, root-first r.result r.ensures.height)
+pub loop-here-init : goal.loop-here-init
+loop-here-init g c = rw c.in_ok-here.was at c.turn_back.ensures.some
 
-pub overflow_mul-index : goal.overflow_mul-index
-overflow_mul-index g c = omega (arith, c.loop-left.invariant.0.low, c.requires.low)
-
-pub overflow_shr-index : goal.overflow_shr-index
-overflow_shr-index g c = omega (arith, c.loop-left.invariant.0.low, c.requires.low)
-
-pub prev_below-before-requires : goal.prev_below-before-requires
-prev_below-before-requires g c =
-    let i = c.loop-left.invariant in
-    let low = turn-high i.0 c.loop-left-test.true c.requires.low in
-    (search rules, (low, (omega arith, (c.args.root, turn-way i.0 c.loop-left-test.true c.requires.over, i.0.leads, i.1))))
+pub last_index-last-requires : goal.last_index-last-requires
+last_index-last-requires g c =
+    let t = c.loop-here.invariant in
+    let some = turn-more t c.loop-here-test.true in
+    let e = turn-end t some in
+    (search rules, back-count (omega arith) e.way.leads (omega (arith, e.none)) refl (turn-beside t some) (turn-way e.way some c.requires.over))
 
 pub below-here-requires-clause-code : goal.below-here-requires-clause-code
 below-here-requires-clause-code g c =
-    let f = c.loop-left.invariant.0 in
-    code-low-here (omega arith) f.leads (turn-way f c.loop-left-test.true c.requires.over) (turn-high f c.loop-left-test.true c.requires.low)
+    let t = c.loop-here.invariant in
+    let some = turn-more t c.loop-here-test.true in
+    let e = turn-end t some in
+    let way = turn-way e.way some c.requires.over in
+    let at = back-at (omega arith) e.way.leads (omega (arith, e.none)) refl (turn-beside t some) c.last_index-last.ensures.last way.4 in
+    (stands-low (omega arith) e.way.leads way.4 at (turn-high e.way some c.requires.low)).0
 
-pub below-here-requires-clause-height : goal.below-here-requires-clause-height
-below-here-requires-clause-height g c = turn-high c.loop-left.invariant.0 c.loop-left-test.true c.requires.low
+pub below-here-requires-clause-index : goal.below-here-requires-clause-index
+below-here-requires-clause-index g c =
+    let t = c.loop-here.invariant in
+    let some = turn-more t c.loop-here-test.true in
+    let e = turn-end t some in
+    let way = turn-way e.way some c.requires.over in
+    let low : c.last_index-last.result < 8 =
+    branch-low (back-at (omega arith) e.way.leads (omega (arith, e.none)) refl (turn-beside t some) c.last_index-last.ensures.last way.4).branch in
+    omega (arith, low)
 
-pub child-node-requires : goal.child-node-requires
-child-node-requires g c =
-    let f = c.loop-left.invariant.0 in
-    (search rules, index-asked (omega arith) f.leads (turn-way f c.loop-left-test.true c.requires.over))
+pub child-before-requires : goal.child-before-requires
+child-before-requires g c =
+    let t = c.loop-here.invariant in
+    let some = turn-more t c.loop-here-test.true in
+    let e = turn-end t some in
+    let way = turn-way e.way some c.requires.over in
+    (search rules, branch-asks (back-at (omega arith) e.way.leads (omega (arith, e.none)) refl (turn-beside t some) c.last_index-last.ensures.last way.4).branch)
 
-pub loop-left-preserved : goal.loop-left-preserved
-loop-left-preserved g c =
-    let i = c.loop-left.invariant in
+pub loop-here-preserved : goal.loop-here-preserved
+loop-here-preserved g c =
+    let t = c.loop-here.invariant in
+    let some = turn-more t c.loop-here-test.true in
+    let e = turn-end t some in
     let b = is-below c.below-here.ensures.code c.below-here.ensures.parent c.below-here.ensures.grand c.below-here.ensures.height in
-    let said = c.prev_below-before.ensures.before c.args.root i.0.leads i.1 in (
-      turned i.0 c.loop-left-test.true b c.child-node.ensures,
-      moved (λ code depth. IsPrevOf c.args.pool.now.nodes c.args.root code depth c.prev_below-before.result) b said,
-    )
+    turn-down t some
+    (back-said (omega arith) e.way.leads (omega (arith, e.none)) refl (turn-beside t some) c.last_index-last.ensures.last b c.child-before.ensures)
+    c.below-here.ensures.height
 
 pub returns : goal.returns
-returns g c =
-    let i = c.loop-left.invariant in
-    record { before = ended i.0 (λ code depth. IsPrevOf c.args.pool.now.nodes c.args.root code depth c.loop-left.before) c.loop-left-test.false i.1 }
+returns g c = record { before = turn-done c.loop-here.invariant c.loop-here-test.false }

@@ -1,10 +1,9 @@
-use Rattle.bforest_core.specs.Spots.{IsPrevOf}
-use Rattle.bforest_core.proofs.walks.Following.{Followed}
+use Rattle.std.proofs.Common.{◌-◌}
+use Rattle.bforest_core.specs.Spots.{HasPrevChild, IsBefore, IsFirstPlace, IsTurn}
 use Rattle.bforest_core.proofs.spot.prev_far.Given as goal
 
-abbrev pub invariant-loop-left : goal.invariant-loop-left
-invariant-loop-left g l =
-    Followed l.pool.nodes l.fn.root l.code l.height l.left l.here l.node × IsPrevOf l.pool.nodes l.fn.root l.here.code l.here.height l.before
+abbrev pub invariant-loop-here : goal.invariant-loop-here
+invariant-loop-here g l = IsTurn l.pool.nodes l.fn.root l.fn.code l.height HasPrevChild IsBefore IsFirstPlace 0 l.here l.before
 
-abbrev pub decreases-loop-left : goal.decreases-loop-left
-decreases-loop-left g l = l.left
+abbrev pub decreases-loop-here : goal.decreases-loop-here
+decreases-loop-here g l = l.height - l.here.height

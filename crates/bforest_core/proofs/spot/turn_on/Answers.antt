@@ -11,12 +11,6 @@ loop-left-init g c =
     let r = c.root-here in
     (begun c.requires.over r.result r.ensures.code r.ensures.height, turning-none (root-last r.result r.ensures.height))
 
-pub overflow_mul-index : goal.overflow_mul-index
-overflow_mul-index g c = omega (arith, c.loop-left.invariant.0.low, c.requires.low)
-
-pub overflow_shr-index : goal.overflow_shr-index
-overflow_shr-index g c = omega (arith, c.loop-left.invariant.0.low, c.requires.low)
-
 pub lower_next-next-requires : goal.lower_next-next-requires
 lower_next-next-requires g c =
     let f = c.loop-left.invariant.0 in
@@ -27,9 +21,6 @@ pub below-here-requires-clause-code : goal.below-here-requires-clause-code
 below-here-requires-clause-code g c =
     let f = c.loop-left.invariant.0 in
     code-low-here (omega arith) f.leads (turn-way f c.loop-left-test.true c.requires.over) (turn-high f c.loop-left-test.true c.requires.low)
-
-pub below-here-requires-clause-height : goal.below-here-requires-clause-height
-below-here-requires-clause-height g c = turn-high c.loop-left.invariant.0 c.loop-left-test.true c.requires.low
 
 pub child-node-requires : goal.child-node-requires
 child-node-requires g c =

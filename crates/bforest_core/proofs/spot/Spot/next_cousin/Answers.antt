@@ -1,7 +1,7 @@
 use Rattle.std.proofs.Common.{rules, refl, arith, ◌<◌}
 use Rattle.bforest_core.proofs.Words.{tree_of, heads}
 use Rattle.bforest_core.proofs.walks.Codes.{last-leaf, spot-height, spot-low, spot-over}
-use Rattle.bforest_core.proofs.walks.Cousins.{cousin, cousin-asks, far-behind, grand-count, parent-asks}
+use Rattle.bforest_core.proofs.walks.Cousins.{cousin, cousin-asks, far-behind, grand-count, parent-asks, same-spot}
 use Rattle.bforest_core.proofs.spot.Spot.next_cousin.Goals as goal
 
 pub child_count-requires : goal.child_count-requires
@@ -39,13 +39,15 @@ overflow_mul-spot g c =
     let low : c.args.self.now.code < 281474976710656 = spot-low c.requires.union c.requires.spot.1 in
     omega (arith, low)
 
-pub returns-in_err-spot-clause-none : goal.returns-in_err-spot-clause-none
-returns-in_err-spot-clause-none g c = λ none place s. last-leaf c.requires.union c.args.root s.root_is
-    (c.next_far.ensures.next.none c.in_err-spot.was s.numbers (tree_of c.args.pool.now.nodes c.args.root).above
+pub returns-in_err-far-clause-none : goal.returns-in_err-far-clause-none
+returns-in_err-far-clause-none g c = λ none place s. last-leaf c.requires.union c.args.root s.root_is
+    (c.next_far.ensures.next.none c.in_err-far.was s.numbers (tree_of c.args.pool.now.nodes c.args.root).above
     (heads (tree_of c.args.pool.now.nodes c.args.root).leaves) place (spot-over c.requires.union s))
 
 pub returns-clause-some : goal.returns-clause-some
-returns-clause-some g c = far-behind c.requires.union (rw c.in_ok-spot.was at c.next_far.ensures.next)
+returns-clause-some g c = λ place s.
+    let r = far-behind c.requires.union (rw c.in_ok-far.was at c.next_far.ensures.next) place s in
+    (same-spot s r.0 refl refl refl refl, r.1)
 
 pub overflow_add-index : goal.overflow_add-index
 overflow_add-index g c = omega arith

@@ -1,6 +1,6 @@
 use Rattle.std.proofs.Common.{rules, refl, arith, ◌<◌}
 use Rattle.bforest_core.proofs.Words.{tree_of, heads}
-use Rattle.bforest_core.proofs.walks.Cousins.{cousin-before, cousin-before-asks, cousin-last-asks, far-before, parent-before-asks}
+use Rattle.bforest_core.proofs.walks.Cousins.{cousin-before, cousin-before-asks, cousin-last-asks, far-before, parent-before-asks, same-spot}
 use Rattle.bforest_core.proofs.walks.Codes.{spot-height, spot-low, spot-over}
 use Rattle.bforest_core.proofs.spot.Spot.prev_cousin.Goals as goal
 
@@ -20,13 +20,15 @@ prev_far-requires g c =
       ),
     )
 
-pub returns-in_err-spot-clause-none : goal.returns-in_err-spot-clause-none
-returns-in_err-spot-clause-none g c = λ none place s. c.prev_far.ensures.before.none c.in_err-spot.was s.numbers
+pub returns-in_err-far-clause-none : goal.returns-in_err-far-clause-none
+returns-in_err-far-clause-none g c = λ none place s. c.prev_far.ensures.before.none c.in_err-far.was s.numbers
     (tree_of c.args.pool.now.nodes c.args.root).above (heads (tree_of c.args.pool.now.nodes c.args.root).leaves) place
     (spot-over c.requires.union s)
 
 pub returns-clause-some : goal.returns-clause-some
-returns-clause-some g c = far-before c.requires.union (rw c.in_ok-spot.was at c.prev_far.ensures.before)
+returns-clause-some g c = λ place s.
+    let r = far-before c.requires.union (rw c.in_ok-far.was at c.prev_far.ensures.before) place s in
+    (r.0, same-spot s r.1 refl refl refl refl, r.2)
 
 pub child-parent-requires : goal.child-parent-requires
 child-parent-requires g c = (search rules, parent-before-asks c.requires.union c.requires.spot.1 c.requires.deep c.requires.first c.if-index-gt0.true)
