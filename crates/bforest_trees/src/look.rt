@@ -47,6 +47,7 @@ impl<'a, K: Copy, V: Copy> Look<'a, K, V> {
         ensures count { (handle : Option ℕ) (start : ℕ) (from : LeafFrom pool.now handle spot leaf start)
             → length result.keys.now ≡ length from.leaf.entries }
         ensures index { result.index ≡ 0 }
+        ensures most { length result.keys.now ≤ N }
     {
         let (keys, vals) = pool.node(leaf).unwrap_leaf();
         Look {
@@ -125,23 +126,32 @@ impl<'a, K: Copy, V: Copy> Look<'a, K, V> {
         ensures value { result ≡ slice_get (list_of trees.now handle) 0 }
         ensures look { IsLook trees.now handle self.new 0 }
     {
-        self.enter_first(handle, &trees.pool);
-        self.entry()
+        self.enter_first(handle, &trees.pool)
     }
 
-    // Goes to the first entry, or to the end where there is none.
+    // Goes to the first entry and returns it, or to the end where there is none.
     #[inline(always)]
-    fn enter_first<const N: usize>(&mut self, handle: PackedNode, pool: &'a NodePool<K, V, N>)
+    fn enter_first<const N: usize>(
+        &mut self,
+        handle: PackedNode,
+        pool: &'a NodePool<K, V, N>,
+    ) -> Option<(K, V)>
         requires union { IsUnion N pool.now }
         requires live { IsLive pool.now handle }
+        ensures value { result ≡ slice_get (list_of pool.now handle) 0 }
         ensures look { IsLook pool.now handle self.new 0 }
     {
         match handle.expand() {
             Some(root) => {
                 let (spot, leaf) = Spot::first(root, pool);
                 *self = Look::enter(spot, leaf, pool);
+                self.keys = bounded::<N, K>(self.keys);
+                Some(self.here())
             }
-            None => *self = Look::end(),
+            None => {
+                *self = Look::end();
+                None
+            }
         }
     }
 
@@ -413,4 +423,13 @@ impl<'a, K: Copy, V: Copy> Look<'a, K, V> {
         *self = Look::enter(spot, leaf, pool);
         pool.node(leaf).look_up(key, comp)
     }
+}
+
+// The keys of a leaf. Behind this the compiler knows that there are at most `N`, and a loop over an only leaf takes its steps with no count.
+#[inline(always)]
+fn bounded<const N: usize, K: Copy>(keys: &[K]) -> &[K]
+    requires most { length keys.now ≤ N }
+    ensures same { result.now ≡ keys.now }
+{
+    &keys[..keys.len().min(N)]
 }
