@@ -238,7 +238,7 @@ IMPORT = "// what memory may be refused to\n"
 PROGRAM = [
     (r"^use std::alloc::(?:AllocError|\{AllocError, Global\});\n", IMPORT),
     (r"^use std::alloc::Global;\n", ""),
-    (r"\balloc: Global(?:,\s*|(?=\)))", ""),
+    (r"\b_?alloc: Global(?:,\s*|(?=\)))", ""),
     (r"^use bforest_indexed::", "use bforest::"),
     (r"rt: HostRuntime|rt\.alloc\(\)(?:, )?", ""),
     (r"\balloc, ", ""),
@@ -251,5 +251,6 @@ PROGRAM = [
     (r"\.push_reserved\(", ".push("),
     (r"\.extend_from_slice\(", ".try_extend("),
     (r"\btrait Named \{", "trait Named: Sized {"),
-    (r"fn fmt<W: fmt::Write>\(&self, f: &mut fmt::Formatter<W>\)", "fn fmt(&self, f: &mut fmt::Formatter<'_>)"),
+    (r"<W: fmt::Write>\(", "("),
+    (r"\bfmt::Formatter<W>", "fmt::Formatter<'_>"),
 ]
