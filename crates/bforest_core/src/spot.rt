@@ -378,7 +378,7 @@ fn goes_along<K: Copy, V: Copy, const N: usize, C: Comparator<K>>(
 
 // The node behind the one at which the way of a code ends, and its spot, if there is one: the way turns to the next child as low as it can, and
 // goes on to the first children.
-#[inline(always)]
+#[inline(never)]
 fn next_far<K: Copy, V: Copy, const N: usize>(
     code: u64,
     height: u32,
@@ -448,7 +448,7 @@ fn lower_next<K: Copy, V: Copy, const N: usize>(
 
 // The node before the one at which the way of a code ends, and its spot, if there is one: the way turns to the child before as low as it can,
 // and goes on to the last children.
-#[inline(always)]
+#[inline(never)]
 fn prev_far<K: Copy, V: Copy, const N: usize>(
     code: u64,
     height: u32,

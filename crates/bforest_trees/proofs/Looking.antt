@@ -22,7 +22,7 @@ use Rattle.bforest_nodes.proofs.Seams.{slice_get-append-add}
 use Rattle.bforest_nodes.specs.Content.{Content, IsLeaf, Leaf, keys_of, vals_of}
 use Rattle.bforest_nodes.specs.Entries.{place, value_for}
 use Rattle.bforest_nodes.specs.Search.{search_of}
-use Rattle.std.proofs.Common.{Bor, Bool, Err, IfSome, List, None, Ok, Option, Some, [], ap, append_assoc, arith, false, inl, inr, length, length-append, min, refl, slice_get, subst, suc, sym, take, true, ◌+◌, ◌++◌, ◌-◌, ◌<◌, ◌==◌, ◌∙◌, ◌∷◌, ◌≡◌, ◌≤◌, ℕ}
+use Rattle.std.proofs.Common.{Bool, Err, IfSome, List, None, Ok, Option, Some, [], ap, append_assoc, arith, false, inl, inr, length, length-append, min, refl, slice_get, subst, suc, sym, take, true, ◌+◌, ◌++◌, ◌-◌, ◌<◌, ◌==◌, ◌∙◌, ◌∷◌, ◌≡◌, ◌≤◌, ℕ}
 use Rattle.std.proofs.Math.Seq.{take-length}
 use Rattle.std.proofs.lemmas.Bool.{cases_lt, false≢true}
 use Rattle.std.proofs.lemmas.Bool.Decides.{eqb_tells}
@@ -385,11 +385,6 @@ holds-leaf {number = number} f found is = record { number = number; from = f; ke
 -- the first leaf begins the list
 pub from-first : {K V : Type 0} {table : Table K V} {handle : Option ℕ} {root number : ℕ} {spot : Spot} → handle ≡ Some root → IsSpotAt table root spot 0 → IsLeafAt table root 0 number → LeafFrom table handle spot number 0
 from-first {root = root} is on leaf = record { root = root; handle_is = is; place = 0; on = on; leaf = leaf; start_is = refl }
-
--- the same keys by another reference
-pub holds-keys : {K V : Type 0} {table : Table K V} {handle : Option ℕ} {look : Look K V} {start : ℕ} → Holds table handle look start → (keys : Bor (List K)) → keys.now ≡ look.keys.now →
-    Holds table handle (record { keys = keys; vals = look.vals; index = look.index; spot = look.spot }) start
-holds-keys h keys same = record { number = h.number; from = h.from; keys = same ∙ h.keys; vals = h.vals }
 
 -- an empty list has one place
 pub empty-place : {K V : Type 0} (cmp : K → K → Ordering) (table : Table K V) (handle : Option ℕ) (key : K) → handle ≡ None → length (list_of table handle) ≡ place cmp (list_of table handle) key

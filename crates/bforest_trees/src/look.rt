@@ -47,7 +47,6 @@ impl<'a, K: Copy, V: Copy> Look<'a, K, V> {
         ensures count { (handle : Option ℕ) (start : ℕ) (from : LeafFrom pool.now handle spot leaf start)
             → length result.keys.now ≡ length from.leaf.entries }
         ensures index { result.index ≡ 0 }
-        ensures most { length result.keys.now ≤ N }
     {
         let (keys, vals) = pool.node(leaf).unwrap_leaf();
         Look {
@@ -145,7 +144,6 @@ impl<'a, K: Copy, V: Copy> Look<'a, K, V> {
             Some(root) => {
                 let (spot, leaf) = Spot::first(root, pool);
                 *self = Look::enter(spot, leaf, pool);
-                self.keys = bounded::<N, K>(self.keys);
                 Some(self.here())
             }
             None => {
@@ -423,13 +421,4 @@ impl<'a, K: Copy, V: Copy> Look<'a, K, V> {
         *self = Look::enter(spot, leaf, pool);
         pool.node(leaf).look_up(key, comp)
     }
-}
-
-// The keys of a leaf. Behind this the compiler knows that there are at most `N`, and a loop over an only leaf takes its steps with no count.
-#[inline(always)]
-fn bounded<const N: usize, K: Copy>(keys: &[K]) -> &[K]
-    requires most { length keys.now ≤ N }
-    ensures same { result.now ≡ keys.now }
-{
-    &keys[..keys.len().min(N)]
 }

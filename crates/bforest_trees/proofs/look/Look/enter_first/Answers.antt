@@ -1,6 +1,6 @@
 use Rattle.std.proofs.Common.{slice_get, None, Option, Some, ap, length, rules, subst, sym, ◌∙◌, ◌≡◌, ℕ}
 use Rattle.bforest_trees.proofs.Changed.{live-root}
-use Rattle.bforest_trees.proofs.Looking.{entry-there, first-within, from-first, holds-keys, on-first, paired}
+use Rattle.bforest_trees.proofs.Looking.{entry-there, first-within, from-first, on-first, paired}
 use Rattle.bforest_trees.specs.Forest.{IsLive, list_of}
 use Rattle.bforest_trees.specs.Looks.{IsLook}
 use Rattle.bforest_trees.proofs.look.Look.enter_first.Goals as goal
@@ -13,26 +13,20 @@ first-spot-requires g c =
 pub enter-requires : goal.enter-requires
 enter-requires g c = (search rules, (c.args.handle, 0, from-first (sym c.expand.ensures.value ∙ c.in-Some.is) c.first-spot.ensures.spot c.first-spot.ensures.leaf))
 
-pub bounded-self-requires : goal.bounded-self-requires
-bounded-self-requires g c = record { most = c.enter.ensures.most }
-
 pub here-requires-clause-within : goal.here-requires-clause-within
 here-requires-clause-within g c =
     let h = c.enter.ensures.holds c.args.handle 0 (from-first (sym c.expand.ensures.value ∙ c.in-Some.is) c.first-spot.ensures.spot c.first-spot.ensures.leaf) in
-    let holds = holds-keys h c.bounded-self.result c.bounded-self.ensures.same in
-    first-within holds c.enter.ensures.index
+    first-within h c.enter.ensures.index
 
 pub here-requires-clause-paired : goal.here-requires-clause-paired
 here-requires-clause-paired g c =
     let h = c.enter.ensures.holds c.args.handle 0 (from-first (sym c.expand.ensures.value ∙ c.in-Some.is) c.first-spot.ensures.spot c.first-spot.ensures.leaf) in
-    let holds = holds-keys h c.bounded-self.result c.bounded-self.ensures.same in
-    paired (on-first holds c.enter.ensures.index)
+    paired (on-first h c.enter.ensures.index)
 
 pub returns-in-Some : goal.returns-in-Some
 returns-in-Some g c =
     let h = c.enter.ensures.holds c.args.handle 0 (from-first (sym c.expand.ensures.value ∙ c.in-Some.is) c.first-spot.ensures.spot c.first-spot.ensures.leaf) in
-    let holds = holds-keys h c.bounded-self.result c.bounded-self.ensures.same in
-    let look = on-first holds c.enter.ensures.index in
+    let look = on-first h c.enter.ensures.index in
     record { value = entry-there look c.here.result c.here.ensures.key c.here.ensures.value; look = look }
 
 pub returns-in-None : goal.returns-in-None
