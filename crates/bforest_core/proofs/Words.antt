@@ -1,5 +1,6 @@
 -- Re-exports the definitions of the specs that proofs cite. Declares nothing.
 pub use Rattle.bforest_core.specs.Chain.{IsChain, IsPool, chain_from, next_of}
+pub use Rattle.bforest_core.proofs.rows.Shapes.{Heads, Row, Rows}
 pub use Rattle.bforest_core.specs.Change.{AtUnder, Changes, Ends, EntryTaken, GivesInOrder, GivesNodes, KeepsTrees, LeafTaken, PlacedUnder, Plants, Shrinks}
 pub use Rattle.bforest_core.specs.Change.{StandsUnder, TakesNodes, node_count}
 pub use Rattle.bforest_core.specs.Climb.{Above, Grown, GrownBy, Halved, HalvedBy, Inserted, LastAbove, LeafHalved, NextIs, OneAbove, Parted, Placed, SameBelow, TwoAbove, nodes_up, top_of}

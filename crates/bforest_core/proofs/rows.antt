@@ -5,4 +5,5 @@ pub mod Tops
 pub mod Bounds
 pub mod Counts
 pub mod Needs
+pub mod Shapes
 pub mod Contents

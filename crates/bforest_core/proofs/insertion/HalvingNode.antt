@@ -1,26 +1,21 @@
 -- Inserting a child into the path's inner node, or splitting the node and inserting it into one half: the
 -- answers of `insert_here` and `split_here`.
-use Rattle.std.proofs.Common.{◌≡◌, ℕ, suc, ◌-◌, ◌≤◌, ◌<◌, true, false, Bool, if◌then◌else◌, List, [], ◌∷◌, ◌++◌, length, set, get_or, Some, refl, sym, ap, ◌∙◌, subst, append_assoc, length-append, arith, ◌≢◌, nat_lt}
-use Rattle.bforest_core.proofs.Words.{get_or_default, get_or-set_same, get_or-set_other, Inner, with_child, Table, IsUsed, IsFullAt, IsSplitAt, front_of, with_node, LevelNode, flat, head_of, heads, sizes}
-use Rattle.bforest_core.proofs.Words.{inner_content, entry_items, Above, GrownBy, Halved, HalvedBy, OneAbove, node, inner_gain}
-use Rattle.bforest_nodes.specs.declared.node.SplitOff.{SplitOff}
-use Rattle.bforest_core.proofs.table.Tables.{is_used, puts}
-use Rattle.bforest_core.proofs.rows.Bounds.{below_lt, above_lt}
-use Rattle.bforest_core.proofs.rows.LevelRows.{Solid-full, heads-append, sizes-append}
-use Rattle.bforest_core.proofs.rows.Zipper.{Spot, spot}
-use Rattle.bforest_core.proofs.table.Stored.{item_count, key_count, with_child_is}
-use Rattle.bforest_core.proofs.insertion.Halving.{Split, full_is, inner_parts, counted, split_at, left_used, into_left, into_right, PutAsks, HasRoom, Written, asks_put, put_fewer, put_in, put_past, Halves}
-use Rattle.bforest_core.proofs.insertion.Grow.{head-grown, in_left, in_right, InHalf, gain_spot, gain_full}
-use Rattle.bforest_core.proofs.removal.Lifted.{rows_above}
-use Rattle.bforest_core.proofs.insertion.Parted.{part}
-use Rattle.bforest_core.proofs.insertion.Rise.{settle_room, step_is, step_most}
+use Rattle.std.proofs.Common.{◌≡◌, ℕ, suc, ◌-◌, ◌≤◌, ◌<◌, true, false, if◌then◌else◌, [], ◌∷◌, ◌++◌, length, set, get_or, Some, refl, sym, ap, ◌∙◌, append_assoc, length-append, arith, ◌≢◌, nat_lt}
+use Rattle.bforest_core.proofs.Words.{get_or_default, get_or-set_same, get_or-set_other, Inner, with_child, Table, IsUsed, IsFullAt, IsSplitAt, front_of}
+use Rattle.bforest_core.proofs.Words.{with_node, flat, head_of, heads, sizes, inner_content, entry_items, GrownBy, Halved, HalvedBy, OneAbove, node, inner_gain}
+use Rattle.bforest_core.proofs.{table.Tables.{is_used, puts}, rows.Bounds.{below_lt, above_lt}, rows.LevelRows.{Solid-full, heads-append, sizes-append}}
+use Rattle.bforest_core.proofs.{rows.Zipper.{Spot, spot}, table.Stored.{item_count, key_count, with_child_is}, insertion.Halving.{Split, full_is, inner_parts}}
+use Rattle.bforest_core.proofs.insertion.Halving.{counted, split_at, left_used, into_left, into_right, PutAsks, HasRoom, Written, asks_put, put_fewer, put_in}
+use Rattle.bforest_core.proofs.{insertion.Halving.{put_past, Halves}, insertion.Grow.{head-grown, in_left, in_right, InHalf, gain_spot, gain_full}}
+use Rattle.bforest_core.proofs.{removal.Lifted.rows_above, insertion.Parted.part, insertion.Rise.{settle_room, step_is, step_most}}
 use Rattle.bforest_core.proofs.insertion.HalvingLeaf.{FullAt}
+use Rattle.bforest_nodes.specs.declared.node.SplitOff.{SplitOff}
 
 module _ {K V : Type 0} where
   -- the split level, except for where the path stands
-  pub parted : {t u : Table K V} {ms js : List ℕ} (ms' js' : List ℕ) {up size : ℕ} {rows : List (List (LevelNode K ℕ))} {a : List (K × ℕ)}
-      {x : K × ℕ} (y : K × ℕ) {b : List (K × ℕ)} {middle : K} {right : ℕ} (p : ℕ) (moved : Bool) {big small : ℕ} → (4 ≤ big) × (big ≤ 8) × (4 ≤ small)
-      × (small ≤ 8) → ((after : List ℕ) → (if nat_lt (get_or js up 0) 4 then 5 ∷ 4 ∷ after else 4 ∷ 5 ∷ after) ≡ big ∷ small ∷ after)
+  pub parted : {t u : Table K V} {ms js : _} (ms' js' : _) {up size rows a : _}
+      {x : _} (y : _) {b middle right : _} (p moved : _) {big small : ℕ} → (4 ≤ big) × (big ≤ 8) × (4 ≤ small)
+      × (small ≤ 8) → ((after : _) → (if nat_lt (get_or js up 0) 4 then 5 ∷ 4 ∷ after else 4 ∷ 5 ∷ after) ≡ big ∷ small ∷ after)
       → (d : Spot t ms js up size rows a x b) → length (d.q.l ++ x ∷ d.q.r) ≡ 8 →
       (h : Halves inner_content t u (get_or ms up 0) right middle (d.q.l ++ x ∷ y ∷ d.q.r) big small) →
       ((i : ℕ) → i ≢ up → get_or ms' i 0 ≡ get_or ms i 0) → ((i : ℕ) → i ≢ up → get_or js' i 0 ≡ get_or js i 0) →
@@ -29,25 +24,25 @@ module _ {K V : Type 0} where
   parted {t} {ms} {js} ms' js' {up} {size} {x} y {b} {right} p moved sides halves_are d eight h far_m far_j full at =
       let q = d.q in
       let n = get_or ms up 0 in
-      let es : List (K × ℕ) = q.l ++ x ∷ q.r in
-      let row : List (LevelNode K ℕ) = q.before ++ node n es ∷ q.after in
-      let first_is : head_of n es ≡ (h.z.0, n) ∷ [] = head-grown n q.l x q.r (y ∷ q.r) ∙ ap (λ z. head_of n z) h.grown_is in
+      let es = q.l ++ x ∷ q.r in
+      let row = q.before ++ node n es ∷ q.after in
+      let first_is = head-grown n q.l x q.r (y ∷ q.r) ∙ ap (λ z. head_of n z) h.grown_is in
       let hs0 : heads row ≡ heads q.before ++ (h.z.0, n) ∷ heads q.after = heads-append q.before _ ∙ ap (λ z. heads q.before ++ (z ++ heads q.after)) first_is in
-      let list_is = ap (λ z. flat q.before ++ z) (append_assoc q.l (x ∷ y ∷ q.r) (flat q.after)) ∙ sym (append_assoc (flat q.before) q.l _) ∙ sym (ap (λ z. z ++ x ∷ y ∷ b) q.a_is ∙ ap (λ z. (flat q.before ++ q.l) ++ x ∷ y ∷ z) q.b_is) in
-      let above = subst (λ (z : List (K × ℕ)). Above t ms js (suc up) size q.rest z (length (heads q.before))) hs0 (rows_above d) in
+      let list_is = ap (λ z. flat q.before ++ z) (append_assoc q.l (x ∷ y ∷ q.r) (flat q.after)) ∙ sym (append_assoc (flat q.before) q.l _) ∙ sym (cc) in
+      let above = rw hs0 at (rows_above d) in
       record {
         parted = part q.before es q.after ms' js' moved d.f.inside d.whole.stacked.1 (omega arith) sides d.whole.apart h above list_is far_m far_j at;
         rows_were = q.rows_are;
         head_is = first_is;
         gain_is = ap (λ z. inner_gain (length z) (sizes row)) q.a_is ∙ gain_spot q.before n es q.l q.after
-            ∙ gain_full q.before (length es) (length q.l) (sizes q.after) (omega (arith, length-append q.l (x ∷ q.r))) eight
+            ∙ gain_full q.before (length es) (length q.l) (sizes q.after) (omega arith) eight
             ∙ rw (q.entry_is, full, sizes-append q.before (node n (h.z ∷ h.xs) ∷ node right (h.y ∷ h.ys) ∷ q.after), h.left_is, h.right_is) (ap (λ z. (Some (length q.before), sizes q.before ++ z)) (halves_are (sizes q.after)));
-        nodes_below = λ i low_i. far_m i (λ (e : i ≡ up). omega (arith, e, low_i));
-        entries_below = λ i low_i. far_j i (λ (e : i ≡ up). omega (arith, e, low_i));
+        nodes_below = λ i low_i. far_m i (λ (e : i ≡ up). omega arith);
+        entries_below = λ i low_i. far_j i (λ (e : i ≡ up). omega arith);
       }
 
 module _ {K V : Type 0} where
-  module _ {t : Table K V} {ms js : List ℕ} {up size : ℕ} (w : OneAbove t ms js up size) (r : ℕ) (within : up < size) (low : up < length ms) where
+  module _ {t : Table K V} {ms js up size : _} (w : OneAbove t ms js up size) (r : ℕ) (within : up < size) (low : up < length ms) where
     open w use {rows, before as a, x, after as b, above as p}
 
     d : Spot t ms js up size rows a x b
@@ -61,24 +56,24 @@ module _ {K V : Type 0} where
 
     -- the node meets what inserting the child requires
     pub put_asks : PutAsks Inner t (get_or ms up r) (get_or js up 0)
-    put_asks = asks_put Inner t _ _ num_is _ _ d.f.slot_is (get_or js up 0) (is_used t (get_or ms up 0) (inner_content (d.q.l ++ x ∷ d.q.r)) d.f.slot_is d.f.none_chain) (omega (arith, key_count (d.q.l ++ x ∷ d.q.r), d.count_is))
+    put_asks = asks_put Inner t _ _ num_is _ _ d.f.slot_is (get_or js up 0) (is_used t _ _ d.f.slot_is d.f.none_chain) (omega (arith, key_count (d.q.l ++ x ∷ d.q.r), d.count_is))
 
-    module _ (u : Table K V) (key : K) (child : ℕ) (put : Bool) (has : HasRoom Inner (λ keys children. length children) 8 t (get_or ms up r) put) (wrote : Written Inner (λ z. with_child z (get_or js up 0) key child) t u (get_or ms up r) put) where
+    module _ (u : Table K V) (key child put : _) (has : HasRoom Inner (λ keys children. length children) 8 t (get_or ms up r) put) (wrote : Written Inner (λ z. with_child z (get_or js up 0) key child) t u (get_or ms up r) put) where
       -- a successful insertion needs one node in all and leaves the rows grown
-      pub put_grows : put ≡ true → (moved : Bool) (index : ℕ) → index ≡ (if moved then suc (get_or js up 0) else get_or js up 0) → up < length js →
+      pub put_grows : put ≡ true → (moved index : _) → index ≡ (if moved then suc (get_or js up 0) else get_or js up 0) → up < length js →
           GrownBy w (key, child) moved u ms (set js up index) size []
       put_grows done moved index index_is low_js =
-          let es : List (K × ℕ) = d.q.l ++ x ∷ d.q.r in
+          let es = d.q.l ++ x ∷ d.q.r in
           let fewer : length (entry_items es) < 8 = put_fewer Inner t _ _ num_is _ _ d.f.slot_is u (λ keys children. length children) 8 (λ z. with_child z (get_or js up 0) key child) put has wrote done in
           let after = put_in Inner t _ _ num_is _ _ d.f.slot_is u (λ keys children. length children) 8 (λ z. with_child z (get_or js up 0) key child) put has wrote fewer ∙ ap (λ z. with_node t (get_or ms up 0) z) (with_child_is V d.q.l x d.q.r key child (get_or js up 0) d.q.entry_is) in
-          settle_room (set js up index) (key, child) moved d (omega (arith, item_count es)) (puts t u (get_or ms up 0) (inner_content (d.q.l ++ x ∷ (key, child) ∷ d.q.r)) (inner_content es) d.f.slot_is after)
+          settle_room _ _ _ d (omega (arith, item_count es)) (puts t u _ _ _ d.f.slot_is after)
           (get_or-set_same js up index 0 low_js ∙ index_is) (λ i other. get_or-set_other js up i index 0 other)
 
       -- a failed insertion means that the node is full, and changes nothing
       pub put_full : (cap : ℕ) → put ≡ false → IsFullAt cap t.nodes (get_or ms up 0) × (u ≡ t)
       put_full cap none =
           let past = put_past Inner t _ _ num_is _ _ d.f.slot_is u (λ keys children. length children) 8 (λ z. with_child z (get_or js up 0) key child) put has wrote none in
-          (rw d.f.slot_is (λ free. free, omega (arith, past.0, item_count (d.q.l ++ x ∷ d.q.r), d.most_is)), past.1)
+          (rw d.f.slot_is (λ free. free, omega (arith, item_count (d.q.l ++ x ∷ d.q.r), d.most_is)), past.1)
 
     module _ (cap : ℕ) (s : Table K V) (full : IsFullAt cap t.nodes (get_or ms up 0)) where
       pub full_asks : 0 < length t.chain → FullAt cap t (get_or ms up r)
@@ -95,13 +90,13 @@ module _ {K V : Type 0} where
         four = counted inner_content (get_or ms up 0) num_is (d.q.l ++ x ∷ d.q.r) d.f.slot_is split
 
         cut : Split {V = V} inner_content t s (get_or ms up 0) right parts.lhs_entries (d.q.l ++ x ∷ d.q.r) parts.crit_key
-        cut = let f = four in let e = eight in split_at inner_content (get_or ms up 0) num_is (d.q.l ++ x ∷ d.q.r) d.f.slot_is split right (inner_parts parts.lhs_entries (omega arith)) (omega arith) d.f.none_chain front used.within
+        cut = let f = four in let e = eight in split_at _ (get_or ms up 0) num_is (d.q.l ++ x ∷ d.q.r) d.f.slot_is split right (inner_parts _ (omega arith)) (omega arith) d.f.none_chain front used.within
 
         pub early_asks : get_or js up 0 < 4 → PutAsks Inner s (get_or ms up r) (get_or js up 0)
         early_asks early =
-            asks_put Inner s _ _ num_is _ _ cut.two.here (get_or js up 0) (left_used inner_content s cut.two d.f.none_chain) (omega (arith, key_count cut.zs, cut.count_is, early, four))
+            asks_put Inner s _ _ num_is _ _ cut.two.here (get_or js up 0) (left_used inner_content s cut.two d.f.none_chain) (omega (arith, key_count cut.zs, cut.count_is, four))
 
-        pub early_halves : (u : Table K V) (key : K) (child : ℕ) (moved put : Bool) (index : ℕ) → get_or js up 0 < 4
+        pub early_halves : (u key child moved put index : _) → get_or js up 0 < 4
             → HasRoom Inner (λ keys children. length children) 8 s (get_or ms up r) put
             → Written Inner (λ z. with_child z (get_or js up 0) key child) s u (get_or ms up r) put
             → index ≡ (if moved then suc (get_or js up 0) else get_or js up 0) → up < length js →
@@ -113,14 +108,14 @@ module _ {K V : Type 0} where
             (d.q.l ++ x ∷ []) (d.q.l ++ x ∷ new ∷ []) d.q.r (sym (append_assoc d.q.l (x ∷ []) d.q.r))
             (sym (append_assoc d.q.l (x ∷ new ∷ []) d.q.r))
             (omega (arith, length-append d.q.l (x ∷ []), length-append d.q.l (x ∷ new ∷ [])))
-            (omega (arith, length-append d.q.l (x ∷ []), d.q.entry_is, early, four)) (omega (arith, four)) (omega (arith, four, eight))
-            (λ mid. ap (λ z. with_child (inner_content z) (get_or js up 0) key child) (append_assoc d.q.l (x ∷ []) mid) ∙ with_child_is V d.q.l x mid key child (get_or js up 0) d.q.entry_is ∙ ap inner_content (sym (append_assoc d.q.l (x ∷ new ∷ []) mid))) written in
+            (omega (arith, length-append d.q.l (x ∷ []), d.q.entry_is, four)) (omega (arith, four)) (omega (arith, four, eight))
+            (λ mid. cc (append_assoc d.q.l (x ∷ []) mid, with_child_is V d.q.l x mid key child (get_or js up 0) d.q.entry_is, append_assoc d.q.l (x ∷ new ∷ []) mid)) written in
             let j_is = get_or-set_same js up index 0 low_js ∙ index_is ∙ step_is moved (get_or js up 0) in
             parted ms (set js up index) new (if moved then suc (length a) else length a) false (omega arith, omega arith, omega arith, omega arith) (λ after. (let a = below_lt (get_or js up 0) 4 early in rw a refl)) d eight h
             (λ i other. refl) (λ i other. get_or-set_other js up i index 0 other) seen
-            (in_left d.q.before d.q.after (get_or ms up 0) right (h.z ∷ h.xs) (h.y ∷ h.ys) (get_or (set js up index) up 0)
-            (if moved then suc (length a) else length a) seen (omega (arith, j_is, step_most moved, h.left_is, early))
-            (step_is moved (length a) ∙ omega (arith, j_is, ap length d.q.a_is, length-append (flat d.q.before) d.q.l, d.q.entry_is)))
+            (in_left _ _ _ _ _ _ _
+            _ seen (omega (arith, step_most moved))
+            (step_is moved (length a) ∙ omega (arith, ap length d.q.a_is, length-append (flat d.q.before) d.q.l, d.q.entry_is)))
 
         right_is : length (cut.y ∷ cut.ys) ≡ 4
         right_is = omega (arith, eight, ap length cut.es_is, length-append cut.zs (cut.y ∷ cut.ys), cut.count_is, four)
@@ -129,7 +124,7 @@ module _ {K V : Type 0} where
         late_asks =
             asks_put Inner s right right refl _ _ cut.two.there (get_or js up 0 - 4) used (omega (arith, key_count (cut.y ∷ cut.ys), index_small, right_is))
 
-        pub late_halves : (u : Table K V) (key : K) (child : ℕ) (moved put : Bool) (index : ℕ) → 4 ≤ get_or js up 0
+        pub late_halves : (u key child moved put index : _) → 4 ≤ get_or js up 0
             → HasRoom Inner (λ keys children. length children) 8 s right put
             → Written Inner (λ z. with_child z (get_or js up 0 - 4) key child) s u right put
             → index ≡ (if moved then suc (get_or js up 0 - 4) else get_or js up 0 - 4) → up < length js →
@@ -137,18 +132,18 @@ module _ {K V : Type 0} where
         late_halves u key child moved put index late has puts index_is low_js =
             let written = put_in Inner s right right refl _ _ cut.two.there u (λ keys children. length children) 8 (λ z. with_child z (get_or js up 0 - 4) key child) put has puts (omega (arith, item_count (cut.y ∷ cut.ys), right_is)) in
             let h = into_right inner_content u (d.q.l ++ x ∷ (key, child) ∷ d.q.r) cut (λ v. with_child v (get_or js up 0 - 4) key child) 4 5
-            parts.crit_key d.q.l (x ∷ d.q.r) (x ∷ (key, child) ∷ d.q.r) refl refl refl (omega (arith, d.q.entry_is, late, four)) (omega (arith, four)) four (omega (arith, four, eight))
+            parts.crit_key d.q.l (x ∷ d.q.r) (x ∷ (key, child) ∷ d.q.r) refl refl refl (omega (arith, d.q.entry_is, four)) (omega (arith, four)) four (omega (arith, four, eight))
             (λ mid is. (
-              with_child_is V mid x d.q.r key child (get_or js up 0 - 4) (omega (arith, is, d.q.entry_is, four)),
+              with_child_is V mid x d.q.r key child (get_or js up 0 - 4) (omega (arith, d.q.entry_is, four)),
               λ rest. head-grown right mid x ((key, child) ∷ d.q.r) d.q.r ∙ ap (λ v. head_of right v) (sym rest) ∙ ap (λ v. (v, right) ∷ []) (sym cut.key_is),
             )) written in
             let j_is = get_or-set_same js up index 0 low_js ∙ index_is ∙ step_is moved (get_or js up 0 - 4) in
-            parted (set ms up right) (set js up index) (key, child)
-            (if moved then suc (length a) else length a) true (omega arith, omega arith, omega arith, omega arith)
+            parted _ _ _
+            _ _ (omega arith, omega arith, omega arith, omega arith)
             (λ after. (let a = above_lt (get_or js up 0) 4 late in rw a refl)) d eight h
             (λ i other. get_or-set_other ms up i right 0 other) (λ i other. get_or-set_other js up i index 0 other) seen
-            (in_right d.q.before d.q.after (get_or ms up 0) right (h.z ∷ h.xs) (h.y ∷ h.ys) (get_or (set ms up right) up 0)
-            (get_or (set js up index) up 0) (if moved then suc (length a) else length a) seen (get_or-set_same ms up right 0 low)
-            (omega (arith, j_is, step_most moved, h.right_is, index_small))
+            (in_right _ _ _ _ _ _ _
+            _ _ seen (get_or-set_same ms up right 0 low)
+            (omega (arith, step_most moved, index_small))
             (step_is moved (length a) ∙ omega
             (arith, j_is, ap length d.q.a_is, length-append (flat d.q.before) d.q.l, d.q.entry_is, h.left_is, late)))

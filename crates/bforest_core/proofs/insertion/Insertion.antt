@@ -1,48 +1,41 @@
 -- The effect of an insertion into the tree under a root on the table, where nodes were reserved for it.
 use Rattle.std.proofs.Common.{◌≡◌, ℕ, suc, ◌-◌, ◌^◌, ◌≤◌, ◌<◌, ◌≢◌, ◌↔◌, IsTrue, Option, Some, None, List, [], ◌∷◌, ◌++◌, drop, map, length, insert, slice_get, sym, ap, ◌∙◌, subst, inl, inr, length-append, arith}
-use Rattle.bforest_core.proofs.Words.{flat_map, cases_lt, eqb_tells, length-map, Content, Table, fresh_nodes, front_of, free_count, slot_count, room, reserved, IsFullAt, LevelNode, node, flat, heads, sizes, numbers, Stacked, Topped, Tree}
-use Rattle.bforest_core.proofs.Words.{sizes_of, leaf_gain, gain_above, growth, need, IsAt, Stands, count, root_of, numbers_of, top_of, Placed, Inserted, tree_of, is_root, IsUnion, Changes, TakesNodes, PlacedUnder, StandsUnder}
-use Rattle.std.proofs.Math.Seq.{drop-append_seam}
-use Rattle.bforest_core.proofs.rows.LevelRows.{flat-append}
-use Rattle.bforest_core.proofs.table.Tables.{count-append}
-use Rattle.bforest_core.proofs.table.Lists.{slice_get-append_left}
-use Rattle.bforest_core.proofs.table.Chains.{length-fresh_nodes}
-use Rattle.bforest_core.proofs.table.Allocating.{reserved-enough, reserved-free}
-use Rattle.bforest_core.proofs.rows.Counts.{once_below, below-one, few-below}
-use Rattle.bforest_core.proofs.union.Forests.{root-among}
-use Rattle.bforest_core.proofs.rows.Bounds.{climb-seventeen}
-use Rattle.bforest_core.proofs.union.Exchange.{IsPlanted}
-use Rattle.bforest_core.proofs.union.Unions.{Rooted, rooted}
-use Rattle.bforest_core.proofs.union.Roots.{exchanged}
-use Rattle.bforest_core.proofs.union.Reserved.{reserved-union, reserved-roots, reserved-then}
+use Rattle.bforest_core.proofs.Words.{Heads, Row, Rows, flat_map, cases_lt, eqb_tells, length-map, Table, fresh_nodes, front_of, free_count, slot_count, room}
+use Rattle.bforest_core.proofs.Words.{reserved, IsFullAt, node, flat, heads, sizes, numbers, Stacked, Topped, Tree, sizes_of, leaf_gain, gain_above, growth}
+use Rattle.bforest_core.proofs.Words.{need, IsAt, Stands, count, root_of, numbers_of, top_of, Placed, Inserted, tree_of, is_root, IsUnion, Changes, TakesNodes}
+use Rattle.bforest_core.proofs.{Words.{PlacedUnder, StandsUnder}, rows.LevelRows.flat-append, table.Tables.count-append, table.Lists.slice_get-append_left}
+use Rattle.bforest_core.proofs.{table.Chains.length-fresh_nodes, table.Allocating.{reserved-enough, reserved-free}, rows.Counts.{once_below, below-one}}
+use Rattle.bforest_core.proofs.{rows.Counts.few-below, union.Forests.root-among, rows.Bounds.climb-seventeen, union.Exchange.IsPlanted, union.Unions.Rooted}
+use Rattle.bforest_core.proofs.{union.Unions.rooted, union.Roots.exchanged, union.Reserved.{reserved-union, reserved-roots, reserved-then}}
 use Rattle.bforest_core.proofs.rows.Tops.{root-stands}
+use Rattle.std.proofs.Math.Seq.{drop-append_seam}
 
 -- a row in which a path stands has an entry
-row_some : {K X : Type 0} {row : List (LevelNode K X)} {n index place : ℕ} → IsAt row n index place → 1 ≤ length (flat row)
+row_some : {K X : Type 0} {row : Row K X} {n index place : ℕ} → IsAt row n index place → 1 ≤ length (flat row)
 row_some {n} at =
-    omega (arith, ap (λ z. length (flat z)) at.row_is, ap length (flat-append at.before (node n at.entries ∷ at.after)), length-append (flat at.before) (at.entries ++ flat at.after), length-append at.entries (flat at.after), at.within)
+    omega (arith, ap (λ z. length (flat z)) at.row_is, ap length (flat-append at.before (node n at.entries ∷ at.after)), length-append (flat at.before) (at.entries ++ flat at.after), length-append at.entries (flat at.after))
 
 -- a row has no more heads than nodes
-heads-few : {K X : Type 0} (row : List (LevelNode K X)) → length (heads row) ≤ length (numbers row)
+heads-few : {K X : Type 0} (row : Row K X) → length (heads row) ≤ length (numbers row)
 heads-few [] = omega arith
 heads-few (node n [] ∷ row) = omega (arith, heads-few row)
 heads-few (node n (e ∷ es) ∷ row) = omega (arith, heads-few row)
 
 -- an insertion leaves at most 16 rows above the leaves
-gain-low : {K : Type 0} (k : Option ℕ) (hs : List (K × ℕ)) (rows : List (List (LevelNode K ℕ))) → Stacked hs rows → Topped hs rows → length hs < 2 ^ 32 → length rows ≤ 16 → length (gain_above k (map sizes rows)) ≤ 16
+gain-low : {K : Type 0} (k : Option ℕ) (hs : Heads K) (rows : Rows K) → Stacked hs rows → Topped hs rows → length hs < 2 ^ 32 → length rows ≤ 16 → length (gain_above k (map sizes rows)) ≤ 16
 gain-low None hs rows s t few low = omega (arith, low, length-map rows sizes)
 gain-low (Some p) hs rows s t few low = climb-seventeen p hs rows s t few low
 
 module _ {K V : Type 0} where
   -- a tree has no more leaves than there are slots
-  leaves_within : {most : ℕ} {table : Table K V} {root : ℕ} {tree : Tree K V} → Rooted most table root tree → length (heads tree.leaves) ≤ length table.nodes
+  leaves_within : {most : ℕ} {table : Table K V} {root tree : _} → Rooted most table root tree → length (heads tree.leaves) ≤ length table.nodes
   leaves_within {table} {tree} r =
       let c = λ (m : ℕ). count-append m (numbers tree.leaves) (flat_map numbers tree.above) in
       let once : (m : ℕ) → count m (numbers tree.leaves) ≤ once_below m (length table.nodes) = λ m. elim (cases_lt m (length table.nodes)) [
         | inl low ↦ omega (arith, below-one m (length table.nodes) low, c m, count-append m (numbers_of tree) table.chain, r.apart m)
         | inr past ↦ elim (cases_lt 0 (count m (numbers tree.leaves))) [
-          | inl some ↦ absurd (omega (arith, past, r.within m (omega (arith, some, c m))))
-          | inr none ↦ omega (arith, none)
+          | inl some ↦ absurd (omega (arith, r.within m (omega (arith, some, c m))))
+          | inr none ↦ omega arith
         ]
       ] in
       omega (arith, heads-few tree.leaves, few-below (length table.nodes) (numbers tree.leaves) once)
@@ -50,20 +43,20 @@ module _ {K V : Type 0} where
   -- an insertion leaves at most 17 levels, where the slots have numbers
   pub growth-low : (most : ℕ) (table : Table K V) (root place : ℕ) → IsUnion most table → IsTrue (is_root table.nodes root) → slot_count table ≤ 4294967295 → length (growth most place (sizes_of (tree_of table.nodes root))) ≤ 17
   growth-low most table root place union is slots =
-      let r = rooted most table root union is in
+      let r = rooted _ _ _ union is in
       let tree = tree_of table.nodes root in
-      omega (arith, gain-low (leaf_gain most place (sizes tree.leaves)).0 (heads tree.leaves) tree.above r.fit.stacked r.fit.topped (omega (arith, leaves_within r, slots)) r.low)
+      omega (arith, gain-low (leaf_gain most place (sizes tree.leaves)).0 (heads tree.leaves) tree.above r.fit.stacked r.fit.topped (omega (arith, leaves_within r)) r.low)
 
   -- a path under a root is where an entry may be inserted in its tree, which is in the table
-  pub placed-under : (most : ℕ) (table : Table K V) {root place : ℕ} {path indices : List ℕ} {size : ℕ} → IsUnion most table → PlacedUnder table.nodes root path indices size place → Placed most table path indices size (tree_of table.nodes root) place
+  pub placed-under : (most : ℕ) (table : Table K V) {root place path indices size : _} → IsUnion most table → PlacedUnder table.nodes root path indices size place → Placed most table path indices size (tree_of table.nodes root) place
   placed-under most table {root} union p =
-      let r = rooted most table root union p.root_is in
+      let r = rooted _ _ _ union p.root_is in
       record { fit = r.fit; inside = r.inside; apart = r.apart; at = p.at }
 
   -- a path under a root has at least one level and at most 17
-  pub under-low : (most : ℕ) (table : Table K V) {root place : ℕ} {path indices : List ℕ} {size : ℕ} → IsUnion most table → PlacedUnder table.nodes root path indices size place → (0 < size) × (size ≤ 17)
+  pub under-low : (most : ℕ) (table : Table K V) {root place path indices size : _} → IsUnion most table → PlacedUnder table.nodes root path indices size place → (0 < size) × (size ≤ 17)
   under-low most table {root} union p =
-      (omega (arith, p.at.points.size_is), omega (arith, p.at.points.size_is, (rooted most table root union p.root_is).low))
+      (omega arith, omega (arith, (rooted _ _ _ union p.root_is).low))
 
   -- what an insertion states of the table and of the path
   pub record Insertion (most : ℕ) (old new : Table K V) (root root' place : ℕ) (entry : K × V) (path' indices' : List ℕ) (size' : ℕ) : Type 0 where
@@ -73,13 +66,13 @@ module _ {K V : Type 0} where
     pub same_root : (root' ≡ root) ↔ (length (growth most place (sizes_of (tree_of old.nodes root))) ≡ length (sizes_of (tree_of old.nodes root)))
 
   -- a root that was on the chain differs from the old root
-  new_ne : {most : ℕ} {table : Table K V} (new : Table K V) {root : ℕ} {tree : Tree K V} (root' : ℕ) (taken : List ℕ) → Rooted most table root tree → table.chain ≡ taken ++ new.chain → 0 < count root' taken → root' ≢ root
+  new_ne : {most : ℕ} {table : Table K V} (new : Table K V) {root : ℕ} {tree : Tree K V} (root' taken : _) → Rooted most table root tree → table.chain ≡ taken ++ new.chain → 0 < count root' taken → root' ≢ root
   new_ne {most} {table} new {tree} root' taken r chain_is some same =
-      let among = subst (λ (z : ℕ). 0 < count z (numbers_of tree)) (r.root_is ∙ sym same) (root-among most table.nodes tree r.fit r.inside r.some) in
-      omega (arith, among, some, r.apart root', count-append root' (numbers_of tree) table.chain, ap (λ z. count root' z) chain_is, count-append root' taken new.chain)
+      let among = rw (r.root_is ∙ sym same) at (root-among most table.nodes tree r.fit r.inside r.some) in
+      omega (arith, some, r.apart root', ap (λ z. count root' z) chain_is, count-append)
 
   -- inserting an entry into the tree under a root, after the nodes that it needs were reserved
-  pub insertion : {most : ℕ} (old : Table K V) {new : Table K V} (root : ℕ) {place : ℕ} {path' indices' : List ℕ} {size' : ℕ} {entry : K × V} → IsUnion most old → IsTrue (is_root old.nodes root) → size' ≤ 17 →
+  pub insertion : {most : ℕ} (old : _) {new : _} (root : ℕ) {place path' indices' size' entry : _} → IsUnion most old → IsTrue (is_root old.nodes root) → size' ≤ 17 →
       Inserted most (reserved old (need most place (sizes_of (tree_of old.nodes root)))) new path' indices' size' (tree_of old.nodes root) place entry → Insertion most old new root (top_of path' size') place entry path' indices' size'
   insertion {most} old {new} root {place} {path'} {indices'} {size'} {entry} union is low i =
       let tree = tree_of old.nodes root in
@@ -89,17 +82,17 @@ module _ {K V : Type 0} where
       let roots = reserved-roots most old n union root in
       let same = roots.1 is in
       let union_mid = reserved-union most old n union in
-      let r = subst (λ (z : Tree K V). Rooted most mid root z) same (rooted most mid root union_mid (roots.0 ∙ is)) in
+      let r = rw same at (rooted most mid root union_mid (roots.0 ∙ is)) in
       let nums = λ (m : ℕ). ap (λ z. count m (numbers_of z)) same in
-      let planted : IsPlanted most new.nodes i.tree' = record { fit = i.fit; inside = i.inside; some = row_some i.stands.leaf; low = omega (arith, low, i.stands.size_is) } in
-      let e = exchanged root i.taken union_mid (roots.0 ∙ is) planted i.chain_is i.slots_are (λ m. omega (arith, i.numbers_are m, nums m)) (λ m none. i.others m (omega (arith, none, nums m))) in
+      let planted : IsPlanted most new.nodes i.tree' = record { fit = i.fit; inside = i.inside; some = row_some i.stands.leaf; low = omega (arith, low) } in
+      let e = exchanged root i.taken union_mid (roots.0 ∙ is) planted i.chain_is i.slots_are (λ m. omega (arith, i.numbers_are m, nums m)) (λ m none. i.others m (omega (arith, nums m))) in
       let levels : length (growth most place (sizes_of tree)) ≡ suc (length i.tree'.above) = omega (arith, ap length i.sizes_are, length-map i.tree'.above sizes) in
       let levels_were : length (sizes_of tree) ≡ suc (length tree.above) = omega (arith, length-map tree.above sizes) in
-      subst (λ (z : ℕ). Insertion most old new root z place entry path' indices' size') (root-stands i.fit i.stands) (record {
+      rw (← root-stands i.fit i.stands) (record {
         changes = record {
           union = e.union;
           root_is = e.root_is;
-          list_is = ap (λ z. flat z.leaves) e.tree_is ∙ i.flat_is;
+          list_is = simp (e.tree_is, i.flat_is);
           sizes_are = ap sizes_of e.tree_is ∙ i.sizes_are;
           others = reserved-then most old n new root root' union e.others;
           old_gone = e.old_gone;
@@ -107,17 +100,17 @@ module _ {K V : Type 0} where
           limit_is = i.limit_is;
         };
         takes = record {
-          slots = omega (arith, i.slots_are, length-append old.nodes (fresh_nodes (slot_count old) (n - free_count old) (front_of old.chain)), length-fresh_nodes K V (slot_count old) (n - free_count old) (front_of old.chain));
-          free = omega (arith, ap length i.chain_is, length-append i.taken new.chain, i.taken_is, reserved-free old n);
+          slots = omega (arith, length-append old.nodes (fresh_nodes (slot_count old) (n - free_count old) (front_of old.chain)), length-fresh_nodes K V (slot_count old) (n - free_count old) (front_of old.chain));
+          free = omega (arith, ap length i.chain_is, length-append i.taken new.chain, reserved-free old n);
           chain_is = sym (ap (λ z. drop n z) i.chain_is ∙ ap (λ z. drop z (i.taken ++ new.chain)) (sym i.taken_is) ∙ drop-append_seam i.taken new.chain);
         };
-        stands = record { root_is = e.root_is; stands = subst (λ (z : Tree K V). Stands path' indices' size' z place) (sym e.tree_is) i.stands };
+        stands = record { root_is = e.root_is; stands = subst (λ z. Stands path' indices' size' z place) (sym e.tree_is) i.stands };
         same_root = (
           λ same_number. elim (eqb_tells (length i.tree'.above) (length tree.above)) [
-            | inl w ↦ omega (arith, levels, levels_were, w.1)
+            | inl w ↦ omega arith
             | inr w ↦ absurd (new_ne new root' i.taken r i.chain_is (i.new_root w.1) same_number)
           ],
-          λ same_levels. i.same_root (omega (arith, levels, levels_were, same_levels)) ∙ r.root_is,
+          λ same_levels. i.same_root (omega arith) ∙ r.root_is,
         );
       })
 
@@ -129,11 +122,11 @@ module _ {K V : Type 0} where
     pub enough : need most place (sizes_of (tree_of old.nodes root)) ≤ room old
 
   -- inserting an entry into a leaf with room
-  pub put-here : {most : ℕ} {old new : Table K V} {root place : ℕ} {path indices : List ℕ} {size : ℕ} {entry : K × V} → IsUnion most old → PlacedUnder old.nodes root path indices size place →
+  pub put-here : {most : ℕ} {old new : Table K V} {root place path indices size entry : _} → IsUnion most old → PlacedUnder old.nodes root path indices size place →
       Inserted most old new path indices size (tree_of old.nodes root) place entry → Put most old new root place entry path indices size
   put-here {most} {old} {new} {root} {place} {path} {indices} {size} {entry} union p i =
       let n = need most place (sizes_of (tree_of old.nodes root)) in
-      let enough : n ≤ free_count old = omega (arith, i.taken_is, ap length i.chain_is, length-append i.taken new.chain) in
+      let enough : n ≤ free_count old = omega (arith, ap length i.chain_is, length-append i.taken new.chain) in
       let levels = under-low most old union p in
       record {
         some = levels.0;
@@ -143,31 +136,31 @@ module _ {K V : Type 0} where
       }
 
   -- reserving nodes leaves the path at its place
-  pub placed-mid : (most : ℕ) (old mid : Table K V) {root place : ℕ} {path indices : List ℕ} {size : ℕ} (n : ℕ) → IsUnion most old → PlacedUnder old.nodes root path indices size place → mid ≡ reserved old n → Placed most mid path indices size (tree_of old.nodes root) place
+  pub placed-mid : (most : ℕ) (old mid : Table K V) {root place path indices size : _} (n : ℕ) → IsUnion most old → PlacedUnder old.nodes root path indices size place → mid ≡ reserved old n → Placed most mid path indices size (tree_of old.nodes root) place
   placed-mid most old mid {root} n union p mid_is =
       let same = reserved-roots most old n union root in
-      let r = rooted most (reserved old n) root (reserved-union most old n union) (same.0 ∙ p.root_is) in
-      let s = subst (λ (z : Tree K V). Rooted most (reserved old n) root z) (same.1 p.root_is) r in
+      let r = rooted most (reserved old n) root (reserved-union most old n union) (cc) in
+      let s = rw (same.1 p.root_is) at r in
       rw mid_is (record { fit = s.fit; inside = s.inside; apart = s.apart; at = p.at })
 
   -- inserting an entry by a split of the leaf, after the nodes were reserved
-  pub put-split : (most : ℕ) (old mid new : Table K V) {root place : ℕ} {path indices : List ℕ} {size : ℕ} (n : ℕ) (path' indices' : List ℕ) (size' : ℕ) (entry : K × V) → IsUnion most old → PlacedUnder old.nodes root path indices size place → slot_count old ≤ 4294967295 →
-      ((tree : Tree K V) (place : ℕ) → Placed most old path indices size tree place → n ≡ need most place (sizes_of tree)) → ¬ (room old < n) → mid ≡ reserved old n →
-      ((tree : Tree K V) (place : ℕ) → Placed most mid path indices size tree place → Inserted most mid new path' indices' size' tree place entry) → Put most old new root place entry path' indices' size'
+  pub put-split : (most : ℕ) (old mid new : Table K V) {root place path indices size : _} (n path' indices' size' : _) (entry : K × V) → IsUnion most old → PlacedUnder old.nodes root path indices size place → slot_count old ≤ 4294967295 →
+      ((tree place : _) → Placed most old path indices size tree place → n ≡ need most place (sizes_of tree)) → ¬ (room old < n) → mid ≡ reserved old n →
+      ((tree place : _) → Placed most mid path indices size tree place → Inserted most mid new path' indices' size' tree place entry) → Put most old new root place entry path' indices' size'
   put-split most old mid new {root} {place} {path} {indices} {size} n path' indices' size' entry union p slots needs enough mid_is inserts =
       let tree = tree_of old.nodes root in
       let n_is = needs tree place (placed-under most old union p) in
-      let mid_old : mid ≡ reserved old (need most place (sizes_of tree)) = mid_is ∙ ap (λ z. reserved old z) n_is in
-      let i = inserts tree place (placed-mid most old mid (need most place (sizes_of tree)) union p mid_old) in
-      let low : size' ≤ 17 = omega (arith, i.stands.size_is, ap length i.sizes_are, length-map i.tree'.above sizes, growth-low most old root place union p.root_is slots) in
+      let mid_old = mid_is ∙ ap (λ z. reserved old z) n_is in
+      let i = inserts tree place (placed-mid _ _ _ _ union p mid_old) in
+      let low : size' ≤ 17 = omega (arith, ap length i.sizes_are, length-map i.tree'.above sizes, growth-low most old root place union p.root_is slots) in
       record {
-        some = omega (arith, i.stands.size_is);
+        some = omega arith;
         low = low;
         is = insertion {most = most} old {new = new} root {place = place} {path' = path'} {indices' = indices'} {size' = size'} {entry = entry} union p.root_is low (rw mid_old at i);
-        enough = omega (arith, enough, n_is);
+        enough = omega (arith, enough);
       }
 
   -- a full leaf is full after nodes were reserved
-  pub full-reserved : (most : ℕ) (table : Table K V) (n m : ℕ) (content : Content K V) → slice_get table.nodes m ≡ Some content → IsFullAt most table.nodes m → IsFullAt most (reserved table n).nodes m
+  pub full-reserved : (most : ℕ) (table : Table K V) (n m content : _) → slice_get table.nodes m ≡ Some content → IsFullAt most table.nodes m → IsFullAt most (reserved table n).nodes m
   full-reserved most table n m content found full =
       rw (slice_get-append_left table.nodes (fresh_nodes (slot_count table) (n - free_count table) (front_of table.chain)) m content found) (rw found at full)

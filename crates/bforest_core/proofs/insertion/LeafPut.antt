@@ -1,29 +1,22 @@
 -- Putting a value in at a key of the leaf in which a search for the key ends: the answers of `put_in_leaf`.
 use Rattle.std.proofs.Common.{◌≡◌, ◌<◌, ◌++◌, ◌∷◌, ◌↔◌, ℕ, Bool, IsTrue, Option, Some, None, Result, Ok, Err, List, insert, length, map, get_or, set, slice_get, nat_lt, if◌then◌else◌, true, false, refl, sym, ap, ◌∙◌, subst, length-set}
-use Rattle.bforest_core.proofs.Words.{EndsIn, PutsInLeaf, Content, Leaf, Table, IsFullAt, IsUnion, IsUsed, Placed, PlacedUnder, StandsUnder}
-use Rattle.bforest_core.proofs.Words.{Changes, sizes, sizes_of, flat, tree_of, entry_count, entry_keys, entry_for, is_present, leaf_content}
-use Rattle.bforest_core.proofs.Words.{place, value_for, search_of, slot_count, with_entry, with_node}
-use Rattle.bforest_core.proofs.Words.{with_value_at, growth, gain_above, need_above, is_some, option_map, get_or-set_same, lt-ltb, ltb-true}
+use Rattle.bforest_core.proofs.Words.{EndsIn, PutsInLeaf, Leaf, Table, IsFullAt, IsUnion, IsUsed, Placed, PlacedUnder, StandsUnder, Changes, sizes, sizes_of}
+use Rattle.bforest_core.proofs.Words.{flat, tree_of, entry_count, entry_keys, entry_for, is_present, leaf_content, place, value_for, search_of, with_entry}
+use Rattle.bforest_core.proofs.Words.{with_node, with_value_at, growth, gain_above, need_above, is_some, option_map, get_or-set_same, lt-ltb, ltb-true}
+use Rattle.bforest_core.proofs.{table.Stored.read_same, table.Read.slot-is, table.Tables.is_used, walks.LeafSearch.items-read, insertion.Halving.HasRoom}
+use Rattle.bforest_core.proofs.{insertion.Halving.Written, insertion.HalvingLeaf.{put_full, put_inserts}, insertion.Insertion.{placed-under, put-here}}
+use Rattle.bforest_core.proofs.{insertion.LeafSpot.{keys_count, leaf_spot, room_gain}, union.Written.{entry-used, value-written}}
 use Rattle.bforest_nodes.specs.Content.{put_answer, with_put, with_value as content_with}
 use Rattle.bforest_nodes.specs.Entries.{with_value}
 use Rattle.bforest_nodes.proofs.Found.{search_of-keys_of, value_for-absent, value_for-present}
 use Rattle.std.specs.declared.cmp.Ordering.{Ordering}
-use Rattle.bforest_core.proofs.table.Stored.{read_same}
-use Rattle.bforest_core.proofs.table.Read.{slot-is}
-use Rattle.bforest_core.proofs.table.Tables.{is_used}
-use Rattle.bforest_core.proofs.walks.LeafSearch.{items-read}
-use Rattle.bforest_core.proofs.insertion.Halving.{HasRoom, Written}
-use Rattle.bforest_core.proofs.insertion.HalvingLeaf.{put_full, put_inserts}
-use Rattle.bforest_core.proofs.insertion.Insertion.{placed-under, put-here}
-use Rattle.bforest_core.proofs.insertion.LeafSpot.{keys_count, leaf_spot, room_gain}
-use Rattle.bforest_core.proofs.union.Written.{entry-used, value-written}
 
 -- a present key has a value
 pub valued : {K V : Type 0} (o : Option (K × V)) → is_some o ≡ true → ¬ (option_map (λ e. e.1) o ≡ None)
 valued None here none = absurd (cc)
 valued (Some e) here none = absurd (cc)
 
-module _ {K V : Type 0} {cmp : K → K → Ordering} (most : ℕ) {table : Table K V} {root leaf : ℕ} {key : K} {path indices : List ℕ} {size : ℕ} (union : IsUnion most table) (e : EndsIn cmp table root key leaf path indices size) where
+module _ {K V : Type 0} {cmp : K → K → Ordering} (most : ℕ) {table : Table K V} {root leaf key path indices size : _} (union : IsUnion most table) (e : EndsIn cmp table root key leaf path indices size) where
   abbrev es : List (K × V)
   es = e.entries
 
@@ -43,49 +36,49 @@ module _ {K V : Type 0} {cmp : K → K → Ordering} (most : ℕ) {table : Table
 
   -- the entries of the path's leaf
   pub slot : slice_get table.nodes (get_or path 0 0) ≡ Some (leaf_content es)
-  slot = ap (λ z. slice_get table.nodes z) e.leaf_is ∙ e.slot_is
+  slot = cc
 
   -- where the key is present, the path stands on its entry
   pub stands : is_present cmp es key ≡ true → StandsUnder table.nodes root path js size at
-  stands here = e.present (e.found_is ∙ here)
+  stands here = e.present (cc)
 
   placed : is_present cmp es key ≡ false → PlacedUnder table.nodes root path js size at
-  placed none = e.absent (e.found_is ∙ none)
+  placed none = e.absent (cc)
 
   is_placed : is_present cmp es key ≡ false → Placed most table path js size (tree_of table.nodes root) at
   is_placed none = placed-under most table union (placed none)
 
   used_by : (b : Bool) → is_present cmp es key ≡ b → IsUsed table leaf
-  used_by true here = subst (λ (n : ℕ). IsUsed table n) e.leaf_is (entry-used most table root at path js size union (stands here)).0
-  used_by false none = subst (λ (n : ℕ). IsUsed table n) e.leaf_is (is_used table (get_or path 0 0) (leaf_content es) slot (leaf_spot (is_placed none)).none_chain)
+  used_by true here = rw (← e.leaf_is) (entry-used most table root at path js size union (stands here)).0
+  used_by false none = rw (← e.leaf_is) (is_used table (get_or path 0 0) (leaf_content es) slot (leaf_spot (is_placed none)).none_chain)
 
   -- the leaf is used
   pub leaf-used : IsUsed table leaf
-  leaf-used = used_by (is_present cmp es key) refl
+  leaf-used = used_by _ refl
 
   module _ (value : V) (answer : Result (Option V) ℕ) (new : Table K V) (answer_is : answer ≡ put_answer most (leaf_content es) (search_of cmp (entry_keys es) key)) (new_is : new ≡ with_node table leaf (with_put most (leaf_content es) (search_of cmp (entry_keys es) key) key value)) where
     -- where the key is present, its value is written
     overwrites : is_present cmp es key ≡ true → PutsInLeaf cmp table root key most value path indices size answer new
     overwrites here =
         let p = place cmp es key in
-        let found : search_of cmp (entry_keys es) key ≡ Ok p = search_of-keys_of cmp es key ∙ ap (λ b. if b then Ok p else Err p) here in
-        let said : answer ≡ Ok (value_for cmp es key) = answer_is ∙ ap (λ z. put_answer most (leaf_content es) z) found ∙ ap Ok (items-read es p ∙ sym (value_for-present cmp es key here)) in
-        let after : new ≡ with_node table leaf (content_with (leaf_content es) p value) = new_is ∙ ap (λ z. with_node table leaf (with_put most (leaf_content es) z key value)) found in
+        let found = search_of-keys_of cmp es key ∙ ap (λ b. if b then Ok p else Err p) here in
+        let said = answer_is ∙ ap (λ z. put_answer most (leaf_content es) z) found ∙ ap Ok (items-read es p ∙ sym (value_for-present cmp es key here)) in
+        let after = new_is ∙ ap (λ z. with_node table leaf (with_put most (leaf_content es) z key value)) found in
         let at_index : with_value_at table (get_or path 0 0) (get_or js 0 0) value ≡ with_node table leaf (content_with (leaf_content es) p value) =
-        ap (λ z. with_value_at table z (get_or js 0 0) value) e.leaf_is ∙ ap (λ z. with_value_at table leaf z value) index_is ∙ ap (λ z. with_node table leaf (content_with z p value)) (slot-is table.nodes leaf (leaf_content es) e.slot_is) in
-        let changes = subst (λ (z : Table K V). Changes most table z root root (with_value list at value) (sizes_of (tree_of table.nodes root))) (at_index ∙ sym after) (value-written most table root at path js size union (stands here) value).0 in
+        cc (index_is, slot-is table.nodes leaf (leaf_content es) e.slot_is) in
+        let changes = subst (λ z. Changes most table z root root (with_value list at value) (sizes_of (tree_of table.nodes root))) (cc (after)) (value-written most table root at path js size union (stands here) value).0 in
         record {
           ok = rw said (sym e.value_is);
-          slots = ap (λ z. slot_count z) after ∙ length-set table.nodes leaf (content_with (leaf_content es) p value);
-          chain = ap (λ z. z.chain) after;
+          slots = cc (after, length-set table.nodes leaf (content_with (leaf_content es) p value));
+          chain = cc (after);
           written = λ old is. changes;
-          inserted = λ is. absurd (valued (entry_for cmp es key) here (let same : Ok (value_for cmp es key) ≡ Ok None = sym said ∙ is in cc));
-          takes = λ is. absurd (valued (entry_for cmp es key) here (let same : Ok (value_for cmp es key) ≡ Ok None = sym said ∙ is in cc));
-          room = λ is. absurd (valued (entry_for cmp es key) here (let same : Ok (value_for cmp es key) ≡ Ok None = sym said ∙ is in cc));
-          levels = λ is. absurd (valued (entry_for cmp es key) here (let same : Ok (value_for cmp es key) ≡ Ok None = sym said ∙ is in cc));
-          full = λ index is. absurd (let bad : Ok (value_for cmp es key) ≡ Err index = sym said ∙ is in cc);
-          placed = λ index is. absurd (let bad : Ok (value_for cmp es key) ≡ Err index = sym said ∙ is in cc);
-          refused = λ index is. absurd (let bad : Ok (value_for cmp es key) ≡ Err index = sym said ∙ is in cc);
+          inserted = λ is. absurd (valued _ here (let same = sym said ∙ is in cc));
+          takes = λ is. absurd (valued _ here (let same = sym said ∙ is in cc));
+          room = λ is. absurd (valued (entry_for cmp es key) here (let same = sym said ∙ is in cc));
+          levels = λ is. absurd (valued (entry_for cmp es key) here (let same = sym said ∙ is in cc));
+          full = λ index is. absurd (let bad = sym said ∙ is in cc);
+          placed = λ index is. absurd (let bad = sym said ∙ is in cc);
+          refused = λ index is. absurd (let bad = sym said ∙ is in cc);
         }
 
     module _ (none : is_present cmp es key ≡ false) where
@@ -93,64 +86,63 @@ module _ {K V : Type 0} {cmp : K → K → Ordering} (most : ℕ) {table : Table
       room = nat_lt (entry_count (leaf_content es)) most
 
       found : search_of cmp (entry_keys es) key ≡ Err (place cmp es key)
-      found = search_of-keys_of cmp es key ∙ ap (λ b. if b then Ok (place cmp es key) else Err (place cmp es key)) none
+      found = cc (search_of-keys_of cmp es key)
 
       said : answer ≡ (if room then Ok None else Err (place cmp es key))
-      said = answer_is ∙ ap (λ z. put_answer most (leaf_content es) z) found
+      said = cc (found)
 
       after : new ≡ with_node table leaf (if room then with_entry (leaf_content es) (place cmp es key) key value else leaf_content es)
-      after = new_is ∙ ap (λ z. with_node table leaf (with_put most (leaf_content es) z key value)) found
+      after = cc (found)
 
       has : HasRoom Leaf (λ keys vals. length keys) most table (get_or path 0 0) room
-      has keys vals is = subst (λ (z : Content K V). IsTrue room ↔ (entry_count z < most)) (sym (read_same table.nodes (get_or path 0 0) (leaf_content es) (Leaf keys vals) slot is)) (λ fits. ltb-true (entry_count (leaf_content es)) most fits, λ less. lt-ltb (entry_count (leaf_content es)) most less)
+      has keys vals is = subst (λ z. IsTrue room ↔ (entry_count z < most)) (sym (read_same table.nodes (get_or path 0 0) (leaf_content es) (Leaf keys vals) slot is)) (λ fits. ltb-true (entry_count (leaf_content es)) most fits, λ less. lt-ltb (entry_count (leaf_content es)) most less)
 
       wrote : Written Leaf (λ z. with_entry z (get_or js 0 0) key value) table new (get_or path 0 0) room
-      wrote keys vals is = subst (λ (z : Content K V). new ≡ with_node table (get_or path 0 0) (if room then with_entry z (get_or js 0 0) key value else z)) (sym (read_same table.nodes (get_or path 0 0) (leaf_content es) (Leaf keys vals) slot is)) (rw (e.leaf_is, index_is) after)
+      wrote keys vals is = subst (λ z. new ≡ with_node table (get_or path 0 0) (if room then with_entry z (get_or js 0 0) key value else z)) (sym (read_same table.nodes (get_or path 0 0) (leaf_content es) (Leaf keys vals) slot is)) (rw (e.leaf_is, index_is) after)
 
       gone : value_for cmp list key ≡ None
-      gone = e.value_is ∙ value_for-absent cmp es key none
+      gone = cc (value_for-absent cmp es key none)
 
       -- where the leaf has room, the entry is inserted
       inserts : room ≡ true → PutsInLeaf cmp table root key most value path indices size answer new
       inserts fits =
           let tree = tree_of table.nodes root in
-          let ok : answer ≡ Ok None = said ∙ ap (λ b. if b then Ok None else Err (place cmp es key)) fits in
+          let ok = said ∙ ap (λ b. if b then Ok None else Err (place cmp es key)) fits in
           let d = leaf_spot (is_placed none) in
-          let fewer : length (d.l ++ d.r) < most = subst (λ (z : ℕ). z < most) (keys_count (d.l ++ d.r)) ((has _ _ d.slot_is).0 fits) in
-          let gain = room_gain d fewer in
-          let levels : length (growth most at (sizes_of tree)) ≡ length (sizes_of tree) = ap (λ z. length (z.1 ∷ gain_above z.0 (map sizes tree.above))) gain in
+          let gain = room_gain d (rw (← keys_count (d.l ++ d.r)) ((has _ _ d.slot_is).0 fits)) in
+          let levels = ap (λ z. length (z.1 ∷ gain_above z.0 (map sizes tree.above))) gain in
           let put = put-here union (placed none) (put_inserts (is_placed none) 0 e.wide new key value room has wrote fits) in
           let put_is = after ∙ ap (λ b. with_node table leaf (if b then with_entry (leaf_content es) (place cmp es key) key value else leaf_content es)) fits in
           record {
             ok = rw ok (sym gone);
-            slots = ap (λ z. slot_count z) put_is ∙ length-set table.nodes leaf (with_entry (leaf_content es) (place cmp es key) key value);
-            chain = ap (λ z. z.chain) put_is;
-            written = λ old is. absurd (let bad : Ok None ≡ Ok (Some old) = sym ok ∙ is in cc);
-            inserted = λ is. subst (λ (z : ℕ). Changes most table new root z (insert list at (key, value)) (growth most at (sizes_of tree))) (put.is.same_root.1 levels) put.is.changes;
+            slots = simp (put_is, length-set table.nodes leaf (with_entry (leaf_content es) (place cmp es key) key value));
+            chain = cc;
+            written = λ old is. absurd (let bad = sym ok ∙ is in cc);
+            inserted = λ is. subst (λ z. Changes most table new root z (insert list at (key, value)) (growth most at (sizes_of tree))) (put.is.same_root.1 levels) put.is.changes;
             takes = λ is. put.is.takes;
             room = λ is. ap (λ z. need_above z.0 (map sizes tree.above)) gain;
             levels = λ is. levels;
-            full = λ index is. absurd (let bad : Ok None ≡ Err index = sym ok ∙ is in cc);
-            placed = λ index is. absurd (let bad : Ok None ≡ Err index = sym ok ∙ is in cc);
-            refused = λ index is. absurd (let bad : Ok None ≡ Err index = sym ok ∙ is in cc);
+            full = λ index is. absurd (let bad = sym ok ∙ is in cc);
+            placed = λ index is. absurd (let bad = sym ok ∙ is in cc);
+            refused = λ index is. absurd (let bad = sym ok ∙ is in cc);
           }
 
       -- where the leaf is full, nothing changes
       refuses : room ≡ false → PutsInLeaf cmp table root key most value path indices size answer new
       refuses past =
-          let err : answer ≡ Err (place cmp es key) = said ∙ ap (λ b. if b then Ok None else Err (place cmp es key)) past in
+          let err = said ∙ ap (λ b. if b then Ok None else Err (place cmp es key)) past in
           let same : new ≡ table = (put_full (is_placed none) 0 e.wide new key value room has wrote past).1 in
           record {
             ok = rw err tt;
-            slots = ap (λ z. slot_count z) same;
-            chain = ap (λ z. z.chain) same;
-            written = λ old is. absurd (let bad : Err (place cmp es key) ≡ Ok (Some old) = sym err ∙ is in cc);
-            inserted = λ is. absurd (let bad : Err (place cmp es key) ≡ Ok None = sym err ∙ is in cc);
-            takes = λ is. absurd (let bad : Err (place cmp es key) ≡ Ok None = sym err ∙ is in cc);
-            room = λ is. absurd (let bad : Err (place cmp es key) ≡ Ok None = sym err ∙ is in cc);
-            levels = λ is. absurd (let bad : Err (place cmp es key) ≡ Ok None = sym err ∙ is in cc);
+            slots = cc;
+            chain = cc;
+            written = λ old is. absurd (let bad = sym err ∙ is in cc);
+            inserted = λ is. absurd (let bad = sym err ∙ is in cc);
+            takes = λ is. absurd (let bad = sym err ∙ is in cc);
+            room = λ is. absurd (let bad = sym err ∙ is in cc);
+            levels = λ is. absurd (let bad = sym err ∙ is in cc);
             full = λ index is. gone;
-            placed = λ index is. subst (λ (z : ℕ). PlacedUnder table.nodes root path (set indices 0 z) size at) (let eq : Err (place cmp es key) ≡ Err index = sym err ∙ is in cc) (placed none);
+            placed = λ index is. subst (λ z. PlacedUnder table.nodes root path (set indices 0 z) size at) (let eq = sym err ∙ is in cc) (placed none);
             refused = λ index is. same;
           }
 
@@ -168,13 +160,11 @@ module _ {K V : Type 0} {cmp : K → K → Ordering} (most : ℕ) {table : Table
     full_by : (b : Bool) → is_present cmp es key ≡ b → (r : Bool) → nat_lt (entry_count (leaf_content es)) most ≡ r → (index : ℕ) → answer ≡ Err index → IsFullAt most table.nodes leaf
     full_by true here r is index err =
         absurd (let bad : Ok (value_for cmp es key) ≡ Err index =
-        sym (answer_is ∙ ap (λ z. put_answer most (leaf_content es) z)
-        (search_of-keys_of cmp es key ∙ ap (λ b. if b then Ok (place cmp es key) else Err (place cmp es key)) here)
-        ∙ ap Ok (items-read es (place cmp es key) ∙ sym (value_for-present cmp es key here))) ∙ err in cc)
-    full_by false none true fits index err = absurd (let bad : Ok None ≡ Err index = sym (said none ∙ ap (λ b. if b then Ok None else Err (place cmp es key)) fits) ∙ err in cc)
+        cc (search_of-keys_of cmp es key, items-read es (place cmp es key), value_for-present cmp es key here) in cc)
+    full_by false none true fits index err = absurd (let bad = sym (said none ∙ ap (λ b. if b then Ok None else Err (place cmp es key)) fits) ∙ err in cc)
     full_by false none false past index err =
-        subst (λ (n : ℕ). IsFullAt most table.nodes n) e.leaf_is (put_full (is_placed none) 0 e.wide new key value (nat_lt (entry_count (leaf_content es)) most) (has none) (wrote none) past).0
+        rw (← e.leaf_is) (put_full (is_placed none) 0 e.wide new key value (nat_lt (entry_count (leaf_content es)) most) (has none) (wrote none) past).0
 
     -- the leaf is full where the key's place is answered
     pub is-full : (index : ℕ) → answer ≡ Err index → IsFullAt most table.nodes leaf
-    is-full = full_by (is_present cmp es key) refl (nat_lt (entry_count (leaf_content es)) most) refl
+    is-full = full_by _ refl _ refl

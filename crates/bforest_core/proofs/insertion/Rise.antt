@@ -1,17 +1,17 @@
 -- A level with a split node, and the levels above it.
 use Rattle.std.proofs.Common.{◌≡◌, ℕ, suc, ◌+◌, ◌-◌, ◌≤◌, ◌<◌, ◌≢◌, Bool, if◌then◌else◌, List, [], ◌∷◌, ◌++◌, map, length, get_or, Some, refl, sym, ap, ◌∙◌, subst, length-append, arith, true, false, append_assoc}
-use Rattle.bforest_core.proofs.Words.{flat_map, Inner, Table, LevelNode, node, heads, sizes, numbers, Stacked, Topped, gain_above, need_above, inner_content, count, Above, Grown, Halved, flat}
-use Rattle.bforest_core.proofs.rows.LevelRows.{heads-append, flat-append, sizes-append}
-use Rattle.bforest_core.proofs.table.Tables.{counts, count-append, count-same, absent_ne, Takes, row-put, rows-same, ne_from_count, Puts}
-use Rattle.bforest_core.proofs.rows.Zipper.{Spot, stands_here, stands-same}
-use Rattle.bforest_core.proofs.insertion.Parted.{Rises, chain_is, halves, inside, numbers_are, others_same, over, same_top, stands_at, stands_over, tops}
-use Rattle.bforest_core.proofs.insertion.Grow.{gain_spot, gain_full, head-grown, FitRow-put, gain_room}
+use Rattle.bforest_core.proofs.Words.{Heads, Rows, flat_map, Inner, Table, node, heads, sizes, numbers, Topped, gain_above, need_above, inner_content, count}
+use Rattle.bforest_core.proofs.{Words.{Above, Grown, Halved, flat}, rows.LevelRows.{heads-append, flat-append, sizes-append}, table.Tables.counts}
+use Rattle.bforest_core.proofs.{table.Tables.{count-append, count-same, absent_ne, Takes, row-put, rows-same, ne_from_count, Puts}, rows.Zipper.Spot}
+use Rattle.bforest_core.proofs.{rows.Zipper.{stands_here, stands-same}, insertion.Parted.{Rises, chain_is, halves, inside, numbers_are, others_same, over}}
+use Rattle.bforest_core.proofs.{insertion.Parted.{same_top, stands_at, stands_over, tops}, insertion.Grow.{gain_spot, gain_full, head-grown, FitRow-put}}
+use Rattle.bforest_core.proofs.insertion.Grow.{gain_room}
 
 -- 1 where the path moved on, else 0
 abbrev pub step : Bool → ℕ
 step moved = if moved then 1 else 0
 
-pub step_is : (moved : Bool) (n : ℕ) → (if moved then suc n else n) ≡ step moved + n
+pub step_is : (moved n : _) → (if moved then suc n else n) ≡ step moved + n
 step_is true n = omega arith
 step_is false n = omega arith
 
@@ -20,19 +20,19 @@ step_most true = omega arith
 step_most false = omega arith
 
 module _ {K V : Type 0} where
-  pub settle_room : {t u : Table K V} {ms js : List ℕ} (js' : List ℕ) {up size : ℕ} {rows : List (List (LevelNode K ℕ))} {a : List (K × ℕ)}
-      {x : K × ℕ} (y : K × ℕ) {b : List (K × ℕ)} (moved : Bool) → (d : Spot t ms js up size rows a x b) → length (d.q.l ++ x ∷ d.q.r) < 8
+  pub settle_room : {t u : Table K V} {ms js : _} (js' : _) {up size rows a : _}
+      {x : _} (y : _) {b : _} (moved : Bool) → (d : Spot t ms js up size rows a x b) → length (d.q.l ++ x ∷ d.q.r) < 8
       → Puts t u (get_or ms up 0) (inner_content (d.q.l ++ x ∷ y ∷ d.q.r)) →
       get_or js' up 0 ≡ (if moved then suc (get_or js up 0) else get_or js up 0) → ((i : ℕ) → i ≢ up → get_or js' i 0 ≡ get_or js i 0) →
       (1 ≡ need_above (Some (length a)) (map sizes rows)) × Grown t u ms js ms js' up size size rows (a ++ x ∷ y ∷ b) (if moved then suc (length a) else length a) (gain_above (Some (length a)) (map sizes rows)) []
   settle_room {t} {u} {ms} {js} js' {up} {x} y moved d room w j_is far =
       let q = d.q in
       let n = get_or ms up 0 in
-      let old : List (K × ℕ) = q.l ++ x ∷ q.r in
-      let es : List (K × ℕ) = q.l ++ x ∷ y ∷ q.r in
+      let old = q.l ++ x ∷ q.r in
+      let es = q.l ++ x ∷ y ∷ q.r in
       let ab = d.whole in
       let len : length es ≡ suc (length old) = omega (arith, length-append q.l (x ∷ y ∷ q.r), length-append q.l (x ∷ q.r)) in
-      let at_is : get_or js' up 0 ≡ step moved + length q.l = j_is ∙ step_is moved (get_or js up 0) ∙ ap (λ z. step moved + z) (sym q.entry_is) in
+      let at_is = j_is ∙ step_is moved (get_or js up 0) ∙ ap (λ z. step moved + z) (sym q.entry_is) in
       let c = λ (m : ℕ). counts m q.before n old q.after q.rest t.chain in
       let c2 = λ (m : ℕ). counts m q.before n es q.after q.rest u.chain in
       let hs : heads (q.before ++ node n old ∷ q.after) ≡ heads (q.before ++ node n es ∷ q.after) =
@@ -43,28 +43,28 @@ module _ {K V : Type 0} where
         record {
           rows' = (q.before ++ node n es ∷ q.after) ∷ q.rest;
           above = record {
-            stacked = (simp (flat-append, append_assoc), FitRow-put 4 8 q.before q.after n old es len room ab.stacked.1, subst (λ (z : List (K × ℕ)). Stacked z q.rest) hs ab.stacked.2);
+            stacked = (simp (flat-append, append_assoc), FitRow-put 4 8 q.before q.after n old es len room ab.stacked.1, rw (← hs) ab.stacked.2);
             inside = (
               row-put inner_content t.nodes u.nodes q.before n old es q.after d.f.inside w.same w.here d.f.none,
               rows-same t.nodes u.nodes q.rest (λ m some. w.same m (ne_from_count m n (flat_map numbers q.rest) some d.f.none_rest)) ab.inside.1,
             );
-            stands = stands_here ms js' up (q.before ++ node n es ∷ q.after) q.before n
-                (step moved + length q.l) es q.after q.rest _ d.f.solid refl refl at_is
+            stands = stands_here _ _ _ _ _ n
+                _ _ _ _ _ d.f.solid refl refl at_is
                 (omega (arith, length-append q.l (x ∷ y ∷ q.r), step_most moved))
                 (step_is moved (length (flat q.before ++ q.l)) ∙ omega (arith, length-append (flat q.before) q.l))
-                (stands-same ms js ms js' (suc up) q.rest (length (heads q.before)) (λ i high. refl) (λ i high. far i (λ (e : i ≡ up). omega (arith, e, high))) q.stands);
+                (stands-same ms js ms js' (suc up) q.rest (length (heads q.before)) (λ i high. refl) (λ i high. far i (λ (e : i ≡ up). omega arith)) q.stands);
             height = ab.height;
             apart = λ m. omega (arith, ab.apart m, c m, c2 m, ap (λ z. count m z) w.chain_is);
           };
-          topped = λ old_list le top. (omega (arith, le, top.0), subst (λ (z : List (K × ℕ)). Topped z q.rest) hs top.1);
+          topped = λ old_list le top. (omega arith, rw (← hs) top.1);
           sizes_are = ap (λ z. z ∷ map sizes q.rest) (sizes-append q.before (node n es ∷ q.after) ∙ ap (λ z. sizes q.before ++ z ∷ sizes q.after) len) ∙ sym (ap (λ z. z.1 ∷ gain_above z.0 (map sizes q.rest)) g);
           numbers_are = λ m. omega (arith, c m, c2 m);
-          others = λ m z. w.same m (absent_ne m n (numbers q.after) (omega (arith, z, c m)));
+          others = λ m z. w.same m (absent_ne m n (numbers q.after) (omega (arith, c m)));
           chain_is = sym w.chain_is;
           slots_are = w.slots_are;
           limit_is = w.limit_is;
           nodes_below = λ i low. refl;
-          entries_below = λ i low. far i (λ (e : i ≡ up). omega (arith, e, low));
+          entries_below = λ i low. far i (λ (e : i ≡ up). omega arith);
           same_top = λ same. refl;
           new_top = λ other. absurd (other refl);
         },
@@ -72,59 +72,59 @@ module _ {K V : Type 0} where
 
 module _ {K V : Type 0} where
   -- the need and the number of levels above a level with a split node, from those one level up
-  pub sizes_halved : {t u : Table K V} {ms js ms' js' : List ℕ} {up size : ℕ} {rows : List (List (LevelNode K ℕ))} {list : List (K × ℕ)} {was p : ℕ} {key : K} {right : ℕ} {moved : Bool} → (h : Halved t u ms js ms' js' up size rows list was p key right moved) →
+  pub sizes_halved : {t u : Table K V} {ms js ms' js' up size rows list was p key right moved : _} → (h : Halved t u ms js ms' js' up size rows list was p key right moved) →
       (need_above (Some was) (map sizes rows) ≡ suc (need_above (Some (length (heads h.before))) (map sizes h.rest))) × (length (gain_above (Some was) (map sizes rows)) ≡ suc (length (gain_above (Some (length (heads h.before))) (map sizes h.rest))))
   sizes_halved {was} h = (
-    ap (λ z. need_above (Some was) (map sizes z)) h.rows_were ∙ ap (λ z. suc (need_above z.0 (map sizes h.rest))) h.gain_is,
-    ap (λ z. length (gain_above (Some was) (map sizes z))) h.rows_were ∙ ap (λ z. suc (length (gain_above z.0 (map sizes h.rest)))) h.gain_is,
+    cc,
+    cc,
   )
 
   -- the rows from a level up, after the right half was inserted into the levels above
-  pub rise : {t u v : Table K V} {ms js ms' js' ms'' js'' : List ℕ} {up size size' : ℕ} {rows : List (List (LevelNode K ℕ))}
-      {hs list : List (K × ℕ)} {q was p : ℕ} {key : K} {right : ℕ} {moved : Bool} {taken : List ℕ} → Above t ms js up size rows hs q
+  pub rise : {t u v : Table K V} {ms js ms' js' ms'' js'' up size size' rows : _}
+      {hs list q was p key right moved taken : _} → Above t ms js up size rows hs q
       → (h : Halved t u ms js ms' js' up size rows list was p key right moved) →
       Rises h.parted v ms'' js'' size' taken →
       Grown t v ms js ms'' js'' up size size' rows list p (gain_above (Some was) (map sizes rows)) (right ∷ taken)
   rise {t} {v = v} {ms} {up} {rows} {was} {taken} ab h g =
       let n = get_or ms up 0 in
-      let row : List (LevelNode K ℕ) = h.before ++ node n h.entries ∷ h.after in
+      let row = h.before ++ node n h.entries ∷ h.after in
       let hs0 : heads row ≡ heads h.before ++ (h.first.0, n) ∷ heads h.after = heads-append h.before _ ∙ ap (λ z. heads h.before ++ (z ++ heads h.after)) h.head_is in
       let nums = λ (m : ℕ). ap (λ z. count m (flat_map numbers z)) h.rows_were in
       let own = λ (m : ℕ). count-append m (numbers row ++ flat_map numbers h.rest) t.chain in
-      let tops_were = λ (old : List (K × ℕ)) (top : Topped old rows). subst (λ (z : List (List (LevelNode K ℕ))). Topped old z) h.rows_were top in
+      let tops_were = λ (old : Heads K) (top : Topped old rows). subst (λ z. Topped old z) h.rows_were top in
       record {
         rows' = halves h.parted g ∷ g.rows';
         above = record {
           stacked = (h.flat_is, h.fit, over h.parted g);
           inside = (inside h.parted g, g.above.inside);
           stands = (stands_at h.parted g, stands_over h.parted g);
-          height = omega (arith, g.above.height);
+          height = omega arith;
           apart = λ m. omega (arith, h.apart m, own m, numbers_are h.parted g m, ap (λ z. count m z) (chain_is h.parted g), count-append m taken v.chain, count-append m (numbers (halves h.parted g) ++ flat_map numbers g.rows') v.chain);
         };
-        topped = λ old le top. (omega (arith, le, (tops_were old top).0), tops h.parted g (subst (λ (z : List (K × ℕ)). Topped z h.rest) hs0 (tops_were old top).1));
-        sizes_are = ap (λ z. sizes (halves h.parted g) ∷ z) g.sizes_are ∙ sym (ap (λ z. gain_above (Some was) (map sizes z)) h.rows_were ∙ ap (λ z. z.1 ∷ gain_above z.0 (map sizes h.rest)) h.gain_is);
+        topped = λ old le top. (omega (arith, (tops_were old top).0), tops h.parted g (rw (← hs0) (tops_were old top).1));
+        sizes_are = cc;
         numbers_are = λ m. omega (arith, nums m, numbers_are h.parted g m);
-        others = λ m z. others_same h.parted g m (omega (arith, z, nums m));
+        others = λ m z. others_same h.parted g m (omega (arith, nums m));
         chain_is = chain_is h.parted g;
-        slots_are = g.slots_are ∙ h.slots_are;
-        limit_is = g.limit_is ∙ h.limit_is;
-        nodes_below = λ i low. g.nodes_below i (omega (arith, low)) ∙ h.nodes_below i low;
-        entries_below = λ i low. g.entries_below i (omega (arith, low)) ∙ h.entries_below i low;
+        slots_are = cc;
+        limit_is = cc;
+        nodes_below = λ i low. g.nodes_below i (omega arith) ∙ h.nodes_below i low;
+        entries_below = λ i low. g.entries_below i (omega arith) ∙ h.entries_below i low;
         same_top = same_top h.parted g;
         new_top = λ other. omega (arith, g.new_top other);
       }
 
   -- splitting the root adds a new root
-  pub settle_root : {t u : Table K V} {ms js : List ℕ} (ms' js' : List ℕ) {size : ℕ} (size' left : ℕ) {root : ℕ} (rows : List (List (LevelNode K ℕ)))
-      (a : List (K × ℕ)) (first : K) (b : List (K × ℕ)) (key : K) (child : ℕ) (moved : Bool)
+  pub settle_root : {t u : Table K V} {ms js : List ℕ} (ms' js' : List ℕ) {size : ℕ} (size' left : ℕ) {root : ℕ} (rows : Rows K)
+      (a : Heads K) (first : K) (b : Heads K) (key : K) (child : ℕ) (moved : Bool)
       → Above t ms js size size rows (a ++ (first, left) ∷ b) (length a) → Takes t u root (Inner (key ∷ []) (left ∷ child ∷ [])) →
       size' ≡ suc size → get_or ms' size 0 ≡ root → get_or js' size 0 ≡ (if moved then 1 else 0) → ((i : ℕ) → i ≢ size → get_or ms' i 0 ≡ get_or ms i 0) → ((i : ℕ) → i ≢ size → get_or js' i 0 ≡ get_or js i 0) →
       (taken : List ℕ) × ((suc (length taken) ≡ need_above (Some (length a)) (map sizes rows)) × Grown t u ms js ms' js' size size size' rows (a ++ (first, left) ∷ (key, child) ∷ b) (if moved then suc (length a) else length a) (gain_above (Some (length a)) (map sizes rows)) taken)
-  settle_root ms' js' size' left (row ∷ rows) a first b key child moved ab w size_is m_is j_is far_m far_j = absurd (omega (arith, ab.height))
-  settle_root ms' js' size' left [] (y ∷ a) first b key child moved ab w size_is m_is j_is far_m far_j = absurd (omega (arith, ab.stacked, length-append a ((first, left) ∷ b)))
-  settle_root ms' js' size' left [] [] first (y ∷ b) key child moved ab w size_is m_is j_is far_m far_j = absurd (omega (arith, ab.stacked))
+  settle_root ms' js' size' left (row ∷ rows) a first b key child moved ab w size_is m_is j_is far_m far_j = absurd (omega arith)
+  settle_root ms' js' size' left [] (y ∷ a) first b key child moved ab w size_is m_is j_is far_m far_j = absurd (omega arith)
+  settle_root ms' js' size' left [] [] first (y ∷ b) key child moved ab w size_is m_is j_is far_m far_j = absurd (omega arith)
   settle_root ms' js' {size} size' left {root} [] [] first [] key child moved ab w size_is m_is j_is far_m far_j =
-      let es : List (K × ℕ) = (first, left) ∷ (key, child) ∷ [] in (
+      let es : Heads K = (first, left) ∷ (key, child) ∷ [] in (
         root ∷ [],
         (
           refl,
@@ -134,44 +134,44 @@ module _ {K V : Type 0} where
               stacked = (refl, (omega arith, omega arith, tt), refl);
               inside = ((w.here, tt), tt);
               stands = (
-                record { before = []; entries = es; after = []; row_is = rw m_is refl; within = omega (arith, j_is, step_is moved 0, step_most moved); place_is = sym j_is ∙ (let none : get_or js' size 0 ≡ 0 + get_or js' size 0 = omega arith in none) },
+                record { before = []; entries = es; after = []; row_is = rw m_is refl; within = omega (arith, step_is moved 0, step_most moved); place_is = sym j_is ∙ (let none : get_or js' size 0 ≡ 0 + get_or js' size 0 = omega arith in none) },
                 refl,
               );
-              height = omega (arith, size_is);
+              height = omega arith;
               apart = λ m. omega (arith, ab.apart m, ap (λ z. count m z) w.chain_is);
             };
             topped = λ old le top. (omega arith, tt);
             sizes_are = refl;
             numbers_are = λ m. omega arith;
-            others = λ m z. w.same m (absent_ne m root [] (omega (arith, z)));
+            others = λ m z. w.same m (absent_ne m root [] (omega arith));
             chain_is = w.chain_is;
             slots_are = w.slots_are;
             limit_is = w.limit_is;
-            nodes_below = λ i low. far_m i (λ (e : i ≡ size). omega (arith, e, low));
-            entries_below = λ i low. far_j i (λ (e : i ≡ size). omega (arith, e, low));
-            same_top = λ same. absurd (omega (arith, same, size_is));
-            new_top = λ other. (let top : size' - 1 ≡ size = omega (arith, size_is) in
-                subst (λ (z : ℕ). 0 < count z (root ∷ [])) (sym (ap (λ z. get_or ms' z 0) top ∙ m_is)) (omega (arith, count-same root [])));
+            nodes_below = λ i low. far_m i (λ (e : i ≡ size). omega arith);
+            entries_below = λ i low. far_j i (λ (e : i ≡ size). omega arith);
+            same_top = λ same. absurd (omega arith);
+            new_top = λ other. (let top : size' - 1 ≡ size = omega arith in
+                rw (ap (λ z. get_or ms' z 0) top ∙ m_is) (omega (arith, count-same root [])));
           },
         ),
       )
 
 -- a split of the root takes a node for the new root too
-pub need_top : {K : Type 0} (p : ℕ) (rows : List (List (LevelNode K ℕ))) → length rows ≡ 0 → need_above (Some p) (map sizes rows) ≡ 2
+pub need_top : {K : Type 0} (p : ℕ) (rows : Rows K) → length rows ≡ 0 → need_above (Some p) (map sizes rows) ≡ 2
 need_top p [] none = refl
-need_top p (row ∷ rows) none = absurd (omega (arith, none))
+need_top p (row ∷ rows) none = absurd (omega arith)
 
 -- a split takes at least one node
-pub need_some : (p : ℕ) (levels : List (List ℕ)) → 1 ≤ need_above (Some p) levels
+pub need_some : (p levels : _) → 1 ≤ need_above (Some p) levels
 need_some p [] = omega arith
 need_some p (level ∷ levels) = omega arith
 
 module _ {K V : Type 0} where
   -- a split below a full node takes at least two nodes
-  pub need_full : {t : Table K V} {ms js : List ℕ} {up size : ℕ} {rows : List (List (LevelNode K ℕ))} {a : List (K × ℕ)} {x : K × ℕ} {b : List (K × ℕ)} → (d : Spot t ms js up size rows a x b) → length (d.q.l ++ x ∷ d.q.r) ≡ 8 → 2 ≤ need_above (Some (length a)) (map sizes rows)
+  pub need_full : {t : Table K V} {ms js up size rows a x b : _} → (d : Spot t ms js up size rows a x b) → length (d.q.l ++ x ∷ d.q.r) ≡ 8 → 2 ≤ need_above (Some (length a)) (map sizes rows)
   need_full {ms} {up} {rows} {a} {x} d eight =
       let q = d.q in
-      let es : List (K × ℕ) = q.l ++ x ∷ q.r in
+      let es = q.l ++ x ∷ q.r in
       let needs : need_above (Some (length a)) (map sizes rows) ≡ suc (need_above (Some (length q.before)) (map sizes q.rest)) =
-      rw (q.a_is, q.rows_are, gain_spot q.before (get_or ms up 0) es q.l q.after, gain_full q.before (length es) (length q.l) (sizes q.after) (omega (arith, length-append q.l (x ∷ q.r))) eight) refl in
-      omega (arith, needs, need_some (length q.before) (map sizes q.rest))
+      rw (q.a_is, q.rows_are, gain_spot q.before (get_or ms up 0) es q.l q.after, gain_full q.before (length es) (length q.l) (sizes q.after) (omega arith) eight) refl in
+      omega (arith, need_some (length q.before) (map sizes q.rest))

@@ -1,12 +1,9 @@
 -- Leaves and inner nodes as stored, for the calls on two neighbours.
 use Rattle.std.proofs.Common.{true, ◌≡◌, ℕ, suc, ◌+◌, ◌-◌, ◌/◌, ◌≤◌, ◌<◌, ◌≢◌, List, [], ◌∷◌, ◌++◌, length, slice_get, Option, Some, None, refl, sym, ap, ◌∙◌, subst, inl, inr, length-append, arith}
-use Rattle.bforest_core.proofs.Words.{length-map, map-append, cases_lt, Content, Inner, Leaf, IsFree, IsSameKind, entry_count, entry_capacity, joined, IsCut, Balances, left_share, Table, with_node, IsBalancedAt, Frees}
-use Rattle.bforest_core.proofs.Words.{Bool, false, IsLeafCapacity, content_at, half_at, most_at, inner_content, leaf_content, entry_keys, entry_items}
-use Rattle.bforest_core.proofs.table.Stored.{some_same, Parts, inner_cuts, leaf_cuts}
-use Rattle.bforest_core.proofs.table.Tables.{count-same, puts}
-use Rattle.bforest_core.proofs.rows.LevelRows.{head-is}
-use Rattle.bforest_core.proofs.rows.Zipper.{cut}
-use Rattle.bforest_core.proofs.removal.Frees.{frees-after, frees-puts}
+use Rattle.bforest_core.proofs.Words.{length-map, map-append, cases_lt, Content, IsFree, IsSameKind, entry_count, entry_capacity, joined, IsCut, Balances}
+use Rattle.bforest_core.proofs.Words.{left_share, Table, with_node, IsBalancedAt, Frees, Bool, false, IsLeafCapacity, content_at, half_at, most_at}
+use Rattle.bforest_core.proofs.{Words.{inner_content, leaf_content}, table.Stored.{some_same, Parts, inner_cuts, leaf_cuts}, table.Tables.{count-same, puts}}
+use Rattle.bforest_core.proofs.{rows.LevelRows.head-is, rows.Zipper.cut, removal.Frees.{frees-after, frees-puts}}
 
 -- half of a node's capacity and the whole of it
 pub record IsHalf (half most : ℕ) : Type 0 where
@@ -16,12 +13,12 @@ pub record IsHalf (half most : ℕ) : Type 0 where
 
 -- how the nodes of a level are stored
 pub record IsStored {K V X : Type 0} (content : List (K × X) → Content K V) (n most : ℕ) : Type 0 where
-  pub count_is : (es : List (K × X)) → entry_count (content es) ≡ length es
-  pub capacity_is : (es : List (K × X)) → entry_capacity n (content es) ≡ most
-  pub used : (es : List (K × X)) → ¬ IsFree (content es)
-  pub kind : (es fs : List (K × X)) → IsSameKind (content es) (content fs)
-  pub joins : (e : K × X) (es : List (K × X)) (f : K × X) (fs : List (K × X)) → joined (content (e ∷ es)) f.0 (content (f ∷ fs)) ≡ content ((e ∷ es) ++ f ∷ fs)
-  pub cuts : (x : K × X) (xs : List (K × X)) (y : K × X) (ys : List (K × X)) (q : ℕ) (left right : Content K V) (key : K) → length (x ∷ xs) ≡ q → IsCut (content ((x ∷ xs) ++ y ∷ ys)) q left key right → Parts content (x ∷ xs) y ys left right key
+  pub count_is : (es : _) → entry_count (content es) ≡ length es
+  pub capacity_is : (es : _) → entry_capacity n (content es) ≡ most
+  pub used : (es : _) → ¬ IsFree (content es)
+  pub kind : (es fs : _) → IsSameKind (content es) (content fs)
+  pub joins : (e es f fs : _) → joined (content (e ∷ es)) f.0 (content (f ∷ fs)) ≡ content ((e ∷ es) ++ f ∷ fs)
+  pub cuts : (x xs y ys q left right key : _) → length (x ∷ xs) ≡ q → IsCut (content ((x ∷ xs) ++ y ∷ ys)) q left key right → Parts content (x ∷ xs) y ys left right key
 
 module _ {K : Type 0} where
   -- inner nodes are stored with a capacity of 8
@@ -31,7 +28,7 @@ module _ {K : Type 0} where
     capacity_is = λ es. refl;
     used = λ es free. free;
     kind = λ es fs. tt;
-    joins = λ e es f fs. sym (ap (λ w. Inner w (entry_items ((e ∷ es) ++ f ∷ fs))) (map-append (λ w. w.0) es (f ∷ fs)) ∙ ap (λ w. Inner (entry_keys es ++ f.0 ∷ entry_keys fs) w) (map-append (λ w. w.1) (e ∷ es) (f ∷ fs)));
+    joins = λ e es f fs. sym (cc (map-append (λ w. w.0) es (f ∷ fs), map-append (λ w. w.1) (e ∷ es) (f ∷ fs)));
     cuts = inner_cuts V;
   }
 
@@ -42,17 +39,17 @@ module _ {K : Type 0} where
     capacity_is = λ es. refl;
     used = λ es free. free;
     kind = λ es fs. tt;
-    joins = λ e es f fs. sym (ap (λ w. Leaf w (entry_items ((e ∷ es) ++ f ∷ fs))) (map-append (λ w. w.0) (e ∷ es) (f ∷ fs)) ∙ ap (λ w. Leaf (entry_keys (e ∷ es) ++ f.0 ∷ entry_keys fs) w) (map-append (λ w. w.1) (e ∷ es) (f ∷ fs)));
-    cuts = λ x xs y ys q left right key e c. leaf_cuts V (x ∷ xs) y ys q left right key e c;
+    joins = λ e es f fs. sym (cc (map-append (λ w. w.0) (e ∷ es) (f ∷ fs), map-append (λ w. w.1) (e ∷ es) (f ∷ fs)));
+    cuts = λ x xs y ys q left right key e c. leaf_cuts V _ y _ q _ _ key e c;
   }
 
 -- a leaf is half full with half of its capacity, an inner node with 4 children
 pub kind_half : {n : ℕ} (leaf : Bool) → (leaf ≡ true → IsLeafCapacity n) → IsHalf (half_at leaf n) (most_at leaf n)
-kind_half true capacity = let c = capacity refl in record { two = omega (arith, c.least); lo = omega (arith, c.odd); hi = omega (arith, c.odd) }
+kind_half true capacity = let c = capacity refl in record { two = omega arith; lo = omega arith; hi = omega arith }
 kind_half false capacity = record { two = omega arith; lo = omega arith; hi = omega arith }
 
 -- leaves and inner nodes are stored
-pub kind_stored : {K V : Type 0} (n : ℕ) (leaf : Bool) → IsStored {K = K} {V = V} (content_at leaf) n (most_at leaf n)
+pub kind_stored : {K V : Type 0} (n leaf : _) → IsStored {K = K} {V = V} (content_at leaf) n (most_at leaf n)
 kind_stored n true = leaf_stored n
 kind_stored n false = inner_stored n
 
@@ -65,10 +62,10 @@ module _ {K V X : Type 0} (content : List (K × X) → Content K V) where
     pub frees : Frees t u (n ∷ q ∷ []) []
 
   -- two writes in sequence write two slots
-  puts_two : (t u : Table K V) (n q : ℕ) (c d old_n old_q : Content K V) → slice_get t.nodes n ≡ Some old_n → slice_get t.nodes q ≡ Some old_q → n ≢ q → u ≡ with_node (with_node t n c) q d → PutsTwo t u n q c d
+  puts_two : (t u : Table K V) (n q c d old_n old_q : _) → slice_get t.nodes n ≡ Some old_n → slice_get t.nodes q ≡ Some old_q → n ≢ q → u ≡ with_node (with_node t n c) q d → PutsTwo t u n q c d
   puts_two t u n q c d old_n old_q fn fq ne is =
       let v = with_node t n c in
-      let own : List ℕ = n ∷ q ∷ [] in
+      let own = n ∷ q ∷ [] in
       let one = puts t v n c old_n fn refl in
       let two = puts v u q d old_q (one.same q (λ (e : q ≡ n). ne (sym e)) ∙ fq) is in
       record {
@@ -97,27 +94,24 @@ module _ {K V X : Type 0} (content : List (K × X) → Content K V) where
     pub key_is : key ≡ y.0
     pub two : PutsTwo t u n q (content (x ∷ xs)) (content (y ∷ ys))
 
-  module _ (t u : Table K V) {cap most : ℕ} (n q : ℕ) (e : K × X) (es : List (K × X)) (f : K × X) (fs : List (K × X)) (s : IsStored content cap most) (ne : n ≢ q) (two : 2 ≤ most) (fn : slice_get t.nodes n ≡ Some (content (e ∷ es))) (fq : slice_get t.nodes q ≡ Some (content (f ∷ fs))) where
+  module _ (t u : Table K V) {cap most : ℕ} (n q : ℕ) (e : K × X) (es f fs : _) (s : IsStored content cap most) (ne : n ≢ q) (two : 2 ≤ most) (fn : slice_get t.nodes n ≡ Some (content (e ∷ es))) (fq : slice_get t.nodes q ≡ Some (content (f ∷ fs))) where
     -- the balanced nodes are these two
     balances_at : {got : Option K} (b : IsBalancedAt cap t n f.0 q got u) → Balances cap (content (e ∷ es)) f.0 (content (f ∷ fs)) got b.new_left b.new_right
     balances_at {got} b =
-        let under_is : b.under ≡ content (e ∷ es) = some_same b.under (content (e ∷ es)) (sym b.left_was ∙ fn) in
-        let neighbour_is : b.neighbour ≡ content (f ∷ fs) = some_same b.neighbour (content (f ∷ fs)) (sym b.right_was ∙ fq) in
-        subst (λ (z : Content K V). Balances cap (content (e ∷ es)) f.0 z got b.new_left b.new_right) neighbour_is (subst (λ (z : Content K V). Balances cap z f.0 b.neighbour got b.new_left b.new_right) under_is b.balances)
+        let under_is = some_same _ _ (cc) in
+        rw (← (some_same b.neighbour (content (f ∷ fs)) (cc))) (subst (λ z. Balances cap z f.0 b.neighbour got b.new_left b.new_right) under_is b.balances)
 
     whole_count : entry_count (content (e ∷ es)) + entry_count (content (f ∷ fs)) ≡ length (e ∷ es) + length (f ∷ fs)
-    whole_count = omega (arith, s.count_is (e ∷ es), s.count_is (f ∷ fs))
+    whole_count = omega arith
 
     -- where everything fits, balancing merges into the right node
     pub all_right_at : IsBalancedAt cap t n f.0 q None u → AllRight t u most n q (e ∷ es) (f ∷ fs)
     all_right_at b =
         let bal = balances_at b in
-        let full = s.capacity_is (e ∷ es) in
-        let total = whole_count in
         elim (cases_lt most (length (e ∷ es) + length (f ∷ fs))) [
-          | inl more ↦ absurd (let w = bal.shares (omega (arith, total, full, more)) in let g = w.1 in cc)
-          | inr less ↦ (let w = bal.merges (omega (arith, total, full, less)) in
-              record { fits = less; left_content = b.new_left; two = puts_two t u n q b.new_left (content ((e ∷ es) ++ f ∷ fs)) (content (e ∷ es)) (content (f ∷ fs)) fn fq ne (b.after ∙ ap (λ z. with_node (with_node t n b.new_left) q z) (w.1 ∙ s.joins e es f fs)) })
+          | inl more ↦ absurd (let w = bal.shares (omega (arith, more)) in let g = w.1 in cc)
+          | inr less ↦ (let w = bal.merges (omega arith) in
+              record { fits = less; left_content = b.new_left; two = puts_two t u n q _ _ _ _ fn fq ne (cc (s.joins e es f fs)) })
         ]
 
     -- where not everything fits, balancing shares the entries
@@ -127,17 +121,17 @@ module _ {K V X : Type 0} (content : List (K × X) → Content K V) where
         let full = s.capacity_is (e ∷ es) in
         let total = whole_count in
         let both = length (e ∷ es) + length (f ∷ fs) in
-        let len : length ((e ∷ es) ++ f ∷ fs) ≡ both = length-append (e ∷ es) (f ∷ fs) in
+        let len = length-append (e ∷ es) (f ∷ fs) in
         elim (cases_lt most (length (e ∷ es) + length (f ∷ fs))) [
-          | inr less ↦ absurd (let w = bal.merges (omega (arith, total, full, less)) in let g = w.0 in cc)
-          | inl more ↦ (let w = bal.shares (omega (arith, total, full, more)) in
-              let c = cut ((e ∷ es) ++ f ∷ fs) (both - both / 2) (omega (arith, len, more, two)) in
-              let h = head-is n c.l (omega (arith, more, two, c.place_is)) in
-              let whole : (e ∷ es) ++ f ∷ fs ≡ (h.first ∷ h.others) ++ c.x ∷ c.r = c.es_is ∙ ap (λ z. z ++ c.x ∷ c.r) h.es_is in
-              let left : suc (length h.others) ≡ both - both / 2 = ap length (sym h.es_is) ∙ c.place_is in
+          | inr less ↦ absurd (let w = bal.merges (omega arith) in let g = w.0 in cc)
+          | inl more ↦ (let w = bal.shares (omega (arith, more)) in
+              let c = cut ((e ∷ es) ++ f ∷ fs) (both - both / 2) (omega (arith, more, two)) in
+              let h = head-is n c.l (omega (arith, more, two)) in
+              let whole = c.es_is ∙ ap (λ z. z ++ c.x ∷ c.r) h.es_is in
+              let left = ap length (sym h.es_is) ∙ c.place_is in
               let cuts : IsCut (content ((h.first ∷ h.others) ++ c.x ∷ c.r)) (both - both / 2) b.new_left w.0 b.new_right =
-              subst (λ (z : ℕ). IsCut (content ((h.first ∷ h.others) ++ c.x ∷ c.r)) (left_share z) b.new_left w.0 b.new_right) total
-              (subst (λ (z : Content K V). IsCut z (left_share (entry_count (content (e ∷ es)) + entry_count (content (f ∷ fs))))
+              subst (λ z. IsCut (content ((h.first ∷ h.others) ++ c.x ∷ c.r)) (left_share z) b.new_left w.0 b.new_right) total
+              (subst (λ z. IsCut z (left_share (entry_count (content (e ∷ es)) + entry_count (content (f ∷ fs))))
               b.new_left w.0 b.new_right) (s.joins e es f fs ∙ ap content whole) w.2) in
               let p = s.cuts h.first h.others c.x c.r (both - both / 2) b.new_left b.new_right w.0 left cuts in
               record {
@@ -148,8 +142,8 @@ module _ {K V X : Type 0} (content : List (K × X) → Content K V) where
                 ys = c.r;
                 whole = whole;
                 left_is = left;
-                right_is = omega (arith, ap length whole, len, length-append (h.first ∷ h.others) (c.x ∷ c.r), left);
+                right_is = omega (arith, ap length whole, length-append (h.first ∷ h.others) (c.x ∷ c.r));
                 key_is = some_same key w.0 w.1 ∙ p.key_is;
-                two = puts_two t u n q (content (h.first ∷ h.others)) (content (c.x ∷ c.r)) (content (e ∷ es)) (content (f ∷ fs)) fn fq ne (b.after ∙ ap (λ z. with_node (with_node t n z) q b.new_right) p.left_is ∙ ap (λ z. with_node (with_node t n (content (h.first ∷ h.others))) q z) p.right_is);
+                two = puts_two t u n q _ _ _ _ fn fq ne (cc);
               })
         ]

@@ -1,39 +1,37 @@
 -- Changes of some slots of a table, some of them freed: none, changes in sequence, and changes of more slots.
-use Rattle.std.proofs.Common.{◌≡◌, ◌≢◌, ℕ, ◌<◌, List, [], ◌∷◌, ◌++◌, length, slice_get, Some, refl, sym, ap, ◌∙◌, subst, inl, inr, append_assoc, append-nil, length-set, arith}
-use Rattle.bforest_core.proofs.Words.{eqb_tells, slice_get_within, Content, Free, IsFree, Table, with_freed, front_of, count, Frees, slot}
-use Rattle.bforest_core.proofs.table.Tables.{Puts, count-other, slice_get-set_apart}
-use Rattle.bforest_core.proofs.union.Forests.{every-join}
-use Rattle.bforest_core.proofs.union.FreeSlots.{free-same, freed-slot}
+use Rattle.std.proofs.Common.{◌≡◌, ◌≢◌, ℕ, ◌<◌, [], ◌∷◌, ◌++◌, slice_get, Some, refl, ap, ◌∙◌, inl, inr, append_assoc, append-nil, length-set, arith}
+use Rattle.bforest_core.proofs.{Words.{eqb_tells, slice_get_within, Content, Free, Table, with_freed, front_of, count, Frees}, table.Tables.{Puts, count-other}}
+use Rattle.bforest_core.proofs.{table.Tables.slice_get-set_apart, union.Forests.every-join, union.FreeSlots.{free-same, freed-slot}}
 
 -- a number that occurs in a singleton list is its element
-pub only_here : (m n : ℕ) (ms : List ℕ) → 0 < count m (n ∷ []) → count n ms ≡ 0 → count m ms ≡ 0
+pub only_here : (m n ms : _) → 0 < count m (n ∷ []) → count n ms ≡ 0 → count m ms ≡ 0
 only_here m n ms some none =
     elim (eqb_tells n m) [
-      | inl w ↦ (let e : n ≡ m = w.1 in subst (λ (z : ℕ). count z ms ≡ 0) e none)
-      | inr w ↦ absurd (omega (arith, some, count-other m n [] w.1))
+      | inl w ↦ (let e = w.1 in rw (← e) none)
+      | inr w ↦ absurd (omega (arith, count-other m n [] w.1))
     ]
 
 module _ {K V : Type 0} where
   -- an unchanged table frees nothing
-  pub frees-refl : (t : Table K V) (own : List ℕ) → Frees t t own []
+  pub frees-refl : (t : Table K V) (own : _) → Frees t t own []
   frees-refl t own = record { others = λ m z. refl; freed_are = tt; chain_is = refl; slots_are = refl; limit_is = refl }
 
   -- two changes in sequence, the second of which leaves the slots freed by the first
-  pub frees-then : {t u v : Table K V} {own wide one two : List ℕ} → ((m : ℕ) → count m own ≡ 0 → count m wide ≡ 0) → ((m : ℕ) → 0 < count m one → count m wide ≡ 0) → Frees t u own one → Frees u v wide two → Frees t v own (two ++ one)
+  pub frees-then : {t u v : Table K V} {own wide one two : _} → ((m : ℕ) → count m own ≡ 0 → count m wide ≡ 0) → ((m : ℕ) → 0 < count m one → count m wide ≡ 0) → Frees t u own one → Frees u v wide two → Frees t v own (two ++ one)
   frees-then {t} {u} {v} {one} {two} less quiet p q = record {
     others = λ m z. q.others m (less m z) ∙ p.others m z;
-    freed_are = every-join (λ (m : ℕ). IsFree (slot v.nodes m)) two one q.freed_are (free-same u.nodes v.nodes one (λ m some. q.others m (quiet m some)) p.freed_are);
-    chain_is = q.chain_is ∙ ap (λ z. two ++ z) p.chain_is ∙ sym (append_assoc two one t.chain);
-    slots_are = q.slots_are ∙ p.slots_are;
-    limit_is = q.limit_is ∙ p.limit_is;
+    freed_are = every-join _ _ _ q.freed_are (free-same _ _ _ (λ m some. q.others m (quiet m some)) p.freed_are);
+    chain_is = cc (append_assoc two one t.chain);
+    slots_are = cc;
+    limit_is = cc;
   }
 
   -- two changes in sequence, the first of which frees nothing
-  pub frees-after : {t u v : Table K V} {own wide freed : List ℕ} → ((m : ℕ) → count m own ≡ 0 → count m wide ≡ 0) → Frees t u own [] → Frees u v wide freed → Frees t v own freed
-  frees-after {t} {u} {v} {own} {wide} {freed} less p q = subst (λ (z : List ℕ). Frees t v own z) (append-nil freed) (frees-then less (λ m some. omega (arith, some)) p q)
+  pub frees-after : {t u v : Table K V} {own wide freed : _} → ((m : ℕ) → count m own ≡ 0 → count m wide ≡ 0) → Frees t u own [] → Frees u v wide freed → Frees t v own freed
+  frees-after {t} {u} {v} {own} {wide} {freed} less p q = rw (← append-nil freed) (frees-then less (λ m some. omega arith) p q)
 
   -- a change of some slots is a change of more slots
-  pub frees-wider : {t u : Table K V} {own : List ℕ} (wide : List ℕ) {freed : List ℕ} → ((m : ℕ) → count m wide ≡ 0 → count m own ≡ 0) → Frees t u own freed → Frees t u wide freed
+  pub frees-wider : {t u : Table K V} {own : _} (wide : _) {freed : _} → ((m : ℕ) → count m wide ≡ 0 → count m own ≡ 0) → Frees t u own freed → Frees t u wide freed
   frees-wider wide w p = record {
     others = λ m z. p.others m (w m z);
     freed_are = p.freed_are;
@@ -43,9 +41,9 @@ module _ {K V : Type 0} where
   }
 
   -- writing one slot frees nothing
-  pub frees-puts : {t u : Table K V} {n : ℕ} {c : Content K V} (own : List ℕ) → 0 < count n own → Puts t u n c → Frees t u own []
+  pub frees-puts : {t u : Table K V} {n c : _} (own : _) → 0 < count n own → Puts t u n c → Frees t u own []
   frees-puts {n} own some p = record {
-    others = λ m z. p.same m (λ (e : m ≡ n). let h = ap (λ w. count w own) e in omega (arith, h, z, some));
+    others = λ m z. p.same m (λ (e : m ≡ n). let h = ap (λ w. count w own) e in omega arith);
     freed_are = tt;
     chain_is = p.chain_is;
     slots_are = p.slots_are;
@@ -54,20 +52,20 @@ module _ {K V : Type 0} where
 
   -- freeing a slot leaves every other slot
   pub freed_other : (t v : Table K V) (n : ℕ) → v ≡ with_freed t n → (m : ℕ) → m ≢ n → slice_get v.nodes m ≡ slice_get t.nodes m
-  freed_other t v n is m ne = ap (λ z. slice_get z.nodes m) is ∙ slice_get-set_apart t.nodes n m (Free (front_of t.chain)) ne
+  freed_other t v n is m ne = cc (slice_get-set_apart t.nodes n m (Free (front_of t.chain)) ne)
 
   -- freeing one used slot frees just it
-  pub frees-one : (t v : Table K V) (n : ℕ) (old : Content K V) (own : List ℕ) → slice_get t.nodes n ≡ Some old → v ≡ with_freed t n → 0 < count n own → Frees t v own (n ∷ [])
+  pub frees-one : (t v : Table K V) (n old own : _) → slice_get t.nodes n ≡ Some old → v ≡ with_freed t n → 0 < count n own → Frees t v own (n ∷ [])
   frees-one t v n old own found is some = record {
-    others = λ m z. freed_other t v n is m (λ (e : m ≡ n). let h = ap (λ w. count w own) e in omega (arith, h, z, some));
-    freed_are = (subst (λ (z : Table K V). IsFree (slot z.nodes n)) (sym is) (freed-slot t n (slice_get_within t.nodes n old found)), tt);
-    chain_is = ap (λ z. z.chain) is;
-    slots_are = ap (λ z. length z.nodes) is ∙ length-set t.nodes n (Free (front_of t.chain));
-    limit_is = ap (λ z. z.limit) is;
+    others = λ m z. freed_other t v n is m (λ (e : m ≡ n). let h = ap (λ w. count w own) e in omega arith);
+    freed_are = (rw is (freed-slot t n (slice_get_within t.nodes n old found)), tt);
+    chain_is = cc;
+    slots_are = cc (length-set t.nodes n (Free (front_of t.chain)));
+    limit_is = cc;
   }
 
   -- freeing one slot, followed by a change of others
-  pub frees-first : (t : Table K V) {v u : Table K V} (n : ℕ) (old : Content K V) (own : List ℕ) {wide freed : List ℕ} → slice_get t.nodes n ≡ Some old → v ≡ with_freed t n → 0 < count n own → count n wide ≡ 0 →
+  pub frees-first : (t : Table K V) {v u : Table K V} (n : ℕ) (old : Content K V) (own : _) {wide freed : _} → slice_get t.nodes n ≡ Some old → v ≡ with_freed t n → 0 < count n own → count n wide ≡ 0 →
       ((m : ℕ) → count m own ≡ 0 → count m wide ≡ 0) → Frees v u wide freed → Frees t u own (freed ++ n ∷ [])
   frees-first t {v} {u} n old own {wide} {freed} found is some none less q =
       frees-then less (λ m here. only_here m n wide here none) (frees-one t v n old own found is some) q

@@ -1,24 +1,18 @@
 -- Restoring a tree whose leaf lost the entry on which a path stood: the answers of `heal` and `heal_alone`.
-use Rattle.std.proofs.Common.{◌≡◌, ◌≢◌, ℕ, ◌+◌, ◌/◌, ◌≤◌, ◌<◌, List, [], ◌∷◌, ◌++◌, None, Some, ap, arith, get_or, inl, inr, length, length-append, refl, slice_get, sym, ◌∙◌}
+use Rattle.std.proofs.Common.{◌≡◌, ◌≢◌, ℕ, ◌+◌, ◌/◌, ◌≤◌, ◌<◌, List, ◌∷◌, ◌++◌, None, Some, ap, arith, get_or, inl, inr, length, length-append, refl, slice_get, ◌∙◌}
 use Rattle.std.proofs.lemmas.List.{set-set}
 use Rattle.std.proofs.lemmas.List.Edits.{length-remove}
-use Rattle.bforest_core.proofs.Words.{nil_from_length, Content, Free, EntryTaken, HasOthers, IsSingle, IsUsed, LeafLoss, Removed, Shrinks, StandsIn, Unbalanced, Table, Tree, count, entry_keys, front_of, leaf_content, root_of, top_of, tree_of, with_freed, with_node, without_entry}
-use Rattle.bforest_core.proofs.rows.Tops.{root-stands}
-use Rattle.bforest_core.proofs.table.Tables.{is_used, puts}
-use Rattle.bforest_core.proofs.union.Unions.{rooted}
-use Rattle.bforest_core.proofs.removal.Asked.{Counts, NodeAt}
-use Rattle.bforest_core.proofs.removal.LeafEmptied.{emptied_tree}
-use Rattle.bforest_core.proofs.removal.PastEnd.{alone_last}
-use Rattle.bforest_core.proofs.removal.Removal.{outcome, removal, stands_in}
-use Rattle.bforest_core.proofs.removal.Removing.{kept_removed}
-use Rattle.bforest_core.proofs.removal.Taking.{alone_loss}
-use Rattle.bforest_core.proofs.removal.LeafAt.{LeafAt, leaf_at, leaf_count, leaf_keys, some_first}
+use Rattle.bforest_core.proofs.Words.{nil_from_length, Content, Free, EntryTaken, HasOthers, IsSingle, IsUsed, LeafLoss, Removed, Shrinks, StandsIn, Unbalanced}
+use Rattle.bforest_core.proofs.Words.{Table, Tree, entry_keys, front_of, leaf_content, root_of, tree_of, with_freed, with_node, without_entry}
+use Rattle.bforest_core.proofs.{rows.Tops.root-stands, table.Tables.{is_used, puts}, union.Unions.rooted, removal.Asked.{Counts, NodeAt}}
+use Rattle.bforest_core.proofs.{removal.LeafEmptied.emptied_tree, removal.PastEnd.alone_last, removal.Removal.{outcome, removal, stands_in}}
+use Rattle.bforest_core.proofs.{removal.Removing.kept_removed, removal.Taking.alone_loss, removal.LeafAt.{LeafAt, leaf_at, leaf_count, leaf_keys, some_first}}
 
 -- a node that is written and freed is a node that is freed
-freed_again : {K V : Type 0} (t : Table K V) (n : ℕ) (c : Content K V) → with_freed (with_node t n c) n ≡ with_freed t n
-freed_again {K} {V} t n c = ap (λ (z : List (Content K V)). record (with_freed t n) { nodes = z }) (set-set t.nodes n c (Free (front_of t.chain)))
+freed_again : {K V : Type 0} (t : Table K V) (n c : _) → with_freed (with_node t n c) n ≡ with_freed t n
+freed_again {K} {V} t n c = cc (set-set t.nodes n c (Free (front_of t.chain)))
 
-module _ {K V : Type 0} {most : ℕ} {old now : Table K V} {root place : ℕ} {path indices : List ℕ} {size : ℕ} (e : EntryTaken most old now root place path indices size) where
+module _ {K V : Type 0} {most : ℕ} {old now : Table K V} {root place path indices size : _} (e : EntryTaken most old now root place path indices size) where
   abbrev tree : Tree K V
   tree = tree_of old.nodes root
 
@@ -37,11 +31,11 @@ module _ {K V : Type 0} {most : ℕ} {old now : Table K V} {root place : ℕ} {p
 
   -- the tree had this root
   pub root_was : root_of tree ≡ root
-  root_was = (rooted most old root e.union e.stood.root_is).root_is
+  root_was = (rooted _ _ _ e.union e.stood.root_is).root_is
 
   -- the leaf of a path of one level is the root
   pub leaf_is_root : size ≡ 1 → root ≡ leaf
-  leaf_is_root one = sym root_was ∙ root-stands stood_in.fit stood_in.stands ∙ ap (λ z. top_of path z) one
+  leaf_is_root one = cc (root_was, root-stands stood_in.fit stood_in.stands)
 
   d : LeafAt most old path indices size tree place
   d = leaf_at stood_in
@@ -50,19 +44,19 @@ module _ {K V : Type 0} {most : ℕ} {old now : Table K V} {root place : ℕ} {p
   within = omega (arith, d.index_is, length-append d.l (d.x ∷ d.r), leaf_count es (d.l ++ d.x ∷ d.r) (slice_get old.nodes leaf) e.leaf.slot_was d.slot_is)
 
   slot_is : slice_get now.nodes leaf ≡ Some left
-  slot_is = (puts old now leaf left (leaf_content es) e.leaf.slot_was e.leaf.new_is).here
+  slot_is = (puts _ _ _ _ _ e.leaf.slot_was e.leaf.new_is).here
 
   -- the leaf is used
   pub leaf_used : IsUsed now leaf
-  leaf_used = is_used now leaf left slot_is (ap (λ z. count leaf z.chain) e.leaf.new_is ∙ d.none_chain)
+  leaf_used = is_used _ _ _ slot_is (cc (d.none_chain))
 
   -- the effect of a removal from the tree on the table
-  pub settled : {new : Table K V} {Now : Tree K V → Type 0} {root' : ℕ} → Removed most old new path Now tree place root' → Shrinks most old new path root place (Some root')
+  pub settled : {new : _} {Now : Tree K V → Type 0} {root' : ℕ} → Removed most old new path Now tree place root' → Shrinks most old new path root place (Some root')
   settled {new} {Now} r = (removal most old new Now e.union e.stood r).shrinks
 
   module _ (read : ℕ) (num_is : read ≡ leaf) where
     slot_read : slice_get now.nodes read ≡ Some left
-    slot_read = ap (λ z. slice_get now.nodes z) num_is ∙ slot_is
+    slot_read = cc (slot_is)
 
     -- the leaf meets what counting its entries requires
     pub counted_asks : NodeAt now read
@@ -76,29 +70,29 @@ module _ {K V : Type 0} {most : ℕ} {old now : Table K V} {root place : ℕ} {p
       pub single : m ≡ 0 → IsSingle old now leaf
       single none =
           let h = some_first es (omega (arith, within)) in
-          let one : es ≡ h.0 ∷ [] = h.2 ∙ ap (λ z. h.0 ∷ z) (nil_from_length h.1 (omega (arith, count_is, none, ap length h.2))) in
+          let one = h.2 ∙ ap (λ z. h.0 ∷ z) (nil_from_length h.1 (omega (arith, count_is, ap length h.2))) in
           record {
             entry = h.0;
-            slot_was = e.leaf.slot_was ∙ ap (λ z. Some (leaf_content z)) one;
-            freed_is = ap (λ z. with_freed z leaf) e.leaf.new_is ∙ freed_again old leaf left;
+            slot_was = cc;
+            freed_is = cc (freed_again old leaf left);
           }
 
       -- the leaf has others
       pub others : m ≢ 0 → HasOthers old now path indices
       others some =
           let h = some_first es (omega (arith, within)) in
-          let k = some_first h.1 (omega (arith, some, count_is, ap length h.2)) in
-          let two : es ≡ h.0 ∷ k.0 ∷ k.1 = h.2 ∙ ap (λ z. h.0 ∷ z) k.2 in
+          let k = some_first h.1 (omega (arith, count_is, ap length h.2)) in
+          let two = h.2 ∙ ap (λ z. h.0 ∷ z) k.2 in
           record {
             x = h.0;
             y = k.0;
             more = k.1;
-            slot_was = e.leaf.slot_was ∙ ap (λ z. Some (leaf_content z)) two;
-            new_is = e.leaf.new_is ∙ ap (λ z. with_node old leaf (without_entry (leaf_content z) (get_or indices 0 0))) two;
+            slot_was = cc;
+            new_is = cc;
           }
 
       -- the leaf has others, and the rows above have its first key
-      module _ (some : m ≢ 0) (v : Table K V) (renews : (t : Table K V) (tree' : Tree K V) (place' : ℕ) → StandsIn most t path indices size tree' place' → HasOthers t now path indices → LeafLoss most t v path indices size tree' place') where
+      module _ (some : m ≢ 0) (v : _) (renews : (t tree' place' : _) → StandsIn most t path indices size tree' place' → HasOthers t now path indices → LeafLoss most t v path indices size tree' place') where
         pub lost : LeafLoss most old v path indices size tree place
         lost = renews old tree place stood_in (others some)
 
@@ -107,22 +101,21 @@ module _ {K V : Type 0} {most : ℕ} {old now : Table K V} {root place : ℕ} {p
 
         -- the tree where the leaf is still half full
         pub kept : most / 2 < m → Shrinks most old v path root place (Some root)
-        kept high = settled (kept_removed stood_in lost root_was (λ z. Unit {0}) (inl (omega (arith, left_is, high, e.union.1.capacity.odd))) (λ z is. tt))
+        kept high = settled (kept_removed stood_in lost root_was (λ z. Unit {0}) (inl (omega (arith, left_is))) (λ z is. tt))
 
         -- the leaf is less than half full
         abbrev pub unbalanced : m ≤ most / 2 → Unbalanced most v path indices size root
-        unbalanced low = record { old = old; tree = tree; place = place; stands = stood_in; root_is = root_was; lost = lost; at_entry = λ high. absurd (omega (arith, low, high, left_is, e.union.1.capacity.odd)) }
+        unbalanced low = record { old = old; tree = tree; place = place; stands = stood_in; root_is = root_was; lost = lost; at_entry = λ high. absurd (omega (arith, left_is)) }
 
       -- the tree of one leaf that has others
       pub alone_kept : size ≡ 1 → 0 < m → Shrinks most old now path root place (Some root)
       alone_kept one some =
           let s = stood_in in
-          let l = alone_loss s leaf refl (others (λ none. omega (arith, none, some))) (omega (arith, one)) in
-          settled (kept_removed s l root_was (λ z. Unit {0}) (inr (alone_last l (omega (arith, one)))) (λ z is. tt))
+          let l = alone_loss s leaf refl (others (λ none. omega arith)) (omega arith) in
+          settled (kept_removed s l root_was (λ z. Unit {0}) (inr (alone_last l (omega arith))) (λ z is. tt))
 
       -- the tree of one leaf, which had one entry
-      pub alone_freed : size ≡ 1 → m ≤ 0 → (v : Table K V) → v ≡ with_freed now read → Shrinks most old v path root place None
+      pub alone_freed : size ≡ 1 → m ≤ 0 → (v : _) → v ≡ with_freed now read → Shrinks most old v path root place None
       alone_freed one none v freed =
           let c = e.union.1.capacity in
-          let empty = emptied_tree c (single (omega (arith, none))) read num_is stood_in v freed one in
-          (outcome most old v (λ z. Unit {0}) e.union e.stood None tt (λ is. empty)).shrinks
+          (outcome most old v (λ z. Unit {0}) e.union e.stood None tt (λ is. (emptied_tree c (single (omega arith)) read num_is stood_in v freed one))).shrinks

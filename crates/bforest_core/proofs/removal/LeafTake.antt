@@ -1,12 +1,11 @@
 -- Removing a key from the leaf in which a search for it ends: the answers of `take_from_leaf`.
-use Rattle.std.proofs.Common.{◌≡◌, ℕ, Bool, IfSome, Option, Some, None, Ok, Err, List, get_or, option_map, set, if◌then◌else◌, true, false, refl, sym, ap, ◌∙◌}
+use Rattle.std.proofs.Common.{◌≡◌, ℕ, Bool, IfSome, Option, Some, None, Ok, Err, List, option_map, set, if◌then◌else◌, true, false, refl, ap, ◌∙◌}
 use Rattle.std.specs.declared.cmp.Ordering.{Ordering}
-use Rattle.bforest_core.proofs.Words.{EndsIn, EntryTaken, TakesFromLeaf, Content, Table, IsUnion, entry_keys, entry_for, flat, is_present, leaf_content, place, search_of, tree_of, value_for, with_node, without_entry}
+use Rattle.bforest_core.proofs.Words.{EndsIn, EntryTaken, TakesFromLeaf, IsUnion, entry_keys, flat, is_present, leaf_content, place, search_of, tree_of}
+use Rattle.bforest_core.proofs.{Words.{value_for, with_node}, table.Lists.set-kept, walks.LeafSearch.items-read, insertion.LeafPut.{index_is, slot, stands}}
+use Rattle.bforest_core.proofs.insertion.LeafPut.{valued}
 use Rattle.bforest_nodes.specs.Content.{take_answer, with_taken}
 use Rattle.bforest_nodes.proofs.Found.{search_of-keys_of, value_for-absent, value_for-present}
-use Rattle.bforest_core.proofs.table.Lists.{set-kept}
-use Rattle.bforest_core.proofs.walks.LeafSearch.{items-read}
-use Rattle.bforest_core.proofs.insertion.LeafPut.{index_is, slot, stands, valued}
 
 module _ {V : Type 0} (index : ℕ) where
   -- a value with its index, and the value of it
@@ -15,12 +14,12 @@ module _ {V : Type 0} (index : ℕ) where
   value-back (Some v) = refl
 
   -- what holds of the index holds of a value with it
-  at-index : (P : ℕ → Type 0) → P index → (o : Option V) → IfSome {T = ℕ × V} (option_map (λ (v : V). (index, v)) o) (λ e. P e.0)
+  at-index : (P : ℕ → Type 0) → P index → (o : Option V) → IfSome {T = ℕ × V} (option_map (λ v. (index, v)) o) (λ e. P e.0)
   at-index P p None = tt
   at-index P p (Some v) = p
 
-module _ {K V : Type 0} {cmp : K → K → Ordering} (most : ℕ) {table : Table K V} {root leaf : ℕ} {key : K} {path indices : List ℕ} {size : ℕ} (union : IsUnion most table) (e : EndsIn cmp table root key leaf path indices size)
-    (answer : Option (ℕ × V)) (new : Table K V) (answer_is : answer ≡ take_answer (leaf_content e.entries) (search_of cmp (entry_keys e.entries) key)) (new_is : new ≡ with_node table leaf (with_taken (leaf_content e.entries) (search_of cmp (entry_keys e.entries) key))) where
+module _ {K V : Type 0} {cmp : K → K → Ordering} (most : ℕ) {table root leaf key path indices size : _} (union : IsUnion most table) (e : EndsIn cmp table root key leaf path indices size)
+    (answer : Option (ℕ × V)) (new : _) (answer_is : answer ≡ take_answer (leaf_content e.entries) (search_of cmp (entry_keys e.entries) key)) (new_is : new ≡ with_node table leaf (with_taken (leaf_content e.entries) (search_of cmp (entry_keys e.entries) key))) where
   abbrev es : List (K × V)
   es = e.entries
 
@@ -31,35 +30,33 @@ module _ {K V : Type 0} {cmp : K → K → Ordering} (most : ℕ) {table : Table
   takes : is_present cmp es key ≡ true → TakesFromLeaf cmp table root key most path indices size answer new
   takes here =
       let p = place cmp es key in
-      let found : search_of cmp (entry_keys es) key ≡ Ok p = search_of-keys_of cmp es key ∙ ap (λ b. if b then Ok p else Err p) here in
-      let said : answer ≡ option_map (λ (v : V). (p, v)) (value_for cmp es key) = answer_is ∙ ap (λ z. take_answer (leaf_content es) z) found ∙ ap (option_map (λ (v : V). (p, v))) (items-read es p ∙ sym (value_for-present cmp es key here)) in
-      let after : new ≡ with_node table leaf (without_entry (leaf_content es) p) = new_is ∙ ap (λ z. with_node table leaf (with_taken (leaf_content es) z)) found in
+      let found : search_of cmp (entry_keys es) key ≡ Ok p = cc (search_of-keys_of cmp es key) in
+      let said : answer ≡ option_map (λ (v : V). (p, v)) (value_for cmp es key) = cc (items-read es p, value_for-present cmp es key here) in
       let taken : EntryTaken most table new root at path (set indices 0 p) size = record {
         union = union;
         stood = stands most union e here;
         leaf = record {
           entries = es;
           slot_was = slot most union e;
-          new_is = after ∙ ap (λ z. with_node table z (without_entry (leaf_content es) p)) (sym e.leaf_is) ∙ ap (λ z. with_node table (get_or path 0 0) (without_entry (leaf_content es) z)) (sym (index_is most union e));
+          new_is = cc (index_is most union e);
         };
       } in
       record {
-        value = ap (option_map (λ (e : ℕ × V). e.1)) said ∙ value-back p (value_for cmp es key) ∙ sym e.value_is;
+        value = cc (value-back p (value_for cmp es key));
         taken = rw said (at-index p (λ i. EntryTaken most table new root at path (set indices 0 i) size) taken (value_for cmp es key));
-        absent = λ none. absurd (valued (entry_for cmp es key) here (sym (value-back p (value_for cmp es key)) ∙ ap (option_map (λ (e : ℕ × V). e.1)) (sym said ∙ none)));
+        absent = λ none. absurd (valued _ here (cc (value-back p (value_for cmp es key))));
       }
 
   -- where it is absent, nothing changes
   leaves : is_present cmp es key ≡ false → TakesFromLeaf cmp table root key most path indices size answer new
   leaves none =
       let p = place cmp es key in
-      let found : search_of cmp (entry_keys es) key ≡ Err p = search_of-keys_of cmp es key ∙ ap (λ b. if b then Ok p else Err p) none in
-      let said : answer ≡ None = answer_is ∙ ap (λ z. take_answer (leaf_content es) z) found in
-      let after : new ≡ with_node table leaf (leaf_content es) = new_is ∙ ap (λ z. with_node table leaf (with_taken (leaf_content es) z)) found in
+      let found = search_of-keys_of cmp es key ∙ ap (λ b. if b then Ok p else Err p) none in
+      let after = new_is ∙ ap (λ z. with_node table leaf (with_taken (leaf_content es) z)) found in
       record {
-        value = ap (option_map (λ (e : ℕ × V). e.1)) said ∙ sym (value_for-absent cmp es key none) ∙ sym e.value_is;
-        taken = rw said tt;
-        absent = λ is. after ∙ ap (λ (z : List (Content K V)). record table { nodes = z }) (set-kept table.nodes leaf (leaf_content es) e.slot_is);
+        value = cc (value_for-absent cmp es key none);
+        taken = rw (answer_is ∙ ap (λ z. take_answer (leaf_content es) z) found) tt;
+        absent = λ is. simp (after, set-kept table.nodes leaf (leaf_content es) e.slot_is);
       }
 
   by_presence : (b : Bool) → is_present cmp es key ≡ b → TakesFromLeaf cmp table root key most path indices size answer new

@@ -1,9 +1,9 @@
 -- The rows above a level: in another table, and under a row whose keys were written.
 use Rattle.std.proofs.Common.{◌≡◌, ℕ, suc, ◌+◌, ◌<◌, ◌≤◌, List, [], ◌∷◌, ◌++◌, map, length, set, get_or, slice_get, refl, sym, ap, ◌∙◌, subst, append_assoc, length-append, arith}
-use Rattle.bforest_core.proofs.Words.{set_at, length-map, map-append, flat_map, Content, Table, LevelNode, node, flat, heads, head_of, sizes, numbers, FitRow, Stacked, RowIn, inner_content, count, Distinct, Above, Rebuilt, Frees, with_key, with_node, entry_keys, entry_items}
-use Rattle.bforest_core.proofs.rows.LevelRows.{HeadIs, least-pos, flat-append, heads-append, sizes-append, FitRow-join}
-use Rattle.bforest_core.proofs.table.Tables.{count-append, count-same, count-row, counts, row-put, row-same, rows-same, ne_from_count, Puts, puts}
-use Rattle.bforest_core.proofs.rows.Zipper.{Spot, stands_here}
+use Rattle.bforest_core.proofs.Words.{Heads, Row, set_at, length-map, map-append, flat_map, Table, node, flat, heads, head_of, sizes, numbers, FitRow, RowIn}
+use Rattle.bforest_core.proofs.{Words.{inner_content, count, Distinct, Above, Rebuilt, Frees, with_key, with_node, entry_keys}, rows.LevelRows.HeadIs}
+use Rattle.bforest_core.proofs.{rows.LevelRows.{least-pos, flat-append, heads-append, sizes-append, FitRow-join}, table.Tables.{count-append, count-same}}
+use Rattle.bforest_core.proofs.{table.Tables.{count-row, counts, row-put, row-same, rows-same, ne_from_count, Puts, puts}, rows.Zipper.{Spot, stands_here}}
 use Rattle.bforest_core.proofs.removal.Frees.{frees-puts, frees-refl, frees-wider}
 
 -- a node's first key does not change with a later entry's item
@@ -12,131 +12,125 @@ head-other n [] k x y r s = refl
 head-other n (z ∷ l) k x y r s = refl
 
 -- the heads of a row depend only on the heads of its nodes
-pub heads-put : {K X : Type 0} (before : List (LevelNode K X)) (n : ℕ) (es fs : List (K × X)) (after : List (LevelNode K X)) → head_of n es ≡ head_of n fs → heads (before ++ node n es ∷ after) ≡ heads (before ++ node n fs ∷ after)
+pub heads-put : {K X : Type 0} (before : Row K X) (n es fs after : _) → head_of n es ≡ head_of n fs → heads (before ++ node n es ∷ after) ≡ heads (before ++ node n fs ∷ after)
 heads-put before n es fs after e = heads-append before _ ∙ ap (λ w. heads before ++ (w ++ heads after)) e ∙ sym (heads-append before _)
 
 head-kept : {K X : Type 0} (n : ℕ) (p r s : List (K × X)) → 1 ≤ length p → head_of n (p ++ r) ≡ head_of n (p ++ s)
-head-kept n [] r s some = absurd (omega (arith, some))
+head-kept n [] r s some = absurd (omega arith)
 head-kept n (z ∷ p) r s some = refl
 
 -- writing the key before an entry that is not the first
-with_key_is : {K V : Type 0} (p : List (K × ℕ)) (y : K × ℕ) (s : List (K × ℕ)) (e : ℕ) (key : K) → suc e ≡ length p → with_key {V = V} (inner_content (p ++ y ∷ s)) e key ≡ inner_content (p ++ (key, y.1) ∷ s)
-with_key_is [] y s e key p_is = absurd (omega (arith, p_is))
+with_key_is : {K V : Type 0} (p : Heads K) (y : K × ℕ) (s : Heads K) (e : ℕ) (key : K) → suc e ≡ length p → with_key {V = V} (inner_content (p ++ y ∷ s)) e key ≡ inner_content (p ++ (key, y.1) ∷ s)
+with_key_is [] y s e key p_is = absurd (omega arith)
 with_key_is {K} (z ∷ p) y s e key p_is =
-    let e_is : e ≡ length p = omega (arith, p_is) in
+    let e_is : e ≡ length p = omega arith in
     let keys : set (entry_keys (p ++ y ∷ s)) (length p) key ≡ entry_keys (p ++ (key, y.1) ∷ s) =
-    ap (λ w. set w (length p) key) (map-append (λ (w : K × ℕ). w.0) p (y ∷ s)) ∙ set_at (entry_keys p) y.0 (entry_keys s) key (length p) (length-map p (λ (w : K × ℕ). w.0)) ∙ sym (map-append (λ (w : K × ℕ). w.0) p ((key, y.1) ∷ s)) in
-    let items : entry_items ((z ∷ p) ++ y ∷ s) ≡ entry_items ((z ∷ p) ++ (key, y.1) ∷ s) = map-append (λ (w : K × ℕ). w.1) (z ∷ p) (y ∷ s) ∙ sym (map-append (λ (w : K × ℕ). w.1) (z ∷ p) ((key, y.1) ∷ s)) in
-    rw (e_is, keys, items) refl
+    cc (map-append (λ (w : K × ℕ). w.0) p (y ∷ s), set_at (entry_keys p) y.0 (entry_keys s) key (length p) (length-map p (λ (w : K × ℕ). w.0)), map-append (λ (w : K × ℕ). w.0) p ((key, y.1) ∷ s)) in
+    rw (e_is, keys, map-append (λ (w : K × ℕ). w.1) (z ∷ p) (y ∷ s) ∙ sym (map-append (λ (w : K × ℕ). w.1) (z ∷ p) ((key, y.1) ∷ s))) refl
 
 -- the next node of a row, whose first key and number these are
-pub record NextNode {K X : Type 0} (after : List (LevelNode K X)) (k : K) (q : ℕ) : Type 0 where
+pub record NextNode {K X : Type 0} (after : Row K X) (k : K) (q : ℕ) : Type 0 where
   pub f : K × X
   pub fs : List (K × X)
-  pub rest : List (LevelNode K X)
+  pub rest : Row K X
   pub after_is : after ≡ node q (f ∷ fs) ∷ rest
   pub k_is : k ≡ f.0
 
 -- a row with heads has a first node
-pub next_of : {K X : Type 0} (half most : ℕ) → 1 ≤ half → (after : List (LevelNode K X)) (k : K) (q : ℕ) (cs : List (K × ℕ)) → FitRow half most after → heads after ≡ (k, q) ∷ cs → NextNode after k q
+pub next_of : {K X : Type 0} (half most : ℕ) → 1 ≤ half → (after : Row K X) (k q cs : _) → FitRow half most after → heads after ≡ (k, q) ∷ cs → NextNode after k q
 next_of half most one [] k q cs f e = absurd cc
-next_of half most one (node m [] ∷ after) k q cs f e = absurd (let g = f.0 in omega (arith, g, least-pos half one after))
+next_of half most one (node m [] ∷ after) k q cs f e = absurd (let g = f.0 in omega (arith, least-pos half one after))
 next_of {K} half most one (node m (x ∷ xs) ∷ after) k q cs f e =
     let kq : ◌≡◌ {A = K × ℕ} (x.0, m) (k, q) = cc in
     record { f = x; fs = xs; rest = after; after_is = ap (λ z. node z (x ∷ xs) ∷ after) (ap (λ z. z.1) kq); k_is = ap (λ z. z.0) (sym kq) }
 
 module _ {K V : Type 0} where
   -- the rows above, in a table that agrees on their slots
-  pub above_same : {t : Table K V} (u : Table K V) {path indices : List ℕ} {up size : ℕ} {rows : List (List (LevelNode K ℕ))} {list : List (K × ℕ)} {p : ℕ} → ((m : ℕ) → 0 < count m (flat_map numbers rows) → slice_get u.nodes m ≡ slice_get t.nodes m) →
+  pub above_same : {t : Table K V} (u : Table K V) {path indices up size rows list p : _} → ((m : ℕ) → 0 < count m (flat_map numbers rows) → slice_get u.nodes m ≡ slice_get t.nodes m) →
       Distinct (flat_map numbers rows ++ u.chain) →
       Above t path indices up size rows list p → Above u path indices up size rows list p
-  above_same {t} u {rows} same apart a = record { stacked = a.stacked; inside = rows-same t.nodes u.nodes rows same a.inside; stands = a.stands; height = a.height; apart = apart }
+  above_same {t} u {rows} same apart a = record { stacked = a.stacked; inside = rows-same _ _ _ same a.inside; stands = a.stands; height = a.height; apart = apart }
 
   -- the rows above, cut at a node of the level
-  pub headed : {X : Type 0} {t : Table K V} {path indices : List ℕ} {up size : ℕ} (before : List (LevelNode K X)) {n : ℕ}
-      {es : List (K × X)} (after : List (LevelNode K X)) {rest : List (List (LevelNode K ℕ))} (h : HeadIs n es)
+  pub headed : {X : Type 0} {t : Table K V} {path indices up size : _} (before : Row K X) {n : ℕ}
+      {es : List (K × X)} (after : Row K X) {rest : _} (h : HeadIs n es)
       → Above t path indices up size rest (heads (before ++ node n es ∷ after)) (length (heads before)) →
       Above t path indices up size rest (heads before ++ (h.first.0, n) ∷ heads after) (length (heads before))
   headed {t} {path} {indices} {up} {size} before {n} {es} after {rest} h p =
-      subst (λ (z : List (K × ℕ)). Above t path indices up size rest z (length (heads before))) (heads-append before (node n es ∷ after) ∙ ap (λ z. heads before ++ (head_of n z ++ heads after)) h.es_is) p
+      subst (λ z. Above t path indices up size rest z (length (heads before))) (cc (heads-append before (node n es ∷ after))) p
 
   -- the rows above, after a write to a slot that is not theirs
-  pub above_written : {t u : Table K V} {n : ℕ} {c : Content K V} {path indices : List ℕ} {up size : ℕ} {rows : List (List (LevelNode K ℕ))} {list : List (K × ℕ)} {p : ℕ} → Puts t u n c → count n (flat_map numbers rows) ≡ 0 →
+  pub above_written : {t u : Table K V} {n c path indices up size rows list p : _} → Puts t u n c → count n (flat_map numbers rows) ≡ 0 →
       Above t path indices up size rows list p → Above u path indices up size rows list p
   above_written {t} {u} {n} {path} {indices} {up} {size} {rows} {list} {p} w none a =
-      above_same u (λ m some. w.same m (ne_from_count m n (flat_map numbers rows) some none))
-      (λ m. omega (arith, a.apart m, count-append m (flat_map numbers rows) t.chain, count-append m (flat_map numbers rows) u.chain, ap (λ z. count m z) w.chain_is)) a
+      above_same u (λ m some. w.same m (ne_from_count m n _ some none))
+      (λ m. omega (arith, a.apart m, ap (λ z. count m z) w.chain_is, count-append)) a
 
   -- without a row above, only the length of the list matters
-  pub above_top : {t : Table K V} {path indices : List ℕ} {up size : ℕ} (rows : List (List (LevelNode K ℕ))) {list : List (K × ℕ)} (list' : List (K × ℕ)) {p : ℕ} → size ≤ up → length list' ≡ length list → Above t path indices up size rows list p → Above t path indices up size rows list' p
-  above_top (row ∷ rows) list' high same a = absurd (omega (arith, a.height, high))
-  above_top [] list' high same a = record { stacked = same ∙ a.stacked; inside = tt; stands = a.stands; height = a.height; apart = a.apart }
+  pub above_top : {t : Table K V} {path indices up size : _} (rows : _) {list : _} (list' : _) {p : ℕ} → size ≤ up → length list' ≡ length list → Above t path indices up size rows list p → Above t path indices up size rows list' p
+  above_top (row ∷ rows) list' high same a = absurd (omega arith)
+  above_top [] list' high same a = record { stacked = cc; inside = tt; stands = a.stands; height = a.height; apart = a.apart }
 
   -- without a row above, the list has one element
-  pub top_one : {t : Table K V} {path indices : List ℕ} {up size : ℕ} (rows : List (List (LevelNode K ℕ))) {list : List (K × ℕ)} {p : ℕ} → size ≤ up → Above t path indices up size rows list p → length list ≡ 1
-  top_one (row ∷ rows) high a = absurd (omega (arith, a.height, high))
+  pub top_one : {t : Table K V} {path indices up size : _} (rows : _) {list p : _} → size ≤ up → Above t path indices up size rows list p → length list ≡ 1
+  top_one (row ∷ rows) high a = absurd (omega arith)
   top_one [] high a = a.stacked
 
   -- the rows above, unchanged
-  pub rebuilt_same : {u : Table K V} {path indices : List ℕ} {up size : ℕ} {rows : List (List (LevelNode K ℕ))} {list : List (K × ℕ)} {p : ℕ} → Above u path indices up size rows list p →
+  pub rebuilt_same : {u : Table K V} {path indices up size rows list p : _} → Above u path indices up size rows list p →
       Rebuilt u u path indices path indices up size rows list p (map sizes rows) []
   rebuilt_same {u} {rows} a = record {
     rows' = rows;
     above = a;
     sizes_are = refl;
     numbers_are = λ m. omega arith;
-    frees = frees-refl u (flat_map numbers rows);
+    frees = frees-refl u _;
     nodes_below = λ i low. refl;
     entries_below = λ i low. refl;
     same_top = refl;
   }
 
-  module _ {t : Table K V} {path indices : List ℕ} {up size : ℕ} {rows : List (List (LevelNode K ℕ))} {a : List (K × ℕ)} {x : K × ℕ} {b : List (K × ℕ)} (d : Spot t path indices up size rows a x b) where
+  module _ {t : Table K V} {path indices up size rows a x b : _} (d : Spot t path indices up size rows a x b) where
     -- the rows above the path's row
     pub rows_above : Above t path indices (suc up) size d.q.rest (heads (d.q.before ++ node (get_or path up 0) (d.q.l ++ x ∷ d.q.r) ∷ d.q.after)) (length (heads d.q.before))
     rows_above =
         let q = d.q in
         let p = d.whole in
         let c = λ (m : ℕ). counts m q.before (get_or path up 0) (q.l ++ x ∷ q.r) q.after q.rest t.chain in
-        record { stacked = p.stacked.2; inside = p.inside.1; stands = q.stands; height = omega (arith, p.height); apart = λ m. omega (arith, p.apart m, c m, count-append m (flat_map numbers q.rest) t.chain) }
+        record { stacked = p.stacked.2; inside = p.inside.1; stands = q.stands; height = omega arith; apart = λ m. omega (arith, p.apart m, c m, count-append m (flat_map numbers q.rest) t.chain) }
 
     -- the list of a level's nodes, with other nodes from the path's on
-    pub flat_at : (es rest : List (K × ℕ)) (after : List (LevelNode K ℕ)) → es ++ flat after ≡ d.q.l ++ rest → flat (d.q.before ++ node (get_or path up 0) es ∷ after) ≡ a ++ rest
+    pub flat_at : (es rest after : _) → es ++ flat after ≡ d.q.l ++ rest → flat (d.q.before ++ node (get_or path up 0) es ∷ after) ≡ a ++ rest
     flat_at es rest after is =
-        flat-append d.q.before (node (get_or path up 0) es ∷ after) ∙ ap (λ z. flat d.q.before ++ z) is ∙ sym (append_assoc (flat d.q.before) d.q.l rest) ∙ ap (λ z. z ++ rest) (sym d.q.a_is)
+        cc (flat-append d.q.before (node (get_or path up 0) es ∷ after), append_assoc (flat d.q.before) d.q.l rest)
 
     -- the path's place in the list of nodes
     pub place_at : length a ≡ length (flat d.q.before) + get_or indices up 0
-    place_at = omega (arith, ap length d.q.a_is, length-append (flat d.q.before) d.q.l, d.q.entry_is)
+    place_at = omega (arith, ap length d.q.a_is, length-append (flat d.q.before) d.q.l)
 
     -- the row with other keys, under rows above that have those keys
-    pub lifted : {v u : Table K V} (es : List (K × ℕ)) (after : List (LevelNode K ℕ)) {list : List (K × ℕ)} (rest : List (K × ℕ)) → length es ≡ length (d.q.l ++ x ∷ d.q.r) → sizes after ≡ sizes d.q.after → numbers after ≡ numbers d.q.after → es ++ flat after ≡ d.q.l ++ rest →
+    pub lifted : {v u : Table K V} (es after : _) {list : _} (rest : _) → length es ≡ length (d.q.l ++ x ∷ d.q.r) → sizes after ≡ sizes d.q.after → numbers after ≡ numbers d.q.after → es ++ flat after ≡ d.q.l ++ rest →
         list ≡ heads (d.q.before ++ node (get_or path up 0) es ∷ after) → FitRow 4 8 (node (get_or path up 0) es ∷ after) → RowIn inner_content u.nodes (d.q.before ++ node (get_or path up 0) es ∷ after) →
         Frees t u (numbers (d.q.before ++ node (get_or path up 0) (d.q.l ++ x ∷ d.q.r) ∷ d.q.after) ++ flat_map numbers d.q.rest) [] → Rebuilt v u path indices path indices (suc up) size d.q.rest list (length (heads d.q.before)) (map sizes d.q.rest) [] →
         Rebuilt t u path indices path indices up size rows (a ++ rest) (length a) (map sizes rows) []
     lifted {u} es after rest len sizes_same numbers_same flat_is heads_are fits inside frees r =
         let q = d.q in
         let n = get_or path up 0 in
-        let old : List (K × ℕ) = q.l ++ x ∷ q.r in
-        let row : List (LevelNode K ℕ) = q.before ++ node n es ∷ after in
+        let old = q.l ++ x ∷ q.r in
         let c = λ (m : ℕ). counts m q.before n old q.after q.rest t.chain in
         let c2 = λ (m : ℕ). counts m q.before n es after r.rows' u.chain in
         let c3 = λ (m : ℕ). ap (λ z. count m (n ∷ z)) numbers_same in
         let c4 = λ (m : ℕ). ap (λ z. count m z) frees.chain_is in
         record {
-          rows' = row ∷ r.rows';
+          rows' = (q.before ++ node n es ∷ after) ∷ r.rows';
           above = record {
-            stacked = (flat_at es rest after flat_is, FitRow-join 4 8 q.before (node n es) after d.f.solid fits, subst (λ (z : List (K × ℕ)). Stacked z r.rows') heads_are r.above.stacked);
+            stacked = (flat_at _ _ _ flat_is, FitRow-join 4 8 q.before (node n es) after d.f.solid fits, rw (← heads_are) r.above.stacked);
             inside = (inside, r.above.inside);
-            stands = stands_here path indices up row q.before n (get_or indices up 0) es after r.rows' (length a) d.f.solid refl refl refl (omega (arith, len, d.count_is)) place_at r.above.stands;
-            height = omega (arith, r.above.height);
+            stands = stands_here _ _ _ _ _ n _ _ _ _ _ d.f.solid refl refl refl (omega arith) place_at r.above.stands;
+            height = omega arith;
             apart = λ m. omega (arith, d.whole.apart m, r.numbers_are m, c m, c2 m, c3 m, c4 m);
           };
-          sizes_are = ap (λ z. z ∷ map sizes r.rows')
-              (sizes-append q.before (node n es ∷ after) ∙ ap (λ z. sizes q.before ++ z ∷ sizes after) len
-              ∙ ap (λ z. sizes q.before ++ length old ∷ z) sizes_same ∙ sym (sizes-append q.before (node n old ∷ q.after)))
-              ∙ ap (λ z. sizes (q.before ++ node n old ∷ q.after) ∷ z) r.sizes_are
-              ∙ ap (λ z. map sizes z) (sym q.rows_are);
+          sizes_are = cc (sizes-append q.before (node n es ∷ after), sizes-append q.before (node n old ∷ q.after));
           numbers_are = λ m. omega (arith, c m, c2 m, c3 m, r.numbers_are m, ap (λ z. count m (flat_map numbers z)) q.rows_are);
           frees = rw q.rows_are frees;
           nodes_below = λ i low. refl;
@@ -145,7 +139,7 @@ module _ {K V : Type 0} where
         }
 
     -- the row after writes to the rows above it alone
-    pub lifted_above : {u : Table K V} (es : List (K × ℕ)) (after : List (LevelNode K ℕ)) {list : List (K × ℕ)} (rest : List (K × ℕ)) → length es ≡ length (d.q.l ++ x ∷ d.q.r) → sizes after ≡ sizes d.q.after → numbers after ≡ numbers d.q.after → es ++ flat after ≡ d.q.l ++ rest →
+    pub lifted_above : {u : Table K V} (es after : _) {list : _} (rest : _) → length es ≡ length (d.q.l ++ x ∷ d.q.r) → sizes after ≡ sizes d.q.after → numbers after ≡ numbers d.q.after → es ++ flat after ≡ d.q.l ++ rest →
         list ≡ heads (d.q.before ++ node (get_or path up 0) es ∷ after) → FitRow 4 8 (node (get_or path up 0) es ∷ after) → RowIn inner_content t.nodes (d.q.before ++ node (get_or path up 0) es ∷ after) →
         Rebuilt t u path indices path indices (suc up) size d.q.rest list (length (heads d.q.before)) (map sizes d.q.rest) [] → Rebuilt t u path indices path indices up size rows (a ++ rest) (length a) (map sizes rows) []
     lifted_above {u} es after {list} rest len sizes_same numbers_same flat_is heads_are fits inside r =
@@ -154,23 +148,23 @@ module _ {K V : Type 0} where
         let c = λ (m : ℕ). counts m q.before n (q.l ++ x ∷ q.r) q.after q.rest t.chain in
         let c2 = λ (m : ℕ). count-row m q.before n es after in
         let c3 = λ (m : ℕ). ap (λ z. count m (n ∷ z)) numbers_same in
-        lifted es after rest len sizes_same numbers_same flat_is heads_are fits (row-same inner_content t.nodes u.nodes _ (λ m some. r.frees.others m (omega (arith, some, d.whole.apart m, c m, c2 m, c3 m))) inside)
-        (frees-wider (numbers (q.before ++ node n (q.l ++ x ∷ q.r) ∷ q.after) ++ flat_map numbers q.rest) (λ m none. omega (arith, none, c m)) r.frees) r
+        lifted es after rest len sizes_same numbers_same flat_is heads_are fits (row-same _ _ _ _ (λ m some. r.frees.others m (omega (arith, c m, c2 m, c3 m))) inside)
+        (frees-wider _ (λ m none. omega (arith, c m)) r.frees) r
 
     -- the row after a write of the key before an entry of the node
-    pub renamed : (u : Table K V) (p : List (K × ℕ)) (y : K × ℕ) (s : List (K × ℕ)) (e : ℕ) (key : K) (rest : List (K × ℕ)) → d.q.l ++ x ∷ d.q.r ≡ p ++ y ∷ s → suc e ≡ length p → u ≡ with_node t (get_or path up 0) (with_key (inner_content (d.q.l ++ x ∷ d.q.r)) e key) →
+    pub renamed : (u : Table K V) (p y s e key rest : _) → d.q.l ++ x ∷ d.q.r ≡ p ++ y ∷ s → suc e ≡ length p → u ≡ with_node t (get_or path up 0) (with_key (inner_content (d.q.l ++ x ∷ d.q.r)) e key) →
         (p ++ (key, y.1) ∷ s) ++ flat d.q.after ≡ d.q.l ++ rest → Rebuilt t u path indices path indices up size rows (a ++ rest) (length a) (map sizes rows) []
     renamed u p y s e key rest es_is p_is u_is flat_is =
         let q = d.q in
         let n = get_or path up 0 in
-        let old : List (K × ℕ) = q.l ++ x ∷ q.r in
-        let es : List (K × ℕ) = p ++ (key, y.1) ∷ s in
-        let w = puts t u n (inner_content es) (inner_content old) d.f.slot_is (u_is ∙ ap (λ z. with_node t n z) (ap (λ z. with_key (inner_content z) e key) es_is ∙ with_key_is p y s e key p_is)) in
+        let old = q.l ++ x ∷ q.r in
+        let es = p ++ (key, y.1) ∷ s in
+        let w = puts t u n _ _ d.f.slot_is (cc (with_key_is p y s e key p_is)) in
         let len : length es ≡ length old = omega (arith, ap length es_is, length-append p (y ∷ s), length-append p ((key, y.1) ∷ s)) in
-        let head : head_of n old ≡ head_of n es = ap (λ z. head_of n z) es_is ∙ head-kept n p (y ∷ s) ((key, y.1) ∷ s) (omega (arith, p_is)) in
+        let head = ap (λ z. head_of n z) es_is ∙ head-kept n p (y ∷ s) ((key, y.1) ∷ s) (omega arith) in
         let above = above_written w d.f.none_rest rows_above in
         lifted es q.after rest len refl refl flat_is
-        (heads-put q.before n old es q.after head) (omega (arith, d.f.fit.0, len), omega (arith, d.f.fit.1, len), d.f.fit.2)
+        (heads-put q.before n old es q.after head) (omega arith, omega arith, d.f.fit.2)
         (row-put inner_content t.nodes u.nodes q.before n old es q.after d.f.inside w.same w.here d.f.none)
-        (frees-puts (numbers (q.before ++ node n old ∷ q.after) ++ flat_map numbers q.rest) (let c = counts n q.before n old q.after q.rest t.chain in omega (arith, c, count-same n (numbers q.after))) w)
+        (frees-puts _ (let c = counts n q.before n old q.after q.rest t.chain in omega (arith, count-same n (numbers q.after))) w)
         (rebuilt_same above)

@@ -1,16 +1,12 @@
 -- The leaf after it lost an entry: whether the path is past all entries.
-use Rattle.std.proofs.Common.{◌≡◌, ℕ, ◌≤◌, ◌<◌, Some, None, Option, Bool, true, false, not, List, [], ◌∷◌, ◌++◌, length, get_or, slice_get, ap, ◌∙◌, length-append, arith}
-use Rattle.bforest_core.proofs.Words.{is_some, nil_from_length, Table, node, flat, heads, Tree, half_of, leaf_content, Above, OneAbove, NextIs, LeafLoss, get_or_default, Content, entry_count}
-use Rattle.bforest_core.proofs.rows.LevelRows.{HeadIs, head-is}
-use Rattle.bforest_core.proofs.table.Tables.{row-split}
-use Rattle.bforest_core.proofs.removal.Lifted.{headed, top_one}
-use Rattle.bforest_core.proofs.removal.Asked.{NodeAt, Beside}
-use Rattle.bforest_core.proofs.removal.LeafAt.{no_nodes, leaf_keys}
-use Rattle.bforest_core.proofs.removal.Collapse.{heads-flat}
+use Rattle.std.proofs.Common.{◌≡◌, ℕ, ◌≤◌, ◌<◌, Some, None, Option, Bool, true, false, not, [], ◌∷◌, ◌++◌, length, get_or, slice_get, ap, ◌∙◌, length-append, arith}
+use Rattle.bforest_core.proofs.Words.{is_some, nil_from_length, Table, node, flat, heads, half_of, leaf_content, Above, OneAbove, NextIs, LeafLoss}
+use Rattle.bforest_core.proofs.{Words.{get_or_default, Content, entry_count}, rows.LevelRows.{HeadIs, head-is}, table.Tables.row-split, removal.Lifted.headed}
+use Rattle.bforest_core.proofs.{removal.Lifted.top_one, removal.Asked.{NodeAt, Beside}, removal.LeafAt.{no_nodes, leaf_keys}, removal.Collapse.heads-flat}
 
-module _ {K V : Type 0} {most : ℕ} {t v : Table K V} {path indices : List ℕ} {size : ℕ} {tree : Tree K V} {place : ℕ} (l : LeafLoss most t v path indices size tree place) where
+module _ {K V : Type 0} {most : ℕ} {t v : Table K V} {path indices size tree place : _} (l : LeafLoss most t v path indices size tree place) where
   pub named : HeadIs (get_or path 0 0) l.entries
-  named = head-is (get_or path 0 0) l.entries l.some
+  named = head-is _ _ l.some
 
   -- the rows above the leaf, cut at it
   pub above : Above v path indices 1 size l.rest (heads l.before ++ (named.first.0, get_or path 0 0) ∷ heads l.after) (length (heads l.before))
@@ -22,7 +18,7 @@ module _ {K V : Type 0} {most : ℕ} {t v : Table K V} {path indices : List ℕ}
 
   -- half of a leaf is at least one entry
   pub loss_half : 1 ≤ half_of most
-  loss_half = let one : 1 ≤ most = omega (arith, l.some, l.most_is) in omega (arith, one)
+  loss_half = let one : 1 ≤ most = omega arith in omega arith
 
   -- no leaf follows
   none_follows : (found : Option (K × ℕ)) → NextIs found (heads l.after) → is_some found ≡ false → l.after ≡ []
@@ -33,18 +29,17 @@ module _ {K V : Type 0} {most : ℕ} {t v : Table K V} {path indices : List ℕ}
   pub alone_last : size ≤ 1 → l.after ≡ []
   alone_last low =
       let one = top_one l.rest low above in
-      no_nodes (half_of most) most loss_half l.after l.fits (nil_from_length (heads l.after) (omega (arith, one, length-append (heads l.before) ((named.first.0, get_or path 0 0) ∷ heads l.after))))
+      no_nodes (half_of most) most loss_half l.after l.fits (nil_from_length (heads l.after) (omega (arith, length-append (heads l.before) ((named.first.0, get_or path 0 0) ∷ heads l.after))))
 
   -- a leaf follows
   pub one_follows : (found : Option (K × ℕ)) (none : Bool) → Beside v path indices 1 size found → is_some found ≡ not none → none ≡ false → get_or indices 0 0 < length (l.entries ++ flat l.after)
-  one_follows None none beside is so = absurd (let e : not none ≡ true = ap not so in cc)
+  one_follows None none beside is so = absurd (let e = ap not so in cc)
   one_follows (Some x) none beside is so =
-      let next = beside beside_asks in
-      omega (arith, ap length next.1, heads-flat l.after, l.entry_was, length-append l.entries (flat l.after))
+      omega (arith, ap length (beside beside_asks).1, heads-flat l.after, length-append l.entries (flat l.after))
 
   module _ (r : ℕ) (wide : length path ≡ 17) where
     slot : slice_get v.nodes (get_or path 0 r) ≡ Some (leaf_content l.entries)
-    slot = ap (λ z. slice_get v.nodes z) (get_or_default path 0 r 0 (omega (arith, wide))) ∙ (row-split leaf_content v.nodes l.before (node (get_or path 0 0) l.entries ∷ l.after) l.inside).1.0
+    slot = cc (get_or_default path 0 r 0 (omega arith), (row-split _ _ _ (node (get_or path 0 0) l.entries ∷ l.after) l.inside).1.0)
 
     -- the leaf meets what counting its entries requires
     pub counted_asks : NodeAt v (get_or path 0 r)
@@ -52,14 +47,13 @@ module _ {K V : Type 0} {most : ℕ} {t v : Table K V} {path indices : List ℕ}
 
     module _ (m : ℕ) (value : (x : Content K V) → slice_get v.nodes (get_or path 0 r) ≡ Some x → m ≡ entry_count x) where
       count_is : m ≡ length l.entries
-      count_is = value (leaf_content l.entries) slot ∙ leaf_keys l.entries
+      count_is = value (leaf_content l.entries) slot ∙ leaf_keys _
 
       -- the path is at an entry of the leaf
       pub in_leaf : get_or indices 0 0 < m → get_or indices 0 0 < length (l.entries ++ flat l.after)
-      in_leaf low = omega (arith, low, count_is, length-append l.entries (flat l.after))
+      in_leaf low = omega (arith, count_is, length-append l.entries (flat l.after))
 
       -- the path is past all entries
       pub behind_all : (found : Option (K × ℕ)) (none : Bool) → m ≤ get_or indices 0 0 → Beside v path indices 1 size found → is_some found ≡ not none → none ≡ true → (l.after ≡ []) × (get_or indices 0 0 ≡ length l.entries)
       behind_all found none high beside is so =
-          let next = beside beside_asks in
-          (none_follows found next (is ∙ ap not so), omega (arith, high, count_is, l.entry_was))
+          (none_follows found (beside beside_asks) (cc), omega (arith, count_is))

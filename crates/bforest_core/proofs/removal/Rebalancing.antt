@@ -1,25 +1,23 @@
 -- Rebalancing a level, from what its calls state: the answers of `rebalance`.
-use Rattle.std.proofs.Common.{◌≡◌, add-one, suc, ◌+◌, ◌≤◌, ◌<◌, ◌≢◌, List, [], ◌∷◌, ◌++◌, length, set, get_or, slice_get, Some, None, Option, refl, sym, ap, ◌∙◌, subst, inl, inr, length-append, arith, ℕ}
-use Rattle.bforest_core.proofs.Words.{get_or_default, flat_map, content_at, half_at, most_at, Item, Heals, Joins, Loses, Content, Table, IsUsed, IsUnderflowedAt, IsBalancedAt, with_freed, LevelNode, node, flat, heads, numbers, FitRow, count, Above, OneAbove, TwoAbove, NextIs, SameBelow, top_of, OnLevel, Healed, Joined}
-use Rattle.bforest_core.proofs.rows.LevelRows.{least-pos, head-is, HeadIs}
-use Rattle.bforest_core.proofs.table.Tables.{row-split, is_used}
-use Rattle.bforest_core.proofs.rows.Zipper.{apart_here}
-use Rattle.bforest_core.proofs.removal.LeafAt.{no_nodes}
-use Rattle.bforest_core.proofs.removal.Lifted.{headed, NextNode, next_of}
-use Rattle.bforest_core.proofs.removal.Balance.{IsHalf, IsStored, kind_half, kind_stored, AllRight, Spread, all_right_at, spread_at}
-use Rattle.bforest_core.proofs.removal.Asked.{NodeAt, Counts, Beside, Rekeys, Enters}
-use Rattle.bforest_core.proofs.removal.Rebalance.{settle_stay, above_both, settle_move, apart, above_two_put, settle_spread, settle_join}
+use Rattle.std.proofs.Common.{◌≡◌, add-one, suc, ◌+◌, ◌≤◌, ◌<◌, ◌≢◌, List, [], ◌∷◌, ◌++◌, length, set, get_or, slice_get, Some, None, Option, refl, ap, ◌∙◌, subst, inl, inr, length-append, arith, ℕ}
+use Rattle.bforest_core.proofs.Words.{Row, get_or_default, content_at, half_at, most_at, Item, Heals, Joins, Loses, Content, Table, IsUsed, IsUnderflowedAt}
+use Rattle.bforest_core.proofs.Words.{IsBalancedAt, with_freed, node, flat, heads, numbers, FitRow, count, Above, OneAbove, TwoAbove, NextIs, SameBelow, top_of}
+use Rattle.bforest_core.proofs.{Words.{OnLevel, Healed, Joined}, rows.LevelRows.{least-pos, head-is, HeadIs}, table.Tables.{row-split, is_used}}
+use Rattle.bforest_core.proofs.{rows.Zipper.apart_here, removal.LeafAt.no_nodes, removal.Lifted.{headed, NextNode, next_of}, removal.Balance.{IsHalf, IsStored}}
+use Rattle.bforest_core.proofs.{removal.Balance.{kind_half, kind_stored, AllRight, Spread, all_right_at, spread_at}, removal.Asked.{NodeAt, Counts, Beside}}
+use Rattle.bforest_core.proofs.{removal.Asked.{Rekeys, Enters}, removal.Rebalance.{settle_stay, above_both, settle_move, apart, above_two_put, settle_spread}}
+use Rattle.bforest_core.proofs.removal.Rebalance.{settle_join}
 
 both_back : {A B : Type 0} (P : A → B → Type 0) (a c : A) (b d : B) → a ≡ c → b ≡ d → P c d → P a b
 both_back P a c b d e f w = rw (e, f) w
 
 -- the first of nodes that have an entry
-first_after : {K X : Type 0} (half most : ℕ) → 1 ≤ half → (after : List (LevelNode K X)) → FitRow half most after → 1 ≤ length (flat after) → (k : K) × (q : ℕ) × NextNode after k q
-first_after half most one [] fit some = absurd (omega (arith, some))
-first_after half most one (node q [] ∷ after) fit some = absurd (omega (arith, fit.0, least-pos half one after))
+first_after : {K X : Type 0} (half most : ℕ) → 1 ≤ half → (after : Row K X) → FitRow half most after → 1 ≤ length (flat after) → (k : K) × (q : ℕ) × NextNode after k q
+first_after half most one [] fit some = absurd (omega arith)
+first_after half most one (node q [] ∷ after) fit some = absurd (omega (arith, least-pos half one after))
 first_after half most one (node q (f ∷ fs) ∷ after) fit some = (f.0, q, record { f = f; fs = fs; rest = after; after_is = refl; k_is = refl })
 
-module _ {K V : Type 0} {cap least : ℕ} {t : Table K V} {path indices : List ℕ} {up size : ℕ} (w : Loses cap least t path indices up size) (r : ℕ) (wide : length path ≡ 17) (height : size ≤ 17) where
+module _ {K V : Type 0} {cap least : ℕ} {t : Table K V} {path indices up size : _} (w : Loses cap least t path indices up size) (r : ℕ) (wide : length path ≡ 17) (height : size ≤ 17) where
   abbrev X : Type 0
   X = Item V w.leaf
 
@@ -44,7 +42,7 @@ module _ {K V : Type 0} {cap least : ℕ} {t : Table K V} {path indices : List �
   s = kind_stored cap w.leaf
 
   low : up < length path
-  low = omega (arith, p.above.height, wide, height)
+  low = omega (arith, p.above.height)
 
   half_some : 1 ≤ half
   half_some = omega (arith, hm.two)
@@ -54,13 +52,13 @@ module _ {K V : Type 0} {cap least : ℕ} {t : Table K V} {path indices : List �
   num_is = get_or_default path up r 0 low
 
   slot_here : slice_get t.nodes n ≡ Some (content es)
-  slot_here = (row-split content t.nodes before (node n es ∷ after) p.inside).1.0
+  slot_here = (row-split _ _ _ (node n es ∷ after) p.inside).1.0
 
   none_here : count n t.chain ≡ 0
-  none_here = (apart_here n before es after (flat_map numbers rest) t.chain p.apart).2
+  none_here = (apart_here n _ _ _ _ _ p.apart).2
 
   slot_read : slice_get t.nodes (get_or path up r) ≡ Some (content es)
-  slot_read = ap (λ z. slice_get t.nodes z) num_is ∙ slot_here
+  slot_read = cc (num_is, slot_here)
 
   -- the node meets what counting its entries requires
   pub counted_asks : NodeAt t (get_or path up r)
@@ -79,13 +77,12 @@ module _ {K V : Type 0} {cap least : ℕ} {t : Table K V} {path indices : List �
   others = named.others
 
   -- the level, with the node's first entry and the next node named
-  level : {k : K} {q : ℕ} (d : NextNode after k q) → OnLevel content half most t path indices up size before n (e ∷ others) (node q (d.f ∷ d.fs) ∷ d.rest) rest
+  level : {k q : _} (d : NextNode after k q) → OnLevel content half most t path indices up size before n (e ∷ others) (node q (d.f ∷ d.fs) ∷ d.rest) rest
   level d =
-      subst (λ (z : List (LevelNode K X)). OnLevel content half most t path indices up size before n (e ∷ others) z rest) d.after_is
-      (subst (λ (z : List (K × X)). OnLevel content half most t path indices up size before n z after rest) named.es_is p)
+      rw (← d.after_is) (subst (λ z. OnLevel content half most t path indices up size before n z after rest) named.es_is p)
 
   -- the level so named is rebalanced, and so the level is
-  heals : {k : K} {q : ℕ} (d : NextNode after k q) (v : Table K V) (path' indices' : List ℕ)
+  heals : {k q : _} (d : NextNode after k q) (v path' indices' : _)
       → Healed content half most t v path indices path' indices' up size before n (e ∷ others) (node q (d.f ∷ d.fs) ∷ d.rest) rest
       → Heals w v path' indices'
   heals d v path' indices' h =
@@ -94,18 +91,17 @@ module _ {K V : Type 0} {cap least : ℕ} {t : Table K V} {path indices : List �
   module _ (m : ℕ) (value : Counts t (get_or path up r) m) where
     module _ (healthy : least ≤ m) where
       half_here : half ≤ length es
-      half_here = omega (arith, healthy, w.least_is, count_read m value)
+      half_here = omega (arith, count_read m value)
 
       -- a healthy node in which the path stands stays
       pub stay_heals : get_or indices up 0 ≢ m → Heals w t path indices
-      stay_heals inside = settle_stay hm p (inl half_here) (λ some. omega (arith, count_read m value, p.entry_was, inside))
+      stay_heals inside = settle_stay hm p (inl half_here) (λ some. omega (arith, count_read m value, p.entry_was))
 
       module _ (past : get_or indices up 0 ≡ m) where
         -- there is a next node where the path is past the node's last entry
         pub behind : (k : K) × (q : ℕ) × NextNode after k q
         behind =
-            let at = w.at_entry (omega (arith, healthy, count_read m value)) in
-            first_after half most half_some after p.fits (omega (arith, at, past, count_read m value, length-append es (flat after)))
+            first_after _ _ half_some _ p.fits (omega (arith, count_read m value, length-append es (flat after)))
 
         abbrev then : NextNode after behind.0 behind.1
         then = behind.2
@@ -118,12 +114,12 @@ module _ {K V : Type 0} {cap least : ℕ} {t : Table K V} {path indices : List �
         past_asks = record { rows = rest; before = heads before; x = (e.0, n); y = (then.f.0, behind.1); after = heads then.rest; above = above_past }
 
         -- entering the next node leaves the level rebalanced
-        pub past_heals : (path' indices' : List ℕ) → Enters t path indices path' indices' up size → get_or indices' up 0 ≡ 0
+        pub past_heals : (path' indices' : _) → Enters t path indices path' indices' up size → get_or indices' up 0 ≡ 0
             → SameBelow up path path' → SameBelow up indices indices' → top_of path' size ≡ top_of path size → Heals w t path' indices'
         past_heals path' indices' moved first below below_too top_is =
             let entered = moved past_asks in
             let len = ap length named.es_is in
-            heals then t path' indices' (settle_move hm (level then) (omega (arith, half_here, len)) (omega (arith, past, count_read m value, len)) entered first below below_too top_is)
+            heals then t path' indices' (settle_move hm (level then) (omega (arith, half_here)) (omega (arith, count_read m value)) entered first below below_too top_is)
 
   -- the rows above, cut at the node
   pub above_high : Above t path indices (up + 1) size rest (heads before ++ (e.0, n) ∷ heads after) (length (heads before))
@@ -141,19 +137,18 @@ module _ {K V : Type 0} {cap least : ℕ} {t : Table K V} {path indices : List �
   pub last_heals : Beside t path indices (up + 1) size None → Heals w t path indices
   last_heals beside =
       let none = no_nodes half most half_some after p.fits (next_is None beside) in
-      settle_stay hm p (inr none) (λ some. omega (arith, some, length-append es (flat after), ap (λ z. length (flat z)) none))
+      settle_stay hm p (inr none) (λ some. omega (arith, length-append es (flat after), ap (λ z. length (flat z)) none))
 
-  module _ (m : ℕ) (value : Counts t (get_or path up r) m) (under : m < least) {o : Option (K × ℕ)} {next : K × ℕ} (is : o ≡ Some next) (beside : Beside t path indices (up + 1) size o) where
+  module _ (m : ℕ) (value : Counts t (get_or path up r) m) (under : m < least) {o : Option (K × ℕ)} {next : _} (is : o ≡ Some next) (beside : Beside t path indices (up + 1) size o) where
     pub d : NextNode after next.0 next.1
     d =
-        let nx = subst (λ (z : Option (K × ℕ)). NextIs z (heads after)) is (next_is o beside) in
-        next_of half most half_some after next.0 next.1 nx.0 p.fits nx.1
+        next_of _ _ half_some _ _ _ _ p.fits (rw is at (next_is o beside)).1
 
     abbrev q : ℕ
     q = next.1
 
     under_is : length (e ∷ others) < half
-    under_is = omega (arith, under, w.least_is, count_read m value, ap length named.es_is)
+    under_is = omega (arith, count_read m value, ap length named.es_is)
 
     -- the two nodes are different and in no other row, and the right one is off the chain
     lies : (n ≢ q) × (count n (numbers before) + count n (numbers d.rest) ≡ 0) × (count q (numbers before) + count q (numbers d.rest) ≡ 0) × (count q t.chain ≡ 0)
@@ -161,7 +156,7 @@ module _ {K V : Type 0} {cap least : ℕ} {t : Table K V} {path indices : List �
 
     slots : (slice_get t.nodes n ≡ Some (content (e ∷ others))) × (slice_get t.nodes q ≡ Some (content (d.f ∷ d.fs)))
     slots =
-        let both = (row-split content t.nodes before (node n (e ∷ others) ∷ node q (d.f ∷ d.fs) ∷ d.rest) (level d).inside).1 in
+        let both = (row-split _ _ _ (node n (e ∷ others) ∷ node q (d.f ∷ d.fs) ∷ d.rest) (level d).inside).1 in
         (both.0, both.1.0)
 
     -- the two nodes meet what balancing requires
@@ -175,11 +170,11 @@ module _ {K V : Type 0} {cap least : ℕ} {t : Table K V} {path indices : List �
           left_is = slots.0;
           right_is = slots.1;
           kind = s.kind (e ∷ others) (d.f ∷ d.fs);
-          filled = omega (arith, ce);
-          neighbour_filled = omega (arith, cf);
-          underflowed = omega (arith, ce, s.capacity_is (e ∷ others), under_is, hm.hi);
+          filled = omega arith;
+          neighbour_filled = omega arith;
+          underflowed = omega (arith, s.capacity_is (e ∷ others), under_is, hm.hi);
         } in
-        rw num_is (is_used t n (content es) slot_here none_here, (is_used t q (content (d.f ∷ d.fs)) slots.1 lies.3, (lies.0, both)))
+        rw num_is (is_used t n _ slot_here none_here, (is_used t q _ slots.1 lies.3, (lies.0, both)))
 
     module _ {u : Table K V} {got : Option K} (balanced : IsBalancedAt cap t (get_or path up r) next.0 q got u) where
       balanced_as : (o : Option K) → got ≡ o → IsBalancedAt cap t n d.f.0 q o u
@@ -188,7 +183,7 @@ module _ {K V : Type 0} {cap least : ℕ} {t : Table K V} {path indices : List �
       -- the two nodes share their entries, and the key between them has to be updated
       module _ {key : K} (got_is : got ≡ Some key) where
         spread : Spread content t u most n q (e ∷ others) (d.f ∷ d.fs) key
-        spread = spread_at content t u n q e others d.f d.fs s lies.0 (omega (arith, hm.hi, hm.two)) slots.0 slots.1 (balanced_as (Some key) got_is)
+        spread = spread_at content t u n q e others d.f d.fs s lies.0 (omega (arith, hm.hi, hm.two)) slots.0 slots.1 (balanced_as _ got_is)
 
         pub above_is : Above u path indices (suc up) size rest (heads before ++ (e.0, n) ∷ (d.f.0, q) ∷ heads d.rest) (length (heads before))
         above_is = above_two_put hm (level d) spread.two
@@ -198,9 +193,9 @@ module _ {K V : Type 0} {cap least : ℕ} {t : Table K V} {path indices : List �
         rekey_asks = record { rows = rest; before = heads before; x = (e.0, n); y = (d.f.0, q); after = heads d.rest; above = rw (add-one up) above_is }
 
         -- updating the key leaves the level rebalanced
-        pub rekey_heals : (v : Table K V) → Rekeys u v path indices (up + 1) size key → Heals w v path indices
+        pub rekey_heals : (v : _) → Rekeys u v path indices (up + 1) size key → Heals w v path indices
         rekey_heals v rekeys =
-            heals d v path indices (settle_spread hm (level d) v under_is spread (rw (add-one up) at (rekeys rekey_asks)))
+            heals d v _ _ (settle_spread hm (level d) v under_is spread (rw (add-one up) at (rekeys rekey_asks)))
 
       -- all entries are in the right node, and the left one has to be freed
       module _ (got_is : got ≡ None) where
@@ -210,11 +205,10 @@ module _ {K V : Type 0} {cap least : ℕ} {t : Table K V} {path indices : List �
         -- the left node meets what freeing it requires
         pub free_asks : IsUsed u (get_or path up r)
         free_asks =
-            let a = all_right in
-            subst (λ (z : ℕ). IsUsed u z) (sym num_is) (is_used u n a.left_content a.two.here (ap (λ z. count n z) a.two.frees.chain_is ∙ none_here))
+            rw num_is (is_used u n _ all_right.two.here (cc (none_here)))
 
         -- freeing the left node leaves the two merged
-        pub free_joins : (v : Table K V) → v ≡ with_freed u (get_or path up r) → Joins w v (set path up q) indices
+        pub free_joins : (v : _) → v ≡ with_freed u (get_or path up r) → Joins w v (set path up q) indices
         free_joins v freed =
-            let j = settle_join hm (level d) v under_is all_right (freed ∙ ap (λ z. with_freed u z) num_is) low in
+            let j = settle_join hm (level d) v under_is all_right (cc (num_is)) low in
             both_back (λ y z. Joined content half most t v path indices (set path up q) indices up size before n y z rest) es _ after _ named.es_is d.after_is j

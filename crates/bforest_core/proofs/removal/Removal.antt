@@ -1,15 +1,10 @@
 -- The effect of a removal from the tree under a root on the table.
 use Rattle.std.proofs.Common.{IsTrue, ◌≡◌, ℕ, suc, ◌<◌, Option, Some, None, IfSome, List, ◌∷◌, ◌++◌, length, get_or, refl, sym, ap, ◌∙◌, subst, inl, inr, append_assoc, length-append, arith}
 use Rattle.std.proofs.lemmas.List.Edits.{length-remove}
-use Rattle.bforest_core.proofs.Words.{eqb_tells, length-map, Table, node, flat, sizes, Tree, sizes_of, nodes_up, shrink, count, root_of, numbers_of, Stands, tree_of, IsUnion, is_root, Shrinks}
-use Rattle.bforest_core.proofs.Words.{StandsUnder, node_count, StandsIn, Removed, Emptied}
-use Rattle.bforest_core.proofs.rows.LevelRows.{flat-append}
-use Rattle.bforest_core.proofs.table.Tables.{count-append}
-use Rattle.bforest_core.proofs.union.Forests.{root-among}
-use Rattle.bforest_core.proofs.union.Exchange.{IsPlanted}
-use Rattle.bforest_core.proofs.union.Unions.{rooted}
-use Rattle.bforest_core.proofs.union.Roots.{exchanged-freed, uprooted-union}
-use Rattle.bforest_core.proofs.union.Account.{length-same, nodes-count}
+use Rattle.bforest_core.proofs.Words.{eqb_tells, length-map, Table, node, flat, sizes, Tree, sizes_of, nodes_up, shrink, count, root_of, numbers_of, Stands}
+use Rattle.bforest_core.proofs.{Words.{tree_of, IsUnion, is_root, Shrinks, StandsUnder, node_count, StandsIn, Removed, Emptied}, rows.LevelRows.flat-append}
+use Rattle.bforest_core.proofs.{table.Tables.count-append, union.Forests.root-among, union.Exchange.IsPlanted, union.Unions.rooted, union.Roots.exchanged-freed}
+use Rattle.bforest_core.proofs.{union.Roots.uprooted-union, union.Account.{length-same, nodes-count}}
 
 -- an implication, applied to the value of an option, if any
 pub if_some : {A : Type 0} (P Q : A → Type 0) (found : Option A) → ((x : A) → P x → Q x) → IfSome found P → IfSome found Q
@@ -18,13 +13,13 @@ if_some P Q (Some x) h p = h x p
 
 module _ {K V : Type 0} where
   -- a path under a root stands in its tree, which is in the table
-  pub stands_in : (most : ℕ) (table : Table K V) {root place : ℕ} {path indices : List ℕ} {size : ℕ} → IsUnion most table → StandsUnder table.nodes root path indices size place → StandsIn most table path indices size (tree_of table.nodes root) place
+  pub stands_in : (most : ℕ) (table : Table K V) {root place path indices size : _} → IsUnion most table → StandsUnder table.nodes root path indices size place → StandsIn most table path indices size (tree_of table.nodes root) place
   stands_in most table {root} union s =
-      let r = rooted most table root union s.root_is in
+      let r = rooted _ _ _ union s.root_is in
       record { fit = r.fit; inside = r.inside; apart = r.apart; low = r.low; stands = s.stands }
 
   -- the place where a path stands is that of an entry
-  pub place_low : (path indices : List ℕ) (size : ℕ) (tree : Tree K V) (place : ℕ) → Stands path indices size tree place → place < length (flat tree.leaves)
+  pub place_low : (path indices size : _) (tree : Tree K V) (place : ℕ) → Stands path indices size tree place → place < length (flat tree.leaves)
   place_low path indices size tree place s =
       let at = s.leaf in
       omega (arith, at.place_is, at.within, ap (λ z. length (flat z)) at.row_is, ap length (flat-append at.before (node (get_or path 0 0) at.entries ∷ at.after)), length-append (flat at.before) (at.entries ++ flat at.after), length-append at.entries (flat at.after))
@@ -34,12 +29,12 @@ module _ {K V : Type 0} where
     pub shrinks : Shrinks most old new path root place found
     pub at : IfSome found (λ root'. IsTrue (is_root new.nodes root') × Now (tree_of new.nodes root'))
 
-  module _ (most : ℕ) (old new : Table K V) {root place : ℕ} {path indices : List ℕ} {size : ℕ} (Now : Tree K V → Type 0) (union : IsUnion most old) (s : StandsUnder old.nodes root path indices size place) where
+  module _ (most old new : _) {root place path indices size : _} (Now : Tree K V → Type 0) (union : IsUnion most old) (s : StandsUnder old.nodes root path indices size place) where
     removed_root : {root' : ℕ} (i : Removed most old new path Now (tree_of old.nodes root) place root') → Said most old new path root place Now (Some (root_of i.tree'))
     removed_root i =
         let tree = tree_of old.nodes root in
         let r = rooted most old root union s.root_is in
-        let planted : IsPlanted most new.nodes i.tree' = record { fit = i.fit; inside = i.inside; some = i.some; low = omega (arith, i.low, r.low) } in
+        let planted : IsPlanted most new.nodes i.tree' = record { fit = i.fit; inside = i.inside; some = i.some; low = omega arith } in
         let e = exchanged-freed root union s.root_is planted i.frees i.numbers_are in
         let levels : length (shrink most place (sizes_of tree)) ≡ suc (length i.tree'.above) = omega (arith, ap length i.sizes_are, length-map i.tree'.above sizes) in
         let levels_were : length (sizes_of tree) ≡ suc (length tree.above) = omega (arith, length-map tree.above sizes) in
@@ -52,8 +47,8 @@ module _ {K V : Type 0} where
             changes = record {
               union = e.union;
               root_is = e.root_is;
-              list_is = ap (λ z. flat z.leaves) e.tree_is ∙ i.flat_is;
-              sizes_are = ap sizes_of e.tree_is ∙ i.sizes_are;
+              list_is = cc;
+              sizes_are = cc;
               others = e.others;
               old_gone = e.old_gone;
               new_came = e.new_came;
@@ -61,10 +56,10 @@ module _ {K V : Type 0} where
             };
             same_root = (
               λ same. elim (eqb_tells (length i.tree'.above) (length tree.above)) [
-                | inl w ↦ omega (arith, levels, levels_were, w.1)
-                | inr w ↦ absurd (omega (arith, i.old_root w.1, rooted_is same, among, i.numbers_are (root_of i.tree'), r.apart (root_of i.tree'), c (root_of i.tree')))
+                | inl w ↦ omega arith
+                | inr w ↦ absurd (omega (arith, i.old_root w.1, rooted_is same, i.numbers_are (root_of i.tree'), r.apart (root_of i.tree'), c (root_of i.tree')))
               ],
-              λ same. i.root_is ∙ i.same_root (omega (arith, levels, levels_were, same)) ∙ r.root_is,
+              λ same. cc (i.same_root (omega arith)),
             );
             account = record {
               given = i.freed;
@@ -75,14 +70,14 @@ module _ {K V : Type 0} where
             order = record {
               roots = i.order.roots;
               up = i.order.up;
-              chain_is = i.frees.chain_is ∙ ap (λ z. z ++ old.chain) i.order.freed_is ∙ append_assoc i.order.roots (nodes_up path 0 i.order.up) old.chain;
-              roots_are = omega (arith, i.order.roots_are, levels, levels_were);
+              chain_is = cc (append_assoc i.order.roots (nodes_up path 0 i.order.up) old.chain);
+              roots_are = omega arith;
             };
-            last = (λ is. absurd cc, λ one. absurd (let low = place_low path indices size tree place s.stands in omega (arith, length-remove (flat tree.leaves) place low, one, ap length i.flat_is, i.some)));
+            last = (λ is. absurd cc, λ one. absurd (let low = place_low path indices size tree place s.stands in omega (arith, length-remove (flat tree.leaves) place low, ap length i.flat_is)));
             ended = λ is. absurd cc;
             none_left = λ is. absurd cc;
             freed_root = λ ne. elim (eqb_tells (length i.tree'.above) (length tree.above)) [
-              | inl w ↦ absurd (ne (ap Some (i.root_is ∙ i.same_root w.1 ∙ r.root_is)))
+              | inl w ↦ absurd (ne (ap Some (cc (i.same_root w.1))))
               | inr w ↦ omega (arith, i.old_root w.1, ap (λ z. count z i.freed) r.root_is, ap (λ z. count root z) i.frees.chain_is, count-append root i.freed old.chain)
             ];
           };
@@ -90,15 +85,15 @@ module _ {K V : Type 0} where
 
     -- removing an entry of a tree that has others
     pub removal : {root' : ℕ} → Removed most old new path Now (tree_of old.nodes root) place root' → Said most old new path root place Now (Some root')
-    removal {root'} i = subst (λ (z : ℕ). Said most old new path root place Now (Some z)) i.root_is (removed_root i)
+    removal {root'} i = rw (← i.root_is) (removed_root i)
 
     -- removing the last entry of a tree
     ending : Emptied most old new (tree_of old.nodes root) place → Said most old new path root place Now None
     ending i =
         let tree = tree_of old.nodes root in
-        let r = rooted most old root union s.root_is in
+        let r = rooted _ _ _ union s.root_is in
         let u = uprooted-union most root union s.root_is i.frees i.freed_is in
-        let among = root-among most old.nodes tree r.fit r.inside r.some in
+        let among = root-among _ _ _ r.fit r.inside r.some in
         record {
           at = tt;
           shrinks = record {
@@ -110,15 +105,15 @@ module _ {K V : Type 0} where
               slots = i.frees.slots_are;
               count_is = omega (arith, length-same i.freed (numbers_of tree) i.freed_is, nodes-count tree, ap (λ z. node_count z) i.none_left);
             };
-            order = record { roots = i.freed; up = 0; chain_is = i.frees.chain_is; roots_are = omega (arith, i.one, ap length i.levels_are, ap length i.none_left) };
+            order = record { roots = i.freed; up = 0; chain_is = i.frees.chain_is; roots_are = omega (arith, ap length i.levels_are, ap length i.none_left) };
             last = (λ is. i.single, λ is. refl);
             ended = λ is. record { union = u.0; root_gone = u.1; others = u.2; limit_is = i.frees.limit_is };
             none_left = λ is. i.none_left;
-            freed_root = λ ne. omega (arith, among, i.freed_is root, ap (λ z. count z (numbers_of tree)) r.root_is, ap (λ z. count root z) i.frees.chain_is, count-append root i.freed old.chain);
+            freed_root = λ ne. omega (arith, i.freed_is root, ap (λ z. count z (numbers_of tree)) r.root_is, ap (λ z. count root z) i.frees.chain_is, count-append root i.freed old.chain);
           };
         }
 
     -- the effect of a removal, from the answer of the call for a leaf of one entry
-    pub outcome : (found : Option ℕ) → IfSome found (λ root'. Removed most old new path Now (tree_of old.nodes root) place root') → (found ≡ None → Emptied most old new (tree_of old.nodes root) place) → Said most old new path root place Now found
+    pub outcome : (found : _) → IfSome found (λ root'. Removed most old new path Now (tree_of old.nodes root) place root') → (found ≡ None → Emptied most old new (tree_of old.nodes root) place) → Said most old new path root place Now found
     outcome None removed emptied = ending (emptied refl)
     outcome (Some root') removed emptied = removal removed

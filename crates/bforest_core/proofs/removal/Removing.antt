@@ -1,25 +1,21 @@
 -- A tree after a removal from a leaf that has other entries, from the calls that make it.
 use Rattle.std.proofs.Common.{◌≡◌, suc, ◌≤◌, ◌<◌, Some, List, ◌∷◌, ◌++◌, ◌⊎◌, map, length, get_or, refl, sym, ap, ◌∙◌, subst, length-append, arith, ℕ, [], inr}
-use Rattle.bforest_core.proofs.Words.{remove, Table, LevelNode, node, flat, heads, sizes, FitRow, Tree, half_of, loss_above, leaf_content, root_of, numbers_of, StandsAbove, Stands}
-use Rattle.bforest_core.proofs.Words.{IsPathAt, nodes_up, TwoAbove, top_of, Rebuilt, Healed, Joined, UpTo, Trimmed, StandsIn, LeafLoss, Removed, Solid, sizes_of}
-use Rattle.bforest_core.proofs.rows.LevelRows.{flat-append, FitRow-split, Solid-full, least-pos}
-use Rattle.bforest_core.proofs.walks.RowNodes.{fit_full}
-use Rattle.bforest_core.proofs.rows.Tops.{root-stands, top_tree}
-use Rattle.bforest_core.proofs.removal.Merge.{Restored, Restores, healed_restored, joined_restored, kept_restored, merge_asks}
-use Rattle.bforest_core.proofs.removal.Losses.{nodes_up-same}
-use Rattle.bforest_core.proofs.removal.Rebalance.{enough, judged}
-use Rattle.bforest_core.proofs.removal.PastEnd.{loss_half}
-use Rattle.bforest_core.proofs.removal.Collapse.{length-sizes, topped-sizes, stands-below, trim_none}
-use Rattle.bforest_core.proofs.removal.Untrimmed.{Untrimmed, length-numbers, path-at, trimmed_removed, up_to}
+use Rattle.bforest_core.proofs.Words.{remove, Table, node, flat, heads, sizes, FitRow, Tree, half_of, loss_above, leaf_content, root_of, numbers_of, Stands}
+use Rattle.bforest_core.proofs.Words.{IsPathAt, nodes_up, TwoAbove, top_of, Rebuilt, Healed, Joined, UpTo, Trimmed, StandsIn, LeafLoss, Removed, Solid}
+use Rattle.bforest_core.proofs.{Words.sizes_of, rows.LevelRows.{flat-append, FitRow-split, Solid-full, least-pos}, walks.RowNodes.fit_full}
+use Rattle.bforest_core.proofs.{rows.Tops.{root-stands, top_tree}, removal.Merge.{Restored, Restores, healed_restored, joined_restored, kept_restored}}
+use Rattle.bforest_core.proofs.{removal.Merge.merge_asks, removal.Losses.nodes_up-same, removal.Rebalance.{enough, judged}, removal.PastEnd.loss_half}
+use Rattle.bforest_core.proofs.{removal.Collapse.{length-sizes, topped-sizes, stands-below, trim_none}, removal.Untrimmed.{Untrimmed, length-numbers, path-at}}
+use Rattle.bforest_core.proofs.removal.Untrimmed.{trimmed_removed, up_to}
 
-module _ {K V : Type 0} {most : ℕ} {old : Table K V} {path indices : List ℕ} {size : ℕ} {tree : Tree K V} {place : ℕ} (s : StandsIn most old path indices size tree place) (half : 1 ≤ half_of most) {root : ℕ} (root_is : root_of tree ≡ root) where
-  module _ {new : Table K V} {path' indices' freed : List ℕ} (r : Restored leaf_content (half_of most) most old new path' indices' 0 size (sizes_of tree) (numbers_of tree) (remove (flat tree.leaves) place) place freed)
+module _ {K V : Type 0} {most : ℕ} {old : Table K V} {path indices size tree place : _} (s : StandsIn most old path indices size tree place) (half : 1 ≤ half_of most) {root : ℕ} (root_is : root_of tree ≡ root) where
+  module _ {new : Table K V} {path' indices' freed : _} (r : Restored leaf_content (half_of most) most old new path' indices' 0 size (sizes_of tree) (numbers_of tree) (remove (flat tree.leaves) place) place freed)
       (top : top_of path' size ≡ top_of path size) where
     abbrev m : ℕ
     m = get_or path' 0 0
 
     fit : Solid (half_of most) most r.front × FitRow (half_of most) most (node m r.entries ∷ r.after)
-    fit = FitRow-split (half_of most) most r.front (node m r.entries) r.after (subst (λ (z : List (LevelNode K V)). FitRow (half_of most) most z) r.row_is r.fit)
+    fit = FitRow-split (half_of most) most r.front (node m r.entries) r.after (rw (← r.row_is) r.fit)
 
     some : 1 ≤ length r.entries
     some = omega (arith, fit.1.0, least-pos (half_of most) half r.after)
@@ -38,9 +34,9 @@ module _ {K V : Type 0} {most : ℕ} {old : Table K V} {path indices : List ℕ}
       some = omega (arith, ap length (ap flat r.row_is ∙ flat-append r.front (node m r.entries ∷ r.after)), length-append (flat r.front) (r.entries ++ flat r.after), length-append r.entries (flat r.after), some);
       stacked = r.above.stacked;
       rows_in = r.above.inside;
-      height = omega (arith, r.above.height, s.stands.size_is);
+      height = omega arith;
       numbers_are = r.numbers_are;
-      root_is = top_tree r.row r.rows path' indices' size (length (heads r.front)) r.front r.entries r.after r.row_is some r.above.stacked r.above.stands (omega (arith, r.above.height)) ∙ top ∙ sym (root-stands s.fit s.stands);
+      root_is = top_tree _ _ _ _ _ _ _ _ _ r.row_is some r.above.stacked r.above.stands (omega arith) ∙ top ∙ sym (root-stands s.fit s.stands);
       frees = r.frees;
     }
 
@@ -50,30 +46,29 @@ module _ {K V : Type 0} {most : ℕ} {old : Table K V} {path indices : List ℕ}
     -- no root is discarded where each level keeps its nodes
     whole : {size1 : ℕ} → size1 ≡ size → length r.row ≡ length tree.leaves → map sizes r.rows ≡ map sizes tree.above → Trimmed new new size1 size1 r.rows (heads r.row) root root []
     whole is len same =
-        let many : length (heads r.row) ≡ length (heads tree.leaves) = omega (arith, len, fit_full (half_of most) most half r.row r.fit, fit_full (half_of most) most half tree.leaves s.fit.leaves_fit) in
-        trim_none (up_here is) (topped-sizes (heads tree.leaves) (heads r.row) tree.above r.rows s.fit.stacked r.above.stacked many same s.fit.topped)
+        let many : length (heads r.row) ≡ length (heads tree.leaves) = omega (arith, fit_full (half_of most) most half r.row r.fit, fit_full (half_of most) most half tree.leaves s.fit.leaves_fit) in
+        trim_none (up_here is) (topped-sizes _ _ _ _ s.fit.stacked r.above.stacked many same s.fit.topped)
 
     -- the path stands at the place, in the rows that stay
-    stands : {new2 : Table K V} {size1 size2 root' : ℕ} {gone : List ℕ} → get_or indices' 0 0 < length r.entries → (t : Trimmed new new2 size1 size2 r.rows (heads r.row) root root' gone) → Stands path' indices' size2 (record { leaves = r.row; above = t.rows' }) place
+    stands : {new2 : Table K V} {size1 size2 root' gone : _} → get_or indices' 0 0 < length r.entries → (t : Trimmed new new2 size1 size2 r.rows (heads r.row) root root' gone) → Stands path' indices' size2 (record { leaves = r.row; above = t.rows' }) place
     stands within t =
-        let st : StandsAbove path' indices' 1 (t.rows' ++ t.discarded) (length (heads r.front)) = subst (λ (z : List (List (LevelNode K ℕ))). StandsAbove path' indices' 1 z (length (heads r.front))) t.rows_are r.above.stands in
+        let st = rw t.rows_are at r.above.stands in
         let few : length (heads r.front) < length (heads r.row) = omega (arith, full, fit_full (half_of most) most half r.row r.fit, ap length r.row_is, length-append r.front (node m r.entries ∷ r.after)) in
-        let below = stands-below path' indices' 1 (heads r.row) t.rows' t.discarded (length (heads r.front)) few t.stacked st in
         record {
           leaf = record { before = r.front; entries = r.entries; after = r.after; row_is = r.row_is; within = within; place_is = r.place_is };
-          above = rw full at below;
+          above = rw full at (stands-below _ _ 1 _ _ _ _ few t.stacked st);
           size_is = sym t.size_is;
         }
 
     -- the removal is complete once roots with a single child are discarded: the path stands at the place, where an entry follows
     completed : (up : ℕ) → freed ≡ nodes_up path 0 up → (place < length (remove (flat tree.leaves) place) → get_or indices' 0 0 < length r.entries)
-        → {new2 : Table K V} {size1 size2 root' : ℕ} {gone : List ℕ} → (t : Trimmed new new2 size1 size2 r.rows (heads r.row) root root' gone) → size1 ≡ size
+        → {new2 : Table K V} {size1 size2 root' gone : _} → (t : Trimmed new new2 size1 size2 r.rows (heads r.row) root root' gone) → size1 ≡ size
         → Removed most old new2 path (λ z. place < length (flat z.leaves) → IsPathAt path' indices' size2 z place) tree place root'
     completed up freed_is within {size2 = size2} t size_is =
-        trimmed_removed up (λ z. place < length (flat z.leaves) → IsPathAt path' indices' size2 z place) s (subst (λ (z : List ℕ). Untrimmed most old new tree place r.row r.rows z) freed_is untrimmed) root_is t size_is
-        (λ low. path-at size2 (stands (within (subst (λ (z : List (K × V)). place < length z) r.list_is low)) t))
+        trimmed_removed up (λ z. place < length (flat z.leaves) → IsPathAt path' indices' size2 z place) s (rw (← freed_is) untrimmed) root_is t size_is
+        (λ low. path-at size2 (stands (within (rw (← r.list_is) low)) t))
 
-module _ {K V : Type 0} {most : ℕ} {old mid : Table K V} {path indices : List ℕ} {size : ℕ} {tree : Tree K V} {place : ℕ} (s : StandsIn most old path indices size tree place) (l : LeafLoss most old mid path indices size tree place) {root : ℕ} (root_is : root_of tree ≡ root) where
+module _ {K V : Type 0} {most : ℕ} {old mid : Table K V} {path indices size tree place : _} (s : StandsIn most old path indices size tree place) (l : LeafLoss most old mid path indices size tree place) {root : ℕ} (root_is : root_of tree ≡ root) where
   abbrev n : ℕ
   n = get_or path 0 0
 
@@ -87,32 +82,22 @@ module _ {K V : Type 0} {most : ℕ} {old mid : Table K V} {path indices : List 
   -- the removal is complete where the leaf is still half full or the last
   pub kept_removed : (Now : Tree K V → Type 0) → (half_of most ≤ length l.entries) ⊎ (l.after ≡ []) → ((z : Tree K V) → flat z.leaves ≡ remove (flat tree.leaves) place → Now z) → Removed most old mid path Now tree place root
   kept_removed Now why now =
-      let r = kept_restored l.loss (judged (half_of most) most l.entries l.after (omega arith) l.some why) (enough (half_of most) l.entries l.after l.some why) in
+      let r = kept_restored l.loss (judged _ _ _ _ (omega arith) l.some why) (enough (half_of most) l.entries l.after l.some why) in
       let len : length (l.before ++ node n l.entries ∷ l.after) ≡ length tree.leaves = omega (arith, ap length sizes_were.0, length-sizes tree.leaves, length-sizes l.before, length-sizes l.after, length-append (sizes l.before) (suc (length l.entries) ∷ sizes l.after), length-append l.before (node n l.entries ∷ l.after)) in
       trimmed_removed 0 Now s (untrimmed s half root_is r refl) root_is (whole s half root_is r refl refl len (sym sizes_were.1)) refl (now _ r.list_is)
 
   -- an entry follows in what is left
   pub entry_follows : get_or indices 0 0 < length (l.entries ++ flat l.after) → (z : Tree K V) → flat z.leaves ≡ remove (flat tree.leaves) place → place < length (flat z.leaves)
-  entry_follows low z is = omega (arith, low, l.place_is, ap length is, ap length l.list_is, ap length (flat-append l.before (node n l.entries ∷ l.after)), length-append (flat l.before) (l.entries ++ flat l.after))
+  entry_follows low z is = omega (arith, ap length is, ap length l.list_is, ap length (flat-append l.before (node n l.entries ∷ l.after)), length-append (flat l.before) (l.entries ++ flat l.after))
 
   -- the removal is complete where the path was at the last entry
   pub past_removed : l.after ≡ [] → get_or indices 0 0 ≡ length l.entries → Removed most old mid path (λ z. IsPathAt path indices 0 z place) tree place root
   past_removed none last =
-      kept_removed (λ z. IsPathAt path indices 0 z place) (inr none)
-      (λ z is. omega (
-        arith,
-        l.place_is,
-        last,
-        ap length is,
-        ap length l.list_is,
-        ap length (flat-append l.before (node n l.entries ∷ l.after)),
-        length-append (flat l.before) (l.entries ++ flat l.after),
-        length-append l.entries (flat l.after),
-        ap (λ z. length (flat z)) none,
-      ))
+      kept_removed _ (inr none)
+      (λ z is. omega (arith, ap length is, ap length l.list_is, ap length (flat-append l.before (node n l.entries ∷ l.after)), length-append (flat l.before) (l.entries ++ flat l.after), length-append l.entries (flat l.after), ap (λ z. length (flat z)) none))
 
   -- the removal is complete where the leaf was rebalanced and stays
-  pub healed_removed : {new : Table K V} {path' indices' : List ℕ} {size1 : ℕ} → Healed leaf_content (half_of most) most mid new path indices path' indices' 0 size l.before n l.entries l.after l.rest → size1 ≡ size →
+  pub healed_removed : {new : Table K V} {path' indices' size1 : _} → Healed leaf_content (half_of most) most mid new path indices path' indices' 0 size l.before n l.entries l.after l.rest → size1 ≡ size →
       Removed most old new path (λ z. place < length (flat z.leaves) → IsPathAt path' indices' size1 z place) tree place root
   healed_removed h size_is =
       let r = healed_restored l.loss h in
@@ -128,37 +113,37 @@ module _ {K V : Type 0} {most : ℕ} {old mid : Table K V} {path indices : List 
         length-numbers (h.before' ++ node h.number' h.entries' ∷ h.after'),
         length-numbers (l.before ++ node n l.entries ∷ l.after),
       ) in
-      completed s half root_is r.0 h.same_top 0 refl r.1 (whole s half root_is r.0 h.same_top size_is len (h.rest_sizes ∙ sym sizes_were.1)) size_is
+      completed s half root_is r.0 h.same_top 0 refl r.1 (whole s half root_is r.0 h.same_top size_is len (cc (sizes_were.1))) size_is
 
   -- the leaf was merged into its neighbour
-  module _ {mid2 : Table K V} {path1 indices1 : List ℕ} (j : Joined leaf_content (half_of most) most mid mid2 path indices path1 indices1 0 size l.before n l.entries l.after l.rest) {size1 : ℕ} (size_is : size1 ≡ size) where
+  module _ {mid2 path1 indices1 : _} (j : Joined leaf_content (half_of most) most mid mid2 path indices path1 indices1 0 size l.before n l.entries l.after l.rest) {size1 : ℕ} (size_is : size1 ≡ size) where
     -- the rows above meet what removing the leaf's entry requires
     abbrev pub leaf_merge_asks : TwoAbove mid2 path1 indices1 1 size1
     leaf_merge_asks = merge_asks l.loss j 1 size1 refl size_is
 
     -- the rows above after the leaf's entry was removed
-    module _ {new : Table K V} {path' indices' : List ℕ} (merged : (w : TwoAbove mid2 path1 indices1 1 size1) → (levels : ℕ) × Rebuilt mid2 new path1 indices1 path' indices' 1 size1 w.rows (w.before ++ (w.x.0, w.y.1) ∷ w.after) (length w.before) (loss_above (Some (length w.before)) (map sizes w.rows)) (nodes_up path1 1 levels)) {size2 : ℕ} (size2_is : size2 ≡ size) where
-      abbrev Rows : ℕ → List ℕ → Type 0
-      Rows z freed = Rebuilt mid2 new path1 indices1 path' indices' 1 z l.rest (heads l.before ++ (j.first.0, j.right) ∷ heads j.after') (length (heads l.before)) (loss_above (Some (length (heads l.before))) (map sizes l.rest)) freed
+    module _ {new path' indices' : _} (merged : (w : TwoAbove mid2 path1 indices1 1 size1) → (levels : ℕ) × Rebuilt mid2 new path1 indices1 path' indices' 1 size1 w.rows (w.before ++ (w.x.0, w.y.1) ∷ w.after) (length w.before) (loss_above (Some (length w.before)) (map sizes w.rows)) (nodes_up path1 1 levels)) {size2 : ℕ} (size2_is : size2 ≡ size) where
+      abbrev Merged : ℕ → List ℕ → Type 0
+      Merged z freed = Rebuilt mid2 new path1 indices1 path' indices' 1 z l.rest (heads l.before ++ (j.first.0, j.right) ∷ heads j.after') (length (heads l.before)) (loss_above (Some (length (heads l.before))) (map sizes l.rest)) freed
 
-      above : (levels : ℕ) × Rows size (nodes_up path 1 levels)
+      above : (levels : ℕ) × Merged size (nodes_up path 1 levels)
       above =
           let m = merged leaf_merge_asks in
-          (m.0, subst (λ (z : List ℕ). Rows size z) (nodes_up-same path path1 1 m.0 j.nodes_above) (subst (λ (z : ℕ). Rows z (nodes_up path1 1 m.0)) size_is m.1))
+          (m.0, rw (← nodes_up-same path path1 1 m.0 j.nodes_above) (subst (λ z. Merged z (nodes_up path1 1 m.0)) size_is m.1))
 
       joined : Restores l.loss new path' indices' (nodes_up path 0 (suc above.0))
       joined = joined_restored l.loss j above.1 half
 
       top : top_of path' size ≡ top_of path size
-      top = above.1.same_top ∙ j.same_top
+      top = cc (above.1.same_top)
 
       -- the rows above meet what discarding roots requires
-      pub collapse_asks : (rows : List (List (LevelNode K ℕ))) × (list : List (K × ℕ)) × UpTo new size2 rows list root
+      pub collapse_asks : (rows : _) × (list : _) × UpTo new size2 rows list root
       collapse_asks = (joined.0.rows, heads joined.0.row, up_here s half root_is joined.0 top size2_is)
 
       -- the removal is complete after roots with a single child were discarded
-      pub joined_removed : {new2 : Table K V} {path2 indices2 : List ℕ} {size3 root' : ℕ}
-          → ((rows : List (List (LevelNode K ℕ))) (list : List (K × ℕ)) → UpTo new size2 rows list root → (gone : List ℕ) × Trimmed new new2 size2 size3 rows list root root' gone) → path2 ≡ path' → indices2 ≡ indices' →
+      pub joined_removed : {new2 path2 indices2 size3 root' : _}
+          → ((rows list : _) → UpTo new size2 rows list root → (gone : _) × Trimmed new new2 size2 size3 rows list root root' gone) → path2 ≡ path' → indices2 ≡ indices' →
           Removed most old new2 path (λ z. place < length (flat z.leaves) → IsPathAt path2 indices2 size3 z place) tree place root'
       joined_removed trims path_is indices_is =
           let t = trims joined.0.rows (heads joined.0.row) (up_here s half root_is joined.0 top size2_is) in

@@ -1,51 +1,45 @@
 -- Removing the entry of a level's rightmost node, which was removed, and the nodes that this empties: the
 -- answers of `remove_emptied`.
 use Rattle.std.proofs.Common.{◌≡◌, ◌≢◌, ℕ, suc, ◌+◌, ◌-◌, ◌≤◌, ◌<◌, List, [], ◌∷◌, ◌++◌, map, length, drop, get_or, Some, refl, sym, ap, ◌∙◌, subst, append_assoc, length-append, arith}
-use Rattle.bforest_core.proofs.Words.{flat_map, append-nil, nil_from_length, without_child, Table, with_node, with_freed, LevelNode, node, flat, heads, head_of, sizes, numbers, FitRow, Solid, Stacked, loss_above, RowIn, inner_content, entry_keys, entry_items, count}
-use Rattle.bforest_core.proofs.Words.{Distinct, root_above, Above, LastAbove, nodes_up, Dropped, rebalanced}
-use Rattle.bforest_core.proofs.rows.LevelRows.{flat-append, heads-append, sizes-append, FitRow-join, Solid-full}
-use Rattle.bforest_core.proofs.table.Tables.{count-append, counts, count-same, row-split, row-put, row-same, rows-same, ne_from_count, puts}
-use Rattle.bforest_core.proofs.removal.Frees.{frees-puts, freed_other, frees-first}
-use Rattle.bforest_core.proofs.rows.Zipper.{Cut_above, Facts, facts, Spot, above_two}
-use Rattle.bforest_core.proofs.rows.Contents.{removed_last}
-use Rattle.bforest_core.proofs.removal.Lifted.{heads-put, above_same, rows_above}
-use Rattle.bforest_core.proofs.removal.LeafAt.{some_first, no_nodes}
-use Rattle.bforest_core.proofs.removal.Collapse.{heads-flat}
-use Rattle.bforest_core.proofs.removal.Losses.{placed, loss_level, lost_above}
-use Rattle.bforest_core.proofs.removal.Asked.{Counts, Removes, Seen, seen}
-use Rattle.bforest_core.proofs.rows.Tops.{top_rows}
-use Rattle.bforest_core.proofs.removal.Rebalance.{rebalanced_last}
+use Rattle.bforest_core.proofs.Words.{Heads, Row, Rows, flat_map, append-nil, nil_from_length, without_child, Table, with_node, with_freed, node, flat, heads}
+use Rattle.bforest_core.proofs.Words.{sizes, numbers, FitRow, Solid, loss_above, inner_content, entry_keys, entry_items, count, Distinct, root_above, Above}
+use Rattle.bforest_core.proofs.{Words.{LastAbove, nodes_up, Dropped, rebalanced}, rows.LevelRows.{flat-append, heads-append, sizes-append, FitRow-join}}
+use Rattle.bforest_core.proofs.{rows.LevelRows.Solid-full, table.Tables.{count-append, counts, count-same, row-split, row-put, row-same, rows-same}}
+use Rattle.bforest_core.proofs.{table.Tables.{ne_from_count, puts}, removal.Frees.{frees-puts, freed_other, frees-first}, rows.Zipper.{Cut_above, Facts, facts}}
+use Rattle.bforest_core.proofs.{rows.Zipper.{Spot, above_two}, rows.Contents.removed_last, removal.Lifted.{heads-put, above_same, rows_above}}
+use Rattle.bforest_core.proofs.{removal.LeafAt.{some_first, no_nodes}, removal.Collapse.heads-flat, removal.Losses.{placed, loss_level, lost_above}}
+use Rattle.bforest_core.proofs.{removal.Asked.{Counts, Removes, Seen, seen}, rows.Tops.top_rows, removal.Rebalance.rebalanced_last}
 
 -- solid nodes fit as a row
-pub fit_solid : {K X : Type 0} (half most : ℕ) → 1 ≤ half → (row : List (LevelNode K X)) → Solid half most row → FitRow half most row
+pub fit_solid : {K X : Type 0} (half most : ℕ) → 1 ≤ half → (row : Row K X) → Solid half most row → FitRow half most row
 fit_solid half most one [] s = tt
-fit_solid half most one (node m es ∷ []) s = (omega (arith, s.0, one), s.1, tt)
+fit_solid half most one (node m es ∷ []) s = (omega arith, s.1, tt)
 fit_solid half most one (node m es ∷ next ∷ ns) s = (s.0, s.1, fit_solid half most one (next ∷ ns) s.2)
 
 -- the last node of a list
-pub record LastOf {K X : Type 0} (before : List (LevelNode K X)) : Type 0 where
-  pub init : List (LevelNode K X)
+pub record LastOf {K X : Type 0} (before : Row K X) : Type 0 where
+  pub init : Row K X
   pub number : ℕ
   pub w : K × X
   pub ws : List (K × X)
   pub is : before ≡ init ++ node number (w ∷ ws) ∷ []
 
-pub last_of_solid : {K X : Type 0} (half most : ℕ) → 1 ≤ half → (before : List (LevelNode K X)) → Solid half most before → 1 ≤ length (flat before) → LastOf before
+pub last_of_solid : {K X : Type 0} (half most : ℕ) → 1 ≤ half → (before : Row K X) → Solid half most before → 1 ≤ length (flat before) → LastOf before
 last_of_solid half most one [] s some = absurd (omega (arith, some))
-last_of_solid half most one (node n [] ∷ before) s some = absurd (omega (arith, s.0, one))
+last_of_solid half most one (node n [] ∷ before) s some = absurd (omega arith)
 last_of_solid half most one (node n (w ∷ ws) ∷ []) s some = record { init = []; number = n; w = w; ws = ws; is = refl }
 last_of_solid half most one (node n (w ∷ ws) ∷ node m es ∷ before) s some =
-    let r = last_of_solid half most one (node m es ∷ before) s.2 (omega (arith, s.2.0, one, length-append es (flat before))) in
-    record { init = node n (w ∷ ws) ∷ r.init; number = r.number; w = r.w; ws = r.ws; is = ap (λ z. node n (w ∷ ws) ∷ z) r.is }
+    let r = last_of_solid half most one (node m es ∷ before) s.2 (omega (arith, length-append es (flat before))) in
+    record { init = node n (w ∷ ws) ∷ r.init; number = r.number; w = r.w; ws = r.ws; is = cc }
 
 -- the last node has the last head
-pub last_heads : {K X : Type 0} {before : List (LevelNode K X)} (o : LastOf before) → heads before ≡ heads o.init ++ (o.w.0, o.number) ∷ []
-last_heads o = ap (λ z. heads z) o.is ∙ heads-append o.init (node o.number (o.w ∷ o.ws) ∷ [])
+pub last_heads : {K X : Type 0} {before : Row K X} (o : LastOf before) → heads before ≡ heads o.init ++ (o.w.0, o.number) ∷ []
+last_heads o = cc (o.is, heads-append o.init (node o.number (o.w ∷ o.ws) ∷ []))
 
 module _ {K V : Type 0} where
   -- the rows above a level, after its last node was freed
-  pub above_freed : {X : Type 0} {t : Table K V} (v : Table K V) {path indices : List ℕ} {up size : ℕ} (n : ℕ) {before : List (LevelNode K X)} (x : K × X)
-      {rest : List (List (LevelNode K ℕ))} (o : LastOf before)
+  pub above_freed : {X : Type 0} {t : Table K V} (v : Table K V) {path indices up size : _} (n : ℕ) {before : Row K X} (x : K × X)
+      {rest : _} (o : LastOf before)
       → Distinct ((numbers (before ++ node n (x ∷ []) ∷ []) ++ flat_map numbers rest) ++ t.chain) → v ≡ with_freed t n →
       Above t path indices up size rest (heads (before ++ node n (x ∷ []) ∷ [])) (length (heads before)) → Above v path indices up size rest (heads o.init ++ (o.w.0, o.number) ∷ (x.0, n) ∷ []) (suc (length (heads o.init)))
   above_freed {t} v {path} {indices} {up} {size} n {before} x {rest} o apart is p =
@@ -53,35 +47,35 @@ module _ {K V : Type 0} where
       let none : count n (flat_map numbers rest) ≡ 0 = omega (arith, apart n, c n, count-same n []) in
       let list = heads-append before (node n (x ∷ []) ∷ []) ∙ ap (λ z. z ++ (x.0, n) ∷ []) (last_heads o) ∙ append_assoc (heads o.init) ((o.w.0, o.number) ∷ []) ((x.0, n) ∷ []) in
       let len : length (heads before) ≡ suc (length (heads o.init)) = omega (arith, ap length (last_heads o), length-append (heads o.init) ((o.w.0, o.number) ∷ [])) in
-      above_same {t = t} v {path = path} {indices = indices} {up = up} {size = size} {rows = rest} (λ m some. freed_other t v n is m (ne_from_count m n (flat_map numbers rest) some none)) (λ m. omega (arith, apart m, c m, count-append m (flat_map numbers rest) v.chain, ap (λ z. count m z.chain) is)) (rw (list, len) at p)
+      above_same {t = t} v {path = path} {indices = indices} {up = up} {size = size} {rows = rest} (λ m some. freed_other t v n is m (ne_from_count m n _ some none)) (λ m. omega (arith, apart m, c m, count-append m (flat_map numbers rest) v.chain, ap (λ z. count m z.chain) is)) (rw (list, len) at p)
 
   -- what the call ensures
-  abbrev pub Drops : Table K V → Table K V → List ℕ → ℕ → ℕ → List (List (LevelNode K ℕ)) → List (K × ℕ) → K × ℕ → Type 0
+  abbrev pub Drops : Table K V → Table K V → List ℕ → ℕ → ℕ → Rows K → Heads K → K × ℕ → Type 0
   Drops t u path up size rows a y = (levels : ℕ) × Dropped t u path size rows (a ++ y ∷ []) (loss_above (Some (suc (length a))) (map sizes rows)) (nodes_up path up levels)
 
-  module _ {t : Table K V} {path indices : List ℕ} {up size : ℕ} {rows : List (List (LevelNode K ℕ))} {a : List (K × ℕ)} {x : K × ℕ} (d : Spot t path indices up size rows a x []) where
+  module _ {t : Table K V} {path indices up size rows a x : _} (d : Spot t path indices up size rows a x []) where
     ends : (d.q.r ≡ []) × (d.q.after ≡ [])
     ends =
         let len = length-append d.q.r (flat d.q.after) in
-        (nil_from_length d.q.r (omega (arith, len, ap length d.q.b_is)), no_nodes 4 8 (omega arith) d.q.after d.f.fit.2 (nil_from_length (heads d.q.after) (omega (arith, heads-flat d.q.after, len, ap length d.q.b_is))))
+        (nil_from_length d.q.r (omega (arith, ap length d.q.b_is)), no_nodes 4 8 (omega arith) d.q.after d.f.fit.2 (nil_from_length (heads d.q.after) (omega (arith, heads-flat d.q.after, ap length d.q.b_is))))
 
     -- the path's row ends with the entry
     whole : Cut_above t path indices up size d.q.before (get_or path up 0) d.q.l x [] [] d.q.rest
     whole = let e = ends in rw (e.0, e.1) at d.whole
 
     known : Facts t path indices up size d.q.before (get_or path up 0) d.q.l x [] [] d.q.rest
-    known = facts t path indices up size d.q.before (get_or path up 0) d.q.l x [] [] d.q.rest whole
+    known = facts t _ _ _ _ _ _ _ x _ _ _ whole
 
     were : map sizes rows ≡ (sizes d.q.before ++ suc (length d.q.l) ∷ []) ∷ map sizes d.q.rest
     were =
         let n = get_or path up 0 in
-        let row : d.q.before ++ node n (d.q.l ++ x ∷ d.q.r) ∷ d.q.after ≡ d.q.before ++ node n (d.q.l ++ x ∷ []) ∷ [] = ap (λ z. d.q.before ++ node n (d.q.l ++ x ∷ z) ∷ d.q.after) ends.0 ∙ ap (λ z. d.q.before ++ node n (d.q.l ++ x ∷ []) ∷ z) ends.1 in
+        let row = ap (λ z. d.q.before ++ node n (d.q.l ++ x ∷ z) ∷ d.q.after) ends.0 ∙ ap (λ z. d.q.before ++ node n (d.q.l ++ x ∷ []) ∷ z) ends.1 in
         let len : length (d.q.l ++ x ∷ []) ≡ suc (length d.q.l) = length-append d.q.l (x ∷ []) ∙ omega arith in
-        ap (λ z. map sizes z) d.q.rows_are ∙ ap (λ z. z ∷ map sizes d.q.rest) (ap (λ z. sizes z) row ∙ sizes-append d.q.before (node n (d.q.l ++ x ∷ []) ∷ []) ∙ ap (λ z. sizes d.q.before ++ z ∷ []) len)
+        cc (sizes-append d.q.before (node n (d.q.l ++ x ∷ []) ∷ []))
 
     -- the sizes of the levels after the row lost the entry
     lost : loss_above (Some (length a)) (map sizes rows) ≡ (sizes d.q.before ++ (rebalanced 8 (length d.q.l) []).1) ∷ loss_above (placed (length d.q.before) (rebalanced 8 (length d.q.l) []).0) (map sizes d.q.rest)
-    lost = sym (lost_above (length a) (map sizes rows)) ∙ loss_level 8 d.q.before (length d.q.l) (length d.q.l) (length a) [] (map sizes d.q.rest) (map sizes rows) were (omega arith) (omega (arith, ap length d.q.a_is, length-append (flat d.q.before) d.q.l))
+    lost = sym (lost_above _ _) ∙ loss_level 8 d.q.before (length d.q.l) (length d.q.l) (length a) [] (map sizes d.q.rest) (map sizes rows) were (omega arith) (omega (arith, ap length d.q.a_is, length-append (flat d.q.before) d.q.l))
 
     own_is : (m : ℕ) → count m (flat_map numbers rows) ≡ count m (numbers d.q.before) + count m (get_or path up 0 ∷ []) + count m (flat_map numbers d.q.rest)
     own_is m = omega (arith, ap (λ z. count m (flat_map numbers z)) d.q.rows_are, ap (λ z. count m (get_or path up 0 ∷ numbers z)) ends.1, counts m d.q.before (get_or path up 0) (d.q.l ++ x ∷ d.q.r) d.q.after d.q.rest t.chain)
@@ -91,37 +85,37 @@ module _ {K V : Type 0} where
     drop_keep u more u_is =
         let q = d.q in
         let n = get_or path up 0 in
-        let old : List (K × ℕ) = q.l ++ x ∷ [] in
-        let row : List (LevelNode K ℕ) = q.before ++ node n q.l ∷ [] in
-        let old_is : q.l ++ x ∷ q.r ≡ old = ap (λ z. q.l ++ x ∷ z) ends.0 in
+        let old = q.l ++ x ∷ [] in
+        let row = q.before ++ node n q.l ∷ [] in
+        let old_is = ap (λ z. q.l ++ x ∷ z) ends.0 in
         let len : length old ≡ suc (length q.l) = length-append q.l (x ∷ []) ∙ omega arith in
-        let some : 1 ≤ length q.l = omega (arith, more, len, ap length old_is) in
+        let some : 1 ≤ length q.l = omega (arith, ap length old_is) in
         let f = some_first q.l some in
-        let gone = ap (λ z. without_child (inner_content z) (get_or indices up 0)) (old_is ∙ ap (λ z. z ++ x ∷ []) f.2) ∙ removed_last V f.0 f.1 x (get_or indices up 0) (ap length (sym f.2) ∙ q.entry_is) ∙ ap (λ z. inner_content z) (sym f.2) in
-        let w = puts t u n (inner_content q.l) (inner_content old) known.slot_is (u_is ∙ ap (λ z. with_node t n z) gone) in
+        let gone = ap (λ z. without_child (inner_content z) (get_or indices up 0)) (old_is ∙ ap (λ z. z ++ x ∷ []) f.2) ∙ removed_last V f.0 f.1 x (get_or indices up 0) (cc) ∙ ap (λ z. inner_content z) (sym f.2) in
+        let w = puts t u n _ _ known.slot_is (u_is ∙ ap (λ z. with_node t n z) gone) in
         let high : up + length q.rest ≡ size - 1 = omega (arith, whole.height) in
-        let hs : heads (q.before ++ node n old ∷ []) ≡ heads row = heads-put q.before n old q.l [] (ap (λ z. head_of n (z ++ x ∷ [])) f.2 ∙ ap (λ z. head_of n z) (sym f.2)) in
+        let hs = heads-put q.before n old q.l [] (simp f.2) in
         record {
           rows' = row ∷ q.rest;
-          stacked = (flat-append q.before (node n q.l ∷ []) ∙ ap (λ z. flat q.before ++ z) (append-nil q.l) ∙ sym q.a_is, FitRow-join 4 8 q.before (node n q.l) [] d.f.solid (some, omega (arith, known.fit.1, len), tt), subst (λ (z : List (K × ℕ)). Stacked z q.rest) hs whole.stacked.2);
+          stacked = (cc (flat-append q.before (node n q.l ∷ []), append-nil q.l), FitRow-join 4 8 q.before (node n q.l) [] d.f.solid (some, omega (arith, known.fit.1), tt), rw (← hs) whole.stacked.2);
           inside = (row-put inner_content t.nodes u.nodes q.before n old q.l [] known.inside w.same w.here known.none, rows-same t.nodes u.nodes q.rest (λ m some. w.same m (ne_from_count m n (flat_map numbers q.rest) some d.f.none_rest)) whole.inside.1);
-          height = ap length (sym q.rows_are);
-          sizes_are = ap (λ z. z ∷ map sizes q.rest) (sizes-append q.before (node n q.l ∷ [])) ∙ sym (lost ∙ ap (λ z. (sizes q.before ++ z.1) ∷ loss_above (placed (length q.before) z.0) (map sizes q.rest)) (rebalanced_last 8 (length q.l) some));
+          height = cc;
+          sizes_are = cc (sizes-append q.before (node n q.l ∷ []), lost, rebalanced_last 8 (length q.l) some);
           numbers_are = λ m. omega (arith, own_is m, counts m q.before n q.l [] q.rest u.chain);
-          root_is = ap (λ z. root_above z q.rest) (sym hs) ∙ top_rows _ path indices up (q.before ++ node n old ∷ []) q.rest _ whole.stacked whole.stands ∙ ap (λ z. get_or path z 0) high;
+          root_is = ap (λ z. root_above z q.rest) (sym hs) ∙ top_rows _ _ _ _ _ _ _ whole.stacked whole.stands ∙ ap (λ z. get_or path z 0) high;
           frees = frees-puts (flat_map numbers rows) (omega (arith, own_is n, count-same n [])) w;
         }
 
     -- the node has no other entry: it was freed (v), and its own entry is removed above
     module _ (v : Table K V) (one : length (d.q.l ++ x ∷ d.q.r) ≡ 1) (some : 1 ≤ length a) (v_is : v ≡ with_freed t (get_or path up 0)) where
       l_none : d.q.l ≡ []
-      l_none = nil_from_length d.q.l (omega (arith, one, length-append d.q.l (x ∷ d.q.r)))
+      l_none = nil_from_length d.q.l (omega arith)
 
       a_front : flat d.q.before ≡ a
-      a_front = sym (append-nil (flat d.q.before)) ∙ ap (λ z. flat d.q.before ++ z) (sym l_none) ∙ sym d.q.a_is
+      a_front = cc (append-nil (flat d.q.before), l_none)
 
       pub front : LastOf d.q.before
-      front = last_of_solid 4 8 (omega arith) d.q.before d.f.solid (omega (arith, some, ap length a_front))
+      front = last_of_solid 4 8 (omega arith) _ d.f.solid (omega (arith, some, ap length a_front))
 
       above_then : Above v path indices (suc up) size d.q.rest (heads front.init ++ (front.w.0, front.number) ∷ (x.0, get_or path up 0) ∷ []) (suc (length (heads front.init)))
       above_then =
@@ -130,7 +124,7 @@ module _ {K V : Type 0} where
           let p = rows_above d in
           above_freed {t = t} v {path = path} {indices = indices} {up = suc up} {size = size} (get_or path up 0) x {rest = d.q.rest} front (rw l_none at apart) v_is (rw (l_none, e.0, e.1) at p)
 
-      drop_empty : {u : Table K V} {freed : List ℕ}
+      drop_empty : {u freed : _}
           → Dropped v u path size d.q.rest (heads front.init ++ (front.w.0, front.number) ∷ [])
           (loss_above (Some (suc (length (heads front.init)))) (map sizes d.q.rest)) freed
           → Dropped t u path size rows a (loss_above (Some (length a)) (map sizes rows)) (freed ++ get_or path up 0 ∷ [])
@@ -139,23 +133,22 @@ module _ {K V : Type 0} where
           let n = get_or path up 0 in
           let hs = last_heads front in
           let len : length q.before ≡ suc (length (heads front.init)) = omega (arith, Solid-full 4 8 (omega arith) q.before d.f.solid, ap length hs, length-append (heads front.init) ((front.w.0, front.number) ∷ [])) in
-          let in_v : RowIn inner_content v.nodes q.before = row-same inner_content t.nodes v.nodes q.before
+          let in_v = row-same inner_content t.nodes v.nodes q.before
           (λ m some. freed_other t v n v_is m (ne_from_count m n (numbers q.before) some (omega (arith, known.none))))
-          (row-split inner_content t.nodes q.before (node n (q.l ++ x ∷ []) ∷ []) known.inside).0 in
+          (row-split _ _ _ (node n (q.l ++ x ∷ []) ∷ []) known.inside).0 in
           let c = λ (m : ℕ). counts m q.before n (q.l ++ x ∷ []) [] q.rest t.chain in
           record {
             rows' = q.before ∷ r.rows';
-            stacked = (a_front, fit_solid 4 8 (omega arith) q.before d.f.solid, subst (λ (z : List (K × ℕ)). Stacked z r.rows') (sym hs) r.stacked);
+            stacked = (a_front, fit_solid 4 8 (omega arith) q.before d.f.solid, rw hs r.stacked);
             inside = (row-same inner_content v.nodes u.nodes q.before (λ m some. r.frees.others m (omega (arith, some, whole.apart m, c m))) in_v, r.inside);
-            height = ap suc r.height ∙ ap length (sym q.rows_are);
-            sizes_are = ap (λ z. sizes q.before ∷ z) r.sizes_are ∙ ap (λ z. sizes q.before ∷ loss_above (Some z) (map sizes q.rest)) (sym len) ∙ ap (λ z. z ∷ loss_above (Some (length q.before)) (map sizes q.rest)) (sym (append-nil (sizes q.before)))
-                ∙ sym (lost ∙ ap (λ z. (sizes q.before ++ (rebalanced 8 (length z) []).1) ∷ loss_above (placed (length q.before) (rebalanced 8 (length z) []).0) (map sizes q.rest)) l_none);
-            numbers_are = λ m. omega (arith, own_is m, count-append m (numbers q.before) (flat_map numbers r.rows'), count-append m freed (n ∷ []), r.numbers_are m);
-            root_is = ap (λ z. root_above z r.rows') hs ∙ r.root_is;
-            frees = frees-first t n (inner_content (q.l ++ x ∷ [])) (flat_map numbers rows) known.slot_is v_is (omega (arith, own_is n, count-same n [])) d.f.none_rest (λ m none. omega (arith, none, own_is m)) r.frees;
+            height = cc;
+            sizes_are = simp (r.sizes_are, len, append-nil, lost, l_none);
+            numbers_are = λ m. omega (arith, own_is m, r.numbers_are m, count-append);
+            root_is = cc;
+            frees = frees-first t n _ _ known.slot_is v_is (omega (arith, own_is n, count-same n [])) d.f.none_rest (λ m none. omega (arith, own_is m)) r.frees;
           }
 
-  module _ {t : Table K V} {path indices : List ℕ} {up size : ℕ} (w : LastAbove t path indices up size) (r : ℕ) (wide : length path ≡ 17) (height : size ≤ 17) where
+  module _ {t : Table K V} {path indices up size : _} (w : LastAbove t path indices up size) (r : ℕ) (wide : length path ≡ 17) (height : size ≤ 17) where
     open w use {rows, before as a, y, x, above as p}
 
     top : up < size
@@ -176,10 +169,9 @@ module _ {K V : Type 0} where
       pub keeps : (u : Table K V) → cnt ≢ 1 → Removes t u (get_or path up r) (get_or indices up 0) → Drops t u path up size rows a y
       keeps u more removes =
           let s = here in
-          let es : List (K × ℕ) = s.d.q.l ++ x ∷ s.d.q.r in
+          let es = s.d.q.l ++ x ∷ s.d.q.r in
           let u_is = removes (drop 1 (entry_keys es)) (entry_items es) s.slot_is in
-          let f = drop_keep s.d u (λ (e : length es ≡ 1). more (s.counted cnt value ∙ e)) (rw s.num_is at u_is) in
-          (0, subst (λ (z : ℕ). Dropped t u path size rows (a ++ y ∷ []) (loss_above (Some z) (map sizes rows)) []) len_is f)
+          (0, rw (← len_is) (drop_keep s.d u (λ (e : length es ≡ 1). more (s.counted cnt value ∙ e)) (rw s.num_is at u_is)))
 
       module _ (one : cnt ≡ 1) (v : Table K V) (freed : v ≡ with_freed t (get_or path up r)) (high : ℕ) (high_is : high ≡ suc up) where
         pub single : length (here.d.q.l ++ x ∷ here.d.q.r) ≡ 1
@@ -189,13 +181,13 @@ module _ {K V : Type 0} where
         some = let e = len_is in omega arith
 
         pub v_is : v ≡ with_freed t (get_or path up 0)
-        v_is = freed ∙ ap (λ z. with_freed t z) here.num_is
+        v_is = cc (here.num_is)
 
         abbrev o : LastOf here.d.q.before
         o = front here.d v single some v_is
 
         pub above_is : Above v path indices high size here.d.q.rest (heads o.init ++ (o.w.0, o.number) ∷ (x.0, get_or path up 0) ∷ []) (suc (length (heads o.init)))
-        above_is = subst (λ (z : ℕ). Above v path indices z size here.d.q.rest (heads o.init ++ (o.w.0, o.number) ∷ (x.0, get_or path up 0) ∷ []) (suc (length (heads o.init)))) (sym high_is) (above_then here.d v single some v_is)
+        above_is = subst (λ z. Above v path indices z size here.d.q.rest (heads o.init ++ (o.w.0, o.number) ∷ (x.0, get_or path up 0) ∷ []) (suc (length (heads o.init)))) (sym high_is) (above_then here.d v single some v_is)
 
         -- the rows above meet what the call one level up requires
         abbrev pub above_asks : LastAbove v path indices high size
@@ -205,6 +197,5 @@ module _ {K V : Type 0} where
         pub empties : (u : Table K V) → ((w2 : LastAbove v path indices high size) → Drops v u path high size w2.rows w2.before w2.y) → Drops t u path up size rows a y
         empties u drops =
             let w = drops above_asks in
-            let r = subst (λ (z : ℕ). Dropped v u path size here.d.q.rest (heads o.init ++ (o.w.0, o.number) ∷ []) (loss_above (Some (suc (length (heads o.init)))) (map sizes here.d.q.rest)) (nodes_up path z w.0)) high_is w.1 in
-            let f = drop_empty here.d v single some v_is r in
-            (suc w.0, subst (λ (z : ℕ). Dropped t u path size rows (a ++ y ∷ []) (loss_above (Some z) (map sizes rows)) (nodes_up path up (suc w.0))) len_is f)
+            let r = subst (λ z. Dropped v u path size here.d.q.rest (heads o.init ++ (o.w.0, o.number) ∷ []) (loss_above (Some (suc (length (heads o.init)))) (map sizes here.d.q.rest)) (nodes_up path z w.0)) high_is w.1 in
+            (suc w.0, rw (← len_is) (drop_empty here.d v single some v_is r))

@@ -1,61 +1,55 @@
 -- Removing an entry from the row above a level, whose key passes to the next entry: the answers of
 -- `remove_merged`.
-use Rattle.std.proofs.Common.{◌≡◌, ℕ, suc, ◌+◌, ◌-◌, ◌≤◌, ◌<◌, List, [], ◌∷◌, ◌++◌, map, length, drop, set, get_or, slice_get, Some, refl, sym, ap, ◌∙◌, subst, append_assoc, length-append, arith}
-use Rattle.bforest_core.proofs.Words.{flat_map, entry_count, Inner, IsUsed, with_key, without_child, Table, with_node, LevelNode, node, flat, heads, head_of, sizes, numbers, FitRow, RowIn, inner_content, entry_keys, entry_items, count, Above, TwoAbove, Rebuilt, Loosened}
-use Rattle.bforest_core.proofs.rows.LevelRows.{heads-append, sizes-append}
-use Rattle.bforest_core.proofs.table.Tables.{counts, count-same, count-row, row-same, row-put, is_used, Puts, puts, puts-then}
-use Rattle.bforest_core.proofs.table.Stored.{item_count, read_same, some_same}
-use Rattle.bforest_core.proofs.rows.Contents.{removed_same, removed_last, last_key}
-use Rattle.bforest_core.proofs.rows.Zipper.{Spot, above_two}
-use Rattle.bforest_core.proofs.removal.Frees.{frees-puts, frees-after, frees-wider}
-use Rattle.bforest_core.proofs.removal.Lifted.{head-other, heads-put, above_written, rebuilt_same, rows_above, flat_at, place_at}
-use Rattle.bforest_core.proofs.removal.Separating.{next_in, Across, across, across_in, across_above}
-use Rattle.bforest_core.proofs.removal.Asked.{KeyAt, ChildAt, Counts, ReadsKey, Writes, Removes, Rekeys, Seen, seen}
+use Rattle.std.proofs.Common.{◌≡◌, ℕ, suc, ◌+◌, ◌-◌, ◌≤◌, ◌<◌, [], ◌∷◌, ◌++◌, map, length, drop, set, get_or, slice_get, Some, refl, sym, ap, ◌∙◌, append_assoc, length-append, arith}
+use Rattle.bforest_core.proofs.Words.{Heads, flat_map, entry_count, Inner, IsUsed, with_key, without_child, Table, with_node, node, flat, heads, head_of, sizes}
+use Rattle.bforest_core.proofs.Words.{numbers, FitRow, RowIn, inner_content, entry_keys, entry_items, count, Above, TwoAbove, Rebuilt, Loosened}
+use Rattle.bforest_core.proofs.{rows.LevelRows.{heads-append, sizes-append}, table.Tables.{counts, count-same, count-row, row-same, row-put, is_used, Puts}}
+use Rattle.bforest_core.proofs.{table.Tables.{puts, puts-then}, table.Stored.{item_count, read_same, some_same}, rows.Contents.{removed_same, removed_last}}
+use Rattle.bforest_core.proofs.{rows.Contents.last_key, rows.Zipper.{Spot, above_two}, removal.Frees.{frees-puts, frees-after, frees-wider}}
+use Rattle.bforest_core.proofs.{removal.Lifted.{head-other, heads-put, above_written, rebuilt_same, rows_above, flat_at, place_at}, removal.Separating.next_in}
+use Rattle.bforest_core.proofs.{removal.Separating.{Across, across, across_in, across_above}, removal.Asked.{KeyAt, ChildAt, Counts, ReadsKey, Writes, Removes}}
+use Rattle.bforest_core.proofs.removal.Asked.{Rekeys, Seen, seen}
 
 module _ {K V : Type 0} where
-  module _ {t : Table K V} {path indices : List ℕ} {up size : ℕ} {rows : List (List (LevelNode K ℕ))} {a : List (K × ℕ)} {x y : K × ℕ} {b : List (K × ℕ)} (d : Spot t path indices up size rows a x (y ∷ b)) where
+  module _ {t : Table K V} {path indices up size rows a x y b : _} (d : Spot t path indices up size rows a x (y ∷ b)) where
     -- the row after its node lost an entry, under rows above that have its keys
-    loosened : {v u : Table K V} (es : List (K × ℕ)) {list : List (K × ℕ)} (after : List (LevelNode K ℕ)) → length (d.q.l ++ x ∷ d.q.r) ≡ suc (length es) → 1 ≤ length es → length d.q.l ≤ length es → sizes after ≡ sizes d.q.after → numbers after ≡ numbers d.q.after → es ++ flat after ≡ d.q.l ++ (x.0, y.1) ∷ b →
+    loosened : {v u : Table K V} (es : _) {list : _} (after : _) → length (d.q.l ++ x ∷ d.q.r) ≡ suc (length es) → 1 ≤ length es → length d.q.l ≤ length es → sizes after ≡ sizes d.q.after → numbers after ≡ numbers d.q.after → es ++ flat after ≡ d.q.l ++ (x.0, y.1) ∷ b →
         list ≡ heads (d.q.before ++ node (get_or path up 0) es ∷ after) → FitRow 4 8 (node (get_or path up 0) (d.q.l ++ x ∷ d.q.r) ∷ after) → RowIn inner_content t.nodes (d.q.before ++ node (get_or path up 0) (d.q.l ++ x ∷ d.q.r) ∷ after) →
         Rebuilt t v path indices path indices (suc up) size d.q.rest list (length (heads d.q.before)) (map sizes d.q.rest) [] → Puts v u (get_or path up 0) (inner_content es) → Loosened inner_content 4 8 t u path indices up size (map sizes rows) (flat_map numbers rows) (a ++ (x.0, y.1) ∷ b) (length a)
     loosened {v} {u} es after len some low sizes_same numbers_same flat_is heads_are fits inside r w =
         let q = d.q in
         let num = get_or path up 0 in
-        let old : List (K × ℕ) = q.l ++ x ∷ q.r in
-        let own : List ℕ = numbers (q.before ++ node num old ∷ q.after) ++ flat_map numbers q.rest in
+        let old = q.l ++ x ∷ q.r in
+        let own = numbers (q.before ++ node num old ∷ q.after) ++ flat_map numbers q.rest in
         let c = λ (i : ℕ). counts i q.before num old q.after q.rest t.chain in
         let c2 = λ (i : ℕ). counts i q.before num es after r.rows' u.chain in
         let c3 = λ (i : ℕ). ap (λ z. count i (num ∷ z)) numbers_same in
         let c4 = λ (i : ℕ). ap (λ z. count i z) (w.chain_is ∙ r.frees.chain_is) in
         let none : count num (numbers q.before) + count num (numbers after) ≡ 0 = omega (arith, d.f.none, ap (λ z. count num z) numbers_same) in
-        let row_v = row-same inner_content t.nodes v.nodes (q.before ++ node num old ∷ after) (λ i some. r.frees.others i (omega (arith, some, d.whole.apart i, c i, c3 i, count-row i q.before num old after))) inside in
+        let row_v = row-same inner_content t.nodes v.nodes (q.before ++ node num old ∷ after) (λ i some. r.frees.others i (omega (arith, d.whole.apart i, c i, c3 i, count-row i q.before num old after))) inside in
         record {
           before = q.before;
           entries = es;
           after = after;
           rest = r.rows';
           on_level = record {
-            inside = row-put inner_content v.nodes u.nodes q.before num old es after row_v w.same w.here none;
+            inside = row-put _ _ _ _ _ _ _ after row_v w.same w.here none;
             solid = d.f.solid;
             fits = fits.2;
             some = some;
-            lost_one = omega (arith, fits.0, len);
-            most_is = omega (arith, fits.1, len);
-            above = above_written w (omega (arith, r.numbers_are num, d.f.none_rest)) (subst (λ (z : List (K × ℕ)). Above v path indices (suc up) size r.rows' z (length (heads q.before))) heads_are r.above);
+            lost_one = omega arith;
+            most_is = omega arith;
+            above = above_written w (omega (arith, r.numbers_are num, d.f.none_rest)) (rw (← heads_are) r.above);
             number_is = refl;
-            entry_was = omega (arith, low, q.entry_is);
+            entry_was = omega arith;
             apart = λ i. omega (arith, d.whole.apart i, r.numbers_are i, c i, c2 i, c3 i, c4 i);
           };
           list_is = flat_at d es ((x.0, y.1) ∷ b) after flat_is;
           place_is = place_at d;
-          was = λ fs slot. omega (arith, item_count fs, item_count old, len, ap entry_count (read_same t.nodes num (inner_content old) (inner_content fs) d.f.slot_is slot));
-          sizes_were = ap (λ z. map sizes z) q.rows_are
-              ∙ ap (λ z. z ∷ map sizes q.rest)
-              (sizes-append q.before (node num old ∷ q.after) ∙ ap (λ z. sizes q.before ++ z ∷ sizes q.after) len
-              ∙ ap (λ z. sizes q.before ++ suc (length es) ∷ z) (sym sizes_same))
-              ∙ ap (λ z. (sizes q.before ++ suc (length es) ∷ sizes after) ∷ z) (sym r.sizes_are);
+          was = λ fs slot. omega (arith, item_count fs, item_count old, ap entry_count (read_same t.nodes num (inner_content old) (inner_content fs) d.f.slot_is slot));
+          sizes_were = cc (sizes-append q.before (node num old ∷ q.after));
           numbers_are = λ i. omega (arith, c i, c2 i, c3 i, r.numbers_are i, ap (λ z. count i (flat_map numbers z)) q.rows_are);
-          frees = rw q.rows_are (frees-after {v = u} {wide = own} {freed = []} (λ i none. none) (frees-wider own (λ i none. omega (arith, none, c i)) r.frees) (frees-puts own (omega (arith, c num, count-same num (numbers q.after))) w));
+          frees = rw q.rows_are (frees-after {v = u} {wide = own} {freed = []} (λ i none. none) (frees-wider own (λ i none. omega (arith, c i)) r.frees) (frees-puts own (omega (arith, c num, count-same num (numbers q.after))) w));
         }
 
     -- removing the entry where the next one is in the same parent
@@ -66,28 +60,27 @@ module _ {K V : Type 0} where
         let q = d.q in
         let num = get_or path up 0 in
         let e = get_or indices up 0 in
-        let old : List (K × ℕ) = q.l ++ x ∷ q.r in
+        let old = q.l ++ x ∷ q.r in
         let w = next_in q.l x q.r e y b (flat q.after) q.b_is q.entry_is more in
-        let es : List (K × ℕ) = q.l ++ (x.0, y.1) ∷ w.0 in
-        let len : length es ≡ length q.l + suc (length w.0) = length-append q.l ((x.0, y.1) ∷ w.0) in
-        let one = puts t s num _ (inner_content old) d.f.slot_is s_is in
-        let key_then = subst (λ (z : List (K × ℕ)). slice_get (drop 1 (entry_keys (q.l ++ x ∷ z))) (e - 1) ≡ Some key) w.1 key_is in
+        let es = q.l ++ (x.0, y.1) ∷ w.0 in
+        let len = length-append q.l ((x.0, y.1) ∷ w.0) in
+        let one = puts t s _ _ _ d.f.slot_is s_is in
+        let key_then = rw w.1 at key_is in
         let gone = ap (λ z. without_child (with_key (inner_content (q.l ++ x ∷ z)) e key) e) w.1 ∙ removed_same V q.l x y w.0 key e q.entry_is key_then in
-        let two = puts s u num (inner_content es) _ one.here (u_is ∙ ap (λ z. with_node s num z) gone) in
-        let row : List (K × ℕ) = heads (q.before ++ node num old ∷ q.after) in
-        loosened es q.after (omega (arith, len, length-append q.l (x ∷ q.r), ap length w.1)) (omega (arith, len)) (omega (arith, len)) refl refl (append_assoc q.l ((x.0, y.1) ∷ w.0) (flat q.after) ∙ ap (λ z. q.l ++ (x.0, y.1) ∷ z) (sym w.2))
+        let two = puts s u _ _ _ one.here (simp (u_is, gone)) in
+        loosened es q.after (omega (arith, length-append q.l (x ∷ q.r), ap length w.1)) (omega arith) (omega arith) refl refl (simp (append_assoc, w.2))
         (heads-put q.before num old es q.after (head-other num q.l x.0 x.1 y.1 q.r w.0)) d.f.fit d.f.inside (rebuilt_same (rows_above d)) (puts-then one two)
 
     module _ (o : Across d.q.l d.q.r d.q.after y b) where
       index_is : suc (length o.zs) ≡ get_or indices up 0
-      index_is = ap length (sym o.l_is) ∙ d.q.entry_is
+      index_is = cc (o.l_is, d.q.entry_is)
 
       old_is : d.q.l ++ x ∷ d.q.r ≡ (o.z ∷ o.zs) ++ x ∷ []
-      old_is = ap (λ z. z ++ x ∷ d.q.r) o.l_is ∙ ap (λ z. (o.z ∷ o.zs) ++ x ∷ z) o.r_is
+      old_is = cc (o.l_is, o.r_is)
 
       -- the key that the code read is that of the removed entry
       moved_key : (key : K) → slice_get (drop 1 (entry_keys (d.q.l ++ x ∷ d.q.r))) (get_or indices up 0 - 1) ≡ Some key → key ≡ x.0
-      moved_key key is = some_same key x.0 (sym is ∙ ap (λ w. slice_get (drop 1 (entry_keys w)) (get_or indices up 0 - 1)) old_is ∙ last_key ℕ o.z o.zs x (get_or indices up 0) index_is)
+      moved_key key is = some_same key x.0 (cc (old_is, last_key ℕ o.z o.zs x (get_or indices up 0) index_is))
 
       -- removing the entry where the next one is in the next parent, whose key was written first
       take_over : {v : Table K V} (u : Table K V) → Rebuilt t v path indices path indices (suc up) size d.q.rest
@@ -97,15 +90,15 @@ module _ {K V : Type 0} where
       take_over {v} u r slot u_is =
           let q = d.q in
           let num = get_or path up 0 in
-          let after : List (LevelNode K ℕ) = node o.q ((x.0, y.1) ∷ o.ys) ∷ o.rest in
+          let after = node o.q ((x.0, y.1) ∷ o.ys) ∷ o.rest in
           let gone = ap (λ z. without_child (inner_content z) (get_or indices up 0)) old_is ∙ removed_last V o.z o.zs x (get_or indices up 0) index_is ∙ ap (λ z. inner_content z) (sym o.l_is) in
-          let two = puts v u num (inner_content q.l) _ slot (u_is ∙ ap (λ z. with_node v num z) gone) in
-          let list : heads (q.before ++ node num q.l ∷ after) ≡ heads q.before ++ (o.z.0, num) ∷ (x.0, o.q) ∷ heads o.rest = heads-append q.before (node num q.l ∷ after) ∙ ap (λ z. heads q.before ++ (head_of num z ++ (x.0, o.q) ∷ heads o.rest)) o.l_is in
-          let len : length (q.l ++ x ∷ q.r) ≡ suc (length q.l) = omega (arith, length-append q.l (x ∷ q.r), ap length o.r_is) in
+          let two = puts v u _ _ _ slot (cc) in
+          let list = heads-append q.before (node num q.l ∷ after) ∙ ap (λ z. heads q.before ++ (head_of num z ++ (x.0, o.q) ∷ heads o.rest)) o.l_is in
+          let len : length (q.l ++ x ∷ q.r) ≡ suc (length q.l) = omega (arith, ap length o.r_is) in
           loosened q.l after len (omega (arith, ap length o.l_is)) (omega arith) (ap (λ z. sizes z) (sym o.after_is)) (ap (λ z. numbers z) (sym o.after_is)) (ap (λ z. q.l ++ (x.0, y.1) ∷ z) (sym o.b_is)) (sym list)
           (rw o.after_is at d.f.fit) (across_in d o x.0) r two
 
-  module _ {t : Table K V} {path indices : List ℕ} {up size : ℕ} (w : TwoAbove t path indices up size) (r : ℕ) (wide : length path ≡ 17) (height : size ≤ 17) where
+  module _ {t : Table K V} {path indices up size : _} (w : TwoAbove t path indices up size) (r : ℕ) (wide : length path ≡ 17) (height : size ≤ 17) where
     open w use {rows, before as a, x, y, after as b, above as p}
 
     top : up < size
@@ -118,24 +111,24 @@ module _ {K V : Type 0} where
     abbrev d : Spot t path indices up size rows a x (y ∷ b)
     d = here.d
 
-    abbrev ds : List (K × ℕ)
+    abbrev ds : Heads K
     ds = d.q.l ++ x ∷ d.q.r
 
     module _ (cnt : ℕ) (value : Counts t (get_or path up r) cnt) where
       module _ (more : get_or indices up 0 + 1 < cnt) where
         pub key_asks : (i : ℕ) → i ≤ get_or indices up 0 → KeyAt t (get_or path up r) i
-        key_asks i low = here.key_asks cnt i value (omega (arith, low, more))
+        key_asks i low = here.key_asks cnt i value (omega arith)
 
         module _ (s : Table K V) (key : K) (writes : Writes t s (get_or path up r) (get_or indices up 0) key) where
           s_is : s ≡ with_node t (get_or path up r) (with_key (inner_content ds) (get_or indices up 0) key)
           s_is = writes (drop 1 (entry_keys ds)) (entry_items ds) here.slot_is
 
           one : Puts t s (get_or path up r) (with_key (inner_content ds) (get_or indices up 0) key)
-          one = puts t s (get_or path up r) (with_key (inner_content ds) (get_or indices up 0) key) (inner_content ds) here.slot_is s_is
+          one = puts t s _ _ _ here.slot_is s_is
 
           pub remove_asks : IsUsed s (get_or path up r) × ChildAt s (get_or path up r) (get_or indices up 0)
           remove_asks = (
-            is_used s (get_or path up r) (with_key (inner_content ds) (get_or indices up 0) key) one.here (ap (λ z. count (get_or path up r) z) one.chain_is ∙ here.none_chain),
+            is_used s _ _ one.here (cc (one.chain_is, here.none_chain)),
             (set (drop 1 (entry_keys ds)) (get_or indices up 0) key, entry_items ds, one.here, (let e = here.counted cnt value in omega (arith, item_count ds))),
           )
 
@@ -143,13 +136,12 @@ module _ {K V : Type 0} where
           same_parent u i i_is reads removes =
               let num_is = here.num_is in
               let u_is = removes (set (drop 1 (entry_keys ds)) (get_or indices up 0) key) (entry_items ds) one.here in
-              let key_is = subst (λ (z : ℕ). slice_get (drop 1 (entry_keys ds)) z ≡ Some key) i_is (reads (drop 1 (entry_keys ds)) (entry_items ds) here.slot_is) in
-              let written = s_is in
-              take_same d s u key (subst (λ (z : ℕ). get_or indices up 0 + 1 < z) (here.counted cnt value) more) key_is (rw num_is at written) (rw num_is at u_is)
+              let key_is = rw i_is at (reads (drop 1 (entry_keys ds)) (entry_items ds) here.slot_is) in
+              take_same d s u key (rw (← here.counted cnt value) more) key_is (rw num_is at s_is) (rw num_is at u_is)
 
       module _ (less : cnt ≤ get_or indices up 0 + 1) where
         pub o : Across d.q.l d.q.r d.q.after y b
-        o = across (get_or path up 0) d.q.l x d.q.r d.q.after y b d.f.fit d.q.b_is (omega (arith, here.counted cnt value, less, d.q.entry_is))
+        o = across (get_or path up 0) d.q.l x d.q.r d.q.after y b d.f.fit d.q.b_is (omega (arith, here.counted cnt value, d.q.entry_is))
 
         pub index_some : 1 ≤ get_or indices up 0
         index_some = let e = index_is d o in omega arith
@@ -173,14 +165,13 @@ module _ {K V : Type 0} where
 
             pub remove_last_asks : IsUsed v (get_or path up r) × ChildAt v (get_or path up r) (get_or indices up 0)
             remove_last_asks = (
-              subst (λ (z : ℕ). IsUsed v z) (sym here.num_is) (is_used v (get_or path up 0) (inner_content ds) slot_then (ap (λ z. count (get_or path up 0) z) rebuilt.frees.chain_is ∙ d.f.none_chain)),
-              (drop 1 (entry_keys ds), entry_items ds, ap (λ z. slice_get v.nodes z) here.num_is ∙ slot_then, omega (arith, item_count ds, d.count_is)),
+              rw here.num_is (is_used v _ _ slot_then (cc (rebuilt.frees.chain_is, d.f.none_chain))),
+              (drop 1 (entry_keys ds), entry_items ds, cc (here.num_is, slot_then), omega (arith, item_count ds, d.count_is)),
             )
 
             pub next_parent : (u : Table K V) → ReadsKey t (get_or path up r) (get_or indices up 0 - 1) key → Removes v u (get_or path up r) (get_or indices up 0) → Loosened inner_content 4 8 t u path indices up size (map sizes rows) (flat_map numbers rows) (a ++ (x.0, y.1) ∷ b) (length a)
             next_parent u reads removes =
                 let num_is = here.num_is in
                 let k_is = moved_key d o key (reads (drop 1 (entry_keys ds)) (entry_items ds) here.slot_is) in
-                let u_is = removes (drop 1 (entry_keys ds)) (entry_items ds) (ap (λ z. slice_get v.nodes z) num_is ∙ slot_then) in
-                let above = rebuilt in
-                take_over d o {v = v} u (rw (high_is, k_is) at above) slot_then (rw num_is at u_is)
+                let u_is = removes (drop 1 (entry_keys ds)) (entry_items ds) (cc (slot_then)) in
+                take_over d o {v = v} u (rw (high_is, k_is) at rebuilt) slot_then (rw num_is at u_is)

@@ -1,32 +1,28 @@
 -- A tree after a removal: before and after roots with a single child are discarded.
-use Rattle.std.proofs.Common.{◌≡◌, zero, suc, ◌+◌, ◌≤◌, List, ◌∷◌, ◌++◌, map, length, refl, sym, ap, ◌∙◌, subst, length-append, arith, ℕ, []}
-use Rattle.bforest_core.proofs.Words.{flat_map, remove, flat_map-append, Table, LevelNode, node, flat, heads, sizes, numbers, FitRow, Stacked, Tree, half_of, trimmed, RowIn, RowsIn, leaf_content, count, root_above, root_of, numbers_of, Stands}
-use Rattle.bforest_core.proofs.Words.{IsPathAt, nodes_up, Frees, UpTo, Trimmed, StandsIn, Removed, sizes_of}
-use Rattle.bforest_core.proofs.walks.RowNodes.{fit_full}
-use Rattle.bforest_core.proofs.table.Tables.{count-append, row-same, rows-same}
-use Rattle.bforest_core.proofs.rows.Tops.{root-stands}
-use Rattle.bforest_core.proofs.removal.Frees.{frees-then}
-use Rattle.bforest_core.proofs.removal.Losses.{lost}
-use Rattle.bforest_core.proofs.removal.Collapse.{length-sizes, trimmed-is, rows-parts}
+use Rattle.std.proofs.Common.{◌≡◌, zero, suc, ◌+◌, ◌≤◌, List, ◌∷◌, ◌++◌, map, length, refl, sym, ap, ◌∙◌, length-append, arith, ℕ, []}
+use Rattle.bforest_core.proofs.Words.{Row, Rows, flat_map, remove, flat_map-append, Table, node, flat, heads, sizes, numbers, FitRow, Stacked, Tree, half_of}
+use Rattle.bforest_core.proofs.Words.{RowIn, RowsIn, leaf_content, count, root_above, root_of, numbers_of, Stands, IsPathAt, nodes_up, Frees, UpTo, Trimmed}
+use Rattle.bforest_core.proofs.{Words.{StandsIn, Removed, sizes_of}, walks.RowNodes.fit_full, table.Tables.{count-append, row-same, rows-same}}
+use Rattle.bforest_core.proofs.{rows.Tops.root-stands, removal.Frees.frees-then, removal.Losses.lost, removal.Collapse.{length-sizes, trimmed-is, rows-parts}}
 
 -- a row has one number per node
-pub length-numbers : {K X : Type 0} (row : List (LevelNode K X)) → length (numbers row) ≡ length row
+pub length-numbers : {K X : Type 0} (row : Row K X) → length (numbers row) ≡ length row
 length-numbers [] = refl
 length-numbers (node n es ∷ row) = ap suc (length-numbers row)
 
 module _ {K V : Type 0} where
   -- two trees in which one path stands have the same root
-  pub stands_root : {most : ℕ} {t t1 : Table K V} {path indices : List ℕ} {size : ℕ} {tree tree1 : Tree K V} {place place1 : ℕ} (root : ℕ) → StandsIn most t path indices size tree place → StandsIn most t1 path indices size tree1 place1 → root_of tree1 ≡ root → root_of tree ≡ root
+  pub stands_root : {most : ℕ} {t t1 : Table K V} {path indices size tree tree1 place place1 : _} (root : ℕ) → StandsIn most t path indices size tree place → StandsIn most t1 path indices size tree1 place1 → root_of tree1 ≡ root → root_of tree ≡ root
   stands_root {most} {path} {indices} {size} {tree} {tree1} {place} {place1} root s s1 is =
       root-stands s.fit s.stands ∙ sym (root-stands s1.fit s1.stands) ∙ is
 
   -- a path that stands in a tree is at an entry
-  pub path-at : {path indices : List ℕ} (size : ℕ) {tree : Tree K V} {place : ℕ} → Stands path indices size tree place → IsPathAt path indices size tree place
-  path-at zero s = absurd (omega (arith, s.size_is))
+  pub path-at : {path indices : _} (size : ℕ) {tree : Tree K V} {place : ℕ} → Stands path indices size tree place → IsPathAt path indices size tree place
+  path-at zero s = absurd (omega arith)
   path-at (suc size) s = s
 
   -- a removal, with another fact of the tree that it leaves
-  pub removed_at : {most : ℕ} {old new : Table K V} {path : List ℕ} {Now : Tree K V → Type 0} (Then : Tree K V → Type 0) {tree : Tree K V} {place root' : ℕ} → ((z : Tree K V) → flat z.leaves ≡ remove (flat tree.leaves) place → Now z → Then z) →
+  pub removed_at : {most : ℕ} {old new : Table K V} {path : _} {Now : Tree K V → Type 0} (Then : Tree K V → Type 0) {tree : Tree K V} {place root' : ℕ} → ((z : Tree K V) → flat z.leaves ≡ remove (flat tree.leaves) place → Now z → Then z) →
       Removed most old new path Now tree place root' → Removed most old new path Then tree place root'
   removed_at Then then r = record {
     tree' = r.tree';
@@ -47,7 +43,7 @@ module _ {K V : Type 0} where
   }
 
   -- the tree without the entry: its levels have the sizes of a removal, but the root may have a single child
-  pub record Untrimmed (most : ℕ) (old new : Table K V) (tree : Tree K V) (place : ℕ) (leaves : List (LevelNode K V)) (rows : List (List (LevelNode K ℕ))) (freed : List ℕ) : Type 0 where
+  pub record Untrimmed (most : ℕ) (old new : Table K V) (tree : Tree K V) (place : ℕ) (leaves : Row K V) (rows : Rows K) (freed : List ℕ) : Type 0 where
     pub flat_is : flat leaves ≡ remove (flat tree.leaves) place
     pub sizes_are : sizes leaves ∷ map sizes rows ≡ lost most place (sizes_of tree)
     pub half : 1 ≤ half_of most
@@ -62,18 +58,18 @@ module _ {K V : Type 0} where
     pub frees : Frees old new (numbers_of tree) freed
 
   -- the rows of the tree meet what discarding roots requires
-  pub up_to : {most : ℕ} {old new : Table K V} {path indices : List ℕ} {size : ℕ} (size1 : ℕ) {tree : Tree K V} {place : ℕ} (root : ℕ) {leaves : List (LevelNode K V)} {rows : List (List (LevelNode K ℕ))} {freed : List ℕ} → StandsIn most old path indices size tree place →
+  pub up_to : {most old new path indices size : _} (size1 : ℕ) {tree place : _} (root : ℕ) {leaves rows freed : _} → StandsIn most old path indices size tree place →
       Untrimmed most old new tree place leaves rows freed → size1 ≡ size → root_of tree ≡ root → UpTo new size1 rows (heads leaves) root
   up_to {old} {new} size1 {tree} root {leaves} {rows} {freed} s u size_is root_is = record {
     stacked = u.stacked;
     inside = u.rows_in;
-    height = omega (arith, u.height, size_is, s.stands.size_is);
+    height = omega arith;
     root_is = u.root_is ∙ root_is;
-    apart = λ m. omega (arith, s.apart m, count-append m (numbers_of tree) old.chain, u.numbers_are m, count-append m (numbers leaves) (flat_map numbers rows), count-append m (flat_map numbers rows) new.chain, ap (λ z. count m z) u.frees.chain_is, count-append m freed old.chain);
+    apart = λ m. omega (arith, s.apart m, u.numbers_are m, ap (λ z. count m z) u.frees.chain_is, count-append);
   }
 
   -- the tree after roots were discarded
-  pub trimmed_removed : {most : ℕ} {old mid new : Table K V} {path indices : List ℕ} {size : ℕ} {tree : Tree K V} {place root : ℕ} {leaves : List (LevelNode K V)} {rows : List (List (LevelNode K ℕ))} (up : ℕ) {size1 size2 root' : ℕ} {gone : List ℕ} (Now : Tree K V → Type 0) →
+  pub trimmed_removed : {most old mid new path indices size tree place root leaves rows : _} (up : ℕ) {size1 size2 root' gone : _} (Now : Tree K V → Type 0) →
       StandsIn most old path indices size tree place → Untrimmed most old mid tree place leaves rows (nodes_up path 0 up) → root_of tree ≡ root → (t : Trimmed mid new size1 size2 rows (heads leaves) root root' gone) → size1 ≡ size →
       Now (record { leaves = leaves; above = t.rows' }) → Removed most old new path Now tree place root'
   trimmed_removed {most} {old} {mid} {new} {path} {tree} {leaves} {rows} up {size1} {size2} {gone} Now s u root_is t size_is at =
@@ -83,14 +79,14 @@ module _ {K V : Type 0} where
       let c1 = λ (m : ℕ). count-append m (numbers leaves) (flat_map numbers t.rows') in
       let c2 = λ (m : ℕ). count-append m gone freed in
       let c3 = λ (m : ℕ). count-append m (numbers_of tree) old.chain in
-      let rows_in = rows-parts mid.nodes t.rows' t.discarded (subst (λ (z : List (List (LevelNode K ℕ))). RowsIn mid.nodes z) t.rows_are u.rows_in) in
-      let len : length (sizes leaves) ≡ length (heads leaves) = length-sizes leaves ∙ sym (fit_full (half_of most) most u.half leaves u.leaves_fit) in
-      let count_is : length rows ≡ length t.rows' + length t.discarded = ap length t.rows_are ∙ length-append t.rows' t.discarded in
+      let rows_in = rows-parts mid.nodes t.rows' t.discarded (rw (← t.rows_are) u.rows_in) in
+      let len = length-sizes leaves ∙ sym (fit_full (half_of most) most u.half leaves u.leaves_fit) in
+      let count_is = ap length t.rows_are ∙ length-append t.rows' t.discarded in
       record {
         tree' = record { leaves = leaves; above = t.rows' };
         freed = gone ++ freed;
         flat_is = u.flat_is;
-        sizes_are = sym (ap trimmed (sym u.sizes_are) ∙ ap (λ z. trimmed (sizes leaves ∷ map sizes z)) t.rows_are ∙ trimmed-is (sizes leaves) (heads leaves) t.rows' t.discarded len (subst (λ (z : List (List (LevelNode K ℕ))). Stacked (heads leaves) z) t.rows_are u.stacked) t.stacked t.topped);
+        sizes_are = sym (cc (trimmed-is (sizes leaves) (heads leaves) t.rows' t.discarded len (rw (← t.rows_are) u.stacked) t.stacked t.topped));
         fit = record { leaves_fit = u.leaves_fit; stacked = t.stacked; topped = t.topped };
         inside = record {
           leaves_in = row-same leaf_content mid.nodes new.nodes leaves (λ m some. t.frees.others m (omega (arith, some, u.numbers_are m, c0 m, parts m, c3 m, s.apart m))) u.leaves_in;
@@ -100,9 +96,9 @@ module _ {K V : Type 0} where
         at = at;
         numbers_are = λ m. omega (arith, u.numbers_are m, c0 m, c1 m, c2 m, parts m, t.freed_is m);
         root_is = t.root_is;
-        same_root = λ same. t.same_root (omega (arith, same, t.size_is, size_is, s.stands.size_is)) ∙ sym root_is;
-        old_root = λ ne. omega (arith, t.old_root (λ (e : size2 ≡ size1). ne (omega (arith, e, t.size_is, size_is, s.stands.size_is))), c2 (root_of tree), ap (λ z. count z gone) root_is);
-        low = omega (arith, count_is, u.height);
-        order = record { roots = gone; up = up; freed_is = refl; roots_are = omega (arith, t.one_each, count_is, u.height) };
-        frees = frees-then (λ m none. omega (arith, none, u.numbers_are m, c0 m, parts m)) (λ m some. omega (arith, some, u.numbers_are m, c0 m, parts m, c3 m, s.apart m)) u.frees t.frees;
+        same_root = λ same. t.same_root (omega arith) ∙ sym root_is;
+        old_root = λ ne. omega (arith, c2 (root_of tree), ap (λ z. count z gone) root_is);
+        low = omega arith;
+        order = record { roots = gone; up = up; freed_is = refl; roots_are = omega arith };
+        frees = frees-then (λ m none. omega (arith, u.numbers_are m, c0 m, parts m)) (λ m some. omega (arith, some, u.numbers_are m, c0 m, parts m, c3 m, s.apart m)) u.frees t.frees;
       }

@@ -1,13 +1,9 @@
 -- How many nodes an insertion needs, counted from the leaf upwards.
-use Rattle.std.proofs.Common.{◌≡◌, ℕ, suc, ◌+◌, ◌≤◌, ◌<◌, ◌≢◌, IsTrue, true, false, Bool, add-one, ◌↔◌, List, ◌∷◌, ◌++◌, map, length, get_or, slice_get, Some, refl, sym, ap, ◌∙◌, arith}
-use Rattle.bforest_core.proofs.Words.{flat_map, false≢true, get_or_default, slice_get_within, Content, IsFree, entry_count, entry_capacity, Table, LevelNode, node, heads, sizes, sizes_of, numbers, Tree, leaf_gain, need, need_above, count}
-use Rattle.bforest_core.proofs.Words.{inner_content, leaf_content, Above, Placed}
-use Rattle.bforest_core.proofs.rows.LevelRows.{sizes-append}
-use Rattle.bforest_core.proofs.table.Tables.{count-append}
-use Rattle.bforest_core.proofs.insertion.Grow.{gain_full, gain_room}
-use Rattle.bforest_core.proofs.table.Stored.{some_same, item_count}
-use Rattle.bforest_core.proofs.insertion.LeafSpot.{LeafSpot, keys_count, leaf_spot, room_gain}
-use Rattle.bforest_core.proofs.insertion.LeafParted.{full_gain}
+use Rattle.std.proofs.Common.{◌≡◌, ℕ, suc, ◌+◌, ◌≤◌, ◌<◌, ◌≢◌, IsTrue, true, false, Bool, add-one, ◌↔◌, ◌∷◌, ◌++◌, map, length, get_or, slice_get, Some, refl, sym, ap, ◌∙◌, arith}
+use Rattle.bforest_core.proofs.Words.{flat_map, false≢true, get_or_default, slice_get_within, Content, IsFree, entry_count, entry_capacity, Table, node, heads}
+use Rattle.bforest_core.proofs.Words.{sizes, sizes_of, numbers, leaf_gain, need, need_above, count, inner_content, leaf_content, Above, Placed}
+use Rattle.bforest_core.proofs.{rows.LevelRows.sizes-append, table.Tables.count-append, insertion.Grow.{gain_full, gain_room}, table.Stored.some_same}
+use Rattle.bforest_core.proofs.{table.Stored.item_count, insertion.LeafSpot.{LeafSpot, keys_count, leaf_spot, room_gain}, insertion.LeafParted.full_gain}
 use Rattle.bforest_core.proofs.walks.Steps.{Spot, spot}
 
 -- a test that answers false disproves its condition
@@ -16,34 +12,34 @@ not_so none h = λ a. false≢true (sym none ∙ h.1 a)
 
 module _ {K V : Type 0} where
   -- the need at a full node, and at one with room
-  spot_full : (t : Table K V) {ms js : List ℕ} {up size : ℕ} {rows : List (List (LevelNode K ℕ))} {list : List (K × ℕ)} {p : ℕ} → (f : Spot t.nodes ms js up size rows list p) → length f.entries ≡ 8 → need_above (Some p) (map sizes rows) ≡ suc (need_above (Some (length f.before)) (map sizes f.rest))
+  spot_full : (t : Table K V) {ms js up size rows list p : _} → (f : Spot t.nodes ms js up size rows list p) → length f.entries ≡ 8 → need_above (Some p) (map sizes rows) ≡ suc (need_above (Some (length f.before)) (map sizes f.rest))
   spot_full t {ms} {js} {up} f eight =
       rw (f.rows_are, f.row_is, f.place_is, sizes-append f.before (node (get_or ms up 0) f.entries ∷ f.after), gain_full f.before (length f.entries) (get_or js up 0) (sizes f.after) f.within eight) refl
 
-  spot_room : (t : Table K V) {ms js : List ℕ} {up size : ℕ} {rows : List (List (LevelNode K ℕ))} {list : List (K × ℕ)} {p : ℕ} → (f : Spot t.nodes ms js up size rows list p) → length f.entries < 8 → need_above (Some p) (map sizes rows) ≡ 1
+  spot_room : (t : Table K V) {ms js up size rows list p : _} → (f : Spot t.nodes ms js up size rows list p) → length f.entries < 8 → need_above (Some p) (map sizes rows) ≡ 1
   spot_room t {ms} {js} {up} f room =
       rw (f.rows_are, f.row_is, f.place_is, sizes-append f.before (node (get_or ms up 0) f.entries ∷ f.after), gain_room f.before (length f.entries) (get_or js up 0) (sizes f.after) f.within room) refl
 
   -- the need of a full leaf
-  pub leaf_need_full : {most : ℕ} {t : Table K V} {ms js : List ℕ} {tree : Tree K V} {place : ℕ} → (d : LeafSpot most t ms js tree place)
+  pub leaf_need_full : {most : ℕ} {t : Table K V} {ms js tree place : _} → (d : LeafSpot most t ms js tree place)
       → length (d.l ++ d.r) ≡ most → need_above (leaf_gain most place (sizes tree.leaves)).0 (map sizes tree.above) ≡ need_above
       (Some (length d.before)) (map sizes tree.above)
-  leaf_need_full {most} {t} {ms} {js} {tree} {place} d full = ap (λ z. need_above z.0 (map sizes tree.above)) (full_gain d full)
+  leaf_need_full {most} {t} {ms} {js} {tree} {place} d full = cc (full_gain d full)
 
   -- a level above the leaves, and the test whether the path's node there is full
-  module _ {t : Table K V} {ms js : List ℕ} {up size : ℕ} {rows : List (List (LevelNode K ℕ))} {list : List (K × ℕ)} {p : ℕ} (ab : Above t ms js up size rows list p) (other : up ≢ size) (wide : size ≤ length ms) (r : ℕ) where
+  module _ {t : Table K V} {ms js up size rows list p : _} (ab : Above t ms js up size rows list p) (other : up ≢ size) (wide : size ≤ length ms) (r : ℕ) where
     abbrev level : Spot t.nodes ms js up size rows list p
     level = spot t.nodes ms js up size rows list p (record { stacked = ab.stacked; inside = ab.inside; stands = ab.stands; height = ab.height }) other
 
     level_slot : slice_get t.nodes (get_or ms up r) ≡ Some (inner_content level.entries)
-    level_slot = ap (λ z. slice_get t.nodes z) (get_or_default ms up r 0 (omega (arith, ab.height, other, wide))) ∙ level.slot_is
+    level_slot = cc (get_or_default ms up r 0 (omega arith), level.slot_is)
 
     -- the slot of the path's node is within the table
     pub level_within : get_or ms up r < length t.nodes
     level_within = slice_get_within t.nodes (get_or ms up r) (inner_content level.entries) level_slot
 
     -- the rows above the level
-    pub level_above : (rows : List (List (LevelNode K ℕ))) × (list : List (K × ℕ)) × (at : ℕ) × Above t ms js (up + 1) size rows list at
+    pub level_above : (rows : _) × (list : _) × (at : ℕ) × Above t ms js (up + 1) size rows list at
     level_above =
         let above : Above t ms js (suc up) size level.rest (heads level.row) (length level.before) =
         record {
@@ -51,25 +47,18 @@ module _ {K V : Type 0} where
           inside = level.over.inside;
           stands = level.over.stands;
           height = level.over.height;
-          apart = λ m. omega (
-            arith,
-            ab.apart m,
-            ap (λ z. count m (flat_map numbers z ++ t.chain)) level.rows_are,
-            count-append m (numbers level.row ++ flat_map numbers level.rest) t.chain,
-            count-append m (numbers level.row) (flat_map numbers level.rest),
-            count-append m (flat_map numbers level.rest) t.chain,
-          );
+          apart = λ m. omega (arith, ab.apart m, ap (λ z. count m (flat_map numbers z ++ t.chain)) level.rows_are, count-append);
         } in
         (level.rest, heads level.row, length level.before, rw (add-one up) above)
 
     module _ (content : Content K V) (read : slice_get t.nodes (get_or ms up r) ≡ Some content) where
       content_is : content ≡ inner_content level.entries
-      content_is = some_same content (inner_content level.entries) (sym read ∙ level_slot)
+      content_is = some_same _ _ (sym read ∙ level_slot)
 
       pub level_used : ¬ IsFree content
       level_used = rw content_is (λ free. free)
 
-      module _ (cap : ℕ) (full : Bool) (says : IsTrue full ↔ (entry_count content ≡ entry_capacity cap content)) where
+      module _ (cap full : _) (says : IsTrue full ↔ (entry_count content ≡ entry_capacity cap content)) where
         tells : IsTrue full ↔ (length level.entries ≡ 8)
         tells = rw (content_is, item_count level.entries) at says
 
@@ -81,14 +70,14 @@ module _ {K V : Type 0} where
         level_room none = sym (spot_room t level (omega (arith, not_so none tells, level.most_is)))
 
   -- the leaf, and the test whether it is full
-  module _ {most : ℕ} {t : Table K V} {ms js : List ℕ} {size : ℕ} {tree : Tree K V} {place : ℕ} (p : Placed most t ms js size tree place) where
+  module _ {most : ℕ} {t : Table K V} {ms js size tree place : _} (p : Placed most t ms js size tree place) where
     abbrev leaf : LeafSpot most t ms js tree place
     leaf = leaf_spot p
 
     -- the rows above the leaf
-    pub leaf_above : (rows : List (List (LevelNode K ℕ))) × (list : List (K × ℕ)) × (at : ℕ) × Above t ms js 1 size rows list at
+    pub leaf_above : (rows : _) × (list : _) × (at : ℕ) × Above t ms js 1 size rows list at
     leaf_above =
-        let row : List (LevelNode K V) = leaf.before ++ node (get_or ms 0 0) (leaf.l ++ leaf.r) ∷ leaf.after in (
+        let row = leaf.before ++ node (get_or ms 0 0) (leaf.l ++ leaf.r) ∷ leaf.after in (
           tree.above,
           heads row,
           length leaf.before,
@@ -96,20 +85,14 @@ module _ {K V : Type 0} where
             stacked = leaf.fit.stacked;
             inside = p.inside.rows_in;
             stands = leaf.stands;
-            height = omega (arith, p.at.points.size_is);
-            apart = λ m. omega (
-              arith,
-              leaf.apart m,
-              count-append m (numbers row ++ flat_map numbers tree.above) t.chain,
-              count-append m (numbers row) (flat_map numbers tree.above),
-              count-append m (flat_map numbers tree.above) t.chain,
-            );
+            height = omega arith;
+            apart = λ m. omega (arith, leaf.apart m, count-append);
           },
         )
 
     module _ (wide : 0 < length ms) (r : ℕ) where
       leaf_slot : slice_get t.nodes (get_or ms 0 r) ≡ Some (leaf_content (leaf.l ++ leaf.r))
-      leaf_slot = ap (λ z. slice_get t.nodes z) (get_or_default ms 0 r 0 wide) ∙ leaf.slot_is
+      leaf_slot = cc (get_or_default ms 0 r 0 wide, leaf.slot_is)
 
       -- the slot of the leaf is within the table
       pub leaf_within : get_or ms 0 r < length t.nodes
@@ -117,7 +100,7 @@ module _ {K V : Type 0} where
 
       module _ (content : Content K V) (read : slice_get t.nodes (get_or ms 0 r) ≡ Some content) where
         leaf_content_is : content ≡ leaf_content (leaf.l ++ leaf.r)
-        leaf_content_is = some_same content (leaf_content (leaf.l ++ leaf.r)) (sym read ∙ leaf_slot)
+        leaf_content_is = some_same _ _ (sym read ∙ leaf_slot)
 
         pub leaf_used : ¬ IsFree content
         leaf_used = rw leaf_content_is (λ free. free)
@@ -131,4 +114,4 @@ module _ {K V : Type 0} where
           leaf_full is more needs = needs leaf_above.0 leaf_above.1 leaf_above.2 leaf_above.3 ∙ sym (leaf_need_full leaf (leaf_tells.0 is))
 
           pub leaf_room : full ≡ false → 0 ≡ need most place (sizes_of tree)
-          leaf_room none = sym (ap (λ z. need_above z.0 (map sizes tree.above)) (room_gain leaf (omega (arith, not_so none leaf_tells, leaf.most_is))))
+          leaf_room none = cc (room_gain leaf (omega (arith, not_so none leaf_tells, leaf.most_is)))

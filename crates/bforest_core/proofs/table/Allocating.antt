@@ -1,24 +1,23 @@
 -- Taking a free node and reserving nodes, over plain values.
-use Rattle.std.proofs.Common.{◌≡◌, ◌↔◌, ℕ, ◌-◌, ◌≤◌, ◌<◌, List, length, length-set, append-nil, Some, Result, Err, IsErrAnd, sym, ap, ◌∙◌, arith, ◌+◌, refl}
-use Rattle.bforest_core.proofs.Words.{err_from_is_err_and, Content, Table, IsUsed, NeedsGrowth, room, reserved, front_of, with_node, with_front, without_front, free_count, length-append, down_from, slot_count}
-use Rattle.bforest_core.proofs.table.Pools.{with_front-is}
-use Rattle.bforest_core.proofs.table.Chains.{length-down_from}
+use Rattle.std.proofs.Common.{◌≡◌, ◌↔◌, ℕ, ◌-◌, ◌≤◌, ◌<◌, List, length, length-set, append-nil, Some, Result, Err, IsErrAnd, sym, ap, arith, ◌+◌, refl}
+use Rattle.bforest_core.proofs.Words.{err_from_is_err_and, Content, Table, IsUsed, NeedsGrowth, room, reserved, front_of, with_node, with_front, without_front}
+use Rattle.bforest_core.proofs.{Words.{free_count, length-append, down_from, slot_count}, table.Pools.with_front-is, table.Chains.length-down_from}
 
 -- a result that is an error equal to `y` is `Err y`
 pub err_is : {T E : Type 0} (r : Result T E) (y : E) → IsErrAnd r (λ e. e ≡ y) → r ≡ Err y
-err_is r y h = let e = err_from_is_err_and r h in e.1 ∙ ap Err e.2
+err_is r y h = let e = err_from_is_err_and r h in cc
 
 -- an error that a call passes on is a given one exactly if the received one is
 pub err_iff : {A B E : Type 0} (r : Result A E) (e f : E) → r ≡ Err e → (r ≡ Err f) ↔ (◌≡◌ {A = Result B E} (Err e) (Err f))
-err_iff r e f is = (λ same. (let s : e ≡ f = cc in ap Err s), λ same. (let s : e ≡ f = cc in is ∙ ap Err s))
+err_iff r e f is = (λ same. (let s : e ≡ f = cc in ap Err s), λ same. (let s : e ≡ f = cc in cc))
 
 module _ {K V : Type 0} where
   -- writing the node taken from the front of the chain
-  pub taken_is : (t : Table K V) {u : Table K V} {node : ℕ} {c d : Content K V} → front_of t.chain ≡ Some node → u ≡ without_front t t.chain → c ≡ d → with_node u node c ≡ with_front t t.chain d
-  taken_is t {node = node} {c = c} {d = d} front u_is c_is = ap (λ z. with_node z node c) u_is ∙ ap (λ z. with_node (without_front t t.chain) node z) c_is ∙ sym (with_front-is t t.chain d front)
+  pub taken_is : (t : Table K V) {u : Table K V} {node c d : _} → front_of t.chain ≡ Some node → u ≡ without_front t t.chain → c ≡ d → with_node u node c ≡ with_front t t.chain d
+  taken_is t {node = node} {c = c} {d = d} front u_is c_is = cc (with_front-is t t.chain d front)
 
   -- a used node stays used when it is written
-  pub used_written : (t : Table K V) (node : ℕ) (c : Content K V) → IsUsed t node → IsUsed (with_node t node c) node
+  pub used_written : (t : Table K V) (node c : _) → IsUsed t node → IsUsed (with_node t node c) node
   used_written t node c used = record { within = (let w = used.within in omega (arith, length-set t.nodes node c)); off_chain = used.off_chain }
 
   -- the number of free nodes after a reservation
@@ -28,10 +27,10 @@ module _ {K V : Type 0} where
   -- a reservation changes nothing where enough nodes are free
   pub reserved-enough : (table : Table K V) (n : ℕ) → n ≤ free_count table → reserved table n ≡ table
   reserved-enough table n enough =
-      let none : n - free_count table ≡ 0 = omega (arith, enough) in
+      let none : n - free_count table ≡ 0 = omega arith in
       rw none (ap (λ z. record table { nodes = z }) (append-nil table.nodes))
 
-  module _ {t : Table K V} (nodes : List (Content K V)) (chain : List ℕ) {free : ℕ} (limit len n : ℕ) (view : record { nodes = nodes; chain = chain; limit = limit } ≡ t) (counted : length chain ≡ free) (len_is : len ≡ length nodes) where
+  module _ {t : Table K V} (nodes : List (Content K V)) (chain : _) {free : ℕ} (limit len n : ℕ) (view : record { nodes = nodes; chain = chain; limit = limit } ≡ t) (counted : length chain ≡ free) (len_is : len ≡ length nodes) where
     -- the fields of a pool as fields of its table
     fields_are : (length t.chain ≡ free) × (t.limit ≡ limit) × (length t.nodes ≡ len)
     fields_are = rw (← view) (counted, refl, sym len_is)
@@ -55,8 +54,8 @@ module _ {K V : Type 0} where
     not_enough scarce enough = omega (arith, fields_are.0)
 
     pub stays_reserved : n ≤ free → t ≡ reserved t n
-    stays_reserved enough = sym (reserved-enough t n (omega (arith, fields_are.0, enough)))
+    stays_reserved enough = sym (reserved-enough t n (omega (arith, fields_are.0)))
 
   -- a table within a limit of 32 bits has at most 4294967295 slots
-  pub few_slots : {t : Table K V} (nodes : List (Content K V)) (chain : List ℕ) (limit : ℕ) → record { nodes = nodes; chain = chain; limit = limit } ≡ t → length nodes ≤ limit → limit ≤ 4294967295 → length t.nodes ≤ 4294967295
+  pub few_slots : {t : Table K V} (nodes : List (Content K V)) (chain limit : _) → record { nodes = nodes; chain = chain; limit = limit } ≡ t → length nodes ≤ limit → limit ≤ 4294967295 → length t.nodes ≤ 4294967295
   few_slots nodes chain limit view within most = let e = ap (λ z. length z.nodes) view in omega arith

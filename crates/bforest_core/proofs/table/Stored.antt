@@ -1,45 +1,45 @@
 -- Nodes as stored in their slots: with one more child or entry, and cut.
 use Rattle.std.proofs.Common.{◌≡◌, ℕ, zero, suc, ◌+◌, ◌-◌, ◌≤◌, List, [], ◌∷◌, ◌++◌, map, length, drop, insert, slice_get, Some, refl, sym, ap, ◌∙◌, subst, append_assoc, length-append, arith}
-use Rattle.bforest_core.proofs.Words.{length-map, map-append, take_at, drop_at, length-drop, Content, Inner, Leaf, Free, IsFree, IsInner, IsCut, children_of, entry_count, with_child, with_entry, inner_content, leaf_content, entry_keys}
-use Rattle.bforest_core.proofs.Words.{entry_items}
+use Rattle.bforest_core.proofs.Words.{Heads, length-map, map-append, take_at, drop_at, length-drop, Content, Inner, Leaf, Free, IsFree, IsInner, IsCut}
+use Rattle.bforest_core.proofs.Words.{children_of, entry_count, with_child, with_entry, inner_content, leaf_content, entry_keys, entry_items}
 
 pub some_same : {A : Type 0} → (x y : A) → Some x ≡ Some y → x ≡ y
 some_same x y e = cc
 
 -- two reads of a slot agree
 pub read_same : {A : Type 0} → (list : List A) (n : ℕ) (x y : A) → slice_get list n ≡ Some x → slice_get list n ≡ Some y → y ≡ x
-read_same list n x y first second = some_same y x (sym second ∙ first)
+read_same list n x y first second = some_same y x (cc)
 
 -- what holds of one read of a slot holds of another
 pub read_as : {A : Type 0} {x y : A} (list : List A) (n : ℕ) → slice_get list n ≡ Some x → slice_get list n ≡ Some y → (P : A → Type 0) → P x → P y
-read_as list n first second P said = subst P (sym (some_same _ _ (sym second ∙ first))) said
+read_as list n first second P said = subst P (sym (some_same _ _ (cc))) said
 
 pub slice_get_at : {A : Type 0} → (p : List A) (y : A) (ys : List A) (n : ℕ) → length p ≡ n → slice_get (p ++ y ∷ ys) n ≡ Some y
 slice_get_at [] y ys zero e = refl
-slice_get_at [] y ys (suc n) e = absurd (omega (arith, e))
-slice_get_at (z ∷ p) y ys zero e = absurd (omega (arith, e))
-slice_get_at (z ∷ p) y ys (suc n) e = slice_get_at p y ys n (omega (arith, e))
+slice_get_at [] y ys (suc n) e = absurd (omega arith)
+slice_get_at (z ∷ p) y ys zero e = absurd (omega arith)
+slice_get_at (z ∷ p) y ys (suc n) e = slice_get_at p y ys n (omega arith)
 
 drop-behind : {A : Type 0} (p : List A) (y : A) (ys : List A) (n : ℕ) → suc (length p) ≡ n → drop n (p ++ y ∷ ys) ≡ ys
-drop-behind p y ys n e = ap (λ z. drop n z) (sym (append_assoc p (y ∷ []) ys)) ∙ drop_at (p ++ y ∷ []) ys n (length-append p (y ∷ []) ∙ omega (arith, e))
+drop-behind p y ys n e = cc (append_assoc p (y ∷ []) ys, drop_at (p ++ y ∷ []) ys n (length-append p (y ∷ []) ∙ omega arith))
 
 -- inserting after an element of a mapped list
 insert_after : {X Y : Type 0} (f : X → Y) (l : List X) (x : X) (r : List X) (y : X) → insert (map f (l ++ x ∷ r)) (suc (length l)) (f y) ≡ map f (l ++ x ∷ y ∷ r)
 insert_after f [] x r y = refl
-insert_after f (z ∷ l) x r y = ap (λ w. f z ∷ w) (insert_after f l x r y)
+insert_after f (z ∷ l) x r y = cc (insert_after f l x r y)
 
-insert_key : {K : Type 0} (l : List (K × ℕ)) (x : K × ℕ) (r : List (K × ℕ)) (y : K × ℕ) → insert (drop 1 (entry_keys (l ++ x ∷ r))) (length l) y.0 ≡ drop 1 (entry_keys (l ++ x ∷ y ∷ r))
+insert_key : {K : Type 0} (l : Heads K) (x : K × ℕ) (r : Heads K) (y : K × ℕ) → insert (drop 1 (entry_keys (l ++ x ∷ r))) (length l) y.0 ≡ drop 1 (entry_keys (l ++ x ∷ y ∷ r))
 insert_key [] x r y = refl
-insert_key (z ∷ l) x r y = insert_after (λ e. e.0) l x r y
+insert_key (z ∷ l) x r y = insert_after _ l x r y
 
 -- inserting between two parts of a mapped list
 insert_at : {X Y : Type 0} (f : X → Y) (l r : List X) (y : X) → insert (map f (l ++ r)) (length l) (f y) ≡ map f (l ++ y ∷ r)
 insert_at f [] r y = refl
-insert_at f (z ∷ l) r y = ap (λ w. f z ∷ w) (insert_at f l r y)
+insert_at f (z ∷ l) r y = cc (insert_at f l r y)
 
 -- an inner node has one key fewer than entries
-pub key_count : {K : Type 0} → (es : List (K × ℕ)) → length (drop 1 (entry_keys es)) ≡ length es - 1
-key_count es = length-drop 1 (entry_keys es) ∙ ap (λ z. z - 1) (length-map es (λ w. w.0))
+pub key_count : {K : Type 0} → (es : Heads K) → length (drop 1 (entry_keys es)) ≡ length es - 1
+key_count es = cc (length-drop 1 (entry_keys es), length-map es (λ w. w.0))
 
 pub item_count : {K X : Type 0} → (es : List (K × X)) → length (entry_items es) ≡ length es
 item_count es = length-map es (λ w. w.1)
@@ -54,7 +54,7 @@ pub record Parts {K V X : Type 0} (content : List (K × X) → Content K V) (xs 
 pub not_free : {K V : Type 0} → (content : Content K V) → 1 ≤ entry_count content → IsFree content → ⊥
 not_free (Inner keys children) some free = free
 not_free (Leaf keys vals) some free = free
-not_free (Free next) some free = omega (arith, some)
+not_free (Free next) some free = omega arith
 
 -- an inner node is not free, and has as many entries as children
 pub inner_used : {K V : Type 0} → (content : Content K V) → IsInner content → (¬ IsFree content) × (entry_count content ≡ length (children_of content))
@@ -70,23 +70,23 @@ childless (Free next) other = refl
 
 module _ {K : Type 0} (V : Type 0) where
   -- inserting a child after another
-  pub with_child_is : (l : List (K × ℕ)) (x : K × ℕ) (r : List (K × ℕ)) (key : K) (child e : ℕ) → length l ≡ e → with_child {V = V} (inner_content (l ++ x ∷ r)) e key child ≡ inner_content (l ++ x ∷ (key, child) ∷ r)
+  pub with_child_is : (l : Heads K) (x : K × ℕ) (r : Heads K) (key : K) (child e : ℕ) → length l ≡ e → with_child {V = V} (inner_content (l ++ x ∷ r)) e key child ≡ inner_content (l ++ x ∷ (key, child) ∷ r)
   with_child_is l x r key child e is =
-      let next : e + 1 ≡ suc (length l) = omega (arith, is) in
+      let next : e + 1 ≡ suc (length l) = omega arith in
       rw (next, ← is, insert_key l x r (key, child), insert_after (λ w. w.1) l x r (key, child)) refl
 
   -- the parts of an inner node after its first `q` children
-  pub inner_cuts : (x : K × ℕ) (xs : List (K × ℕ)) (y : K × ℕ) (ys : List (K × ℕ)) (q : ℕ) (left right : Content K V) (key : K) → length (x ∷ xs) ≡ q → IsCut (inner_content ((x ∷ xs) ++ y ∷ ys)) q left key right → Parts inner_content (x ∷ xs) y ys left right key
+  pub inner_cuts : (x xs y ys q : _) (left right : Content K V) (key : K) → length (x ∷ xs) ≡ q → IsCut (inner_content ((x ∷ xs) ++ y ∷ ys)) q left key right → Parts inner_content (x ∷ xs) y ys left right key
   inner_cuts x xs y ys q left right key e c =
-      let kl : length (entry_keys xs) ≡ q - 1 = length-map xs (λ (w : K × ℕ). w.0) ∙ omega (arith, e) in
-      let kl2 : suc (length (entry_keys xs)) ≡ q = ap suc (length-map xs (λ (w : K × ℕ). w.0)) ∙ e in
-      let il : length (entry_items (x ∷ xs)) ≡ q = length-map (x ∷ xs) (λ (w : K × ℕ). w.1) ∙ e in
-      let k : entry_keys (xs ++ y ∷ ys) ≡ entry_keys xs ++ y.0 ∷ entry_keys ys = map-append (λ (w : K × ℕ). w.0) xs (y ∷ ys) in
-      let i : entry_items ((x ∷ xs) ++ y ∷ ys) ≡ entry_items (x ∷ xs) ++ y.1 ∷ entry_items ys = map-append (λ (w : K × ℕ). w.1) (x ∷ xs) (y ∷ ys) in
+      let kl : length (entry_keys xs) ≡ q - 1 = length-map xs (λ (w : K × ℕ). w.0) ∙ omega arith in
+      let kl2 = ap suc (length-map xs (λ (w : K × ℕ). w.0)) ∙ e in
+      let il = length-map (x ∷ xs) (λ (w : K × ℕ). w.1) ∙ e in
+      let k = map-append (λ (w : K × ℕ). w.0) xs (y ∷ ys) in
+      let i = map-append (λ (w : K × ℕ). w.1) (x ∷ xs) (y ∷ ys) in
       record {
         left_is = rw (k, i, take_at (entry_keys xs) (y.0 ∷ entry_keys ys) (q - 1) kl, take_at (entry_items (x ∷ xs)) (y.1 ∷ entry_items ys) q il) at c.left_is;
         right_is = rw (k, i, drop-behind (entry_keys xs) y.0 (entry_keys ys) q kl2, drop_at (entry_items (x ∷ xs)) (y.1 ∷ entry_items ys) q il) at c.right_is;
-        key_is = some_same key y.0 (sym c.key_is ∙ ap (λ w. slice_get w (q - 1)) k ∙ slice_get_at (entry_keys xs) y.0 (entry_keys ys) (q - 1) kl);
+        key_is = some_same key y.0 (cc (slice_get_at (entry_keys xs) y.0 (entry_keys ys) (q - 1) kl));
       }
 
   -- inserting an entry into a leaf
@@ -94,14 +94,14 @@ module _ {K : Type 0} (V : Type 0) where
   with_entry_is l r key value e is = rw (← is, insert_at (λ w. w.0) l r (key, value), insert_at (λ w. w.1) l r (key, value)) refl
 
   -- the parts of a leaf after its first `q` entries
-  pub leaf_cuts : (xs : List (K × V)) (y : K × V) (ys : List (K × V)) (q : ℕ) (left right : Content K V) (key : K) → length xs ≡ q → IsCut (leaf_content (xs ++ y ∷ ys)) q left key right → Parts leaf_content xs y ys left right key
+  pub leaf_cuts : (xs : List (K × V)) (y ys q left right key : _) → length xs ≡ q → IsCut (leaf_content (xs ++ y ∷ ys)) q left key right → Parts leaf_content xs y ys left right key
   leaf_cuts xs y ys q left right key e c =
-      let kl : length (entry_keys xs) ≡ q = length-map xs (λ (w : K × V). w.0) ∙ e in
-      let il : length (entry_items xs) ≡ q = length-map xs (λ (w : K × V). w.1) ∙ e in
-      let k : entry_keys (xs ++ y ∷ ys) ≡ entry_keys xs ++ y.0 ∷ entry_keys ys = map-append (λ (w : K × V). w.0) xs (y ∷ ys) in
-      let i : entry_items (xs ++ y ∷ ys) ≡ entry_items xs ++ y.1 ∷ entry_items ys = map-append (λ (w : K × V). w.1) xs (y ∷ ys) in
+      let kl = length-map xs (λ (w : K × V). w.0) ∙ e in
+      let il = length-map xs (λ (w : K × V). w.1) ∙ e in
+      let k = map-append (λ (w : K × V). w.0) xs (y ∷ ys) in
+      let i = map-append (λ (w : K × V). w.1) xs (y ∷ ys) in
       record {
         left_is = rw (k, i, take_at (entry_keys xs) (y.0 ∷ entry_keys ys) q kl, take_at (entry_items xs) (y.1 ∷ entry_items ys) q il) at c.left_is;
         right_is = rw (k, i, drop_at (entry_keys xs) (y.0 ∷ entry_keys ys) q kl, drop_at (entry_items xs) (y.1 ∷ entry_items ys) q il) at c.right_is;
-        key_is = some_same key y.0 (sym c.key_is ∙ ap (λ w. slice_get w q) k ∙ slice_get_at (entry_keys xs) y.0 (entry_keys ys) q kl);
+        key_is = some_same key y.0 (cc (slice_get_at (entry_keys xs) y.0 (entry_keys ys) q kl));
       }

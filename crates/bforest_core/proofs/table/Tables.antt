@@ -1,105 +1,103 @@
 -- Counting numbers, and rows that a change of the table leaves unchanged.
 use Rattle.std.proofs.Common.{◌≡◌, ℕ, zero, suc, ◌+◌, ◌<◌, ◌≢◌, false, nat_eq, List, [], ◌∷◌, ◌++◌, length, set, slice_get, Some, refl, sym, ap, ◌∙◌, inl, inr, length-set, arith}
-use Rattle.bforest_core.proofs.Words.{flat_map, list_any, eqb_tells, Content, Table, with_node, with_front, front_of, IsUsed, slice_get_within, LevelNode, node, numbers, RowIn, RowsIn, inner_content, count}
+use Rattle.bforest_core.proofs.Words.{Row, Rows, flat_map, list_any, eqb_tells, Content, Table, with_node, with_front, front_of, IsUsed, slice_get_within, node}
+use Rattle.bforest_core.proofs.{Words.{numbers, RowIn, RowsIn, count}, rows.LevelRows.numbers-append}
 pub use Rattle.bforest_core.proofs.table.Lists.{slice_get-set_apart, slice_get-set_same}
-use Rattle.bforest_core.proofs.rows.LevelRows.{numbers-append}
 
-pub count-append : (n : ℕ) (xs ys : List ℕ) → count n (xs ++ ys) ≡ count n xs + count n ys
+pub count-append : (n xs ys : _) → count n (xs ++ ys) ≡ count n xs + count n ys
 count-append n [] ys = omega arith
 count-append n (x ∷ xs) ys = omega (arith, count-append n xs ys)
 
-pub count-same : (n : ℕ) (ms : List ℕ) → count n (n ∷ ms) ≡ suc (count n ms)
+pub count-same : (n ms : _) → count n (n ∷ ms) ≡ suc (count n ms)
 count-same n ms = elim (eqb_tells n n) [ inl w ↦ (let e = w.0 in rw e (omega arith)) | inr w ↦ absurd (w.1 refl) ]
 
-pub count-other : (n m : ℕ) (ms : List ℕ) → m ≢ n → count n (m ∷ ms) ≡ count n ms
+pub count-other : (n m ms : _) → m ≢ n → count n (m ∷ ms) ≡ count n ms
 count-other n m ms ne = elim (eqb_tells m n) [ inl w ↦ absurd (ne w.1) | inr w ↦ (let e = w.0 in rw e (omega arith)) ]
 
-pub ne_from_count : (m n : ℕ) (ms : List ℕ) → 0 < count m ms → count n ms ≡ 0 → m ≢ n
-ne_from_count m n ms some none = λ (e : m ≡ n). let h = ap (λ z. count z ms) e in omega (arith, h, some, none)
+pub ne_from_count : (m n ms : _) → 0 < count m ms → count n ms ≡ 0 → m ≢ n
+ne_from_count m n ms some none = λ (e : m ≡ n). let h = ap (λ z. count z ms) e in omega arith
 
-pub absent_ne : (m x : ℕ) (ms : List ℕ) → count m (x ∷ ms) ≡ 0 → m ≢ x
-absent_ne m x ms z = λ (e : m ≡ x). let c = count-same x ms in let f = ap (λ w. count w (x ∷ ms)) e in omega (arith, f, c, z)
+pub absent_ne : (m x ms : _) → count m (x ∷ ms) ≡ 0 → m ≢ x
+absent_ne m x ms z = λ (e : m ≡ x). let c = count-same x ms in let f = ap (λ w. count w (x ∷ ms)) e in omega arith
 
-pub count-row : {K X : Type 0} (k : ℕ) (before : List (LevelNode K X)) (n : ℕ) (es : List (K × X)) (after : List (LevelNode K X)) → count k (numbers (before ++ node n es ∷ after)) ≡ count k (numbers before) + count k (n ∷ numbers after)
-count-row k before n es after = ap (λ z. count k z) (numbers-append before (node n es ∷ after)) ∙ count-append k (numbers before) _
+pub count-row : {K X : Type 0} (k : ℕ) (before : Row K X) (n : ℕ) (es : List (K × X)) (after : Row K X) → count k (numbers (before ++ node n es ∷ after)) ≡ count k (numbers before) + count k (n ∷ numbers after)
+count-row k before n es after = ap (λ z. count k z) (numbers-append _ _) ∙ count-append k _ _
 
 -- how often a number occurs in a level, in all rows from it up, and with the chain
-pub counts : {K X : Type 0} (m : ℕ) (before : List (LevelNode K X)) (n : ℕ) (es : List (K × X)) (after : List (LevelNode K X)) (rest : List (List (LevelNode K ℕ))) (chain : List ℕ) →
+pub counts : {K X : Type 0} (m : ℕ) (before : Row K X) (n : ℕ) (es : List (K × X)) (after : Row K X) (rest : Rows K) (chain : List ℕ) →
     (count m (numbers (before ++ node n es ∷ after)) ≡ count m (numbers before) + count m (n ∷ numbers after))
     × (count m (numbers (before ++ node n es ∷ after) ++ flat_map numbers rest) ≡ count m (numbers (before ++ node n es ∷ after)) + count m (flat_map numbers rest))
     × (count m ((numbers (before ++ node n es ∷ after) ++ flat_map numbers rest) ++ chain) ≡ count m (numbers (before ++ node n es ∷ after) ++ flat_map numbers rest) + count m chain)
 counts m before n es after rest chain =
-    let row = numbers (before ++ node n es ∷ after) in
-    (count-row m before n es after, count-append m row (flat_map numbers rest), count-append m (row ++ flat_map numbers rest) chain)
+    (count-row m before n es after, count-append m _ _, count-append m _ _)
 
 -- a number that does not occur on the chain is not found there
-pub off_chain : (n : ℕ) (ms : List ℕ) → count n ms ≡ 0 → list_any (nat_eq n) ms ≡ false
+pub off_chain : (n ms : _) → count n ms ≡ 0 → list_any (nat_eq n) ms ≡ false
 off_chain n [] none = refl
 off_chain n (m ∷ ms) none =
-    let rest = off_chain n ms (omega (arith, none)) in
-    elim (eqb_tells n m) [ inl w ↦ absurd (absent_ne n m ms none w.1) | inr w ↦ (let e = w.0 in rw (e, rest) refl) ]
+    elim (eqb_tells n m) [ inl w ↦ absurd (absent_ne n m ms none w.1) | inr w ↦ (let e = w.0 in rw (e, off_chain n ms (omega arith)) refl) ]
 
 -- writing the element that is already there changes nothing
-pub set_here : {X : Type 0} → (xs : List X) (i : ℕ) (x : X) → slice_get xs i ≡ Some x → set xs i x ≡ xs
+pub set_here : {X : Type 0} → (xs : List X) (i x : _) → slice_get xs i ≡ Some x → set xs i x ≡ xs
 set_here [] i x e = refl
 set_here (y ∷ xs) zero x e = let same : y ≡ x = cc in ap (λ z. z ∷ xs) (sym same)
-set_here (y ∷ xs) (suc i) x e = ap (λ z. y ∷ z) (set_here xs i x e)
+set_here (y ∷ xs) (suc i) x e = cc (set_here xs i x e)
 
 module _ {K V : Type 0} where
-  pub is_used : (t : Table K V) (n : ℕ) (c : Content K V) → slice_get t.nodes n ≡ Some c → count n t.chain ≡ 0 → IsUsed t n
+  pub is_used : (t : Table K V) (n c : _) → slice_get t.nodes n ≡ Some c → count n t.chain ≡ 0 → IsUsed t n
   is_used t n c found none = record { within = slice_get_within t.nodes n c found; off_chain = off_chain n t.chain none }
 
   module _ {X : Type 0} (content : List (K × X) → Content K V) where
     -- a row in a table is in any other table that agrees on its slots
-    pub row-same : (t u : List (Content K V)) (row : List (LevelNode K X)) → ((m : ℕ) → 0 < count m (numbers row) → slice_get u m ≡ slice_get t m) → RowIn content t row → RowIn content u row
+    pub row-same : (t u row : _) → ((m : ℕ) → 0 < count m (numbers row) → slice_get u m ≡ slice_get t m) → RowIn content t row → RowIn content u row
     row-same t u [] same i = tt
     row-same t u (node n es ∷ ns) same i = (
-      same n (let c = count-same n (numbers ns) in omega (arith, c)) ∙ i.0,
-      row-same t u ns (λ m some. same m (omega (arith, some))) i.1,
+      same n (let c = count-same n (numbers ns) in omega arith) ∙ i.0,
+      row-same t u ns (λ m some. same m (omega arith)) i.1,
     )
 
-    pub row-split : (t : List (Content K V)) (xs ys : List (LevelNode K X)) → RowIn content t (xs ++ ys) → RowIn content t xs × RowIn content t ys
+    pub row-split : (t xs ys : _) → RowIn content t (xs ++ ys) → RowIn content t xs × RowIn content t ys
     row-split t [] ys i = (tt, i)
     row-split t (node m es ∷ xs) ys i = let r = row-split t xs ys i.1 in ((i.0, r.0), r.1)
 
-    pub row-join : (t : List (Content K V)) (xs ys : List (LevelNode K X)) → RowIn content t xs → RowIn content t ys → RowIn content t (xs ++ ys)
+    pub row-join : (t xs ys : _) → RowIn content t xs → RowIn content t ys → RowIn content t (xs ++ ys)
     row-join t [] ys i j = j
     row-join t (node m es ∷ xs) ys i j = (i.0, row-join t xs ys i.1 j)
 
     -- nodes of a row are replaced, where only two slots change
-    pub row-changed : (t u : List (Content K V)) (before old new after : List (LevelNode K X)) (n q : ℕ) → RowIn content t (before ++ (old ++ after)) → ((m : ℕ) → m ≢ n → m ≢ q → slice_get u m ≡ slice_get t m) → RowIn content u new →
+    pub row-changed : (t u before old new after n q : _) → RowIn content t (before ++ (old ++ after)) → ((m : ℕ) → m ≢ n → m ≢ q → slice_get u m ≡ slice_get t m) → RowIn content u new →
         count n (numbers before) + count n (numbers after) ≡ 0 → count q (numbers before) + count q (numbers after) ≡ 0 → RowIn content u (before ++ (new ++ after))
     row-changed t u before old new after n q i same here none none_q =
-        let s = row-split t before (old ++ after) i in
+        let s = row-split t _ _ i in
         let kept = λ (m : ℕ) (ms : List ℕ) (some : 0 < count m ms) (a : count n ms ≡ 0) (b : count q ms ≡ 0). same m (ne_from_count m n ms some a) (ne_from_count m q ms some b) in
-        row-join u before (new ++ after) (row-same t u before (λ m some. kept m (numbers before) some (omega (arith, none)) (omega (arith, none_q))) s.0)
-        (row-join u new after here (row-same t u after (λ m some. kept m (numbers after) some (omega (arith, none)) (omega (arith, none_q))) (row-split t old after s.1).1))
+        row-join u _ _ (row-same t u before (λ m some. kept m (numbers before) some (omega arith) (omega arith)) s.0)
+        (row-join u new after here (row-same t u after (λ m some. kept m (numbers after) some (omega arith) (omega arith)) (row-split t old after s.1).1))
 
     -- one node of a row is written
-    pub row-put : (t u : List (Content K V)) (before : List (LevelNode K X)) (n : ℕ) (es fs : List (K × X)) (after : List (LevelNode K X)) → RowIn content t (before ++ node n es ∷ after) →
+    pub row-put : (t u before n es fs after : _) → RowIn content t (before ++ node n es ∷ after) →
         ((m : ℕ) → m ≢ n → slice_get u m ≡ slice_get t m) → slice_get u n ≡ Some (content fs) → count n (numbers before) + count n (numbers after) ≡ 0 → RowIn content u (before ++ node n fs ∷ after)
     row-put t u before n es fs after i same here none =
         row-changed t u before (node n es ∷ []) (node n fs ∷ []) after n n i (λ m a b. same m a) (here, tt) none none
 
     -- two neighbours of a row are written
-    pub row-put_two : (t u : List (Content K V)) (before : List (LevelNode K X)) (n q : ℕ) (es fs xs ys : List (K × X)) (after : List (LevelNode K X)) → RowIn content t (before ++ node n es ∷ node q fs ∷ after) →
+    pub row-put_two : (t u before n q es fs xs ys after : _) → RowIn content t (before ++ node n es ∷ node q fs ∷ after) →
         ((m : ℕ) → m ≢ n → m ≢ q → slice_get u m ≡ slice_get t m) → slice_get u n ≡ Some (content xs) → slice_get u q ≡ Some (content ys) →
         count n (numbers before) + count n (numbers after) ≡ 0 → count q (numbers before) + count q (numbers after) ≡ 0 → RowIn content u (before ++ node n xs ∷ node q ys ∷ after)
     row-put_two t u before n q es fs xs ys after i same here there none none_q =
         row-changed t u before (node n es ∷ node q fs ∷ []) (node n xs ∷ node q ys ∷ []) after n q i same (here, (there, tt)) none none_q
 
     -- the first of two neighbours of a row is removed, the second written
-    pub row-drop_put : (t u : List (Content K V)) (before : List (LevelNode K X)) (n q : ℕ) (es fs ys : List (K × X)) (after : List (LevelNode K X)) → RowIn content t (before ++ node n es ∷ node q fs ∷ after) →
+    pub row-drop_put : (t u before n q es fs ys after : _) → RowIn content t (before ++ node n es ∷ node q fs ∷ after) →
         ((m : ℕ) → m ≢ n → m ≢ q → slice_get u m ≡ slice_get t m) → slice_get u q ≡ Some (content ys) →
         count n (numbers before) + count n (numbers after) ≡ 0 → count q (numbers before) + count q (numbers after) ≡ 0 → RowIn content u (before ++ node q ys ∷ after)
     row-drop_put t u before n q es fs ys after i same there none none_q =
         row-changed t u before (node n es ∷ node q fs ∷ []) (node q ys ∷ []) after n q i same (there, tt) none none_q
 
-  pub rows-same : (t u : List (Content K V)) (rows : List (List (LevelNode K ℕ))) → ((m : ℕ) → 0 < count m (flat_map numbers rows) → slice_get u m ≡ slice_get t m) → RowsIn t rows → RowsIn u rows
+  pub rows-same : (t u : List (Content K V)) (rows : _) → ((m : ℕ) → 0 < count m (flat_map numbers rows) → slice_get u m ≡ slice_get t m) → RowsIn t rows → RowsIn u rows
   rows-same t u [] same i = tt
   rows-same t u (row ∷ rows) same i = (
-    row-same inner_content t u row (λ m some. same m (omega (arith, some, count-append m (numbers row) (flat_map numbers rows)))) i.0,
-    rows-same t u rows (λ m some. same m (omega (arith, some, count-append m (numbers row) (flat_map numbers rows)))) i.1,
+    row-same _ t u row (λ m some. same m (omega (arith, count-append m (numbers row) (flat_map numbers rows)))) i.0,
+    rows-same t u rows (λ m some. same m (omega (arith, count-append m (numbers row) (flat_map numbers rows)))) i.1,
   )
 
   -- one slot was written
@@ -110,24 +108,23 @@ module _ {K V : Type 0} where
     pub slots_are : length u.nodes ≡ length t.nodes
     pub limit_is : u.limit ≡ t.limit
 
-  pub puts : (t u : Table K V) (n : ℕ) (c old : Content K V) → slice_get t.nodes n ≡ Some old → u ≡ with_node t n c → Puts t u n c
+  pub puts : (t u : Table K V) (n c old : _) → slice_get t.nodes n ≡ Some old → u ≡ with_node t n c → Puts t u n c
   puts t u n c old found is =
-      let low = slice_get_within t.nodes n old found in
       record {
-        here = ap (λ z. slice_get z.nodes n) is ∙ slice_get-set_same t.nodes n c low;
-        same = λ m ne. ap (λ z. slice_get z.nodes m) is ∙ slice_get-set_apart t.nodes n m c ne;
-        chain_is = ap (λ z. z.chain) is;
-        slots_are = ap (λ z. length z.nodes) is ∙ length-set t.nodes n c;
-        limit_is = ap (λ z. z.limit) is;
+        here = cc (slice_get-set_same t.nodes n c (slice_get_within t.nodes n old found));
+        same = λ m ne. cc (slice_get-set_apart t.nodes n m c ne);
+        chain_is = cc;
+        slots_are = cc (length-set t.nodes n c);
+        limit_is = cc;
       }
 
-  pub puts-then : {t u v : Table K V} {n : ℕ} {c d : Content K V} → Puts t u n c → Puts u v n d → Puts t v n d
+  pub puts-then : {t u v n c d : _} → Puts t u n c → Puts u v n d → Puts t v n d
   puts-then p q = record {
     here = q.here;
     same = λ m ne. q.same m ne ∙ p.same m ne;
-    chain_is = q.chain_is ∙ p.chain_is;
-    slots_are = q.slots_are ∙ p.slots_are;
-    limit_is = q.limit_is ∙ p.limit_is;
+    chain_is = cc;
+    slots_are = cc;
+    limit_is = cc;
   }
 
   -- the front of the chain was written, and taken off it
@@ -138,23 +135,23 @@ module _ {K V : Type 0} where
     pub slots_are : length u.nodes ≡ length t.nodes
     pub limit_is : u.limit ≡ t.limit
 
-  takes_at : (t u : Table K V) (n : ℕ) (c : Content K V) (chain : List ℕ) → t.chain ≡ chain → front_of chain ≡ Some n → u ≡ with_front t chain c → n < length t.nodes → Takes t u n c
+  takes_at : (t u : Table K V) (n c chain : _) → t.chain ≡ chain → front_of chain ≡ Some n → u ≡ with_front t chain c → n < length t.nodes → Takes t u n c
   takes_at t u n c [] is front after low = absurd cc
   takes_at t u n c (m ∷ rest) is front after low =
       let same : m ≡ n = cc in
-      let after2 : u ≡ with_front t (n ∷ rest) c = after ∙ ap (λ z. with_front t (z ∷ rest) c) same in
+      let after2 = after ∙ ap (λ z. with_front t (z ∷ rest) c) same in
       record {
-        here = ap (λ z. slice_get z.nodes n) after2 ∙ slice_get-set_same t.nodes n c low;
-        same = λ k ne. ap (λ z. slice_get z.nodes k) after2 ∙ slice_get-set_apart t.nodes n k c ne;
-        chain_is = is ∙ ap (λ z. z ∷ rest) same ∙ ap (λ z. n ∷ z.chain) (sym after2);
-        slots_are = ap (λ z. length z.nodes) after2 ∙ length-set t.nodes n c;
-        limit_is = ap (λ z. z.limit) after2;
+        here = cc (slice_get-set_same t.nodes n c low);
+        same = λ k ne. cc (slice_get-set_apart t.nodes n k c ne);
+        chain_is = cc (same);
+        slots_are = cc (length-set t.nodes n c);
+        limit_is = cc;
       }
 
-  pub takes : (t u : Table K V) (n : ℕ) (c : Content K V) → front_of t.chain ≡ Some n → u ≡ with_front t t.chain c → n < length t.nodes → Takes t u n c
+  pub takes : (t u : Table K V) (n c : _) → front_of t.chain ≡ Some n → u ≡ with_front t t.chain c → n < length t.nodes → Takes t u n c
   takes t u n c front after low = takes_at t u n c t.chain refl front after low
 
   -- writing the front of the chain keeps the number of slots
-  pub length-with_front : (t : Table K V) (chain : List ℕ) (c : Content K V) → length (with_front t chain c).nodes ≡ length t.nodes
+  pub length-with_front : (t : Table K V) (chain c : _) → length (with_front t chain c).nodes ≡ length t.nodes
   length-with_front t [] c = refl
   length-with_front t (n ∷ chain) c = length-set t.nodes n c

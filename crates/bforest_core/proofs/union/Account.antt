@@ -1,17 +1,16 @@
 -- The free nodes and the nodes of all trees add up to the slots.
 use Rattle.std.proofs.Common.{◌≡◌, ℕ, zero, suc, ◌+◌, ◌<◌, ◌≢◌, if◌then◌else◌, nat_eq, Bool, true, false, List, [], ◌∷◌, ◌++◌, map, length, refl, sym, ap, ◌∙◌, subst, inl, inr, length-append, append_assoc, arith}
-use Rattle.bforest_core.proofs.Words.{flat_map, sum_by, and_parts, cases_lt, false≢true, eqb_tells, sum_by-cons, Content, children_of, Table, LevelNode, node, sizes, numbers, sizes_of, Tree, count, root_of, numbers_of, slot}
-use Rattle.bforest_core.proofs.Words.{is_used, tree_of, is_root, IsForest, IsUnion}
-use Rattle.bforest_core.proofs.table.Tables.{count-other}
-use Rattle.bforest_core.proofs.rows.Counts.{once_below, below-one, sum-same, upto, count-upto}
-use Rattle.bforest_core.proofs.union.Forests.{root-counts, roots-once, tree-back, used_within}
+use Rattle.bforest_core.proofs.Words.{Row, Rows, flat_map, sum_by, and_parts, cases_lt, false≢true, eqb_tells, sum_by-cons, Content, children_of, Table, node}
+use Rattle.bforest_core.proofs.Words.{sizes, numbers, sizes_of, Tree, count, root_of, numbers_of, is_used, tree_of, is_root, IsForest, IsUnion}
+use Rattle.bforest_core.proofs.{table.Tables.count-other, rows.Counts.{once_below, below-one, sum-same, upto, count-upto}, union.Forests.root-counts}
+use Rattle.bforest_core.proofs.union.Forests.{roots-once, tree-back, used_within}
 
 -- the length of a list is a sum of ones
-length-sum : (xs : List ℕ) → length xs ≡ sum_by (λ (n : ℕ). 1) xs
+length-sum : (xs : _) → length xs ≡ sum_by (λ (n : ℕ). 1) xs
 length-sum [] = refl
 length-sum (x ∷ xs) = omega (arith, length-sum xs, sum_by-cons (λ (n : ℕ). 1) x xs)
 
-pub length-same : (xs ys : List ℕ) → ((n : ℕ) → count n xs ≡ count n ys) → length xs ≡ length ys
+pub length-same : (xs ys : _) → ((n : ℕ) → count n xs ≡ count n ys) → length xs ≡ length ys
 length-same xs ys same = omega (arith, length-sum xs, length-sum ys, sum-same (λ n. 1) xs ys same)
 
 length-upto : (n : ℕ) → length (upto n) ≡ n
@@ -24,58 +23,58 @@ kept p [] = []
 kept p (x ∷ xs) = if p x then x ∷ kept p xs else kept p xs
 
 -- a sum over the numbers that pass a test is a sum over all, in which the others count as 0
-sum-kept : (p : ℕ → Bool) (f : ℕ → ℕ) (xs : List ℕ) → sum_by f (kept p xs) ≡ sum_by (λ n. if p n then f n else 0) xs
+sum-kept : (p : ℕ → Bool) (f : ℕ → ℕ) (xs : _) → sum_by f (kept p xs) ≡ sum_by (λ n. if p n then f n else 0) xs
 sum-kept p f [] = refl
 sum-kept p f (x ∷ xs) = by (p x) refl (sum-kept p f xs)
   where
     by : (b : Bool) → p x ≡ b → sum_by f (kept p xs) ≡ sum_by (λ n. if p n then f n else 0) xs → sum_by f (kept p (x ∷ xs)) ≡ sum_by (λ n. if p n then f n else 0) (x ∷ xs)
-    by true e ih = let k = ap (λ z. sum_by f (if z then x ∷ kept p xs else kept p xs)) e in let v = ap (λ z. if z then f x else 0) e in omega (arith, k, v, ih, sum_by-cons (λ n. if p n then f n else 0) x xs, sum_by-cons f x (kept p xs))
-    by false e ih = let k = ap (λ z. sum_by f (if z then x ∷ kept p xs else kept p xs)) e in let v = ap (λ z. if z then f x else 0) e in omega (arith, k, v, ih, sum_by-cons (λ n. if p n then f n else 0) x xs)
+    by true e ih = let k = ap (λ z. sum_by f (if z then x ∷ kept p xs else kept p xs)) e in let v = ap (λ z. if z then f x else 0) e in omega (arith, sum_by-cons (λ n. if p n then f n else 0) x xs, sum_by-cons f x (kept p xs))
+    by false e ih = let k = ap (λ z. sum_by f (if z then x ∷ kept p xs else kept p xs)) e in let v = ap (λ z. if z then f x else 0) e in omega (arith, sum_by-cons (λ n. if p n then f n else 0) x xs)
 
 -- a number that passes the test occurs as often among those kept, and no other occurs there
-count-kept : (p : ℕ → Bool) (m : ℕ) (xs : List ℕ) → count m (kept p xs) ≡ (if p m then count m xs else 0)
+count-kept : (p : ℕ → Bool) (m xs : _) → count m (kept p xs) ≡ (if p m then count m xs else 0)
 count-kept p m [] = elim (p m) as (λ (b : Bool). ◌≡◌ {A = ℕ} 0 (if b then 0 else 0)) [ true ↦ refl | false ↦ refl ]
 count-kept p m (x ∷ xs) =
     elim (eqb_tells x m) [
-      | inl w ↦ subst (λ z. count m (kept p (z ∷ xs)) ≡ (if p m then count m (z ∷ xs) else 0)) (sym w.1) (here (p m) refl (count-kept p m xs))
+      | inl w ↦ rw w.1 (here (p m) refl (count-kept p m xs))
       | inr w ↦ there (p x) refl w.1 (count-kept p m xs)
     ]
   where
     here : (b : Bool) → p m ≡ b → count m (kept p xs) ≡ (if p m then count m xs else 0) → count m (kept p (m ∷ xs)) ≡ (if p m then count m (m ∷ xs) else 0)
-    here true e ih = let k = ap (λ z. if z then count m xs else 0) e in rw e (omega (arith, ih, k))
-    here false e ih = let k = ap (λ z. if z then count m xs else 0) e in rw e (omega (arith, ih, k))
+    here true e ih = let k = ap (λ z. if z then count m xs else 0) e in rw e (omega arith)
+    here false e ih = let k = ap (λ z. if z then count m xs else 0) e in rw e (omega arith)
 
     there : (b : Bool) → p x ≡ b → x ≢ m → count m (kept p xs) ≡ (if p m then count m xs else 0) → count m (kept p (x ∷ xs)) ≡ (if p m then count m (x ∷ xs) else 0)
-    there true e ne ih = rw e (count-other m x (kept p xs) ne ∙ ih ∙ ap (λ z. if p m then z else 0) (sym (count-other m x xs ne)))
-    there false e ne ih = rw e (ih ∙ ap (λ z. if p m then z else 0) (sym (count-other m x xs ne)))
+    there true e ne ih = rw e (cc (count-other m x (kept p xs) ne, count-other m x xs ne))
+    there false e ne ih = rw e (cc (count-other m x xs ne))
 
 module _ {K V : Type 0} where
   -- a root is the number of a slot
   root-within : (slots : List (Content K V)) (m : ℕ) → is_root slots m ≡ true → m < length slots
   unfolding is_root
-  root-within slots m root = used_within slots m (and_parts (is_used (slot slots m)) (nat_eq (count m (flat_map children_of slots)) 0) root).0
+  root-within slots m root = used_within slots m (and_parts (is_used _) (nat_eq (count m (flat_map children_of slots)) 0) root).0
 
   -- the number of nodes of the tree under a number
   abbrev pub nodes_under : List (Content K V) → ℕ → ℕ
   nodes_under slots root = length (numbers_of (tree_of slots root))
 
-  trees-sum : {most : ℕ} {table : Table K V} (before trees : List (Tree K V)) → IsForest most table (before ++ trees) → length (flat_map numbers_of trees) ≡ sum_by (λ n. nodes_under table.nodes n) (map root_of trees)
+  trees-sum : {most table : _} (before trees : List (Tree K V)) → IsForest most table (before ++ trees) → length (flat_map numbers_of trees) ≡ sum_by (λ n. nodes_under table.nodes n) (map root_of trees)
   trees-sum before [] f = refl
   trees-sum {most = most} {table = table} before (tree ∷ trees) f =
       let ih = trees-sum (before ++ tree ∷ []) trees (subst (λ z. IsForest most table z) (sym (append_assoc before (tree ∷ []) trees)) f) in
       let back = ap (λ z. length (numbers_of z)) (tree-back before tree trees (root_of tree) f refl refl).0 in
-      omega (arith, ih, back, length-append (numbers_of tree) (flat_map numbers_of trees), sum_by-cons (λ n. nodes_under table.nodes n) (root_of tree) (map root_of trees))
+      omega (arith, length-append (numbers_of tree) (flat_map numbers_of trees), sum_by-cons (λ n. nodes_under table.nodes n) (root_of tree) (map root_of trees))
 
   -- the roots are the numbers of slots that pass the test
   roots-kept : {most : _} (table : Table K V) (trees : _) → IsForest most table trees → (m : ℕ) → count m (map root_of trees) ≡ count m (kept (is_root table.nodes) (upto (length table.nodes)))
   roots-kept table trees f m =
-      by (is_root table.nodes m) refl ∙ sym (count-kept (is_root table.nodes) m (upto (length table.nodes)) ∙ ap (λ z. if is_root table.nodes m then z else 0) (count-upto m (length table.nodes)))
+      cc (by (is_root table.nodes m) refl, count-kept (is_root table.nodes) m (upto (length table.nodes)), count-upto m (length table.nodes))
     where
       by : (b : Bool) → is_root table.nodes m ≡ b → count m (map root_of trees) ≡ (if is_root table.nodes m then once_below m (length table.nodes) else 0)
-      by true e = let k = ap (λ z. if z then once_below m (length table.nodes) else 0) e in omega (arith, k, roots-once table f m, (root-counts f m).0 e, below-one m (length table.nodes) (root-within table.nodes m e))
+      by true e = let k = ap (λ z. if z then once_below m (length table.nodes) else 0) e in omega (arith, roots-once table f m, (root-counts f m).0 e, below-one m (length table.nodes) (root-within _ m e))
       by false e =
           let k = ap (λ z. if z then once_below m (length table.nodes) else 0) e in
-          elim (cases_lt 0 (count m (map root_of trees))) [ inl some ↦ absurd (false≢true (sym e ∙ (root-counts f m).1 some)) | inr past ↦ omega (arith, k, past) ]
+          elim (cases_lt 0 (count m (map root_of trees))) [ inl some ↦ absurd (false≢true (sym e ∙ (root-counts f m).1 some)) | inr past ↦ omega arith ]
 
   -- the slots are the free nodes and the nodes of the trees under all roots
   pub account : {most : ℕ} (table : Table K V) → IsUnion most table → length table.nodes ≡ length table.chain + sum_by (λ n. if is_root table.nodes n then length (numbers_of (tree_of table.nodes n)) else 0) (upto (length table.nodes))
@@ -86,13 +85,13 @@ module _ {K V : Type 0} where
       let b = trees-sum [] trees f in
       let c = sum-same (λ n. nodes_under table.nodes n) (map root_of trees) (kept (is_root table.nodes) (upto (length table.nodes))) (roots-kept table trees f) in
       let d = sum-kept (is_root table.nodes) (λ n. nodes_under table.nodes n) (upto (length table.nodes)) in
-      omega (arith, a, b, c, d, length-append (flat_map numbers_of trees) table.chain, length-upto (length table.nodes))
+      omega (arith, length-append (flat_map numbers_of trees) table.chain, length-upto (length table.nodes))
 
-row-count : {K X : Type 0} (row : List (LevelNode K X)) → length (numbers row) ≡ length (sizes row)
+row-count : {K X : Type 0} (row : Row K X) → length (numbers row) ≡ length (sizes row)
 row-count [] = refl
 row-count (node m es ∷ row) = ap suc (row-count row)
 
-rows-count : {K : Type 0} (rows : List (List (LevelNode K ℕ))) → length (flat_map numbers rows) ≡ sum_by (λ (s : List ℕ). length s) (map sizes rows)
+rows-count : {K : Type 0} (rows : Rows K) → length (flat_map numbers rows) ≡ sum_by (λ (s : List ℕ). length s) (map sizes rows)
 rows-count [] = refl
 rows-count (row ∷ rows) = omega (arith, length-append (numbers row) (flat_map numbers rows), row-count row, rows-count rows, sum_by-cons (λ (s : List ℕ). length s) (sizes row) (map sizes rows))
 

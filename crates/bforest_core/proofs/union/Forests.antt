@@ -1,14 +1,11 @@
 -- The trees of a table as a witness and as computed: the roots are the roots of the trees.
-use Rattle.std.proofs.Common.{◌≡◌, ℕ, ◌+◌, ◌≤◌, ◌<◌, ◌↔◌, nat_eq, IsTrue, true, false, List, [], ◌∷◌, ◌++◌, map, length, None, refl, sym, ap, ◌∙◌, subst, inl, inr, arith}
-use Rattle.bforest_core.proofs.Words.{IsLeafCapacity, nil_from_length, flat_map, map-append, get_or_past, flat_map-append, and_parts, cases_lt, eqb_tells, Content, Inner, Leaf, Free, IsFree, children_of, Table, LevelNode, flat, heads, numbers, Stacked, Tree, IsFit}
-use Rattle.bforest_core.proofs.Words.{half_of, IsRooted, RowsIn, IsIn, entry_items, count, root_above, root_of, numbers_of, slot, is_used, tree_of, is_root, Every, IsForest}
-use Rattle.bforest_core.proofs.table.Tables.{count-append, count-same, count-other}
-use Rattle.bforest_core.proofs.table.Read.{items-heads, half-some, slot-is, children-row, children-leaves, read-back}
-use Rattle.bforest_core.proofs.table.Stored.{childless, inner_used}
-use Rattle.bforest_core.proofs.union.FreeSlots.{free-at}
-use Rattle.bforest_core.proofs.rows.Counts.{below-one, past-none, at-most-one, named_by, all-named}
-use Rattle.bforest_core.proofs.walks.TopNode.{node_under}
-use Rattle.bforest_core.proofs.walks.Whole.{whole_under}
+use Rattle.std.proofs.Common.{◌≡◌, ℕ, ◌+◌, ◌≤◌, ◌<◌, ◌↔◌, nat_eq, IsTrue, true, false, List, [], ◌∷◌, ◌++◌, map, length, None, refl, sym, ap, ◌∙◌, inl, inr, arith}
+use Rattle.bforest_core.proofs.Words.{IsLeafCapacity, nil_from_length, flat_map, map-append, get_or_past, flat_map-append, and_parts, cases_lt, eqb_tells}
+use Rattle.bforest_core.proofs.Words.{Content, Inner, Leaf, Free, IsFree, children_of, Table, flat, heads, numbers, Stacked, Tree, IsFit, half_of, IsRooted}
+use Rattle.bforest_core.proofs.Words.{RowsIn, IsIn, entry_items, count, root_above, root_of, numbers_of, slot, is_used, tree_of, is_root, Every, IsForest}
+use Rattle.bforest_core.proofs.{table.Tables.{count-append, count-same, count-other}, table.Read.{items-heads, half-some, slot-is, children-row}}
+use Rattle.bforest_core.proofs.{table.Read.{children-leaves, read-back}, table.Stored.{childless, inner_used}, union.FreeSlots.free-at, rows.Counts.below-one}
+use Rattle.bforest_core.proofs.{rows.Counts.{past-none, at-most-one, named_by, all-named}, walks.TopNode.node_under, walks.Whole.whole_under}
 
 -- what holds of every element of a list holds of each of its parts
 pub every-append : {X : Type 0} (P : X → Type 0) (xs ys : List X) → Every P (xs ++ ys) → Every P xs × Every P ys
@@ -22,27 +19,27 @@ every-join P (x ∷ xs) ys a b = (a.0, every-join P xs ys a.1 b)
 
 module _ {K V : Type 0} where
   -- the nodes above a level name the nodes of that level and each other, but not the root
-  named_rows : (slots : List (Content K V)) (hs : List (K × ℕ)) (rows : List (List (LevelNode K ℕ))) → Stacked hs rows → RowsIn slots rows → (m : ℕ) →
+  named_rows : (slots : List (Content K V)) (hs rows : _) → Stacked hs rows → RowsIn slots rows → (m : ℕ) →
       count m (named_by slots (flat_map numbers rows)) + count m (root_above hs rows ∷ []) ≡ count m (entry_items hs) + count m (flat_map numbers rows)
-  named_rows slots [] [] s i m = absurd (omega (arith, s))
+  named_rows slots [] [] s i m = absurd (omega arith)
   named_rows slots (x ∷ []) [] s i m = omega arith
-  named_rows slots (x ∷ y ∷ hs) [] s i m = absurd (omega (arith, s))
+  named_rows slots (x ∷ y ∷ hs) [] s i m = absurd (omega arith)
   named_rows slots hs (row ∷ rows) s i m =
       let ih = named_rows slots (heads row) rows s.2 i.1 m in
       let a = ap (λ z. count m z) (flat_map-append (λ k. children_of (slot slots k)) (numbers row) (flat_map numbers rows)) ∙ count-append m (named_by slots (numbers row)) (named_by slots (flat_map numbers rows)) in
       let b = ap (λ z. count m z) (children-row slots row i.0 ∙ ap entry_items s.0) in
       let c = ap (λ z. count m z) (items-heads 4 8 (omega arith) row s.1) in
-      omega (arith, ih, a, b, c, count-append m (numbers row) (flat_map numbers rows))
+      omega (arith, count-append m (numbers row) (flat_map numbers rows))
 
   -- each number of a tree but its root is named by one node of the tree, and no other number is
   named_tree : {most slots : _} {tree : Tree K V} → IsFit most tree → IsIn slots tree → 1 ≤ length (flat tree.leaves) → (m : ℕ) →
       count m (named_by slots (numbers_of tree)) + count m (root_of tree ∷ []) ≡ count m (numbers_of tree)
   named_tree {most = most} {slots = slots} {tree = tree} f i some m =
-      let r = named_rows slots (heads tree.leaves) tree.above f.stacked i.rows_in m in
+      let r = named_rows _ _ _ f.stacked i.rows_in m in
       let a = ap (λ z. count m z) (flat_map-append (λ k. children_of (slot slots k)) (numbers tree.leaves) (flat_map numbers tree.above)) ∙ count-append m (named_by slots (numbers tree.leaves)) (named_by slots (flat_map numbers tree.above)) in
       let b = ap (λ z. count m z) (children-leaves slots tree.leaves i.leaves_in) in
       let c = ap (λ z. count m z) (items-heads (half_of most) most (half-some most tree.leaves f.leaves_fit some) tree.leaves f.leaves_fit) in
-      omega (arith, r, a, b, c, count-append m (numbers tree.leaves) (flat_map numbers tree.above))
+      omega (arith, count-append m (numbers tree.leaves) (flat_map numbers tree.above))
 
   -- the root of a tree is one of its numbers
   pub root-among : (most slots : _) (tree : Tree K V) → IsFit most tree → IsIn slots tree → 1 ≤ length (flat tree.leaves) → 0 < count (root_of tree) (numbers_of tree)
@@ -56,7 +53,7 @@ module _ {K V : Type 0} where
       let one = named_tree f.0 i.0 some.0 m in
       let ih = named_trees most slots trees f.1 i.1 some.1 m in
       let a = ap (λ z. count m z) (flat_map-append (λ k. children_of (slot slots k)) (numbers_of tree) (flat_map numbers_of trees)) ∙ count-append m (named_by slots (numbers_of tree)) (named_by slots (flat_map numbers_of trees)) in
-      omega (arith, one, ih, a, count-append m (numbers_of tree) (flat_map numbers_of trees))
+      omega (arith, count-append m (numbers_of tree) (flat_map numbers_of trees))
 
   -- a free slot names no node
   no_children : (content : Content K V) → IsFree content → children_of content ≡ []
@@ -69,12 +66,12 @@ module _ {K V : Type 0} where
   free-unused (Free next) f = refl
 
   -- free slots name no nodes
-  named_free : (slots : List (Content K V)) (ms : List ℕ) → Every (λ (m : ℕ). IsFree (slot slots m)) ms → named_by slots ms ≡ []
+  named_free : (slots : List (Content K V)) (ms : _) → Every (λ (m : ℕ). IsFree (slot slots m)) ms → named_by slots ms ≡ []
   named_free slots [] f = refl
-  named_free slots (m ∷ ms) f = let e = no_children (slot slots m) f.0 in rw e (named_free slots ms f.1)
+  named_free slots (m ∷ ms) f = let e = no_children _ f.0 in rw e (named_free slots ms f.1)
 
   -- the root of a tree is a node
-  root_used : {most : ℕ} → IsLeafCapacity most → (slots : List (Content K V)) (tree : Tree K V) → IsRooted most slots (root_of tree) tree → is_used (slot slots (root_of tree)) ≡ true
+  root_used : {most : ℕ} → IsLeafCapacity most → (slots : List (Content K V)) (tree : _) → IsRooted most slots (root_of tree) tree → is_used (slot slots (root_of tree)) ≡ true
   root_used capacity slots tree r =
       let u = whole_under r in
       elim (node_under capacity tree.above [] u.0 (root_of tree) [] u.1) [ inl w ↦ ap is_used (slot-is slots (root_of tree) _ w.slot_is) | inr w ↦ ap is_used (slot-is slots (root_of tree) _ w.slot_is) ]
@@ -82,10 +79,10 @@ module _ {K V : Type 0} where
   -- the slots of a table name each number of its trees except the roots
   named_all : {most : _} {table : Table K V} {trees : _} → IsForest most table trees → (m : ℕ) → count m (flat_map children_of table.nodes) + count m (map root_of trees) ≡ count m (flat_map numbers_of trees)
   named_all {most = most} {table = table} {trees = trees} f m =
-      let a = all-named table.nodes (flat_map numbers_of trees ++ table.chain) f.account m in
+      let a = all-named _ _ f.account m in
       let b = ap (λ z. count m z) (flat_map-append (λ k. children_of (slot table.nodes k)) (flat_map numbers_of trees) table.chain) ∙ count-append m (named_by table.nodes (flat_map numbers_of trees)) (named_by table.nodes table.chain) in
       let c = ap (λ z. count m z) (named_free table.nodes table.chain f.free) in
-      omega (arith, a, b, c, named_trees most table.nodes trees f.fit f.inside f.some m)
+      omega (arith, named_trees most table.nodes trees f.fit f.inside f.some m)
 
   -- a number occurs in the trees or on the chain at most once
   pub once : {most : _} {table : Table K V} {trees : _} → IsForest most table trees → (m : ℕ) → count m (flat_map numbers_of trees) + count m table.chain ≤ 1
@@ -94,7 +91,7 @@ module _ {K V : Type 0} where
   -- a number in the trees or on the chain is that of a slot
   pub within-slots : {most : _} {table : Table K V} {trees : _} → IsForest most table trees → (m : ℕ) → 0 < count m (flat_map numbers_of trees) + count m table.chain → m < length table.nodes
   within-slots {table = table} {trees = trees} f m some =
-      elim (cases_lt m (length table.nodes)) [ inl low ↦ low | inr past ↦ absurd (omega (arith, f.account m, past-none m (length table.nodes) past, some, count-append m (flat_map numbers_of trees) table.chain)) ]
+      elim (cases_lt m (length table.nodes)) [ inl low ↦ low | inr past ↦ absurd (omega (arith, f.account m, past-none m (length table.nodes) past, count-append m (flat_map numbers_of trees) table.chain)) ]
 
   -- no two trees have the same root
   pub roots-once : {most : _} (table : Table K V) {trees : _} → IsForest most table trees → (m : ℕ) → count m (map root_of trees) ≤ 1
@@ -106,12 +103,12 @@ module _ {K V : Type 0} where
       elim (cases_lt m (length slots)) [ inl low ↦ low | inr past ↦ absurd (let e = ap is_used (get_or_past slots m (Free None) past) in cc) ]
 
   -- the trees, cut at the tree of a root
-  pub tree-with : (trees : List (Tree K V)) (m : ℕ) → 0 < count m (map root_of trees) → (before : List (Tree K V)) × (tree : Tree K V) × (after : List (Tree K V)) × (trees ≡ before ++ tree ∷ after) × (root_of tree ≡ m)
-  tree-with [] m some = absurd (omega (arith, some))
+  pub tree-with : (trees : List (Tree K V)) (m : ℕ) → 0 < count m (map root_of trees) → (before : List (Tree K V)) × (tree : _) × (after : List (Tree K V)) × (trees ≡ before ++ tree ∷ after) × (root_of tree ≡ m)
+  tree-with [] m some = absurd (omega arith)
   tree-with (tree ∷ trees) m some =
       elim (eqb_tells (root_of tree) m) [
         | inl w ↦ ([], tree, trees, refl, w.1)
-        | inr w ↦ (let r = tree-with trees m (omega (arith, some, count-other m (root_of tree) (map root_of trees) w.1)) in (tree ∷ r.0, r.1, r.2, ap (λ z. tree ∷ z) r.3, r.4))
+        | inr w ↦ (let r = tree-with trees m (omega (arith, count-other m (root_of tree) (map root_of trees) w.1)) in (tree ∷ r.0, r.1, r.2, ap (λ z. tree ∷ z) r.3, r.4))
       ]
 
   -- a tree of the witness is computed from its root, which is a root of the table
@@ -119,27 +116,27 @@ module _ {K V : Type 0} where
       (tree_of table.nodes root ≡ tree) × IsTrue (is_root table.nodes root)
   unfolding is_root
   tree-back {most = most} {table = table} before tree after root given split is =
-      let f = subst (λ z. IsForest most table z) split given in
+      let f = rw split at given in
       let fit = (every-append (IsFit most) before (tree ∷ after) f.fit).1.0 in
       let inside = (every-append (IsIn table.nodes) before (tree ∷ after) f.inside).1.0 in
       let some = (every-append (λ (tree : Tree K V). 1 ≤ length (flat tree.leaves)) before (tree ∷ after) f.some).1.0 in
       let low = (every-append (λ (tree : Tree K V). length tree.above ≤ 16) before (tree ∷ after) f.low).1.0 in
       let m = root_of tree in
       let here = ap (λ z. count m z) (map-append root_of before (tree ∷ after)) ∙ count-append m (map root_of before) (m ∷ map root_of after) in
-      let none : count m (flat_map children_of table.nodes) ≡ 0 = omega (arith, here, count-same m (map root_of after), named_all f m, once f m) in
+      let none : count m (flat_map children_of table.nodes) ≡ 0 = omega (arith, count-same m (map root_of after), named_all f m, once f m) in
       let used = root_used f.capacity table.nodes tree (record { fit = fit; inside = inside; root_is = refl; some = some; low = low }) in
-      subst (λ z. (tree_of table.nodes z ≡ tree) × IsTrue (is_root table.nodes z)) is (read-back most tree fit inside some low, rw (used, none) refl)
+      rw (← is) (read-back most tree fit inside some low, rw (used, none) refl)
 
   -- a number is a root exactly if it is the root of one of the trees
   pub root-counts : {most : _} {table : Table K V} {trees : _} → IsForest most table trees → (m : ℕ) → IsTrue (is_root table.nodes m) ↔ (0 < count m (map root_of trees))
   unfolding is_root
   root-counts {most = most} {table = table} {trees = trees} f m = (
     λ root. (
-        let parts = and_parts (is_used (slot table.nodes m)) (nat_eq (count m (flat_map children_of table.nodes)) 0) root in
+        let parts = and_parts (is_used _) (nat_eq (count m (flat_map children_of table.nodes)) 0) root in
         let none : count m (flat_map children_of table.nodes) ≡ 0 = elim (eqb_tells (count m (flat_map children_of table.nodes)) 0) [ inl w ↦ w.1 | inr w ↦ absurd (let e = w.0 in let d = parts.1 in cc) ] in
         let low = used_within table.nodes m parts.0 in
-        let off : count m table.chain ≡ 0 = elim (cases_lt 0 (count m table.chain)) [ inl on ↦ absurd (let e = free-unused (slot table.nodes m) (free-at table.nodes table.chain f.free m on) in let d = parts.0 in cc) | inr off ↦ omega (arith, off) ] in
-        omega (arith, none, off, f.account m, below-one m (length table.nodes) low, count-append m (flat_map numbers_of trees) table.chain, named_all f m)
+        let off : count m table.chain ≡ 0 = elim (cases_lt 0 (count m table.chain)) [ inl on ↦ absurd (let e = free-unused (slot table.nodes m) (free-at _ _ f.free m on) in let d = parts.0 in cc) | inr off ↦ omega arith ] in
+        omega (arith, f.account m, below-one m (length table.nodes) low, count-append m (flat_map numbers_of trees) table.chain, named_all f m)
         ),
     λ some. (let r = tree-with trees m some in (tree-back r.0 r.1 r.2 m f r.3 r.4).1),
   )

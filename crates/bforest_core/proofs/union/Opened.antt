@@ -1,32 +1,27 @@
 -- A node on top of the rows below it, opened: its content, and what is below its children.
-use Rattle.std.proofs.Common.{◌≡◌, ℕ, suc, ◌+◌, ◌≤◌, ◌<◌, List, [], ◌∷◌, ◌++◌, length, reverse, slice_get, Some, append-nil, refl, sym, ap, subst, ◌∙◌, inl, inr, arith}
-use Rattle.bforest_core.proofs.Words.{flat_map, flat_map-append, Content, Inner, Leaf, Free, IsInner, children_of, entry_count, LevelNode, node, flat, numbers, leaf_content, inner_content}
-use Rattle.bforest_core.proofs.Words.{entry_items, count, Under, numbers_down, numbers_under, nil_from_length}
-use Rattle.bforest_core.proofs.walks.Downward.{Seen}
-use Rattle.bforest_core.proofs.walks.TopNode.{LeafUnder, InnerUnder, node_under}
-use Rattle.bforest_core.proofs.walks.RowNodes.{no_heads}
-use Rattle.bforest_core.proofs.table.Read.{slot-is}
-use Rattle.bforest_core.proofs.table.Tables.{count-append}
-use Rattle.bforest_core.proofs.Words.{IsLeafCapacity}
-use Rattle.bforest_core.proofs.rows.LevelRows.{some_leaf}
+use Rattle.std.proofs.Common.{◌≡◌, ℕ, suc, ◌+◌, ◌≤◌, ◌<◌, List, [], ◌∷◌, length, reverse, slice_get, Some, append-nil, refl, sym, ap, subst, inl, inr, arith}
+use Rattle.bforest_core.proofs.Words.{Heads, Row, Rows, flat_map, flat_map-append, Content, Inner, Leaf, Free, IsInner, children_of, entry_count, node, numbers}
+use Rattle.bforest_core.proofs.Words.{leaf_content, inner_content, entry_items, count, Under, numbers_down, numbers_under, nil_from_length, IsLeafCapacity}
+use Rattle.bforest_core.proofs.{walks.Downward.Seen, walks.TopNode.{LeafUnder, InnerUnder, node_under}, walks.RowNodes.no_heads, table.Read.slot-is}
+use Rattle.bforest_core.proofs.{table.Tables.count-append, rows.LevelRows.some_leaf}
 
 -- a row with one head has one node
-one_node : {K X : Type 0} {half : ℕ} (most : ℕ) → 1 ≤ half → {row : List (LevelNode K X)} {first : K} {number : ℕ} (at : Seen half most row [] first number []) → row ≡ node number (at.e ∷ at.es) ∷ []
+one_node : {K X : Type 0} {half : ℕ} (most : ℕ) → 1 ≤ half → {row : Row K X} {first number : _} (at : Seen half most row [] first number []) → row ≡ node number (at.e ∷ at.es) ∷ []
 one_node {half = half} most one {number = number} at =
-    at.row_is ∙ ap (λ z. z ++ node number (at.e ∷ at.es) ∷ at.after) (nil_from_length at.before at.before_is) ∙ ap (λ z. node number (at.e ∷ at.es) ∷ z) (no_heads half most one at.after at.after_fit at.after_is)
+    cc (nil_from_length at.before at.before_is, no_heads half most one at.after at.after_fit at.after_is)
 
 module _ {K V : Type 0} where
   -- only inner nodes have children, which are their entries
   pub inner-children : (content : Content K V) → 0 < length (children_of content) → IsInner content × (entry_count content ≡ length (children_of content))
   inner-children (Inner keys children) some = (tt, refl)
-  inner-children (Leaf keys vals) some = absurd (omega (arith, some))
-  inner-children (Free next) some = absurd (omega (arith, some))
+  inner-children (Leaf keys vals) some = absurd (omega arith)
+  inner-children (Free next) some = absurd (omega arith)
 
   -- the node on top of the rows below it: its content, and what is below its children, if any
-  pub record Opened (most : ℕ) (slots : List (Content K V)) (leaves : List (LevelNode K V)) (lower : List (List (LevelNode K ℕ))) (number : ℕ) : Type 0 where
-    pub low : List (LevelNode K V)
-    pub rows : List (List (LevelNode K ℕ))
-    pub top : List (K × ℕ)
+  pub record Opened (most : ℕ) (slots : List (Content K V)) (leaves : Row K V) (lower : Rows K) (number : ℕ) : Type 0 where
+    pub low : Row K V
+    pub rows : Rows K
+    pub top : Heads K
     pub content : Content K V
     pub slot_is : slice_get slots number ≡ Some content
     pub children_are : children_of content ≡ entry_items top
@@ -35,7 +30,7 @@ module _ {K V : Type 0} where
     pub height : 0 < length top → suc (length rows) ≡ length lower
     pub down : numbers_down slots (length lower) number ≡ number ∷ flat_map (numbers_down slots (length rows)) (reverse (entry_items top))
 
-  module _ {most : ℕ} (capacity : IsLeafCapacity most) {slots : List (Content K V)} {leaves : List (LevelNode K V)} where
+  module _ {most : ℕ} (capacity : IsLeafCapacity most) {slots leaves : _} where
     open_leaf : (lower : _) {first : _} (number : _) → LeafUnder most slots leaves lower [] first number [] → Opened most slots leaves lower number
     open_leaf lower number s =
         let row = one_node most (some_leaf capacity) s.at in
@@ -48,8 +43,8 @@ module _ {K V : Type 0} where
           children_are = refl;
           under = record { leaves_fit = tt; leaves_in = tt; stacked = refl; rows_in = tt };
           counted = λ m. omega (arith, count-append m (numbers leaves) (flat_map numbers lower), ap (λ z. count m (numbers z)) row, ap (λ z. count m (flat_map numbers z)) s.lower_is);
-          height = λ some. absurd (omega (arith, some));
-          down = ap (λ z. numbers_down slots (length z) number) s.lower_is;
+          height = λ some. absurd (omega arith);
+          down = cc;
         }
 
     open_inner : (lower : _) {first : _} (number : _) → InnerUnder most slots leaves lower [] first number [] → Opened most slots leaves lower number
@@ -63,20 +58,11 @@ module _ {K V : Type 0} where
           content = inner_content es;
           slot_is = s.slot_is;
           children_are = refl;
-          under = subst (λ z. Under most slots leaves s.rows z) (ap flat row ∙ append-nil es) s.under;
-          counted = λ m. omega (
-            arith,
-            count-append m (numbers leaves) (flat_map numbers lower),
-            count-append m (numbers leaves) (flat_map numbers s.rows),
-            ap (λ z. count m (flat_map numbers z)) s.lower_is,
-            ap (λ z. count m z) (flat_map-append numbers s.rows (s.row ∷ [])),
-            count-append m (flat_map numbers s.rows) (numbers s.row ++ []),
-            ap (λ z. count m z) (append-nil (numbers s.row)),
-            ap (λ z. count m (numbers z)) row,
-          );
+          under = subst (λ z. Under most slots leaves s.rows z) (cc (append-nil es)) s.under;
+          counted = λ m. omega (arith, ap (λ z. count m (flat_map numbers z)) s.lower_is, ap (λ z. count m z) (flat_map-append numbers s.rows (s.row ∷ [])), ap (λ z. count m z) (append-nil (numbers s.row)), ap (λ z. count m (numbers z)) row, count-append);
           height = λ some. sym s.count_is;
-          down = ap (λ z. numbers_down slots z number) s.count_is ∙ ap (λ z. number ∷ flat_map (numbers_down slots (length s.rows)) (reverse (children_of z))) (slot-is slots number (inner_content es) s.slot_is);
+          down = cc (slot-is slots number (inner_content es) s.slot_is);
         }
 
-    pub under-open : {lower : _} {first : K} {number : ℕ} → Under most slots leaves lower ((first, number) ∷ []) → Opened most slots leaves lower number
-    under-open {lower = lower} {first = first} {number = number} u = elim (node_under capacity lower [] first number [] u) [ inl s ↦ open_leaf lower number s | inr s ↦ open_inner lower number s ]
+    pub under-open : {lower : _} {first number : _} → Under most slots leaves lower ((first, number) ∷ []) → Opened most slots leaves lower number
+    under-open {lower = lower} {first = first} {number = number} u = elim (node_under capacity lower [] first number [] u) [ inl s ↦ open_leaf _ _ s | inr s ↦ open_inner lower number s ]

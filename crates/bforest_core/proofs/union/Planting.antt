@@ -1,16 +1,13 @@
 -- A table without trees, the first entry of a tree, and the properties of the tree under a root.
-use Rattle.std.proofs.Common.{◌≡◌, ℕ, ◌-◌, IsTrue, Some, List, [], ◌∷◌, drop, length, refl, sym, ap, ◌∙◌, subst, length-append, arith}
-use Rattle.bforest_core.proofs.Words.{IsLeafCapacity, Leaf, Table, front_of, free_count, slot_count, fresh_nodes, down_from, with_front, reserved, node, flat, sizes_of, Tree, count, numbers_of, is_root, IsUnion, Plants}
-use Rattle.bforest_core.proofs.table.Tables.{count-same, absent_ne, takes}
-use Rattle.bforest_core.proofs.table.Chains.{length-fresh_nodes, length-down_from}
-use Rattle.bforest_core.proofs.rows.Counts.{past-none}
-use Rattle.bforest_core.proofs.union.Exchange.{IsPlanted, Traded, exchange-trees, others-keep, roots-gone, traded}
-use Rattle.bforest_core.proofs.union.Forests.{once, tree-back, within-slots}
-use Rattle.bforest_core.proofs.union.Roots.{not-root, one_root, one_tree}
-use Rattle.bforest_core.proofs.union.Reserved.{reserved-union, reserved-then, reserved-roots}
+use Rattle.std.proofs.Common.{◌≡◌, ℕ, ◌-◌, IsTrue, Some, [], ◌∷◌, length, refl, sym, ap, ◌∙◌, subst, length-append, arith}
+use Rattle.bforest_core.proofs.Words.{IsLeafCapacity, Leaf, Table, front_of, free_count, slot_count, fresh_nodes, down_from, with_front, reserved, node, Tree}
+use Rattle.bforest_core.proofs.{Words.{count, numbers_of, is_root, IsUnion, Plants}, table.Tables.{count-same, absent_ne, takes}}
+use Rattle.bforest_core.proofs.{table.Chains.{length-fresh_nodes, length-down_from}, rows.Counts.past-none, union.Exchange.{IsPlanted, Traded, exchange-trees}}
+use Rattle.bforest_core.proofs.{union.Exchange.{others-keep, roots-gone, traded}, union.Forests.{once, tree-back, within-slots}, union.Roots.not-root}
+use Rattle.bforest_core.proofs.{union.Roots.{one_root, one_tree}, union.Reserved.{reserved-union, reserved-then, reserved-roots}}
 
 -- a chain with a front is not empty
-front_rest : {m : ℕ} (chain : List ℕ) → front_of chain ≡ Some m → (rest : List ℕ) × (chain ≡ m ∷ rest)
+front_rest : {m : ℕ} (chain : _) → front_of chain ≡ Some m → (rest : _) × (chain ≡ m ∷ rest)
 front_rest [] e = absurd cc
 front_rest {m = m} (x ∷ rest) e = (rest, (let same : x ≡ m = cc in ap (λ z. z ∷ rest) same))
 
@@ -34,12 +31,12 @@ module _ {K V : Type 0} where
       let t = takes mid new number (Leaf (key ∷ []) (value ∷ [])) front is (within-slots u.1 number (omega (arith, ap (λ z. count number z) f.1, count-same number f.0))) in
       let tree : Tree K V = record { leaves = node number ((key, value) ∷ []) ∷ []; above = [] } in
       let p : IsPlanted most new.nodes tree = record {
-        fit = record { leaves_fit = (omega arith, omega (arith, union.1.capacity.least), tt); stacked = refl; topped = tt };
+        fit = record { leaves_fit = (omega arith, omega arith, tt); stacked = refl; topped = tt };
         inside = record { leaves_in = (t.here, tt); rows_in = tt };
         some = omega arith;
         low = omega arith;
       } in
-      let moved = traded mid new [] (numbers_of tree) (number ∷ []) [] new.chain u.1.free (λ m. omega (arith, once u.1 m)) t.chain_is refl tt t.slots_are (λ m. omega arith) (λ m none. t.same m (absent_ne m number [] (omega (arith, none)))) in
+      let moved = traded mid new [] (numbers_of tree) (number ∷ []) [] new.chain u.1.free (λ m. omega (arith, once u.1 m)) t.chain_is refl tt t.slots_are (λ m. omega arith) (λ m none. t.same m (absent_ne m number [] (omega arith))) in
       let g = exchange-trees [] [] (tree ∷ []) u.0 u.1 (p, tt) (subst (λ z. Traded mid new [] z) (one_tree tree) moved) in
       let back = tree-back [] tree u.0 number g refl refl in
       let made = length-fresh_nodes K V (slot_count old) (1 - free_count old) (front_of old.chain) in
@@ -50,8 +47,8 @@ module _ {K V : Type 0} where
         changes = record {
           union = (tree ∷ u.0, g);
           root_is = back.1;
-          list_is = ap (λ z. flat z.leaves) back.0;
-          sizes_are = ap (λ z. sizes_of z) back.0;
+          list_is = cc;
+          sizes_are = cc;
           others = reserved-then most old 1 new number number union (λ other ne ne'. others-keep [] [] (tree ∷ []) u.0 u.1 g other refl (not-root other number ne));
           old_gone = λ ne. absurd (ne refl);
           new_came = λ ne. absurd (ne refl);
@@ -59,8 +56,8 @@ module _ {K V : Type 0} where
         };
         fresh = λ there. roots-gone [] (tree ∷ []) [] u.0 g u.1 number (one_root number) refl ((reserved-roots most old 1 union number).0 ∙ there);
         takes = record {
-          slots = omega (arith, t.slots_are, slots, made);
-          free = omega (arith, ap length t.chain_is, chains, downs);
-          chain_is = sym (ap (λ z. drop 1 z) t.chain_is);
+          slots = omega arith;
+          free = omega (arith, ap length t.chain_is);
+          chain_is = cc;
         };
       }

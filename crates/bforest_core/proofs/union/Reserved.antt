@@ -1,15 +1,11 @@
 -- New slots in front of the chain leave the trees of a table unchanged.
-use Rattle.std.proofs.Common.{◌≡◌, ℕ, zero, suc, ◌+◌, ◌-◌, ◌≤◌, ◌<◌, IsTrue, Option, None, List, [], ◌∷◌, ◌++◌, length, get_or, slice_get, refl, sym, ap, ◌∙◌, subst, length-append, arith}
-use Rattle.bforest_core.proofs.Words.{flat_map, get_or-append_right, slice_get-get_or, Content, Free, IsFree, Table, down_from, fresh_nodes, front_of, front_of_new, free_count, slot_count, with_slots, reserved, KeepsTrees}
-use Rattle.bforest_core.proofs.Words.{count, numbers_of, slot, tree_of, is_root, Every, IsForest, IsUnion, OthersKeep}
+use Rattle.std.proofs.Common.{◌≡◌, ℕ, zero, suc, ◌+◌, ◌-◌, ◌≤◌, ◌<◌, IsTrue, None, List, [], ◌∷◌, ◌++◌, length, slice_get, refl, sym, ap, ◌∙◌, subst, length-append, arith}
+use Rattle.bforest_core.proofs.Words.{flat_map, get_or-append_right, slice_get-get_or, Content, Free, IsFree, Table, down_from, fresh_nodes, front_of}
+use Rattle.bforest_core.proofs.Words.{free_count, slot_count, with_slots, reserved, KeepsTrees, count, numbers_of, slot, tree_of, is_root, Every, IsForest}
+use Rattle.bforest_core.proofs.{Words.{IsUnion, OthersKeep}, table.Tables.count-append, table.Lists.slice_get-append_left, table.Chains.length-down_from}
+use Rattle.bforest_core.proofs.{table.Chains.length-fresh_nodes, rows.Counts.{once_below, upto, count-upto}, union.FreeSlots.free-same}
+use Rattle.bforest_core.proofs.{union.Forests.{every-join, within-slots}, union.Exchange.{trees-same, others-keep}}
 use Rattle.std.proofs.lemmas.Bool.Decides.{same_from_decides}
-use Rattle.bforest_core.proofs.table.Tables.{count-append}
-use Rattle.bforest_core.proofs.table.Lists.{slice_get-append_left}
-use Rattle.bforest_core.proofs.table.Chains.{length-down_from, length-fresh_nodes}
-use Rattle.bforest_core.proofs.rows.Counts.{once_below, upto, count-upto}
-use Rattle.bforest_core.proofs.union.FreeSlots.{free-same}
-use Rattle.bforest_core.proofs.union.Forests.{every-join, within-slots}
-use Rattle.bforest_core.proofs.union.Exchange.{trees-same, others-keep}
 
 -- each of `n` new numbers is at least the first
 every-down : (P : ℕ → Type 0) (first : ℕ) → ((m : ℕ) → first ≤ m → P m) → (n : ℕ) → Every P (down_from first n)
@@ -22,20 +18,20 @@ count-down m first zero = let e : first + 0 ≡ first = omega arith in rw e (ome
 count-down m first (suc n) =
     let e : first + suc n ≡ suc (first + n) = omega arith in
     let a = ap (λ z. once_below m z) e in
-    omega (arith, a, count-upto m (suc (first + n)), count-upto m (first + n), count-append m (upto (first + n)) ((first + n) ∷ []), count-down m first n)
+    omega (arith, count-upto m (suc (first + n)), count-upto m (first + n), count-append m (upto (first + n)) ((first + n) ∷ []), count-down m first n)
 
 module _ {K V : Type 0} where
   -- free slots followed by one more free slot
-  free_more : (xs : List (Content K V)) (next : Option ℕ) → ((m : ℕ) → IsFree (slot xs m)) → (m : ℕ) → IsFree (slot (xs ++ Free next ∷ []) m)
+  free_more : (xs : List (Content K V)) (next : _) → ((m : ℕ) → IsFree (slot xs m)) → (m : ℕ) → IsFree (slot (xs ++ Free next ∷ []) m)
   free_more [] next f zero = tt
   free_more [] next f (suc m) = tt
   free_more (x ∷ xs) next f zero = f zero
   free_more (x ∷ xs) next f (suc m) = free_more xs next (λ k. f (suc k)) m
 
 -- new slots are free
-fresh_free : (K V : Type 0) (first n : ℕ) (next : Option ℕ) (m : ℕ) → IsFree (slot (fresh_nodes {K = K} {V = V} first n next) m)
+fresh_free : (K V : Type 0) (first n next m : _) → IsFree (slot (fresh_nodes {K = K} {V = V} first n next) m)
 fresh_free K V first zero next m = tt
-fresh_free K V first (suc n) next m = free_more (fresh_nodes {K = K} {V = V} first n next) (front_of_new first n next) (fresh_free K V first n next) m
+fresh_free K V first (suc n) next m = free_more _ _ (fresh_free K V first n next) m
 
 module _ {K V : Type 0} where
   -- each slot from the new ones on is free
@@ -46,30 +42,30 @@ module _ {K V : Type 0} where
   slots_same : (xs more : List (Content K V)) (m : ℕ) → m < length xs → slice_get (xs ++ more) m ≡ slice_get xs m
   slots_same xs more m low =
       let e = slice_get-get_or xs m (Free None) low in
-      slice_get-append_left xs more m (get_or xs m (Free None)) e ∙ sym e
+      slice_get-append_left _ _ m _ e ∙ sym e
 
   -- a table with `n` new slots has the same trees
   with-slots-forest : {most : _} {table : Table K V} (n : _) {trees : _} → IsForest most table trees → IsForest most (with_slots table n) trees
   with-slots-forest {most = most} {table = table} n {trees = trees} f =
-      let more : List (Content K V) = fresh_nodes (slot_count table) n (front_of table.chain) in
+      let more = fresh_nodes (slot_count table) n (front_of table.chain) in
       let c = λ (m : ℕ). count-append m (flat_map numbers_of trees) table.chain in
       let low = within-slots f in
       let slots : length (table.nodes ++ more) ≡ length table.nodes + n = omega (arith, length-append table.nodes more, length-fresh_nodes K V (slot_count table) n (front_of table.chain)) in
       record {
         capacity = f.capacity;
         fit = f.fit;
-        inside = trees-same table.nodes (table.nodes ++ more) trees (λ m some. slots_same table.nodes more m (low m (omega (arith, some)))) f.inside;
+        inside = trees-same table.nodes (table.nodes ++ more) trees (λ m some. slots_same table.nodes more m (low m (omega arith))) f.inside;
         some = f.some;
         low = f.low;
-        free = every-join (λ (number : ℕ). IsFree (slot (table.nodes ++ more) number)) (down_from (slot_count table) n) table.chain
-            (every-down (λ (number : ℕ). IsFree (slot (table.nodes ++ more) number)) (slot_count table) (past_free table.nodes more (fresh_free K V (slot_count table) n (front_of table.chain))) n)
-            (free-same table.nodes (table.nodes ++ more) table.chain (λ m some. slots_same table.nodes more m (low m (omega (arith, some)))) f.free);
-        account = λ m. omega (arith, count-append m (flat_map numbers_of trees) (down_from (slot_count table) n ++ table.chain), count-append m (down_from (slot_count table) n) table.chain, c m, f.account m, count-down m (slot_count table) n) ∙ ap (λ z. once_below m z) (sym slots);
+        free = every-join _ _ _
+            (every-down _ _ (past_free table.nodes more (fresh_free K V (slot_count table) n (front_of table.chain))) n)
+            (free-same table.nodes (table.nodes ++ more) table.chain (λ m some. slots_same table.nodes more m (low m (omega arith))) f.free);
+        account = λ m. omega (arith, c m, f.account m, count-down m (slot_count table) n, count-append) ∙ ap (λ z. once_below m z) (sym slots);
       }
 
   -- the used slots are a union of trees after a reservation
   pub reserved-union : (most : ℕ) (table : Table K V) (n : ℕ) → IsUnion most table → IsUnion most (reserved table n)
-  reserved-union most table n union = (union.0, with-slots-forest (n - free_count table) union.1)
+  reserved-union most table n union = (union.0, with-slots-forest _ union.1)
 
   -- a reservation keeps the roots and their trees
   pub reserved-roots : (most : ℕ) (table : Table K V) (n : ℕ) → IsUnion most table → (number : ℕ) →
@@ -81,17 +77,17 @@ module _ {K V : Type 0} where
   -- a change that keeps the other trees of the table with more slots keeps those of the table
   pub reserved-then : (most : ℕ) (table : Table K V) (n : ℕ) (new : Table K V) (root root' : ℕ) → IsUnion most table → OthersKeep (reserved table n).nodes new.nodes root root' → OthersKeep table.nodes new.nodes root root'
   reserved-then most table n new root root' union keep other ne ne' =
-      let r = reserved-roots most table n union other in
+      let r = reserved-roots _ _ n union _ in
       let k = keep other ne ne' in ((λ now. sym r.0 ∙ k.0.0 now, λ was. k.0.1 (r.0 ∙ was)), λ was. k.1 (r.0 ∙ was) ∙ r.1 was)
 
   -- an equal table, or one with reserved nodes, is a union of trees and keeps them
   pub same-keeps : {most : ℕ} {old : Table K V} (new : Table K V) → new ≡ old → IsUnion most old → IsUnion most new × KeepsTrees old.nodes new.nodes
   same-keeps {most = most} {old = old} new is union =
-      subst (λ z. IsUnion most z × KeepsTrees old.nodes z.nodes) (sym is) (union, λ n. (refl, λ there. refl))
+      rw is (union, λ n. (refl, λ there. refl))
 
   pub reserved-keeps : (most : ℕ) {old : Table K V} (new : Table K V) (n : ℕ) → new ≡ reserved old n → IsUnion most old → IsUnion most new × KeepsTrees old.nodes new.nodes
   reserved-keeps most {old = old} new n is union =
-      subst (λ z. IsUnion most z × KeepsTrees old.nodes z.nodes) (sym is) (reserved-union most old n union, reserved-roots most old n union)
+      rw is (reserved-union most old n union, reserved-roots most old n union)
 
   -- at least `n` nodes are free after a reservation of `n`
   pub reserved-frees : (old : Table K V) {new : Table K V} (n : ℕ) → new ≡ reserved old n → n ≤ free_count new

@@ -1,10 +1,8 @@
 -- A change of the tree under a root, stated without a witness: by roots and the trees computed from them.
-use Rattle.std.proofs.Common.{◌≡◌, ℕ, ◌+◌, ◌<◌, ◌≢◌, IsTrue, List, [], ◌∷◌, ◌++◌, length, slice_get, refl, sym, ap, subst, append-nil, arith}
+use Rattle.std.proofs.Common.{◌≡◌, ℕ, ◌+◌, ◌<◌, ◌≢◌, IsTrue, [], ◌∷◌, ◌++◌, length, slice_get, refl, sym, subst, append-nil, arith}
 use Rattle.bforest_core.proofs.Words.{Changes, flat, sizes_of, flat_map, Table, Tree, count, root_of, numbers_of, tree_of, is_root, IsUnion, OthersKeep, Frees}
-use Rattle.bforest_core.proofs.table.Tables.{count-same, count-other}
-use Rattle.bforest_core.proofs.union.Forests.{tree-back}
-use Rattle.bforest_core.proofs.union.Exchange.{IsPlanted, Traded, traded, exchange-trees, others-keep, roots-gone}
-use Rattle.bforest_core.proofs.union.Unions.{rooted}
+use Rattle.bforest_core.proofs.{table.Tables.{count-same, count-other}, union.Forests.tree-back, union.Exchange.{IsPlanted, Traded, traded, exchange-trees}}
+use Rattle.bforest_core.proofs.{union.Exchange.{others-keep, roots-gone}, union.Unions.rooted}
 
 -- a root occurs in the list of itself
 pub one_root : (root : ℕ) → 0 < count root (root ∷ [])
@@ -32,10 +30,10 @@ module _ {K V : Type 0} where
   exchanged_by {most = most} old new root {tree' = tree'} union is p t =
       let r = rooted most old root union is in
       let tree = tree_of old.nodes root in
-      let one = subst (λ z. Traded old new z (flat_map numbers_of (tree' ∷ []))) (one_tree tree) (subst (λ z. Traded old new (numbers_of tree) z) (one_tree tree') t) in
+      let one = rw (one_tree tree) at (subst (λ z. Traded old new (numbers_of tree) z) (one_tree tree') t) in
       let g = exchange-trees r.before (tree ∷ []) (tree' ∷ []) r.after r.forest (p, tt) one in
       let back = tree-back r.before tree' r.after (root_of tree') g refl refl in
-      subst (λ z. Exchanged most old new z tree') r.root_is (record {
+      rw (← r.root_is) (record {
         union = (r.before ++ tree' ∷ r.after, g);
         root_is = back.1;
         tree_is = back.0;
@@ -45,30 +43,30 @@ module _ {K V : Type 0} where
       })
 
   -- the tree after an insertion under a root
-  pub exchanged : {most : ℕ} {old new : Table K V} (root : ℕ) {tree' : Tree K V} (taken : List ℕ) → IsUnion most old → IsTrue (is_root old.nodes root) → IsPlanted most new.nodes tree' →
+  pub exchanged : {most : ℕ} {old new : Table K V} (root : ℕ) {tree' : Tree K V} (taken : _) → IsUnion most old → IsTrue (is_root old.nodes root) → IsPlanted most new.nodes tree' →
       old.chain ≡ taken ++ new.chain → length new.nodes ≡ length old.nodes →
       ((m : ℕ) → count m (numbers_of tree') ≡ count m (numbers_of (tree_of old.nodes root)) + count m taken) →
       ((m : ℕ) → count m (numbers_of (tree_of old.nodes root)) + count m taken ≡ 0 → slice_get new.nodes m ≡ slice_get old.nodes m) →
       Exchanged most old new root tree'
   exchanged {old = old} {new = new} root {tree' = tree'} taken union is p chain_is slots nums others =
-      exchanged_by old new root union is p (traded old new (numbers_of (tree_of old.nodes root)) (numbers_of tree') taken [] new.chain union.1.free (rooted _ old root union is).apart chain_is refl tt slots (λ m. omega (arith, nums m)) others)
+      exchanged_by old new root union is p (traded old new (numbers_of (tree_of old.nodes root)) (numbers_of tree') taken [] new.chain union.1.free (rooted _ old root union is).apart chain_is refl tt slots (λ m. omega arith) others)
 
   -- the tree after a removal under a root
-  pub exchanged-freed : {most : ℕ} {old new : Table K V} (root : ℕ) {tree' : Tree K V} {freed : List ℕ} → IsUnion most old → IsTrue (is_root old.nodes root) → IsPlanted most new.nodes tree' → Frees old new (numbers_of (tree_of old.nodes root)) freed →
+  pub exchanged-freed : {most : ℕ} {old new : Table K V} (root : ℕ) {tree' : Tree K V} {freed : _} → IsUnion most old → IsTrue (is_root old.nodes root) → IsPlanted most new.nodes tree' → Frees old new (numbers_of (tree_of old.nodes root)) freed →
       ((m : ℕ) → count m (numbers_of tree') + count m freed ≡ count m (numbers_of (tree_of old.nodes root))) → Exchanged most old new root tree'
   exchanged-freed {old = old} {new = new} root {tree' = tree'} {freed = freed} union is p frees nums =
       exchanged_by old new root union is p
       (traded old new (numbers_of (tree_of old.nodes root)) (numbers_of tree') [] freed old.chain union.1.free
-      (rooted _ old root union is).apart refl frees.chain_is frees.freed_are frees.slots_are (λ m. omega (arith, nums m))
-      (λ m none. frees.others m (omega (arith, none))))
+      (rooted _ old root union is).apart refl frees.chain_is frees.freed_are frees.slots_are (λ m. omega arith)
+      (λ m none. frees.others m (omega arith)))
 
   -- a replaced tree as a change of the table
-  pub exchanged-changes : {most : ℕ} {old new : Table K V} {root root' : ℕ} {tree' : Tree K V} → Exchanged most old new root tree' → root_of tree' ≡ root' → new.limit ≡ old.limit → Changes most old new root root' (flat tree'.leaves) (sizes_of tree')
-  exchanged-changes {most} {old} {new} {root} {root'} {tree'} e is limit_is = subst (λ z. Changes most old new root z (flat tree'.leaves) (sizes_of tree')) is (record {
+  pub exchanged-changes : {most old new root root' tree' : _} → Exchanged most old new root tree' → root_of tree' ≡ root' → new.limit ≡ old.limit → Changes most old new root root' (flat tree'.leaves) (sizes_of tree')
+  exchanged-changes {most} {old} {new} {root} {root'} {tree'} e is limit_is = rw (← is) (record {
     union = e.union;
     root_is = e.root_is;
-    list_is = ap (λ z. flat z.leaves) e.tree_is;
-    sizes_are = ap sizes_of e.tree_is;
+    list_is = cc;
+    sizes_are = cc;
     others = e.others;
     old_gone = e.old_gone;
     new_came = e.new_came;
@@ -76,14 +74,14 @@ module _ {K V : Type 0} where
   })
 
   -- the root whose tree lost all its entries is no root
-  pub uprooted-union : (most : ℕ) {old new : Table K V} (root : ℕ) {freed : List ℕ} → IsUnion most old → IsTrue (is_root old.nodes root) → Frees old new (numbers_of (tree_of old.nodes root)) freed → ((m : ℕ) → count m freed ≡ count m (numbers_of (tree_of old.nodes root))) →
+  pub uprooted-union : (most : ℕ) {old new : Table K V} (root : ℕ) {freed : _} → IsUnion most old → IsTrue (is_root old.nodes root) → Frees old new (numbers_of (tree_of old.nodes root)) freed → ((m : ℕ) → count m freed ≡ count m (numbers_of (tree_of old.nodes root))) →
       IsUnion most new × (¬ IsTrue (is_root new.nodes root)) × OthersKeep old.nodes new.nodes root root
   uprooted-union most {old} {new} root {freed} union is frees nums =
       let r = rooted most old root union is in
       let tree = tree_of old.nodes root in
-      let t = traded old new (numbers_of tree) [] [] freed old.chain union.1.free r.apart refl frees.chain_is frees.freed_are frees.slots_are (λ m. omega (arith, nums m)) (λ m none. frees.others m (omega (arith, none))) in
-      let g = exchange-trees r.before (tree ∷ []) [] r.after r.forest tt (subst (λ z. Traded old new z []) (one_tree tree) t) in (
+      let t = traded old new (numbers_of tree) [] [] freed old.chain union.1.free r.apart refl frees.chain_is frees.freed_are frees.slots_are (λ m. omega arith) (λ m none. frees.others m (omega arith)) in
+      let g = exchange-trees r.before (tree ∷ []) [] r.after r.forest tt (rw (← one_tree tree) t) in (
         (r.before ++ r.after, g),
-        subst (λ z. ¬ IsTrue (is_root new.nodes z)) r.root_is (roots-gone r.before (tree ∷ []) [] r.after r.forest g (root_of tree) (one_root (root_of tree)) refl),
-        subst (λ z. OthersKeep old.nodes new.nodes z z) r.root_is (λ other ne ne'. others-keep r.before (tree ∷ []) [] r.after r.forest g other (not-root other (root_of tree) ne) refl),
+        rw (← r.root_is) (roots-gone r.before (tree ∷ []) [] r.after r.forest g (root_of tree) (one_root (root_of tree)) refl),
+        rw (← r.root_is) (λ other ne ne'. others-keep r.before (tree ∷ []) [] r.after r.forest g other (not-root other (root_of tree) ne) refl),
       )

@@ -1,46 +1,44 @@
 -- A stack of rows, cut in two between two nodes of its top level.
-use Rattle.std.proofs.Common.{◌≡◌, ℕ, suc, ◌+◌, ◌≤◌, List, [], ◌∷◌, ◌++◌, length, refl, sym, ap, subst, ◌∙◌, arith}
-use Rattle.bforest_core.proofs.Words.{flat_map, Content, LevelNode, node, flat, heads, numbers, FitRow, half_of, RowIn, RowsIn, leaf_content, inner_content, count, StackedTo, Under, numbers_under}
-use Rattle.bforest_core.proofs.rows.LevelRows.{flat-append, numbers-append, least-pos}
-use Rattle.bforest_core.proofs.table.Tables.{count-append, row-split}
+use Rattle.std.proofs.Common.{◌≡◌, ℕ, ◌+◌, ◌≤◌, List, [], ◌∷◌, ◌++◌, length, refl, ap, arith}
+use Rattle.bforest_core.proofs.Words.{Heads, Row, Rows, flat_map, Content, node, flat, heads, numbers, FitRow, half_of, RowsIn, leaf_content, count, StackedTo}
+use Rattle.bforest_core.proofs.{Words.{Under, numbers_under}, rows.LevelRows.{flat-append, numbers-append, least-pos}, table.Tables.{count-append, row-split}}
 
 module _ {K X : Type 0} where
   -- a row, cut between two of its heads
-  pub record RowCut (row : List (LevelNode K X)) (a b : List (K × ℕ)) : Type 0 where
-    pub left : List (LevelNode K X)
-    pub right : List (LevelNode K X)
+  pub record RowCut (row : Row K X) (a b : Heads K) : Type 0 where
+    pub left : Row K X
+    pub right : Row K X
     pub row_is : row ≡ left ++ right
     pub left_is : heads left ≡ a
     pub right_is : heads right ≡ b
 
-  row-cut : (half most : ℕ) → 1 ≤ half → (row : List (LevelNode K X)) (a b : List (K × ℕ)) → FitRow half most row → heads row ≡ a ++ b → RowCut row a b
+  row-cut : (half most : ℕ) → 1 ≤ half → (row a b : _) → FitRow half most row → heads row ≡ a ++ b → RowCut row a b
   row-cut half most one row [] b f h = record { left = []; right = row; row_is = refl; left_is = refl; right_is = h }
   row-cut half most one [] (x ∷ a) b f h = absurd cc
-  row-cut half most one (node m [] ∷ ns) (x ∷ a) b f h = absurd (omega (arith, f.0, least-pos half one ns))
+  row-cut half most one (node m [] ∷ ns) (x ∷ a) b f h = absurd (omega (arith, least-pos half one ns))
   row-cut half most one (node m (e ∷ es) ∷ ns) (x ∷ a) b f h =
-      let same : ◌≡◌ {A = K × ℕ} (e.0, m) x = cc in
       let r = row-cut half most one ns a b f.2 (cc) in
       record {
         left = node m (e ∷ es) ∷ r.left;
         right = r.right;
-        row_is = ap (λ z. node m (e ∷ es) ∷ z) r.row_is;
-        left_is = ap (λ z. (e.0, m) ∷ z) r.left_is ∙ ap (λ z. z ∷ a) same;
+        row_is = cc;
+        left_is = cc;
         right_is = r.right_is;
       }
 
   -- both parts of a fit row fit
-  fit_cut : (half most : ℕ) → 1 ≤ half → (xs ys : List (LevelNode K X)) → FitRow half most (xs ++ ys) → FitRow half most xs × FitRow half most ys
+  fit_cut : (half most : ℕ) → 1 ≤ half → (xs ys : Row K X) → FitRow half most (xs ++ ys) → FitRow half most xs × FitRow half most ys
   fit_cut half most one [] ys f = (tt, f)
-  fit_cut half most one (node m es ∷ []) ys f = ((omega (arith, f.0, least-pos half one ys), f.1, tt), f.2)
+  fit_cut half most one (node m es ∷ []) ys f = ((omega (arith, least-pos half one ys), f.1, tt), f.2)
   fit_cut half most one (node m es ∷ (x ∷ xs)) ys f =
       let r = fit_cut half most one (x ∷ xs) ys f.2 in ((f.0, f.1, r.0), r.1)
 
 -- inner rows cut below two parts of the top
-pub record RowsCut {K V : Type 0} (slots : List (Content K V)) (list : List (K × ℕ)) (rows : List (List (LevelNode K ℕ))) (a b : List (K × ℕ)) : Type 0 where
-  pub list_left : List (K × ℕ)
-  pub list_right : List (K × ℕ)
-  pub left : List (List (LevelNode K ℕ))
-  pub right : List (List (LevelNode K ℕ))
+pub record RowsCut {K V : Type 0} (slots : List (Content K V)) (list : Heads K) (rows : Rows K) (a b : Heads K) : Type 0 where
+  pub list_left : Heads K
+  pub list_right : Heads K
+  pub left : Rows K
+  pub right : Rows K
   pub list_is : list ≡ list_left ++ list_right
   pub left_stacked : StackedTo list_left left a
   pub right_stacked : StackedTo list_right right b
@@ -51,74 +49,56 @@ pub record RowsCut {K V : Type 0} (slots : List (Content K V)) (list : List (K �
   pub counted : (m : ℕ) → count m (flat_map numbers rows) ≡ count m (flat_map numbers left) + count m (flat_map numbers right)
 
 module _ {K V : Type 0} where
-  rows-cut : (slots : List (Content K V)) (list : List (K × ℕ)) (rows : List (List (LevelNode K ℕ))) (a b : List (K × ℕ)) → StackedTo list rows (a ++ b) → RowsIn slots rows → RowsCut slots list rows a b
+  rows-cut : (slots : List (Content K V)) (list rows a b : _) → StackedTo list rows (a ++ b) → RowsIn slots rows → RowsCut slots list rows a b
   rows-cut slots list [] a b s i =
       record { list_left = a; list_right = b; left = []; right = []; list_is = s; left_stacked = refl; right_stacked = refl; left_in = tt; right_in = tt; left_height = refl; right_height = refl; counted = λ m. refl }
   rows-cut slots list (row ∷ rows) a b s i =
       let r = rows-cut slots (heads row) rows a b s.2 i.1 in
       let c = row-cut 4 8 (omega arith) row r.list_left r.list_right s.1 r.list_is in
-      let fits = fit_cut 4 8 (omega arith) c.left c.right (subst (λ z. FitRow 4 8 z) c.row_is s.1) in
-      let ins = row-split inner_content slots c.left c.right (subst (λ z. RowIn inner_content slots z) c.row_is i.0) in
+      let fits = fit_cut 4 8 (omega arith) c.left c.right (rw (← c.row_is) s.1) in
+      let ins = row-split _ _ _ c.right (rw (← c.row_is) i.0) in
       record {
         list_left = flat c.left;
         list_right = flat c.right;
         left = c.left ∷ r.left;
         right = c.right ∷ r.right;
-        list_is = sym s.0 ∙ ap (λ z. flat z) c.row_is ∙ flat-append c.left c.right;
-        left_stacked = (refl, fits.0, subst (λ z. StackedTo z r.left a) (sym c.left_is) r.left_stacked);
-        right_stacked = (refl, fits.1, subst (λ z. StackedTo z r.right b) (sym c.right_is) r.right_stacked);
+        list_is = cc (flat-append c.left c.right);
+        left_stacked = (refl, fits.0, rw c.left_is r.left_stacked);
+        right_stacked = (refl, fits.1, rw c.right_is r.right_stacked);
         left_in = (ins.0, r.left_in);
         right_in = (ins.1, r.right_in);
-        left_height = ap suc r.left_height;
-        right_height = ap suc r.right_height;
-        counted = λ m. omega (
-          arith,
-          r.counted m,
-          ap (λ z. count m (numbers z)) c.row_is,
-          ap (λ z. count m z) (numbers-append c.left c.right),
-          count-append m (numbers c.left) (numbers c.right),
-          count-append m (numbers row) (flat_map numbers rows),
-          count-append m (numbers c.left) (flat_map numbers r.left),
-          count-append m (numbers c.right) (flat_map numbers r.right),
-        );
+        left_height = cc;
+        right_height = cc;
+        counted = λ m. omega (arith, r.counted m, ap (λ z. count m (numbers z)) c.row_is, ap (λ z. count m z) (numbers-append c.left c.right), count-append);
       }
 
 module _ {K V : Type 0} (most : ℕ) (slots : List (Content K V)) where
   -- the leaves and rows under some nodes, cut between two of the nodes
-  pub record UnderCut (leaves : List (LevelNode K V)) (lower : List (List (LevelNode K ℕ))) (a b : List (K × ℕ)) : Type 0 where
-    pub leaves_left : List (LevelNode K V)
-    pub leaves_right : List (LevelNode K V)
-    pub lower_left : List (List (LevelNode K ℕ))
-    pub lower_right : List (List (LevelNode K ℕ))
+  pub record UnderCut (leaves : Row K V) (lower : Rows K) (a b : Heads K) : Type 0 where
+    pub leaves_left : Row K V
+    pub leaves_right : Row K V
+    pub lower_left : Rows K
+    pub lower_right : Rows K
     pub left : Under most slots leaves_left lower_left a
     pub right : Under most slots leaves_right lower_right b
     pub left_height : length lower_left ≡ length lower
     pub right_height : length lower_right ≡ length lower
     pub counted : (m : ℕ) → count m (numbers_under leaves lower) ≡ count m (numbers_under leaves_left lower_left) + count m (numbers_under leaves_right lower_right)
 
-  pub under-cut : 1 ≤ half_of most → {leaves lower : _} (a b : List (K × ℕ)) → Under most slots leaves lower (a ++ b) → UnderCut leaves lower a b
+  pub under-cut : 1 ≤ half_of most → {leaves lower : _} (a b : _) → Under most slots leaves lower (a ++ b) → UnderCut leaves lower a b
   under-cut one {leaves = leaves} {lower = lower} a b u =
       let r = rows-cut slots (heads leaves) lower a b u.stacked u.rows_in in
       let c = row-cut (half_of most) most one leaves r.list_left r.list_right u.leaves_fit r.list_is in
-      let fits = fit_cut (half_of most) most one c.left c.right (subst (λ z. FitRow (half_of most) most z) c.row_is u.leaves_fit) in
-      let ins = row-split leaf_content slots c.left c.right (subst (λ z. RowIn leaf_content slots z) c.row_is u.leaves_in) in
+      let fits = fit_cut _ _ one _ _ (rw (← c.row_is) u.leaves_fit) in
+      let ins = row-split leaf_content slots c.left c.right (rw (← c.row_is) u.leaves_in) in
       record {
         leaves_left = c.left;
         leaves_right = c.right;
         lower_left = r.left;
         lower_right = r.right;
-        left = record { leaves_fit = fits.0; leaves_in = ins.0; stacked = subst (λ z. StackedTo z r.left a) (sym c.left_is) r.left_stacked; rows_in = r.left_in };
-        right = record { leaves_fit = fits.1; leaves_in = ins.1; stacked = subst (λ z. StackedTo z r.right b) (sym c.right_is) r.right_stacked; rows_in = r.right_in };
+        left = record { leaves_fit = fits.0; leaves_in = ins.0; stacked = rw c.left_is r.left_stacked; rows_in = r.left_in };
+        right = record { leaves_fit = fits.1; leaves_in = ins.1; stacked = rw c.right_is r.right_stacked; rows_in = r.right_in };
         left_height = r.left_height;
         right_height = r.right_height;
-        counted = λ m. omega (
-          arith,
-          r.counted m,
-          ap (λ z. count m (numbers z)) c.row_is,
-          ap (λ z. count m z) (numbers-append c.left c.right),
-          count-append m (numbers c.left) (numbers c.right),
-          count-append m (numbers leaves) (flat_map numbers lower),
-          count-append m (numbers c.left) (flat_map numbers r.left),
-          count-append m (numbers c.right) (flat_map numbers r.right),
-        );
+        counted = λ m. omega (arith, r.counted m, ap (λ z. count m (numbers z)) c.row_is, ap (λ z. count m z) (numbers-append c.left c.right), count-append);
       }

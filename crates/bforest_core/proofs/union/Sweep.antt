@@ -1,33 +1,24 @@
 -- Freeing everything below a node, child by child.
-use Rattle.std.proofs.Common.{◌≡◌, ℕ, zero, suc, ◌+◌, ◌≤◌, ◌<◌, List, [], ◌∷◌, ◌++◌, length, drop, take, reverse, slice_get, option_map, Some, refl, sym, ap, subst, ◌∙◌, inl, inr, arith}
-use Rattle.bforest_core.proofs.Words.{flat_map, cases_lt, Content, IsInner, children_of, Table, with_freed, LevelNode, flat, heads, numbers, half_of}
-use Rattle.bforest_core.proofs.Words.{entry_items, count, Distinct, StackedTo, Under, numbers_down, slot, Frees, GivesAll, numbers_under, drop_all, length-map, reverse-append, take_all, slice_get_within}
-use Rattle.bforest_core.proofs.union.Exchange.{tree-same}
-use Rattle.bforest_core.proofs.union.FreeSlots.{slot_same}
-use Rattle.bforest_core.proofs.removal.Frees.{frees-one, frees-refl, frees-then, frees-wider, only_here}
-use Rattle.bforest_core.proofs.table.Stored.{childless, some_same}
+use Rattle.std.proofs.Common.{◌≡◌, ℕ, zero, suc, ◌+◌, ◌≤◌, ◌<◌, List, [], ◌∷◌, ◌++◌, length, drop, take, reverse, slice_get, Some, refl, sym, ap, subst, ◌∙◌, inl, inr, arith}
+use Rattle.bforest_core.proofs.Words.{Heads, Row, Rows, flat_map, cases_lt, Content, IsInner, children_of, Table, with_freed, heads, numbers, entry_items}
+use Rattle.bforest_core.proofs.Words.{count, Distinct, StackedTo, Under, numbers_down, slot, Frees, GivesAll, numbers_under, drop_all, length-map}
+use Rattle.bforest_core.proofs.{Words.{reverse-append, take_all, slice_get_within, IsLeafCapacity}, union.Exchange.tree-same, union.FreeSlots.slot_same}
+use Rattle.bforest_core.proofs.{removal.Frees.{frees-one, frees-refl, frees-then, frees-wider, only_here}, table.Stored.{childless, some_same}}
+use Rattle.bforest_core.proofs.{walks.LeafSearch.items-read, walks.Steps.read, walks.RowNodes.no_heads, table.Lists.drop-read, union.Sections.UnderCut}
+use Rattle.bforest_core.proofs.{union.Sections.under-cut, table.Tables.{count-append, count-same}, union.Opened.Opened, rows.LevelRows.some_leaf}
 use Rattle.bforest_nodes.proofs.Seams.{last_taken}
-use Rattle.bforest_core.proofs.walks.LeafSearch.{items-read}
-use Rattle.bforest_core.proofs.walks.Steps.{read}
-use Rattle.bforest_core.proofs.walks.RowNodes.{no_heads}
-use Rattle.bforest_core.proofs.table.Lists.{drop-read}
-use Rattle.bforest_core.proofs.union.Sections.{UnderCut, under-cut}
-use Rattle.bforest_core.proofs.table.Tables.{count-append, count-same}
-use Rattle.bforest_core.proofs.union.Opened.{Opened}
-use Rattle.bforest_core.proofs.Words.{IsLeafCapacity}
-use Rattle.bforest_core.proofs.rows.LevelRows.{some_leaf}
 
 -- rows below no nodes have no nodes
-rows_none : {K : Type 0} (list : List (K × ℕ)) (rows : List (List (LevelNode K ℕ))) → StackedTo list rows [] → (list ≡ []) × ((m : ℕ) → count m (flat_map numbers rows) ≡ 0)
+rows_none : {K : Type 0} (list : Heads K) (rows : Rows K) → StackedTo list rows [] → (list ≡ []) × ((m : ℕ) → count m (flat_map numbers rows) ≡ 0)
 rows_none list [] s = (s, λ m. refl)
 rows_none list (row ∷ rows) s =
     let r = rows_none (heads row) rows s.2 in
-    let none : row ≡ [] = no_heads 4 8 (omega arith) row s.1 r.0 in
-    (sym s.0 ∙ ap flat none, λ m. omega (arith, count-append m (numbers row) (flat_map numbers rows), ap (λ z. count m (numbers z)) none, r.1 m))
+    let none = no_heads 4 8 (omega arith) row s.1 r.0 in
+    (cc, λ m. omega (arith, count-append m (numbers row) (flat_map numbers rows), ap (λ z. count m (numbers z)) none, r.1 m))
 
 module _ {K V : Type 0} where
   -- the rows under some nodes are in any slots that agree on their numbers
-  under-same : {most : _} {old : List (Content K V)} (new : List (Content K V)) {leaves : List (LevelNode K V)} {lower : List (List (LevelNode K ℕ))} {top : _} → ((m : ℕ) → 0 < count m (numbers_under leaves lower) → slice_get new m ≡ slice_get old m)
+  under-same : {most : _} {old : List (Content K V)} (new : List (Content K V)) {leaves : Row K V} {lower : _} {top : _} → ((m : ℕ) → 0 < count m (numbers_under leaves lower) → slice_get new m ≡ slice_get old m)
       → Under most old leaves lower top → Under most new leaves lower top
   under-same {old = old} new {leaves = leaves} {lower = lower} same u =
       let i = tree-same new {tree = record { leaves = leaves; above = lower }} same (record { leaves_in = u.leaves_in; rows_in = u.rows_in }) in
@@ -35,8 +26,8 @@ module _ {K V : Type 0} where
 
   under_none : (most : ℕ) → IsLeafCapacity most → {slots : List (Content K V)} {leaves lower : _} → Under most slots leaves lower [] → (m : ℕ) → count m (numbers_under leaves lower) ≡ 0
   under_none most capacity {leaves = leaves} {lower = lower} u m =
-      let r = rows_none (heads leaves) lower u.stacked in
-      let none : leaves ≡ [] = no_heads (half_of most) most (some_leaf capacity) leaves u.leaves_fit r.0 in
+      let r = rows_none _ _ u.stacked in
+      let none = no_heads _ _ (some_leaf capacity) _ u.leaves_fit r.0 in
       omega (arith, count-append m (numbers leaves) (flat_map numbers lower), ap (λ z. count m (numbers z)) none, r.1 m)
 
   -- the numbers below a node are the same in any slots that agree on them
@@ -44,22 +35,21 @@ module _ {K V : Type 0} where
   down-same old new zero number same = refl
   down-same old new (suc levels) number same =
       let kids = reverse (children_of (slot old number)) in
-      let here = slot_same old new number (same number (omega (arith, count-append number (number ∷ []) (flat_map (numbers_down old levels) kids), count-same number []))) in
-      ap (λ z. number ∷ flat_map (numbers_down new levels) (reverse (children_of z))) here ∙ ap (λ z. number ∷ z) (all (down-same old new levels) kids (λ m some. same m (omega (arith, some, count-append m (number ∷ []) (flat_map (numbers_down old levels) kids)))))
+      let here = slot_same old new number (same number (omega (arith, count-same number []))) in
+      cc (all (down-same old new levels) kids (λ m some. same m (omega (arith, count-append m (number ∷ []) (flat_map (numbers_down old levels) kids)))))
     where
       all : ((kid : ℕ) → ((m : ℕ) → 0 < count m (numbers_down old levels kid) → slice_get new m ≡ slice_get old m)
-          → numbers_down new levels kid ≡ numbers_down old levels kid) → (kids : List ℕ)
+          → numbers_down new levels kid ≡ numbers_down old levels kid) → (kids : _)
           → ((m : ℕ) → 0 < count m (flat_map (numbers_down old levels) kids) → slice_get new m ≡ slice_get old m)
           → flat_map (numbers_down new levels) kids ≡ flat_map (numbers_down old levels) kids
       all again [] same = refl
       all again (kid ∷ kids) same =
-          ap (λ z. z ++ flat_map (numbers_down new levels) kids) (again kid (λ m some. same m (omega (arith, some, count-append m (numbers_down old levels kid) (flat_map (numbers_down old levels) kids)))))
-          ∙ ap (λ z. numbers_down old levels kid ++ z) (all again kids (λ m some. same m (omega (arith, some, count-append m (numbers_down old levels kid) (flat_map (numbers_down old levels) kids)))))
+          cc (again kid (λ m some. same m (omega (arith, count-append m (numbers_down old levels kid) (flat_map (numbers_down old levels) kids)))), all again kids (λ m some. same m (omega (arith, count-append m (numbers_down old levels kid) (flat_map (numbers_down old levels) kids)))))
 
   -- everything below the first `index` nodes of the top is freed, and everything below the others unchanged
-  pub record Swept (most : ℕ) (old now : Table K V) (leaves : List (LevelNode K V)) (rows : List (List (LevelNode K ℕ))) (top : List (K × ℕ)) (index : ℕ) : Type 0 where
-    pub left_leaves : List (LevelNode K V)
-    pub left_rows : List (List (LevelNode K ℕ))
+  pub record Swept (most : ℕ) (old now : Table K V) (leaves : Row K V) (rows : Rows K) (top : Heads K) (index : ℕ) : Type 0 where
+    pub left_leaves : Row K V
+    pub left_rows : Rows K
     pub own : List ℕ
     pub given : List ℕ
     pub under : Under most old.nodes left_leaves left_rows (drop index top)
@@ -69,7 +59,7 @@ module _ {K V : Type 0} where
     pub counted : (m : ℕ) → count m given ≡ count m own
     pub split : (m : ℕ) → count m (numbers_under leaves rows) ≡ count m own + count m (numbers_under left_leaves left_rows)
 
-  module _ {most : ℕ} (capacity : IsLeafCapacity most) (old : Table K V) (leaves : List (LevelNode K V)) (rows : List (List (LevelNode K ℕ))) (top : List (K × ℕ)) where
+  module _ {most : ℕ} (capacity : IsLeafCapacity most) (old : Table K V) (leaves : Row K V) (rows : Rows K) (top : Heads K) where
     -- at first nothing is freed
     pub sweep-first : Under most old.nodes leaves rows top → Swept most old old leaves rows top 0
     sweep-first u = record { left_leaves = leaves; left_rows = rows; own = []; given = []; under = u; height = refl; frees = frees-refl old []; order = refl; counted = λ m. refl; split = λ m. omega arith }
@@ -83,20 +73,20 @@ module _ {K V : Type 0} where
       pub apart : Distinct (numbers_under cut.leaves_left cut.lower_left ++ now.chain)
 
     -- while the index is capacity of the top's, there is a next child
-    pub sweep-turn : (now : Table K V) (index : ℕ) (x : K × ℕ) → Distinct (numbers_under leaves rows ++ old.chain) → Swept most old now leaves rows top index → slice_get top index ≡ Some x → Turn now index x
+    pub sweep-turn : (now index x : _) → Distinct (numbers_under leaves rows ++ old.chain) → Swept most old now leaves rows top index → slice_get top index ≡ Some x → Turn now index x
     sweep-turn now index x apart s found =
-        let todo : drop index top ≡ x ∷ drop (suc index) top = drop-read top index x found in
-        let cut = under-cut most old.nodes (some_leaf capacity) (x ∷ []) (drop (suc index) top) (subst (λ z. Under most old.nodes s.left_leaves s.left_rows z) todo s.under) in
+        let todo = drop-read top index x found in
+        let cut = under-cut most old.nodes (some_leaf capacity) (x ∷ []) (drop (suc index) top) (rw (← todo) s.under) in
         record {
           swept = s;
           found = found;
           cut = cut;
-          under = under-same now.nodes (λ m some. s.frees.others m (omega (arith, apart m, count-append m (numbers_under leaves rows) old.chain, s.split m, cut.counted m, some))) cut.left;
-          apart = λ m. omega (arith, apart m, count-append m (numbers_under leaves rows) old.chain, s.split m, cut.counted m, s.counted m, ap (λ z. count m z) s.frees.chain_is, count-append m s.given old.chain, count-append m (numbers_under cut.leaves_left cut.lower_left) now.chain);
+          under = under-same _ (λ m some. s.frees.others m (omega (arith, apart m, count-append m (numbers_under leaves rows) old.chain, s.split m, cut.counted m))) cut.left;
+          apart = λ m. omega (arith, apart m, s.split m, cut.counted m, s.counted m, ap (λ z. count m z) s.frees.chain_is, count-append);
         }
 
     -- the next child is freed with everything below it
-    pub sweep-next : {now new : Table K V} {index : ℕ} (x : K × ℕ) → Distinct (numbers_under leaves rows ++ old.chain)
+    pub sweep-next : {now new index : _} (x : _) → Distinct (numbers_under leaves rows ++ old.chain)
         → (t : Turn now index x) → GivesAll now new (numbers_under t.cut.leaves_left t.cut.lower_left)
         (numbers_down now.nodes (length t.cut.lower_left) x.1) → Swept most old new leaves rows top (suc index)
     sweep-next {now = now} {new = new} {index = index} x apart t g =
@@ -108,26 +98,13 @@ module _ {K V : Type 0} where
           own = t.swept.own ++ own;
           given = numbers_down now.nodes (length t.cut.lower_left) x.1 ++ t.swept.given;
           under = t.cut.right;
-          height = t.cut.right_height ∙ t.swept.height;
+          height = cc;
           frees = frees-then
-              (λ m z. omega (arith, z, n m))
-              (λ m some. omega (
-                arith,
-                apart m,
-                some,
-                t.swept.counted m,
-                count-append m (numbers_under leaves rows) old.chain,
-                t.swept.split m,
-                t.cut.counted m,
-              ))
-              (frees-wider (t.swept.own ++ own) (λ m z. omega (arith, z, n m)) t.swept.frees) g.frees;
+              (λ m z. omega (arith, n m))
+              (λ m some. omega (arith, apart m, t.swept.counted m, count-append m (numbers_under leaves rows) old.chain, t.swept.split m, t.cut.counted m))
+              (frees-wider _ (λ m z. omega (arith, n m)) t.swept.frees) g.frees;
           order =
-              ap (λ z. z ++ t.swept.given) (sym (down-same now.nodes old.nodes (length t.cut.lower_left) x.1 (λ m some. sym (t.swept.frees.others m (omega (arith, some, g.counted m, apart m, count-append m (numbers_under leaves rows) old.chain, t.swept.split m, t.cut.counted m))))))
-              ∙ ap (λ z. numbers_down old.nodes z x.1 ++ t.swept.given) (t.cut.left_height ∙ t.swept.height)
-              ∙ ap (λ z. numbers_down old.nodes (length rows) x.1 ++ z) t.swept.order
-              ∙ sym (ap (λ z. flat_map (numbers_down old.nodes (length rows)) (reverse z))
-              (last_taken (entry_items top) index x.1 (items-read top index ∙ ap (λ z. option_map (λ e. e.1) z) t.found))
-              ∙ ap (flat_map (numbers_down old.nodes (length rows))) (reverse-append (take index (entry_items top)) (x.1 ∷ [])));
+              cc (down-same now.nodes old.nodes (length t.cut.lower_left) x.1 (λ m some. sym (t.swept.frees.others m (omega (arith, g.counted m, apart m, count-append m (numbers_under leaves rows) old.chain, t.swept.split m, t.cut.counted m)))), last_taken (entry_items top) index x.1 (simp (items-read top index, t.found)), reverse-append (take index (entry_items top)) (x.1 ∷ []));
           counted = λ m. omega (arith, count-append m (numbers_down now.nodes (length t.cut.lower_left) x.1) t.swept.given, n m, g.counted m, t.swept.counted m);
           split = λ m. omega (arith, n m, t.swept.split m, t.cut.counted m);
         }
@@ -135,23 +112,22 @@ module _ {K V : Type 0} where
     -- at last everything below the top is freed
     pub sweep-last : {now : Table K V} {index : ℕ} → length top ≤ index → Swept most old now leaves rows top index → GivesAll old now (numbers_under leaves rows) (flat_map (numbers_down old.nodes (length rows)) (reverse (entry_items top)))
     sweep-last {now = now} {index = index} past s =
-        let none : drop index top ≡ [] = drop_all index top past in
-        let left = under_none most capacity (subst (λ z. Under most old.nodes s.left_leaves s.left_rows z) none s.under) in
-        let whole = s.order ∙ ap (λ z. flat_map (numbers_down old.nodes (length rows)) (reverse z)) (take_all index (entry_items top) (omega (arith, past, length-map top (λ (e : K × ℕ). e.1)))) in
-        subst (λ z. GivesAll old now (numbers_under leaves rows) z) whole (record {
-          frees = frees-wider (numbers_under leaves rows) (λ m zero. omega (arith, zero, s.split m)) s.frees;
+        let left = under_none most capacity (subst (λ z. Under most old.nodes s.left_leaves s.left_rows z) (drop_all index top past) s.under) in
+        let whole = s.order ∙ ap (λ z. flat_map (numbers_down old.nodes (length rows)) (reverse z)) (take_all index _ (omega (arith, length-map top (λ (e : K × ℕ). e.1)))) in
+        rw (← whole) (record {
+          frees = frees-wider _ (λ m zero. omega (arith, zero, s.split m)) s.frees;
           counted = λ m. omega (arith, s.counted m, s.split m, left m);
         })
 
 -- the entry whose item is at an index
-item_at : {K : Type 0} (top : List (K × ℕ)) (index child : ℕ) → slice_get (entry_items top) index ≡ Some child → (x : K × ℕ) × (slice_get top index ≡ Some x) × (x.1 ≡ child)
+item_at : {K : Type 0} (top : Heads K) (index child : ℕ) → slice_get (entry_items top) index ≡ Some child → (x : K × ℕ) × (slice_get top index ≡ Some x) × (x.1 ≡ child)
 item_at top index child found =
     let r = read top index (omega (arith, slice_get_within (entry_items top) index child found, length-map top (λ w. w.1))) in
-    (r.0, r.1, some_same r.0.1 child (sym (items-read top index ∙ ap (λ z. option_map (λ w. w.1) z) r.1) ∙ found))
+    (r.0, r.1, some_same _ _ (cc (items-read top index, found)))
 
 module _ {K V : Type 0} where
   -- the progress of freeing a node's children, and the node itself
-  pub record Sweeping (most : ℕ) (old now : Table K V) (leaves : List (LevelNode K V)) (lower : List (List (LevelNode K ℕ))) (number index : ℕ) : Type 0 where
+  pub record Sweeping (most : ℕ) (old now : Table K V) (leaves : Row K V) (lower : Rows K) (number index : ℕ) : Type 0 where
     pub opened : Opened most old.nodes leaves lower number
     pub swept : Swept most old now opened.low opened.rows opened.top index
     pub alone : count number (numbers_under opened.low opened.rows) ≡ 0
@@ -159,53 +135,52 @@ module _ {K V : Type 0} where
     pub slot_is : slice_get now.nodes number ≡ Some opened.content
     pub off_chain : count number now.chain ≡ 0
 
-  pub sweeping : {most : ℕ} {old now : Table K V} {leaves : List (LevelNode K V)} {lower : List (List (LevelNode K ℕ))} {number index : ℕ}
+  pub sweeping : {most : ℕ} {old now : Table K V} {leaves lower number index : _}
       → Distinct (numbers_under leaves lower ++ old.chain) → (o : Opened most old.nodes leaves lower number)
       → Swept most old now o.low o.rows o.top index → Sweeping most old now leaves lower number index
   sweeping {old = old} {leaves = leaves} {lower = lower} {number = number} apart o s =
-      let one : count number (number ∷ []) ≡ 1 = count-same number [] in
+      let one = count-same number [] in
       let a = apart number in
       record {
         opened = o;
         swept = s;
-        alone = omega (arith, a, one, o.counted number, count-append number (numbers_under leaves lower) old.chain);
-        apart = λ m. omega (arith, apart m, o.counted m, count-append m (numbers_under leaves lower) old.chain, count-append m (numbers_under o.low o.rows) old.chain);
-        slot_is = s.frees.others number (omega (arith, a, one, o.counted number, s.split number, count-append number (numbers_under leaves lower) old.chain)) ∙ o.slot_is;
-        off_chain = omega (arith, a, one, o.counted number, s.split number, s.counted number, ap (λ z. count number z) s.frees.chain_is, count-append number s.given old.chain, count-append number (numbers_under leaves lower) old.chain);
+        alone = omega (arith, o.counted number, count-append number (numbers_under leaves lower) old.chain);
+        apart = λ m. omega (arith, apart m, o.counted m, count-append);
+        slot_is = s.frees.others number (omega (arith, o.counted number, s.split number, count-append number (numbers_under leaves lower) old.chain)) ∙ o.slot_is;
+        off_chain = omega (arith, o.counted number, s.split number, s.counted number, ap (λ z. count number z) s.frees.chain_is, count-append);
       }
 
   -- the node is freed after its children
-  pub gives-down : {most : _} {old now : Table K V} {leaves lower number index : _} → (s : Sweeping most old now leaves lower number index) →
+  pub gives-down : {most : _} {old now : _} {leaves lower number index : _} → (s : Sweeping most old now leaves lower number index) →
       GivesAll old now (numbers_under s.opened.low s.opened.rows) (flat_map (numbers_down old.nodes (length s.opened.rows)) (reverse (entry_items s.opened.top))) → GivesAll old (with_freed now number) (numbers_under leaves lower) (numbers_down old.nodes (length lower) number)
   gives-down {old = old} {now = now} {leaves = leaves} {lower = lower} {number = number} s all =
       let own = numbers_under s.opened.low s.opened.rows in
       let below = flat_map (numbers_down old.nodes (length s.opened.rows)) (reverse (entry_items s.opened.top)) in
       let apart : (m : ℕ) → 0 < count m below → count m (number ∷ []) ≡ 0 =
-      λ m some. elim (cases_lt 0 (count m (number ∷ []))) [ inl here ↦ absurd (omega (arith, some, all.counted m, only_here m number own here s.alone)) | inr past ↦ omega (arith, past) ] in
-      subst (λ z. GivesAll old (with_freed now number) (numbers_under leaves lower) z) (sym s.opened.down) (record {
+      λ m some. elim (cases_lt 0 (count m (number ∷ []))) [ inl here ↦ absurd (omega (arith, all.counted m, only_here m number own here s.alone)) | inr past ↦ omega arith ] in
+      rw s.opened.down (record {
         frees = frees-then
             (λ m zero. omega (arith, zero, s.opened.counted m)) apart
-            (frees-wider (numbers_under leaves lower) (λ m zero. omega (arith, zero, s.opened.counted m)) all.frees)
+            (frees-wider _ (λ m zero. omega (arith, zero, s.opened.counted m)) all.frees)
             (frees-one now (with_freed now number) number s.opened.content (number ∷ []) s.slot_is refl (omega (arith, count-same number [])));
-        counted = λ m. omega (arith, s.opened.counted m, all.counted m, count-append m (number ∷ []) below);
+        counted = λ m. omega (arith, s.opened.counted m, all.counted m);
       })
 
   -- a leaf has nothing below it and is freed alone
-  pub gives-leaf : {most : ℕ} (capacity : IsLeafCapacity most) (old : Table K V) {leaves : List (LevelNode K V)}
-      {lower : List (List (LevelNode K ℕ))} {number : ℕ} → Distinct (numbers_under leaves lower ++ old.chain)
+  pub gives-leaf : {most : ℕ} (capacity : IsLeafCapacity most) (old : Table K V) {leaves : Row K V}
+      {lower number : _} → Distinct (numbers_under leaves lower ++ old.chain)
       → (o : Opened most old.nodes leaves lower number) → (IsInner o.content → ⊥)
       → GivesAll old (with_freed old number) (numbers_under leaves lower) (numbers_down old.nodes (length lower) number)
   unfolding sweeping
   gives-leaf capacity old {number = number} apart o other =
       let first = sweep-first capacity old o.low o.rows o.top o.under in
-      let s = sweeping apart o first in
       let all = sweep-last capacity old o.low o.rows o.top (omega (arith, childless o.content other, ap length o.children_are, length-map o.top (λ (e : K × ℕ). e.1))) first in
-      gives-down s all
+      gives-down (sweeping apart o first) all
 
   -- the child at the index, and everything below it
-  pub child_turn : {most : ℕ} (capacity : IsLeafCapacity most) {old now : Table K V} {leaves lower number index : _} {child : ℕ} → (s : Sweeping most old now leaves lower number index)
+  pub child_turn : {most : ℕ} (capacity : IsLeafCapacity most) {old now : _} {leaves lower number index : _} {child : ℕ} → (s : Sweeping most old now leaves lower number index)
       → slice_get (children_of s.opened.content) index ≡ Some child → (x : K × ℕ) × (x.1 ≡ child) × (index < length s.opened.top)
       × Turn capacity old s.opened.low s.opened.rows s.opened.top now index x
   child_turn {most = most} capacity {old = old} {now = now} {index = index} {child = child} s found =
-      let i = item_at s.opened.top index child (ap (λ z. slice_get z index) (sym s.opened.children_are) ∙ found) in
-      (i.0, i.2, slice_get_within s.opened.top index i.0 i.1, sweep-turn capacity old s.opened.low s.opened.rows s.opened.top now index i.0 s.apart s.swept i.1)
+      let i = item_at s.opened.top index child (cc (found)) in
+      (i.0, i.2, slice_get_within s.opened.top index i.0 i.1, sweep-turn _ _ _ s.opened.rows s.opened.top now index i.0 s.apart s.swept i.1)

@@ -1,8 +1,8 @@
 -- The tree under a root, as one of a union of trees.
-use Rattle.std.proofs.Common.{◌≡◌, ℕ, ◌≤◌, ◌<◌, IsTrue, List, ◌∷◌, ◌++◌, length, refl, sym, ap, subst, arith}
-use Rattle.bforest_core.proofs.Words.{flat_map, flat_map-append, Table, flat, Tree, IsFit, IsIn, count, Distinct, root_of, numbers_of, IsRooted, tree_of, is_root, IsForest, IsUnion}
-use Rattle.bforest_core.proofs.table.Tables.{count-append}
-use Rattle.bforest_core.proofs.union.Forests.{every-append, once, root-counts, tree-back, tree-with, within-slots}
+use Rattle.std.proofs.Common.{◌≡◌, ℕ, ◌≤◌, ◌<◌, IsTrue, List, ◌∷◌, ◌++◌, length, refl, ap, subst, arith}
+use Rattle.bforest_core.proofs.Words.{flat_map, flat_map-append, Table, flat, Tree, IsFit, IsIn, count, Distinct, root_of, numbers_of, IsRooted, tree_of}
+use Rattle.bforest_core.proofs.{Words.{is_root, IsForest, IsUnion}, table.Tables.count-append, union.Forests.{every-append, once, root-counts, tree-back}}
+use Rattle.bforest_core.proofs.union.Forests.{tree-with, within-slots}
 
 module _ {K V : Type 0} where
   -- a tree of a table and its root, among the other trees
@@ -20,11 +20,11 @@ module _ {K V : Type 0} where
     pub within : (number : ℕ) → 0 < count number (numbers_of tree) → number < length table.nodes
 
   -- the numbers of one tree are among those of all
-  numbers_parts : (m : ℕ) (before : List (Tree K V)) (tree : Tree K V) (after : List (Tree K V)) → count m (numbers_of tree) ≤ count m (flat_map numbers_of (before ++ tree ∷ after))
-  numbers_parts m before tree after = omega (arith, ap (λ z. count m z) (flat_map-append numbers_of before (tree ∷ after)), count-append m (flat_map numbers_of before) (flat_map numbers_of (tree ∷ after)), count-append m (numbers_of tree) (flat_map numbers_of after))
+  numbers_parts : (m : ℕ) (before : List (Tree K V)) (tree : _) (after : List (Tree K V)) → count m (numbers_of tree) ≤ count m (flat_map numbers_of (before ++ tree ∷ after))
+  numbers_parts m before tree after = omega (arith, ap (λ z. count m z) (flat_map-append numbers_of before (tree ∷ after)), count-append)
 
   -- a tree of the witness is under its root
-  rooted_at : {most : ℕ} {table : Table K V} (root : ℕ) (before : List (Tree K V)) (tree : Tree K V) (after : List (Tree K V)) → root_of tree ≡ root → IsForest most table (before ++ tree ∷ after) → Rooted most table root tree
+  rooted_at : {most table : _} (root : ℕ) (before : List (Tree K V)) (tree : _) (after : List (Tree K V)) → root_of tree ≡ root → IsForest most table (before ++ tree ∷ after) → Rooted most table root tree
   rooted_at {most} {table} root before tree after is f = record {
     before = before;
     after = after;
@@ -40,14 +40,14 @@ module _ {K V : Type 0} where
   }
 
   -- in a union of trees, the tree computed from a root is the tree under it
-  pub rooted : (most : ℕ) (table : Table K V) (root : ℕ) → IsUnion most table → IsTrue (is_root table.nodes root) → Rooted most table root (tree_of table.nodes root)
+  pub rooted : (most table root : _) → IsUnion most table → IsTrue (is_root table.nodes root) → Rooted most table root (tree_of table.nodes root)
   rooted most table root union root_there =
-      let r = tree-with union.0 root ((root-counts union.1 root).0 root_there) in
-      let s = rooted_at root r.0 r.1 r.2 r.4 (subst (λ z. IsForest most table z) r.3 union.1) in
-      subst (λ z. Rooted most table root z) (sym s.tree_is) s
+      let r = tree-with _ _ ((root-counts union.1 root).0 root_there) in
+      let s = rooted_at _ _ _ _ r.4 (subst (λ z. IsForest most table z) r.3 union.1) in
+      rw s.tree_is s
 
   -- the tree computed from a root is in the slots
   pub is-rooted : {most : ℕ} {table : Table K V} (root : ℕ) → IsUnion most table → IsTrue (is_root table.nodes root) → IsRooted most table.nodes root (tree_of table.nodes root)
   is-rooted {most = most} {table = table} root union is =
-      let r = rooted most table root union is in
+      let r = rooted _ _ _ union is in
       record { fit = r.fit; inside = r.inside; root_is = r.root_is; some = r.some; low = r.low }

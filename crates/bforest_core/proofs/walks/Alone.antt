@@ -1,12 +1,9 @@
 -- A tree of one leaf: where a search ends there, and a path of one level.
 use Rattle.std.proofs.Common.{◌≡◌, ℕ, suc, ◌+◌, ◌≤◌, IsTrue, List, [], ◌∷◌, ◌++◌, get_or, length, inl, inr, refl, sym, subst, ap, ◌∙◌, arith}
 use Rattle.std.specs.declared.cmp.Ordering.{Ordering}
-use Rattle.bforest_core.proofs.Words.{EndsIn, IsTotalOrder, IsIncreasing, IsLeaf, IsUnion, Content, LevelNode, node, PlacedUnder, StandsAbove, Table, flat, is_root, slot, tree_of}
-use Rattle.bforest_core.proofs.table.Read.{slot-is}
-use Rattle.bforest_core.proofs.walks.Descent.{leaf_step, reached}
-use Rattle.bforest_core.proofs.walks.Standing.{under-root}
-use Rattle.bforest_core.proofs.walks.TopNode.{node_under}
-use Rattle.bforest_core.proofs.walks.Whole.{all_through, ends-in}
+use Rattle.bforest_core.proofs.Words.{EndsIn, IsTotalOrder, IsIncreasing, IsLeaf, IsUnion, Content, LevelNode, node, PlacedUnder, StandsAbove, Table, flat}
+use Rattle.bforest_core.proofs.{Words.{is_root, slot, tree_of}, table.Read.slot-is, walks.Descent.{leaf_step, reached}, walks.Standing.under-root}
+use Rattle.bforest_core.proofs.{walks.TopNode.node_under, walks.Whole.{all_through, ends-in}}
 
 -- a path's list of numbers whose lowest is this one
 abbrev pub lone : ℕ → List ℕ

@@ -1,12 +1,9 @@
 -- The last entry up to a key, read in the leaf in which a search for the key ends: the answers of `entry_in_leaf` and `entry_at_most`.
 use Rattle.std.proofs.Common.{◌≡◌, ◌≢◌, ℕ, zero, suc, ◌+◌, ◌-◌, ◌<◌, List, ◌∷◌, ◌++◌, Bool, length, slice_get, if◌then◌else◌, Option, Some, None, true, false, refl, sym, ap, ◌∙◌, arith}
-use Rattle.bforest_core.proofs.Words.{IsTotalOrder, LevelNode, Narrows, entry_before, entry_for, entry_up_to, flat, is_present, is_some, node, option_map, place, value_for}
+use Rattle.bforest_core.proofs.Words.{Row, IsTotalOrder, Narrows, entry_before, entry_for, entry_up_to, flat, is_present, is_some, node, option_map, place}
+use Rattle.bforest_core.proofs.{Words.value_for, walks.Backward.before_is, walks.Rising.place-le, walks.Steps.read, walks.RowNodes.entry_at}
 use Rattle.std.specs.declared.cmp.Ordering.{Ordering}
 use Rattle.bforest_nodes.proofs.Found.{place-present}
-use Rattle.bforest_core.proofs.walks.Backward.{before_is}
-use Rattle.bforest_core.proofs.walks.Rising.{place-le}
-use Rattle.bforest_core.proofs.walks.Steps.{read}
-use Rattle.bforest_core.proofs.walks.RowNodes.{entry_at}
 
 -- a mapped answer is there exactly if the answer is
 some-mapped : {A B : Type 0} (f : A → B) (o : Option A) → is_some (option_map f o) ≡ is_some o
@@ -23,34 +20,34 @@ module _ {K V : Type 0} (cmp : K → K → Ordering) (es : List (K × V)) (key :
   -- by what a search among the entries answers
   module _ {value : Option V} (value_is : value ≡ value_for cmp es key) {index : ℕ} (index_is : index ≡ place cmp es key) where
     present-is : is_present cmp es key ≡ is_some value
-    present-is = sym (some-mapped (λ (e : K × V). e.1) (entry_for cmp es key)) ∙ ap is_some (sym value_is)
+    present-is = cc (some-mapped (λ (e : K × V). e.1) (entry_for cmp es key))
 
     -- the key's own entry
     pub own-entry : is_some value ≡ true → {found : Option (K × V)} → found ≡ slice_get es index → found ≡ entry_up_to cmp es key
-    own-entry some read = read ∙ ap (slice_get es) index_is ∙ up-to-present (present-is ∙ some)
+    own-entry some read = cc (read, up-to-present (present-is ∙ some))
 
     -- the entry before the key's place
     pub entry-in-front : is_some value ≡ false → index ≢ 0 → {found : Option (K × V)} → found ≡ slice_get es (index - 1) → found ≡ entry_up_to cmp es key
-    entry-in-front none some read = read ∙ before_is es index (omega (arith, some)) ∙ ap (entry_before es) index_is ∙ up-to-absent (present-is ∙ none)
+    entry-in-front none some read = cc (read, before_is es index (omega arith), up-to-absent (present-is ∙ none))
 
     -- no entry is before the key's place
     pub none-in-front : is_some value ≡ false → index ≡ 0 → None ≡ entry_up_to cmp es key
-    none-in-front none zero_is = ap (entry_before es) (sym zero_is ∙ index_is) ∙ up-to-absent (present-is ∙ none)
+    none-in-front none zero_is = cc (up-to-absent (present-is ∙ none))
 
-module _ {K V : Type 0} {cmp : K → K → Ordering} (o : IsTotalOrder cmp) {leaves before : List (LevelNode K V)} (number : ℕ) {entries : List (K × V)} (after : List (LevelNode K V)) {key : K}
+module _ {K V : Type 0} {cmp : K → K → Ordering} (o : IsTotalOrder cmp) {leaves before : Row K V} (number : ℕ) {entries : List (K × V)} (after : Row K V) {key : K}
     (leaves_are : leaves ≡ before ++ node number entries ∷ after) (t : Narrows cmp leaves key before entries) where
   entry-in : (i : ℕ) → i < length entries → slice_get (flat leaves) (length (flat before) + i) ≡ slice_get entries i
-  entry-in i low = let r = read entries i low in entry_at before number entries after i leaves_are r.1 ∙ sym r.1
+  entry-in i low = let r = read entries i low in entry_at _ _ _ _ i leaves_are r.1 ∙ sym r.1
 
   in-front : (i : ℕ) → place cmp entries key ≡ i → is_present cmp entries key ≡ false → entry_before entries i ≡ entry_before (flat leaves) (place cmp (flat leaves) key)
   in-front zero is gone =
-      let none = ap (λ z. length (flat z)) (t.first (t.found_is ∙ gone) is) in
-      let first : 0 ≡ place cmp (flat leaves) key = omega (arith, t.place_is, is, none) in
+      let none = ap (λ z. length (flat z)) (t.first (cc) is) in
+      let first : 0 ≡ place cmp (flat leaves) key = omega arith in
       ap (entry_before (flat leaves)) first
   in-front (suc i) is gone =
       let low = place-le o entries key in
-      let there : suc (length (flat before) + i) ≡ place cmp (flat leaves) key = omega (arith, t.place_is, is) in
-      sym (entry-in i (omega (arith, low, is))) ∙ ap (entry_before (flat leaves)) there
+      let there : suc (length (flat before) + i) ≡ place cmp (flat leaves) key = omega arith in
+      cc (entry-in i (omega arith))
 
   -- the last entry up to the key is that of the leaf
   pub up-to-narrowed : entry_up_to cmp entries key ≡ entry_up_to cmp (flat leaves) key
@@ -58,5 +55,5 @@ module _ {K V : Type 0} {cmp : K → K → Ordering} (o : IsTotalOrder cmp) {lea
     where
       go : (b : Bool) → is_present cmp entries key ≡ b → entry_up_to cmp entries key ≡ entry_up_to cmp (flat leaves) key
       go true here =
-          sym (up-to-present cmp entries key here) ∙ sym (entry-in (place cmp entries key) (place-present cmp entries key here)) ∙ ap (slice_get (flat leaves)) (sym t.place_is) ∙ up-to-present cmp (flat leaves) key (t.found_is ∙ here)
-      go false gone = sym (up-to-absent cmp entries key gone) ∙ in-front (place cmp entries key) refl gone ∙ up-to-absent cmp (flat leaves) key (t.found_is ∙ gone)
+          cc (up-to-present cmp entries key here, entry-in (place cmp entries key) (place-present cmp entries key here), up-to-present cmp (flat leaves) key (t.found_is ∙ here))
+      go false gone = sym (up-to-absent cmp entries key gone) ∙ in-front (place cmp entries key) refl gone ∙ up-to-absent cmp (flat leaves) key (cc)

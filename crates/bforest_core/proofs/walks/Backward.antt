@@ -4,10 +4,10 @@ use Rattle.bforest_core.proofs.Words.{flat, Tree, Stands, IsPathAt, entry_before
 
 -- the entry before a place that is not the first
 pub before_is : {X : Type 0} (list : List X) (place : ℕ) → 0 < place → slice_get list (place - 1) ≡ entry_before list place
-before_is list zero some = absurd (omega (arith, some))
+before_is list zero some = absurd (omega arith)
 before_is list (suc place) some = let e : suc place - 1 ≡ place = omega arith in ap (λ z. slice_get list z) e
 
-module _ {K V : Type 0} (path indices : List ℕ) (tree : Tree K V) (place : ℕ) where
+module _ {K V : Type 0} (path indices : _) (tree : Tree K V) (place : ℕ) where
   -- a path with nodes stands at an entry
   pub at_entry : (size : ℕ) → size ≢ 0 → IsPathAt path indices size tree place → Stands path indices size tree place
   at_entry zero some at = absurd (some refl)
@@ -16,4 +16,4 @@ module _ {K V : Type 0} (path indices : List ℕ) (tree : Tree K V) (place : ℕ
   -- a path without nodes is at the end
   pub at_end : (size : ℕ) → size ≡ 0 → IsPathAt path indices size tree place → place ≡ length (flat tree.leaves)
   at_end zero none at = at
-  at_end (suc size) none at = absurd (omega (arith, none))
+  at_end (suc size) none at = absurd (omega arith)

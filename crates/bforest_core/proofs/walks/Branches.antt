@@ -1,14 +1,10 @@
 -- The children of the level at which the way of a code ends: the way's own, those beside it, and the ways there.
 use Rattle.std.proofs.Common.{◌≡◌, ◌≢◌, ℕ, suc, ◌+◌, ◌-◌, ◌*◌, ◌%◌, ◌≤◌, ◌<◌, List, ◌∷◌, drop, length, slice_get, option_map, Some, sym, ap, subst, ◌∙◌, arith}
-use Rattle.bforest_core.proofs.Words.{Content, entry_items, entry_keys, flat, heads, inner_content}
-use Rattle.bforest_core.specs.Spots.{Coded, CodedOver, NumberAt}
-use Rattle.bforest_core.proofs.table.Stored.{item_count, some_same}
-use Rattle.bforest_core.proofs.walks.Codes.{Lowest, digit-put, here, node-here}
-use Rattle.bforest_core.proofs.walks.LeafSearch.{items-read}
-use Rattle.bforest_core.proofs.walks.Reading.{ChildAsked, ChildRead, CountAsked, CountRead, LastAsked, LastRead}
-use Rattle.bforest_core.proofs.walks.RowNodes.{NodeIn, entry_at, node-at, none-behind, seam}
-use Rattle.bforest_core.proofs.walks.Steps.{read}
+use Rattle.bforest_core.proofs.{Words.{Content, entry_items, entry_keys, flat, heads, inner_content}, table.Stored.{item_count, some_same}, walks.Codes.Lowest}
+use Rattle.bforest_core.proofs.{walks.Codes.{digit-put, here, node-here}, walks.LeafSearch.items-read, walks.Reading.{ChildAsked, ChildRead, CountAsked}}
+use Rattle.bforest_core.proofs.{walks.Reading.{CountRead, LastAsked, LastRead}, walks.RowNodes.{NodeIn, entry_at, node-at, none-behind, seam}, walks.Steps.read}
 use Rattle.bforest_core.proofs.walks.TopNode.{none_flat}
+use Rattle.bforest_core.specs.Spots.{Coded, CodedOver, NumberAt}
 
 module _ {K V : Type 0} {slots : List (Content K V)} {root code depth numbers rows list place : _}
     (p : CodedOver slots root code depth numbers rows list place) (some : depth ≢ 0) where
@@ -22,18 +18,18 @@ module _ {K V : Type 0} {slots : List (Content K V)} {root code depth numbers ro
 module _ {K V : Type 0} {slots : List (Content K V)} {root code depth numbers rows list place : _}
     {p : CodedOver slots root code depth numbers rows list place} {some : depth ≢ 0} {number index to : ℕ} (b : Branch p some number index to) where
   pub branch-asks : ChildAsked slots number index
-  branch-asks = (drop 1 (entry_keys b.at.entries), entry_items b.at.entries, b.at.slot_is, omega (arith, b.low, item_count b.at.entries))
+  branch-asks = (drop 1 (entry_keys b.at.entries), entry_items b.at.entries, b.at.slot_is, omega (arith, item_count b.at.entries))
 
   pub branch-low : index < 8
-  branch-low = omega (arith, b.low, b.at.room)
+  branch-low = omega arith
 
   -- what the child is, as it was read
   pub branch-child : {child : ℕ} → ChildRead slots number index child → NumberAt list to child
   branch-child {child} reads =
       let w = b.at in
       let e = read w.entries index b.low in
-      let item : slice_get (entry_items w.entries) index ≡ Some e.0.1 = items-read w.entries index ∙ ap (λ z. option_map (λ x. x.1) z) e.1 in
-      let same : e.0.1 ≡ child = some_same e.0.1 child (sym item ∙ reads (drop 1 (entry_keys w.entries)) (entry_items w.entries) w.slot_is) in (
+      let item = items-read w.entries index ∙ ap (λ z. option_map (λ x. x.1) z) e.1 in
+      let same = some_same _ _ (sym item ∙ reads (drop 1 (entry_keys w.entries)) (entry_items w.entries) w.slot_is) in (
         e.0.0,
         ap (λ z. slice_get z to) (sym (here p some).flat_is) ∙ ap (λ z. slice_get (flat (here p some).row) z) b.to_is
             ∙ entry_at w.before number w.entries w.after index w.row_is e.1 ∙ ap (λ z. Some (e.0.0, z)) same,
@@ -44,20 +40,19 @@ module _ {K V : Type 0} {slots : List (Content K V)} {root code depth numbers ro
       → code1 ≡ above * 8 + index
       → CodedOver slots root code1 depth (number ∷ others) rows list to
   branch-way {above} {others} q {code1} code_is =
-      let d = digit-put above index code1 branch-low code_is in
       record {
         stacked = p.stacked;
         inside = p.inside;
-        coded = subst (λ z. Coded (number ∷ others) z code1 to) (sym (here p some).rows_are) (
+        coded = rw (here p some).rows_are (
           record {
             before = b.at.before;
             entries = b.at.entries;
             after = b.at.after;
             row_is = b.at.row_is;
-            within = omega (arith, d.0, b.low);
-            place_is = omega (arith, d.0, b.to_is);
+            within = omega arith;
+            place_is = omega arith;
           },
-          subst (λ z. Coded others (here p some).rest z (length b.at.before)) (sym d.1)
+          subst (λ z. Coded others (here p some).rest z (length b.at.before)) (sym (digit-put _ _ _ branch-low code_is).1)
               (subst (λ z. Coded others (here p some).rest above z) (sym b.at.at) q.coded),
         );
         root_is = p.root_is;
@@ -73,37 +68,37 @@ module _ {K V : Type 0} {slots : List (Content K V)} {root code depth numbers ro
   -- what the index of a node's last child asks
   pub last-asks : {number : ℕ} (top : ℕ) → NumberAt (heads h.row) top number → LastAsked slots number
   last-asks {number} top n =
-      let w = node-at inner_content slots 8 4 (omega arith) h.row h.fit h.inside number top n in
-      (inner_content w.entries, w.slot_is, omega (arith, w.some, item_count w.entries))
+      let w = node-at _ _ 8 4 (omega arith) h.row h.fit h.inside number top n in
+      (inner_content w.entries, w.slot_is, omega (arith, item_count w.entries))
 
   -- the node that was read, and the code's last digit
   module _ {parent : ℕ} (same : parent ≡ h.number) {index : ℕ} (digit : code % 8 ≡ index) where
     -- the child to which the code goes
     abbrev pub own : Branch p some parent index place
-    own = record { top = h.top; at = node-here p some same; low = omega (arith, h.within, digit); to_is = omega (arith, h.place_is, digit) }
+    own = record { top = h.top; at = node-here p some same; low = omega (arith, h.within); to_is = omega (arith, h.place_is) }
 
     -- the child before, of the same node
     pub prev-some : 0 < index → 0 < place
-    prev-some low = omega (arith, low, h.place_is, digit)
+    prev-some low = omega (arith, low, h.place_is)
 
     abbrev pub prev-own : 0 < index → Branch p some parent (index - 1) (place - 1)
-    prev-own low = record { top = h.top; at = node-here p some same; low = omega (arith, h.within, digit); to_is = omega (arith, low, h.place_is, digit) }
+    prev-own low = record { top = h.top; at = node-here p some same; low = omega (arith, h.within); to_is = omega (arith, low, h.place_is) }
 
     module _ (none : index ≤ 0) where
       -- the first child of the first node is the first of its level
       pub none-prev : h.top ≡ 0 → place ≡ 0
-      none-prev first = omega (arith, h.place_is, none, digit, none_flat h.at.before (h.at.at ∙ first))
+      none-prev first = omega (arith, h.place_is, none_flat h.at.before (h.at.at ∙ first))
 
       -- the last child of the node before
       module _ {top number : ℕ} (before : suc top ≡ h.top) (n : NumberAt (heads h.row) top number) {last : ℕ} (says : LastRead slots number last) where
         abbrev node-before : NodeIn inner_content slots 8 h.row number top
-        node-before = node-at inner_content slots 8 4 (omega arith) h.row h.fit h.inside number top n
+        node-before = node-at _ _ 8 4 (omega arith) h.row h.fit h.inside number top n
 
         pub last-is : suc last ≡ length node-before.entries
         last-is = omega (arith, says (inner_content node-before.entries) node-before.slot_is, item_count node-before.entries, node-before.some)
 
         pub meets : place ≡ length (flat node-before.before) + suc last
-        meets = omega (arith, seam node-before h.at (sym before), last-is, none, digit, h.place_is)
+        meets = omega (arith, seam node-before h.at (sym before), last-is, h.place_is)
 
         pub last-some : 0 < place
         last-some = omega (arith, meets)
@@ -117,15 +112,15 @@ module _ {K V : Type 0} {slots : List (Content K V)} {root code depth numbers ro
 
     module _ {count : ℕ} (counts : CountRead slots parent count) where
       pub count-is : count ≡ length h.at.entries
-      count-is = counts (inner_content h.at.entries) (node-here p some same).slot_is ∙ item_count h.at.entries
+      count-is = counts (inner_content h.at.entries) (node-here p some same).slot_is ∙ item_count _
 
       -- the next child of the same node
       abbrev pub next-own : index + 1 < count → Branch p some parent (index + 1) (suc place)
-      next-own low = record { top = h.top; at = node-here p some same; low = omega (arith, low, count-is); to_is = omega (arith, h.place_is, digit) }
+      next-own low = record { top = h.top; at = node-here p some same; low = omega (arith, low, count-is); to_is = omega (arith, h.place_is) }
 
       module _ (high : count ≤ index + 1) where
         pub past : length h.at.entries ≤ code % 8 + 1
-        past = omega (arith, high, count-is, digit)
+        past = omega (arith, count-is)
 
         -- the last child of the last node is the last of its level
         pub none-next : suc h.top ≡ length (heads h.row) → suc place ≡ length list
@@ -134,5 +129,5 @@ module _ {K V : Type 0} {slots : List (Content K V)} {root code depth numbers ro
         -- the first child of the node behind
         abbrev pub first-of : {top number : ℕ} → top ≡ suc h.top → NumberAt (heads h.row) top number → Branch p some number 0 (suc place)
         first-of {top} {number} behind n =
-            let w = node-at inner_content slots 8 4 (omega arith) h.row h.fit h.inside number top n in
+            let w = node-at _ _ 8 4 (omega arith) h.row h.fit h.inside number top n in
             record { top = top; at = w; low = w.some; to_is = omega (arith, seam h.at w behind, h.place_is, h.within, past) }

@@ -1,14 +1,10 @@
 -- The way of a code down rows of inner nodes, and a spot as such a way.
-use Rattle.std.proofs.Common.{IsTrue, ◌≡◌, ◌≢◌, ℕ, zero, suc, ◌+◌, ◌-◌, ◌*◌, ◌/◌, ◌%◌, ◌≤◌, ◌<◌, List, [], ◌∷◌, ◌++◌, length, drop, get_or, slice_get, Some, refl, sym, ap, subst, ◌∙◌, arith, None}
-use Rattle.bforest_core.proofs.Words.{Content, LevelNode, node, flat, heads, FitRow, RowIn, inner_content}
+use Rattle.std.proofs.Common.{IsTrue, ◌≡◌, ◌≢◌, ℕ, zero, suc, ◌+◌, ◌-◌, ◌*◌, ◌/◌, ◌%◌, ◌≤◌, ◌<◌, List, [], ◌∷◌, length, drop, get_or, slice_get, Some, refl, sym, ap, ◌∙◌, arith, None}
+use Rattle.bforest_core.proofs.Words.{Heads, Row, Rows, Content, node, flat, heads, FitRow, RowIn, inner_content, IsUnion, Table, half_of, is_root, tree_of}
+use Rattle.bforest_core.proofs.{union.Unions.is-rooted, table.Stored.item_count, rows.LevelRows.some_leaf, walks.Reading.{CountAsked, CountRead}}
+use Rattle.bforest_core.proofs.walks.RowNodes.{NodeIn, fit_full, node-at, node-in, node-same}
 use Rattle.bforest_core.specs.Spots.{Coded, CodedOver, HasNext, IsLeafAt, IsSpotAt, IsWay, IsNextOf, IsPrevOf, Leads, NumberAt, leaf_count}
 use Rattle.bforest_core.specs.declared.spot.Spot.{Spot}
-use Rattle.bforest_core.proofs.union.Unions.{is-rooted}
-use Rattle.bforest_core.proofs.Words.{IsUnion, Table, half_of, is_root, leaf_content, tree_of}
-use Rattle.bforest_core.proofs.table.Stored.{item_count}
-use Rattle.bforest_core.proofs.rows.LevelRows.{some_leaf}
-use Rattle.bforest_core.proofs.walks.Reading.{CountAsked, CountRead}
-use Rattle.bforest_core.proofs.walks.RowNodes.{NodeIn, fit_full, node-at, node-in, node-same}
 
 -- a power of eight
 abbrev pub eights : ℕ → ℕ
@@ -23,16 +19,16 @@ digits-low : (code x : ℕ) → code / 8 < x → code < 8 * x
 digits-low code x low = omega (arith, low)
 
 -- a code has no more digits than levels
-pub code-low : {K : Type 0} (n : ℕ) (rows : List (List (LevelNode K ℕ))) (numbers : List ℕ) (code place : ℕ) → Coded numbers rows code place → length rows ≤ n → code < eights n
-code-low n [] numbers code place c low = omega (arith, c.0, eights-pos n)
+pub code-low : {K : Type 0} (n : ℕ) (rows : Rows K) (numbers : List ℕ) (code place : ℕ) → Coded numbers rows code place → length rows ≤ n → code < eights n
+code-low n [] numbers code place c low = omega (arith, eights-pos n)
 code-low zero (row ∷ rows) numbers code place c low = absurd (omega (arith, low))
-code-low (suc n) (row ∷ rows) numbers code place c low = digits-low code (eights n) (code-low n rows (drop 1 numbers) (code / 8) (length c.0.before) c.1 (omega (arith, low)))
+code-low (suc n) (row ∷ rows) numbers code place c low = digits-low _ _ (code-low n _ _ _ _ c.1 (omega (arith, low)))
 
 module _ {K V : Type 0} (slots : List (Content K V)) (root code depth : ℕ) where
   -- the lowest node of a way, and the way to it
-  pub record Lowest (numbers : List ℕ) (rows : List (List (LevelNode K ℕ))) (list : List (K × ℕ)) (place : ℕ) : Type 0 where
-    pub row : List (LevelNode K ℕ)
-    pub rest : List (List (LevelNode K ℕ))
+  pub record Lowest (numbers : List ℕ) (rows : Rows K) (list : Heads K) (place : ℕ) : Type 0 where
+    pub row : Row K ℕ
+    pub rest : Rows K
     pub rows_are : rows ≡ row ∷ rest
     pub number : ℕ
     pub top : ℕ
@@ -61,28 +57,28 @@ module _ {K V : Type 0} (slots : List (Content K V)) (root code depth : ℕ) whe
         fit = p.stacked.1;
         inside = p.inside.0;
         flat_is = p.stacked.0;
-        over = record { stacked = p.stacked.2; inside = p.inside.1; coded = p.coded.1; root_is = p.root_is; depth_is = omega (arith, p.depth_is) };
-        low = omega (arith, p.depth_is);
+        over = record { stacked = p.stacked.2; inside = p.inside.1; coded = p.coded.1; root_is = p.root_is; depth_is = omega arith };
+        low = omega arith;
       }
 
   -- with no levels, the root
   pub way-none : {numbers : _} (rows list : _) {place : _} → CodedOver slots root code depth numbers rows list place → depth ≡ 0 → NumberAt list place root × (suc place ≡ length list) × (place ≡ 0)
-  way-none [] [] p none = absurd (omega (arith, p.stacked))
-  way-none [] (x ∷ y ∷ list) p none = absurd (omega (arith, p.stacked))
+  way-none [] [] p none = absurd (omega arith)
+  way-none [] (x ∷ y ∷ list) p none = absurd (omega arith)
   way-none [] (x ∷ []) p none =
-      ((x.0, ap (λ z. slice_get (x ∷ []) z) p.coded.1 ∙ ap (λ z. Some (x.0, z)) p.root_is), omega (arith, p.coded.1), p.coded.1)
-  way-none (row ∷ rest) list p none = absurd (omega (arith, p.depth_is, none))
+      ((x.0, ap (λ z. slice_get (x ∷ []) z) p.coded.1 ∙ ap (λ z. Some (x.0, z)) p.root_is), omega arith, p.coded.1)
+  way-none (row ∷ rest) list p none = absurd (omega arith)
 
 -- a code, with one digit more
 pub digit-put : (above digit code : ℕ) → digit < 8 → code ≡ above * 8 + digit → (code % 8 ≡ digit) × (code / 8 ≡ above)
-digit-put above digit code low is = (omega (arith, low, is), omega (arith, low, is))
+digit-put above digit code low is = (omega (arith, low), omega (arith, low))
 
 module _ {K V : Type 0} {slots : List (Content K V)} {root code depth numbers rows list place : _} (p : CodedOver slots root code depth numbers rows list place) (some : depth ≢ 0) where
   abbrev pub here : Lowest slots root code depth numbers rows list place
   here = lowest slots root code depth rows p some
 
   -- what going on above asks
-  pub above-asks : (numbers : List ℕ) × (rows : List (List (LevelNode K ℕ))) × (list : List (K × ℕ)) × (place : ℕ) × CodedOver slots root (code / 8) (depth - 1) numbers rows list place
+  pub above-asks : (numbers : _) × (rows : _) × (list : _) × (place : ℕ) × CodedOver slots root (code / 8) (depth - 1) numbers rows list place
   above-asks = (drop 1 numbers, here.rest, heads here.row, here.top, here.over)
 
   -- the lowest node is the one that was read
@@ -95,10 +91,9 @@ module _ {K V : Type 0} {slots : List (Content K V)} {root code depth numbers ro
       before = here.at.before;
       entries = here.at.entries;
       after = here.at.after;
-      row_is = here.at.row_is
-          ∙ ap (λ z. here.at.before ++ node z here.at.entries ∷ here.at.after) (sym same);
+      row_is = cc (here.at.row_is);
       at = here.at.at;
-      slot_is = ap (slice_get slots) same ∙ here.at.slot_is;
+      slot_is = cc (here.at.slot_is);
       some = here.at.some;
       room = here.at.room;
     }
@@ -115,14 +110,13 @@ module _ {K V : Type 0} {n : ℕ} {table : Table K V} (union : IsUnion n table) 
   pub leaf-at : {place number : ℕ} → NumberAt (heads (tree_of table.nodes root).leaves) place number → IsLeafAt table root place number
   leaf-at {place} {number} m =
       let w = is-rooted root union is in
-      let a = node-at leaf_content table.nodes n (half_of n) (some_leaf union.1.capacity) (tree_of table.nodes root).leaves w.fit.leaves_fit w.inside.leaves_in number place m in
+      let a = node-at _ _ n (half_of n) (some_leaf union.1.capacity) (tree_of table.nodes root).leaves w.fit.leaves_fit w.inside.leaves_in number place m in
       record { before = a.before; entries = a.entries; after = a.after; leaves_are = a.row_is; at = a.at; slot_is = a.slot_is; some = a.some }
 
   -- the last node of the lowest level is the last leaf
   pub last-leaf : {place : ℕ} → suc place ≡ length (heads (tree_of table.nodes root).leaves) → suc place ≡ leaf_count table root
   last-leaf {place} last =
-      let w = is-rooted root union is in
-      last ∙ fit_full (half_of n) n (some_leaf union.1.capacity) (tree_of table.nodes root).leaves w.fit.leaves_fit
+      last ∙ fit_full _ n (some_leaf union.1.capacity) _ (is-rooted root union is).fit.leaves_fit
 
 module _ {K V : Type 0} {n : ℕ} {table : Table K V} (union : IsUnion n table) {root : ℕ} {spot : Spot} {place : ℕ} (s : IsSpotAt table root spot place) where
   -- a spot's code is a way down
@@ -131,30 +125,30 @@ module _ {K V : Type 0} {n : ℕ} {table : Table K V} (union : IsUnion n table) 
 
   module _ (some : 0 < spot.height) where
     abbrev pub other : spot.height ≢ 0
-    other = λ none. omega (arith, none, some)
+    other = λ none. omega arith
 
     -- the lowest node of the way, the leaf's parent
     abbrev pub it : Lowest table.nodes root spot.code spot.height s.numbers (tree_of table.nodes root).above (heads (tree_of table.nodes root).leaves) place
     it = here spot-over other
 
     abbrev pub its : spot.parent ≡ (here spot-over other).number
-    its = kept-same (tree_of table.nodes root).above spot-over other spot.parent (s.parent_is some)
+    its = kept-same _ _ _ _ (s.parent_is some)
 
     pub spot-count : CountAsked table.nodes spot.parent
     spot-count = (inner_content (here spot-over other).at.entries, (node-here spot-over other its).slot_is, tt)
 
     module _ {count : ℕ} (counts : CountRead table.nodes spot.parent count) where
       pub spot-last : count ≤ spot.code % 8 + 1 → HasNext table spot → ⊥
-      spot-last high h = omega (arith, high, h.within, counts (inner_content h.entries) h.parent, item_count h.entries)
+      spot-last high h = omega (arith, counts (inner_content h.entries) h.parent, item_count h.entries)
 
       pub spot-has : spot.code % 8 + 1 < count → HasNext table spot
       spot-has low = record { some = some; entries = (here spot-over other).at.entries; parent = (node-here spot-over other its).slot_is; within = omega (arith, low, counts (inner_content (here spot-over other).at.entries) (node-here spot-over other its).slot_is, item_count (here spot-over other).at.entries) }
 
   pub spot-low : spot.code < 281474976710656
-  spot-low = let w = is-rooted root union s.root_is in code-low 16 (tree_of table.nodes root).above s.numbers spot.code place s.coded w.low
+  spot-low = let w = is-rooted root union s.root_is in code-low _ _ _ _ _ s.coded w.low
 
   pub spot-height : spot.height ≤ 16
-  spot-height = let w = is-rooted root union s.root_is in omega (arith, s.height_is, w.low)
+  spot-height = let w = is-rooted root union s.root_is in omega arith
 
   -- the spot at the end of a way from the same root
   pub far-spot : {next : Spot} {others to : _} → IsWay others next (tree_of table.nodes root).above to → IsSpotAt table root next to
@@ -163,11 +157,11 @@ module _ {K V : Type 0} {n : ℕ} {table : Table K V} (union : IsUnion n table) 
 module _ {K V : Type 0} {slots : List (Content K V)} {root code depth numbers rows list place : _} (p : CodedOver slots root code depth numbers rows list place) where
   -- the node that was read is the first of the numbers
   pub first-kept : (some : depth ≢ 0) (parent : ℕ) → ((numbers rows list place : _) → CodedOver slots root (code / 8) (depth - 1) numbers rows list place → NumberAt list place parent) → get_or numbers 0 0 ≡ parent
-  first-kept some parent says = kept-same rows p some (get_or numbers 0 0) refl ∙ sym (read-same p some parent says)
+  first-kept some parent says = kept-same _ p _ _ refl ∙ sym (read-same p some parent says)
 
   -- a spot of this code
   pub way-of : (spot : Spot) → spot.code ≡ code → spot.height ≡ depth → (0 < depth → get_or numbers 0 0 ≡ spot.parent) → (1 < depth → get_or (drop 1 numbers) 0 0 ≡ spot.grand) → IsWay numbers spot rows place
-  way-of spot code_is height parent grand = record { coded = subst (λ z. Coded numbers rows z place) (sym code_is) p.coded; parent_is = λ low. parent (omega (arith, low, height)); grand_is = λ low. grand (omega (arith, low, height)); height_is = height ∙ p.depth_is }
+  way-of spot code_is height parent grand = record { coded = rw code_is p.coded; parent_is = λ low. parent (omega (arith, low, height)); grand_is = λ low. grand (omega (arith, low, height)); height_is = cc (height) }
 
 -- the spot one level below another, at a child of this node
 pub record IsBelow (spot : Spot) (node index : ℕ) (next : Spot) : Type 0 where

@@ -1,17 +1,16 @@
 -- The step of a spot to the next leaf and to the one before, and the place of a spot's leaf.
 use Rattle.std.proofs.Common.{◌≡◌, ◌≢◌, ℕ, suc, ◌+◌, ◌-◌, ◌*◌, ◌/◌, ◌%◌, ◌≤◌, ◌<◌, List, [], ◌∷◌}
 use Rattle.std.proofs.Common.{drop, get_or, length, slice_get, take, Some, inl, inr, refl, sym, ap, subst, ◌∙◌, arith}
-use Rattle.bforest_core.proofs.Words.{cases_lt, eqb_tells, take_at, IsUnion, LevelNode, Table, entry_count, flat, heads, inner_content, tree_of}
+use Rattle.bforest_core.proofs.{Words.{Rows, cases_lt, eqb_tells, take_at, IsUnion, Table, heads, inner_content, tree_of}, table.Stored.{some_same, item_count}}
+use Rattle.bforest_core.proofs.walks.Branches.{Branch, branch-asks, branch-child, branch-way, count-asks, first-of, last-asks, last-of, last-some, next-own}
+use Rattle.bforest_core.proofs.{walks.Branches.{none-next, none-prev, prev-own, prev-some}, walks.Codes.{far-spot, here, it, its, kept-same, last-leaf}}
+use Rattle.bforest_core.proofs.{walks.Codes.{leaf-at, other, spot-over, way-none, way-of}, walks.Reading.{ChildAsked, ChildRead, CountAsked, CountRead}}
+use Rattle.bforest_core.proofs.walks.Reading.{LastAsked, LastRead}
 use Rattle.bforest_core.specs.Spots.{Coded, CodedOver, HasNext, HasPrev, IsLeafAt, IsNextOf, IsPrevOf, IsSpotAt, NumberAt, leaf_count, leaf_place, place_by}
 use Rattle.bforest_core.specs.declared.spot.Spot.{Spot}
-use Rattle.bforest_core.proofs.table.Stored.{some_same, item_count}
-use Rattle.bforest_core.proofs.walks.Branches.{Branch, branch-asks, branch-child, branch-way, count-asks, first-of, last-asks}
-use Rattle.bforest_core.proofs.walks.Branches.{last-of, last-some, next-own, none-next, none-prev, prev-own, prev-some}
-use Rattle.bforest_core.proofs.walks.Codes.{far-spot, here, it, its, kept-same, last-leaf, leaf-at, other, spot-over, way-none, way-of}
-use Rattle.bforest_core.proofs.walks.Reading.{ChildAsked, ChildRead, CountAsked, CountRead, LastAsked, LastRead}
 
 -- a code leads to one place
-pub coded-place : {K : Type 0} (numbers : List ℕ) (rows : List (List (LevelNode K ℕ))) (code place : ℕ) → Coded numbers rows code place
+pub coded-place : {K : Type 0} (numbers : List ℕ) (rows : Rows K) (code place : ℕ) → Coded numbers rows code place
     → place_by rows code ≡ place
 coded-place numbers [] code place c = sym c.1
 coded-place numbers (row ∷ rows) code place c =
@@ -19,11 +18,11 @@ coded-place numbers (row ∷ rows) code place c =
     let up = coded-place (drop 1 numbers) rows (code / 8) (length at.before) c.1 in
     let front : take (place_by rows (code / 8)) row ≡ at.before = ap (λ z. take z row) up ∙ ap (λ z. take (length at.before) z) at.row_is
     ∙ take_at at.before _ (length at.before) refl in
-    ap (λ z. length (flat z) + code % 8) front ∙ sym at.place_is
+    cc
 
 -- the place of a spot's leaf
 pub place-is : {K V : Type 0} {table : Table K V} {root : ℕ} {spot : Spot} {place : ℕ} → IsSpotAt table root spot place → leaf_place table root spot ≡ place
-place-is {table = table} {root = root} {spot = spot} {place = place} s = coded-place s.numbers (tree_of table.nodes root).above spot.code place s.coded
+place-is {table = table} {root = root} {spot = spot} {place = place} s = coded-place _ _ _ _ s.coded
 
 -- a leaf on the level of a spot's leaf, as a child of a node above it
 module _ {K V : Type 0} {n : ℕ} {table : Table K V} (union : IsUnion n table) {root : ℕ} {spot : Spot} {place : ℕ} (s : IsSpotAt table root spot place)
@@ -49,11 +48,11 @@ module _ {K V : Type 0} {n : ℕ} {table : Table K V} (union : IsUnion n table) 
   count = length (it union s some).at.entries
 
   abbrev slot : slice_get table.nodes spot.parent ≡ Some (inner_content (it union s some).at.entries)
-  slot = ap (slice_get table.nodes) (its union s some) ∙ (it union s some).at.slot_is
+  slot = cc (its union s some, (it union s some).at.slot_is)
 
   counts : CountRead table.nodes spot.parent count
   counts content found =
-      sym (ap entry_count (some_same content (inner_content (it union s some).at.entries) (sym found ∙ slot)) ∙ item_count (it union s some).at.entries)
+      sym (cc (some_same content (inner_content (it union s some).at.entries) (sym found ∙ slot), item_count (it union s some).at.entries))
 
   -- where no sibling is behind it, the leaf is the last of its parent
   high : (HasNext table spot → ⊥) → count ≤ spot.code % 8 + 1
@@ -72,7 +71,7 @@ module _ {K V : Type 0} {n : ℕ} {table : Table K V} (union : IsUnion n table) 
     abbrev behind : Branch (spot-over union s) (other union s h.some) spot.parent (spot.code % 8 + 1) (suc place)
     behind =
         next-own (spot-over union s) (other union s h.some) (its union s h.some) refl
-        (λ content found. sym (ap entry_count (some_same content (inner_content h.entries) (sym found ∙ h.parent)) ∙ item_count h.entries)) h.within
+        (λ content found. sym (cc (some_same content (inner_content h.entries) (sym found ∙ h.parent), item_count h.entries))) h.within
 
     pub sibling-asks : ChildAsked table.nodes spot.parent (spot.code % 8 + 1)
     sibling-asks = branch-asks behind
@@ -81,7 +80,7 @@ module _ {K V : Type 0} {n : ℕ} {table : Table K V} (union : IsUnion n table) 
         → next.height ≡ spot.height → ChildRead table.nodes spot.parent (spot.code % 8 + 1) child → IsSpotAt table root next (suc place)
         × IsLeafAt table root (suc place) child
     sibling-behind code parent grand height reads =
-        there union s h.some behind (it union s h.some).over (omega (arith, code)) parent height (λ low. s.grand_is low ∙ sym grand) reads
+        there union s h.some behind (it union s h.some).over (omega arith) parent height (λ low. s.grand_is low ∙ sym grand) reads
 
   module _ (h : HasPrev spot) where
     abbrev before : Branch (spot-over union s) (other union s h.0) spot.parent (spot.code % 8 - 1) (place - 1)
@@ -94,40 +93,40 @@ module _ {K V : Type 0} {n : ℕ} {table : Table K V} (union : IsUnion n table) 
         → next.height ≡ spot.height → ChildRead table.nodes spot.parent (spot.code % 8 - 1) child → (0 < place) × IsSpotAt table root next (place - 1)
         × IsLeafAt table root (place - 1) child
     sibling-before code parent grand height reads =
-        let r = there union s h.0 before (it union s h.0).over (omega (arith, code, h.1)) parent height (λ low. s.grand_is low ∙ sym grand) reads in
+        let r = there union s h.0 before (it union s h.0).over (omega arith) parent height (λ low. s.grand_is low ∙ sym grand) reads in
         (prev-some (spot-over union s) (other union s h.0) (its union s h.0) refl h.1, r.0, r.1)
 
   -- a leaf without a grandparent and without a sibling behind it is the last of the tree
   pub last-low : (HasNext table spot → ⊥) → spot.height < 2 → suc place ≡ leaf_count table root
   last-low last low = elim (eqb_tells spot.height 0) [
-    | inl none ↦ last-leaf union root s.root_is (way-none table.nodes root _ _ _ _ (spot-over union s) none.1).1
-    | inr w ↦ below (omega (arith, w.1))
+    | inl none ↦ last-leaf union root s.root_is (way-none _ _ _ _ _ _ (spot-over union s) none.1).1
+    | inr w ↦ below (omega arith)
   ]
     where
       below : 0 < spot.height → suc place ≡ leaf_count table root
       below some =
           last-leaf union root s.root_is (none-next (spot-over union s) (other union s some) (its union s some) refl (counts union s some)
           (high union s some last)
-          (way-none table.nodes root _ _ _ _ (it union s some).over (omega (arith, low, some))).1)
+          (way-none _ _ _ _ _ _ (it union s some).over (omega (arith, some))).1)
 
   -- a leaf without a grandparent and without a sibling before it is the first of the tree
   pub first-low : (HasPrev spot → ⊥) → spot.height < 2 → place ≡ 0
   first-low first low = elim (eqb_tells spot.height 0) [
-    | inl none ↦ (way-none table.nodes root _ _ _ _ (spot-over union s) none.1).2
-    | inr w ↦ below (omega (arith, w.1))
+    | inl none ↦ (way-none _ _ _ _ _ _ (spot-over union s) none.1).2
+    | inr w ↦ below (omega arith)
   ]
     where
       below : 0 < spot.height → place ≡ 0
       below some = none-prev (spot-over union s) (other union s some) (its union s some) refl (nought union s some first)
-          (way-none table.nodes root _ _ _ _ (it union s some).over (omega (arith, low, some))).2
+          (way-none _ _ _ _ _ _ (it union s some).over (omega (arith, some))).2
 
   -- the leaves with the same grandparent and another parent
   module _ (deep : 2 ≤ spot.height) where
     abbrev some : 0 < spot.height
-    some = omega (arith, deep)
+    some = omega arith
 
     abbrev more : spot.height - 1 ≢ 0
-    more = λ none. omega (arith, none, deep)
+    more = λ none. omega arith
 
     -- the way to the parent
     abbrev up : CodedOver table.nodes root (spot.code / 8) (spot.height - 1) (drop 1 s.numbers) (it union s some).rest (heads (it union s some).row)
@@ -135,7 +134,7 @@ module _ {K V : Type 0} {n : ℕ} {table : Table K V} (union : IsUnion n table) 
     up = (it union s some).over
 
     abbrev grand-is : spot.grand ≡ (here up more).number
-    grand-is = kept-same _ up more spot.grand (s.grand_is (omega (arith, deep)))
+    grand-is = kept-same _ _ _ _ (s.grand_is (omega arith))
 
     -- what the number of the grandparent's children asks
     pub grand-count : CountAsked table.nodes spot.grand
@@ -163,7 +162,7 @@ module _ {K V : Type 0} {n : ℕ} {table : Table K V} (union : IsUnion n table) 
             → next.height ≡ spot.height → ChildRead table.nodes parent 0 leaf → IsSpotAt table root next (suc place) × IsLeafAt table root (suc place) leaf
         cousin code parent_is grand height found =
             there union s some next-leaf (branch-way next-up (here up more).over {code1 =
-            spot.code / 8 + 1} (omega arith)) (omega (arith, code)) parent_is height (λ low. sym grand) found
+            spot.code / 8 + 1} (omega arith)) (omega arith) parent_is height (λ low. sym grand) found
 
     module _ (first : HasPrev spot → ⊥) (low : 0 < spot.code / 8 % 8) where
       abbrev prev-up : Branch up more spot.grand (spot.code / 8 % 8 - 1) ((it union s some).top - 1)
@@ -177,7 +176,7 @@ module _ {K V : Type 0} {n : ℕ} {table : Table K V} (union : IsUnion n table) 
         parent-at = branch-child prev-up reads
 
         pub cousin-last-asks : LastAsked table.nodes parent
-        cousin-last-asks = last-asks (spot-over union s) (other union s some) _ parent-at
+        cousin-last-asks = last-asks _ (other union s some) _ parent-at
 
         module _ {last : ℕ} (says : LastRead table.nodes parent last) where
           abbrev next-to : suc ((it union s some).top - 1) ≡ (it union s some).top
@@ -194,7 +193,7 @@ module _ {K V : Type 0} {n : ℕ} {table : Table K V} (union : IsUnion n table) 
               → next.height ≡ spot.height → ChildRead table.nodes parent last leaf → (0 < place) × IsSpotAt table root next (place - 1)
               × IsLeafAt table root (place - 1) leaf
           cousin-before code parent_is grand height found =
-              let r = there union s some leaf-before (branch-way prev-up (here up more).over {code1 = spot.code / 8 - 1} (omega (arith, low))) code parent_is
+              let r = there union s some leaf-before (branch-way prev-up (here up more).over {code1 = spot.code / 8 - 1} (omega arith)) code parent_is
               height (λ low. sym grand) found in
               (last-some (spot-over union s) (other union s some) (its union s some) refl (nought union s some first) next-to parent-at says, r.0, r.1)
 
@@ -204,17 +203,16 @@ module _ {K V : Type 0} {n : ℕ} {table : Table K V} (union : IsUnion n table) 
       → IsSpotAt table root far (suc place) × IsLeafAt table root (suc place) leaf
   far-behind says place s =
       let r = says.some s.numbers (tree_of table.nodes root).above (heads (tree_of table.nodes root).leaves) place (spot-over union s) in
-      (subst (IsSpotAt table root far) r.1 (far-spot union s r.3), subst (λ z. IsLeafAt table root z leaf) r.1 (leaf-at union root s.root_is r.4))
+      (subst (IsSpotAt table root far) r.1 (far-spot union s r.3), rw (← r.1) (leaf-at union root s.root_is r.4))
 
   pub far-before : IsPrevOf table.nodes root spot.code spot.height (Some (far, leaf)) → (place : ℕ) → IsSpotAt table root spot place → (0 < place)
       × IsSpotAt table root far (place - 1) × IsLeafAt table root (place - 1) leaf
   far-before says place s =
       let r = says.some s.numbers (tree_of table.nodes root).above (heads (tree_of table.nodes root).leaves) place (spot-over union s) in
-      let to : r.0 ≡ place - 1 = omega (arith, r.1) in (
-        omega (arith, r.1),
+      let to : r.0 ≡ place - 1 = omega arith in (
+        omega arith,
         subst (IsSpotAt table root far) to (far-spot union s r.3),
-        subst (λ z. IsLeafAt table root z leaf) to
-            (leaf-at union root s.root_is r.4),
+        rw (← to) (leaf-at union root s.root_is r.4),
       )
 
 -- a spot is told by its code and its ancestors, since all leaves of a tree have one height
@@ -223,8 +221,8 @@ pub same-spot : {K V : Type 0} {table : Table K V} {root : ℕ} {here far spot :
 same-spot {table = table} {root = root} {to = to} h f code parent grand height = record {
   root_is = f.root_is;
   numbers = f.numbers;
-  coded = subst (λ z. Coded f.numbers (tree_of table.nodes root).above z to) (sym code) f.coded;
-  parent_is = λ low. f.parent_is (omega (arith, low, height, h.height_is, f.height_is)) ∙ sym parent;
-  grand_is = λ low. f.grand_is (omega (arith, low, height, h.height_is, f.height_is)) ∙ sym grand;
-  height_is = height ∙ h.height_is;
+  coded = rw code f.coded;
+  parent_is = λ low. cc (f.parent_is (omega arith));
+  grand_is = λ low. f.grand_is (omega arith) ∙ sym grand;
+  height_is = cc;
 }

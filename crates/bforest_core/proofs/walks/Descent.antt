@@ -1,20 +1,17 @@
 -- The descent of a search: one level of it, and its end in a leaf.
 use Rattle.std.proofs.Common.{◌≡◌, ◌≢◌, ℕ, ◌+◌, ◌≤◌, ◌<◌, ◌⊎◌, inl, inr, List, [], ◌∷◌, ◌++◌, length, get_or, set, slice_get, Option, Some, refl, sym, ap, subst, ◌∙◌, arith, append_assoc, length-append, length-set}
-use Rattle.bforest_core.proofs.Words.{get_or-set_same, nil_from_length, slice_get_within, IsTotalOrder, IsStrictlySortedBy, AllByRecursion, is_some, option_map, Content, Inner, IsLeafCapacity, IsIncreasing, place, is_present, value_for, LevelNode, node}
-use Rattle.bforest_core.proofs.Words.{flat, heads, half_of, entry_keys, entry_items, StandsTo, child_index, IsFrom, IsUpTo, GoesThrough, Under, Descended, Reached}
+use Rattle.bforest_core.proofs.Words.{Heads, Row, get_or-set_same, nil_from_length, slice_get_within, IsTotalOrder, IsStrictlySortedBy, AllByRecursion, is_some}
+use Rattle.bforest_core.proofs.Words.{Content, Inner, IsLeafCapacity, IsIncreasing, place, is_present, value_for, node, flat, heads, entry_keys, entry_items}
+use Rattle.bforest_core.proofs.{Words.{StandsTo, child_index, IsFrom, IsUpTo, GoesThrough, Under, Descended, Reached}, walks.LeafSearch.items-read}
+use Rattle.bforest_core.proofs.{rows.LevelRows.{flat-append, some_leaf}, table.Stored.{some_same, slice_get_at}, walks.Rising.{all_split, all_less}}
+use Rattle.bforest_core.proofs.walks.Rising.{increasing_split, increasing_rest, all_before, all_greater, place_between, entry_between, place-le, first_passed}
+use Rattle.bforest_core.proofs.{walks.Rising.sides, walks.Downward.{Seen, last_of, stands_more, heads_increasing, upto_flat, stacked_increasing}}
+use Rattle.bforest_core.proofs.{walks.TopNode.{InnerUnder, LeafUnder, flat_parted, seen_at, set_but}, walks.Reading.ChildRead}
 use Rattle.std.specs.Map.{keys_of}
 use Rattle.std.specs.declared.cmp.Ordering.{Ordering}
 use Rattle.std.specs.declared.cmp.Ordering.TheVariants.{Less, Greater}
 use Rattle.bforest_core.specs.Descent.{IsPlaced}
 use Rattle.bforest_nodes.proofs.Found.{place-present}
-use Rattle.bforest_core.proofs.walks.LeafSearch.{items-read}
-use Rattle.bforest_core.proofs.rows.LevelRows.{flat-append}
-use Rattle.bforest_core.proofs.table.Stored.{some_same, slice_get_at}
-use Rattle.bforest_core.proofs.walks.Rising.{all_split, all_less, increasing_split, increasing_rest, all_before, all_greater, place_between, entry_between, place-le, first_passed, sides}
-use Rattle.bforest_core.proofs.walks.Downward.{Seen, last_of, stands_more, heads_increasing, upto_flat, stacked_increasing}
-use Rattle.bforest_core.proofs.walks.TopNode.{InnerUnder, LeafUnder, flat_parted, seen_at, set_but}
-use Rattle.bforest_core.proofs.walks.Reading.{ChildRead}
-use Rattle.bforest_core.proofs.rows.LevelRows.{some_leaf}
 
 -- writing the first of a list twice
 set_twice : (xs : List ℕ) (i j : ℕ) → set (set xs 0 i) 0 j ≡ set xs 0 j
@@ -22,30 +19,30 @@ set_twice [] i j = refl
 set_twice (x ∷ xs) i j = refl
 
 module _ {K : Type 0} (cmp : K → K → Ordering) where
-  is_from : (a : List (K × ℕ)) (first key : K) → cmp first key ≢ Greater → IsFrom cmp a first key
+  is_from : (a first key : _) → cmp first key ≢ Greater → IsFrom cmp a first key
   is_from [] first key ng = tt
   is_from (x ∷ a) first key ng = ng
 
   -- a node's first key is the first of its level, or not greater
-  from_at : {X : Type 0} {half most : _} {row : List (LevelNode K X)} (a : _) {first number b : _} {key : K} (at : Seen half most row a first number b) → IsFrom cmp a first key → (at.before ≡ []) ⊎ (cmp at.e.0 key ≢ Greater)
+  from_at : {X : Type 0} {half most : _} {row : Row K X} (a : _) {first number b : _} {key : K} (at : Seen half most row a first number b) → IsFrom cmp a first key → (at.before ≡ []) ⊎ (cmp at.e.0 key ≢ Greater)
   from_at [] at f = inl (nil_from_length at.before at.before_is)
-  from_at (x ∷ a) {key = key} at f = inr (subst (λ z. cmp z key ≢ Greater) (sym at.first_is) f)
+  from_at (x ∷ a) {key = key} at f = inr (rw at.first_is f)
 
   -- the key is less than the next of two parts of a list, the first of which may be empty
-  upto_parts : (r after : List (K × ℕ)) (key : K) → AllByRecursion (λ p. cmp p key ≡ Greater) (keys_of r) → IsUpTo cmp after key → IsUpTo cmp (r ++ after) key
+  upto_parts : (r after : Heads K) (key : K) → AllByRecursion (λ p. cmp p key ≡ Greater) (keys_of r) → IsUpTo cmp after key → IsUpTo cmp (r ++ after) key
   upto_parts [] after key h u = u
   upto_parts (y ∷ r) after key h u = h.0
 
   -- the last entry that is not greater than the key is the first of its level, or not greater
-  from_last : (front init : List (K × ℕ)) (last : K × ℕ) {e : K × ℕ} (l : List (K × ℕ)) (key : K) → (front ≡ []) ⊎ (cmp e.0 key ≢ Greater) → e ∷ l ≡ init ++ last ∷ [] → AllByRecursion (λ p. cmp p key ≢ Greater) (keys_of l) → IsFrom cmp (front ++ init) last.0 key
+  from_last : (front init : Heads K) (last : K × ℕ) {e : K × ℕ} (l : Heads K) (key : K) → (front ≡ []) ⊎ (cmp e.0 key ≢ Greater) → e ∷ l ≡ init ++ last ∷ [] → AllByRecursion (λ p. cmp p key ≢ Greater) (keys_of l) → IsFrom cmp (front ++ init) last.0 key
   from_last front [] last {e = e} l key f is h =
       let same : e ≡ last = cc in
-      elim f [ inl none ↦ subst (λ z. IsFrom cmp (z ++ []) last.0 key) (sym none) tt | inr ng ↦ is_from (front ++ []) last.0 key (subst (λ z. cmp z.0 key ≢ Greater) same ng) ]
+      elim f [ inl none ↦ subst (λ z. IsFrom cmp (z ++ []) last.0 key) (sym none) tt | inr ng ↦ is_from _ _ _ (rw (← same) ng) ]
   from_last front (x ∷ init) last l key f is h =
       let rest : l ≡ init ++ last ∷ [] = cc in
-      is_from (front ++ x ∷ init) last.0 key (all_split (λ p. cmp p key ≢ Greater) init (last ∷ []) (subst (λ z. AllByRecursion (λ p. cmp p key ≢ Greater) (keys_of z)) rest h)).1.0
+      is_from _ _ _ (all_split (λ p. cmp p key ≢ Greater) init (last ∷ []) (rw (← rest) h)).1.0
 
-module _ {K V : Type 0} (cmp : K → K → Ordering) (most : ℕ) (slots : List (Content K V)) (leaves : List (LevelNode K V)) (lower : List (List (LevelNode K ℕ))) (a : List (K × ℕ)) (first : K) (number : ℕ) (b : List (K × ℕ)) (key : K) where
+module _ {K V : Type 0} (cmp : K → K → Ordering) (most : ℕ) (slots : List (Content K V)) (leaves lower a first number b key : _) where
   -- a search in an inner node, whose row is the highest of those below
   pub record InnerStep : Type 0 where
     pub here : InnerUnder most slots leaves lower a first number b
@@ -63,14 +60,14 @@ module _ {K V : Type 0} (cmp : K → K → Ordering) (most : ℕ) (slots : List 
     pub high : AllByRecursion (λ p. cmp p key ≡ Greater) (keys_of (flat here.at.after))
 
 -- the entries of a row around a node increase
-increasing_about : {K X : Type 0} (cmp : K → K → Ordering) (o : IsTotalOrder cmp) {half most : _} {row : List (LevelNode K X)} {a first number b : _} (at : Seen half most row a first number b) → IsIncreasing cmp (flat row) →
+increasing_about : {K X : Type 0} (cmp : K → K → Ordering) (o : IsTotalOrder cmp) {half most : _} {row : Row K X} {a first number b : _} (at : Seen half most row a first number b) → IsIncreasing cmp (flat row) →
     IsIncreasing cmp (flat at.before ++ (at.e ∷ (at.es ++ flat at.after))) × IsIncreasing cmp (at.e ∷ at.es) × IsIncreasing cmp (flat at.after)
 increasing_about cmp o {number = number} at inc =
-    let parts = subst (IsIncreasing cmp) (ap flat at.row_is ∙ flat-append at.before (node number (at.e ∷ at.es) ∷ at.after)) inc in
-    let two = increasing_split o (at.e ∷ at.es) (flat at.after) (increasing_split o (flat at.before) ((at.e ∷ at.es) ++ flat at.after) parts).1 in
+    let parts = subst (IsIncreasing cmp) (cc (flat-append at.before (node number (at.e ∷ at.es) ∷ at.after))) inc in
+    let two = increasing_split o (at.e ∷ at.es) (flat at.after) (increasing_split o _ ((at.e ∷ at.es) ++ flat at.after) parts).1 in
     (parts, two.0, two.1)
 
-module _ {K V : Type 0} {cmp : K → K → Ordering} (o : IsTotalOrder cmp) {most : ℕ} (capacity : IsLeafCapacity most) {slots : List (Content K V)} {leaves : List (LevelNode K V)} {lower : List (List (LevelNode K ℕ))} {a : List (K × ℕ)} {first : K} {number : ℕ} {b : List (K × ℕ)} {key : K} where
+module _ {K V : Type 0} {cmp : K → K → Ordering} (o : IsTotalOrder cmp) {most : ℕ} (capacity : IsLeafCapacity most) {slots : List (Content K V)} {leaves lower a first number b key : _} where
   module _ (inc : IsIncreasing cmp (flat leaves)) (g : GoesThrough cmp a first b key) where
     -- the search in an inner node, from what is under it
     pub inner_step : InnerUnder most slots leaves lower a first number b → InnerStep cmp most slots leaves lower a first number b key
@@ -78,29 +75,29 @@ module _ {K V : Type 0} {cmp : K → K → Ordering} (o : IsTotalOrder cmp) {mos
       here = s;
       increasing = (increasing_about cmp o s.at (stacked_increasing cmp o (heads leaves) s.rows (flat s.row) s.under.stacked (heads_increasing o leaves inc))).1;
       from = from_at cmp a s.at g.from;
-      upto = upto_flat cmp 4 8 (omega arith) s.at.after key s.at.after_fit (subst (λ z. IsUpTo cmp z key) (sym s.at.after_is) g.upto);
+      upto = upto_flat _ 4 8 (omega arith) _ _ s.at.after_fit (rw s.at.after_is g.upto);
     }
 
     pub leaf_step : LeafUnder most slots leaves lower a first number b → LeafStep cmp most slots leaves lower a first number b key
     leaf_step s =
         let at = s.at in
         let parts = increasing_about cmp o at inc in
-        let upto = upto_flat cmp (half_of most) most (some_leaf capacity) at.after key at.after_fit (subst (λ z. IsUpTo cmp z key) (sym at.after_is) g.upto) in
+        let upto = upto_flat _ _ _ (some_leaf capacity) _ _ at.after_fit (rw at.after_is g.upto) in
         let from = from_at cmp a at g.from in
         record {
           here = s;
           increasing = parts.1;
           increasing_after = parts.2;
           from = from;
-          low = elim from [ inl none ↦ subst (λ z. AllByRecursion (λ p. cmp p key ≡ Less) (keys_of (flat z))) (sym none) tt | inr ng ↦ all_less o at.e.0 key (keys_of (flat at.before)) (all_before o (flat at.before) at.e (at.es ++ flat at.after) parts.0) ng ];
-          high = all_greater o (flat at.after) key parts.2 (λ y c is. subst (λ z. IsUpTo cmp z key) is upto);
+          low = elim from [ inl none ↦ subst (λ z. AllByRecursion (λ p. cmp p key ≡ Less) (keys_of (flat z))) (sym none) tt | inr ng ↦ all_less o at.e.0 key (keys_of (flat at.before)) (all_before o _ _ (at.es ++ flat at.after) parts.0) ng ];
+          high = all_greater o _ key parts.2 (λ y c is. subst (λ z. IsUpTo cmp z key) is upto);
         }
 
   -- the search capacity level down: at the child of this index, with everything below it
   pub record Below (s : InnerStep cmp most slots leaves lower a first number b key) (index child : ℕ) : Type 0 where
-    pub front : List (K × ℕ)
+    pub front : Heads K
     pub head : K
-    pub back : List (K × ℕ)
+    pub back : Heads K
     pub under : Under most slots leaves s.here.rows (front ++ (head, child) ∷ back)
     pub through : GoesThrough cmp front head back key
     pub place_is : length front ≡ length (flat s.here.at.before) + index
@@ -108,12 +105,12 @@ module _ {K V : Type 0} {cmp : K → K → Ordering} (o : IsTotalOrder cmp) {mos
 
   module _ (s : InnerStep cmp most slots leaves lower a first number b key) where
     -- the node meets what following a child requires
-    pub follow_asks : (keys : List K) × (children : List ℕ) × (slice_get slots number ≡ Some (Inner keys children)) × IsStrictlySortedBy cmp keys
+    pub follow_asks : (keys : List K) × (children : _) × (slice_get slots number ≡ Some (Inner keys children)) × IsStrictlySortedBy cmp keys
     follow_asks = (entry_keys s.here.at.es, entry_items (s.here.at.e ∷ s.here.at.es), s.here.slot_is, increasing_rest o s.here.at.e s.here.at.es s.increasing)
 
     -- following a child gives the search capacity level down
     pub below : {index child : ℕ}
-        → ((keys : List K) (children : List ℕ) → slice_get slots number ≡ Some (Inner keys children) → index ≡ child_index cmp keys key)
+        → ((keys : List K) (children : _) → slice_get slots number ≡ Some (Inner keys children) → index ≡ child_index cmp keys key)
         → ChildRead slots number index child → Below s index child
     below {index = index} {child = child} says reads =
         let index_is = says (entry_keys s.here.at.es) (entry_items (s.here.at.e ∷ s.here.at.es)) s.here.slot_is in
@@ -121,36 +118,35 @@ module _ {K V : Type 0} {cmp : K → K → Ordering} (o : IsTotalOrder cmp) {mos
         let at = s.here.at in
         let d = sides o at.es key (increasing_rest o at.e at.es s.increasing) in
         let w = last_of at.e d.l in
-        let es_is : at.e ∷ at.es ≡ w.init ++ w.last ∷ d.r = ap (λ z. at.e ∷ z) d.es_is ∙ ap (λ z. z ++ d.r) w.is ∙ append_assoc w.init (w.last ∷ []) d.r in
-        let count_is : length w.init ≡ index = omega (arith, ap length w.is, length-append w.init (w.last ∷ []), d.i_is, index_is) in
-        let here : slice_get (at.e ∷ at.es) index ≡ Some w.last = ap (λ z. slice_get z index) es_is ∙ slice_get_at w.init w.last d.r index count_is in
-        let child_is : child ≡ w.last.1 = some_same child w.last.1 (sym child_at ∙ items-read (at.e ∷ at.es) index ∙ ap (λ z. option_map (λ e. e.1) z) here) in
+        let es_is = ap (λ z. at.e ∷ z) d.es_is ∙ ap (λ z. z ++ d.r) w.is ∙ append_assoc w.init (w.last ∷ []) d.r in
+        let count_is : length w.init ≡ index = omega (arith, ap length w.is, length-append w.init (w.last ∷ [])) in
+        let here = ap (λ z. slice_get z index) es_is ∙ slice_get_at _ _ _ _ count_is in
+        let child_is = some_same child w.last.1 (cc (items-read (at.e ∷ at.es) index, here)) in
         record {
           front = flat at.before ++ w.init;
           head = w.last.0;
           back = d.r ++ flat at.after;
-          under = subst (λ z. Under most slots leaves s.here.rows z) (ap flat at.row_is ∙ flat_parted at.before number w.init w.last d.r at.after es_is ∙ ap (λ z. (flat at.before ++ w.init) ++ (w.last.0, z) ∷ (d.r ++ flat at.after)) (sym child_is)) s.here.under;
+          under = rw (← (ap flat at.row_is ∙ flat_parted at.before number w.init w.last d.r at.after es_is ∙ ap (λ z. (flat at.before ++ w.init) ++ (w.last.0, z) ∷ (d.r ++ flat at.after)) (sym child_is))) s.here.under;
           through = record {
-            from = from_last cmp (flat at.before) w.init w.last d.l key (elim s.from [ inl none ↦ inl (ap flat none) | inr ng ↦ inr ng ]) w.is d.low;
-            upto = upto_parts cmp d.r (flat at.after) key d.high s.upto;
+            from = from_last _ _ _ _ _ key (elim s.from [ inl none ↦ inl (ap flat none) | inr ng ↦ inr ng ]) w.is d.low;
+            upto = upto_parts _ _ _ key d.high s.upto;
           };
-          place_is = length-append (flat at.before) w.init ∙ ap (λ z. length (flat at.before) + z) count_is;
+          place_is = cc (length-append (flat at.before) w.init);
           within = omega (arith, slice_get_within (at.e ∷ at.es) index w.last here);
         }
 
     -- capacity level of the descent, whose place was written into the path
-    pub passed : (index : _) {child : _} (w : Below s index child) (path indices : List ℕ) {path' indices' : _} (path'' indices'' : _) {high : ℕ} → high ≡ length lower → Descended cmp leaves s.here.rows key (length w.front) path' indices' path'' indices'' →
+    pub passed : (index : _) {child : _} (w : Below s index child) (path indices : _) {path' indices' : _} (path'' indices'' : _) {high : ℕ} → high ≡ length lower → Descended cmp leaves s.here.rows key (length w.front) path' indices' path'' indices'' →
         get_or path' high 0 ≡ number → get_or indices' high 0 ≡ index → path' ≡ set path high number → indices' ≡ set indices high index → Descended cmp leaves lower key (length a) path indices path'' indices''
     passed index w path indices path'' indices'' {high = high} high_is d m_is j_is nodes entries =
-        let count_is = s.here.count_is in
-        let m_at : get_or path'' high 0 ≡ number = d.nodes_above high (omega (arith, high_is, count_is)) ∙ m_is in
-        let j_at : get_or indices'' high 0 ≡ index = d.entries_above high (omega (arith, high_is, count_is)) ∙ j_is in
-        let more = stands_more path'' indices'' 1 s.here.rows (length d.leaf.before) high d.stands (omega (arith, high_is, count_is)) (seen_at s.here.at m_at j_at w.within w.place_is) in
+        let m_at = d.nodes_above high (omega arith) ∙ m_is in
+        let j_at = d.entries_above high (omega arith) ∙ j_is in
+        let more = stands_more path'' indices'' 1 s.here.rows (length d.leaf.before) high d.stands (omega arith) (seen_at s.here.at m_at j_at w.within w.place_is) in
         record {
           leaf = d.leaf;
-          stands = subst (λ z. StandsTo path'' indices'' 1 z (length d.leaf.before) (length a)) (sym s.here.lower_is) (subst (λ z. StandsTo path'' indices'' 1 (s.here.rows ++ s.here.row ∷ []) (length d.leaf.before) z) s.here.at.before_is more);
-          nodes_above = λ i low. d.nodes_above i (omega (arith, low, count_is)) ∙ set_but path high number nodes i (λ z. omega (arith, z, low, high_is));
-          entries_above = λ i low. d.entries_above i (omega (arith, low, count_is)) ∙ set_but indices high index entries i (λ z. omega (arith, z, low, high_is));
+          stands = rw s.here.lower_is (subst (λ z. StandsTo path'' indices'' 1 (s.here.rows ++ s.here.row ∷ []) (length d.leaf.before) z) s.here.at.before_is more);
+          nodes_above = λ i low. d.nodes_above i (omega (arith, low)) ∙ set_but _ _ _ nodes i (λ z. omega (arith, low));
+          entries_above = λ i low. d.entries_above i (omega (arith, low)) ∙ set_but _ _ _ entries i (λ z. omega (arith, low));
         }
 
   module _ (s : LeafStep cmp most slots leaves lower a first number b key) where
@@ -158,55 +154,55 @@ module _ {K V : Type 0} {cmp : K → K → Ordering} (o : IsTotalOrder cmp) {mos
     entries = s.here.at.e ∷ s.here.at.es
 
     pub all_are : flat leaves ≡ flat s.here.at.before ++ (entries ++ flat s.here.at.after)
-    all_are = ap flat s.here.at.row_is ∙ flat-append s.here.at.before (node number entries ∷ s.here.at.after)
+    all_are = cc (flat-append s.here.at.before (node number entries ∷ s.here.at.after))
 
     -- the key's value in the leaf is its value among all entries
     pub leaf_value : value_for cmp (flat leaves) key ≡ value_for cmp entries key
-    leaf_value = ap (λ z. value_for cmp z key) all_are ∙ ap (λ z. option_map (λ e. e.1) z) (entry_between o (flat s.here.at.before) entries (flat s.here.at.after) key s.increasing_after s.low s.high)
+    leaf_value = cc (all_are, entry_between o (flat s.here.at.before) entries (flat s.here.at.after) key s.increasing_after s.low s.high)
 
     -- the key is present in the leaf exactly if it is present among all entries
     pub leaf_found : is_present cmp (flat leaves) key ≡ is_present cmp entries key
-    leaf_found = ap (λ z. is_present cmp z key) all_are ∙ ap is_some (entry_between o (flat s.here.at.before) entries (flat s.here.at.after) key s.increasing_after s.low s.high)
+    leaf_found = cc (all_are, entry_between o (flat s.here.at.before) entries (flat s.here.at.after) key s.increasing_after s.low s.high)
 
     abbrev pub placed : (m j : ℕ) → m ≡ number → j ≡ place cmp entries key → IsPlaced cmp leaves key m j
     placed m j m_is j_is =
         let at = s.here.at in
-        let same : is_present cmp (flat leaves) key ≡ is_present cmp entries key = ap (λ z. is_present cmp z key) all_are ∙ ap is_some (entry_between o (flat at.before) entries (flat at.after) key s.increasing_after s.low s.high) in
+        let same = ap (λ z. is_present cmp z key) all_are ∙ ap is_some (entry_between o (flat at.before) entries (flat at.after) key s.increasing_after s.low s.high) in
         record {
           before = at.before;
           entries = entries;
           after = at.after;
-          row_is = at.row_is ∙ ap (λ z. at.before ++ node z entries ∷ at.after) (sym m_is);
-          within = omega (arith, j_is, place-le o entries key);
-          place_is = ap (λ z. place cmp z key) all_are ∙ place_between o (flat at.before) entries (flat at.after) key s.increasing_after s.low s.high ∙ ap (λ z. length (flat at.before) + z) (sym j_is);
-          found = λ yes. omega (arith, j_is, place-present cmp entries key (sym same ∙ yes));
-          first = λ no zero_is. elim s.from [ inl none ↦ none | inr ng ↦ absurd (first_passed o at.e at.es key s.increasing ng (sym same ∙ no) (sym j_is ∙ zero_is)) ];
+          row_is = cc;
+          within = omega (arith, place-le o entries key);
+          place_is = cc (all_are, place_between o (flat at.before) entries (flat at.after) key s.increasing_after s.low s.high);
+          found = λ yes. omega (arith, place-present cmp entries key (cc));
+          first = λ no zero_is. elim s.from [ inl none ↦ none | inr ng ↦ absurd (first_passed o at.e at.es key s.increasing ng (cc) (cc)) ];
         }
 
     -- the end of the descent
-    pub landed : (path indices path' : List ℕ) {indices' : List ℕ} (answer : Option V) → 0 < length path → 0 < length indices
+    pub landed : (path indices path' : _) {indices' : _} (answer : Option V) → 0 < length path → 0 < length indices
         → path' ≡ set path 0 number → indices' ≡ set indices 0 (place cmp entries key) → answer ≡ value_for cmp entries key
         → (answer ≡ value_for cmp (flat leaves) key) × Descended cmp leaves lower key (length a) path indices path' indices'
     landed path indices path' {indices' = indices'} answer wide wide' nodes indices_are answer_is = (
-      answer_is ∙ sym leaf_value,
-      subst (λ z. Descended cmp leaves z key (length a) path indices path' indices') (sym s.here.lower_is) (record {
-        leaf = placed (get_or path' 0 0) (get_or indices' 0 0) (ap (λ z. get_or z 0 0) nodes ∙ get_or-set_same path 0 number 0 wide) (ap (λ z. get_or z 0 0) indices_are ∙ get_or-set_same indices 0 (place cmp entries key) 0 wide');
+      cc (leaf_value),
+      rw s.here.lower_is (record {
+        leaf = placed (get_or path' 0 0) (get_or indices' 0 0) (cc (get_or-set_same path 0 number 0 wide)) (cc (get_or-set_same indices 0 (place cmp entries key) 0 wide'));
         stands = s.here.at.before_is;
-        nodes_above = λ i low. set_but path 0 number nodes i (λ z. omega (arith, z, low));
-        entries_above = λ i low. set_but indices 0 (place cmp entries key) indices_are i (λ z. omega (arith, z, low));
+        nodes_above = λ i low. set_but _ 0 _ nodes i (λ z. omega (arith, low));
+        entries_above = λ i low. set_but _ 0 _ indices_are i (λ z. omega (arith, low));
       }),
     )
 
     -- the end of the descent, before the search in the leaf
     pub reached : (path indices path' indices' : List ℕ) → 0 < length path → 0 < length indices → path' ≡ set path 0 number → indices' ≡ set indices 0 0 → Reached cmp slots leaves lower key (length a) path indices path' indices' number
     reached path indices path' indices' wide wide' nodes indices_are = record {
-      leaf_is = ap (λ z. get_or z 0 0) nodes ∙ get_or-set_same path 0 number 0 wide;
+      leaf_is = cc (get_or-set_same path 0 number 0 wide);
       entries = entries;
       slot_is = s.here.slot_is;
       increasing = s.increasing;
       value_is = leaf_value;
       found_is = leaf_found;
-      nodes_wide = ap length nodes ∙ length-set path 0 number;
-      indices_wide = ap length indices_are ∙ length-set indices 0 0;
-      descended = (landed path indices path' (value_for cmp entries key) wide wide' nodes (ap (λ z. set z 0 (place cmp entries key)) indices_are ∙ set_twice indices 0 (place cmp entries key)) refl).1;
+      nodes_wide = cc (length-set path 0 number);
+      indices_wide = cc (length-set indices 0 0);
+      descended = (landed _ _ _ _ wide wide' nodes (cc (set_twice indices 0 (place cmp entries key))) refl).1;
     }

@@ -1,14 +1,10 @@
 -- The way of a code followed from the root down, digit by digit: the answers of `next_far` and `prev_far`.
 use Rattle.std.proofs.Common.{◌≡◌, ℕ, zero, suc, Some, None, Option, slice_get, inl, inr, IfSome, refl, ◌+◌, ◌-◌, ◌*◌, ◌/◌, ◌%◌, ◌^◌, ◌≤◌, ◌<◌, List, [], ◌∷◌, sym, ap, subst, ◌∙◌, arith}
 use Rattle.std.proofs.lemmas.Nat.{shr-shr}
-use Rattle.bforest_core.proofs.Words.{Content, eqb_tells}
+use Rattle.bforest_core.proofs.{Words.{Content, eqb_tells}, walks.Codes.{above-asks, IsBelow, root-leads}, walks.OnLevel.leads-on, walks.Reading.ChildRead}
+use Rattle.bforest_core.proofs.table.Stored.{some_same}
 use Rattle.bforest_core.specs.Spots.{CodedOver, EndsAt, Followed, HasWay, IsBesideOf, IsLower, IsTurn, Leads}
 use Rattle.bforest_core.specs.declared.spot.Spot.{Spot}
-use Rattle.bforest_core.proofs.walks.Codes.{above-asks}
-use Rattle.bforest_core.proofs.walks.Codes.{IsBelow, root-leads}
-use Rattle.bforest_core.proofs.walks.OnLevel.{leads-on}
-use Rattle.bforest_core.proofs.walks.Reading.{ChildRead}
-use Rattle.bforest_core.proofs.table.Stored.{some_same}
 
 -- a code without its last digits
 up-code : (code n : ℕ) → code / 2 ^ (3 * n) / 8 ≡ code / 2 ^ (3 * suc n)
@@ -22,23 +18,21 @@ module _ {K V : Type 0} {slots : List (Content K V)} {root code height : ℕ} (o
   ways : (n : ℕ) → n ≤ height → HasWay slots root (code / 2 ^ (3 * n)) (height - n)
   ways zero low =
       let none : height ≡ height - 0 = omega arith in
-      subst (λ z. HasWay slots root (code / 2 ^ (3 * 0)) z) none (subst (λ z. HasWay slots root z height) (sym (up-none code)) o)
+      rw (← none) (subst (λ z. HasWay slots root z height) (sym (up-none code)) o)
   ways (suc n) low =
-      let w = ways n (omega (arith, low)) in
-      let above = above-asks w.4 (λ none. omega (arith, none, low)) in
-      let level : height - n - 1 ≡ height - suc n = omega arith in
-      subst (λ z. HasWay slots root z (height - suc n)) (up-code code n) (subst (HasWay slots root (code / 2 ^ (3 * n) / 8)) level above)
+      let w = ways n (omega arith) in
+      rw (← up-code code n) (subst (HasWay slots root (code / 2 ^ (3 * n) / 8)) (omega arith) (above-asks w.4 (λ none. omega (arith, none))))
 
 -- what is said of a code and its levels holds of a spot that has them, one level further down
 pub moved : (Of : ℕ → ℕ → Type 0) {spot next : Spot} {node index : ℕ} → IsBelow spot node index next →
     Of (spot.code * 8 + index) (suc spot.height) → Of next.code next.height
-moved Of {spot} {next} b says = subst (Of next.code) (sym b.height) (subst (λ z. Of z (suc spot.height)) (sym b.code) says)
+moved Of {spot} {next} b says = subst (Of next.code) (sym b.height) (rw b.code says)
 
 -- with no levels, no digits
 code-none : {K V : Type 0} {slots : List (Content K V)} {root code depth numbers : _} (rows : _) {list place : _}
     → CodedOver slots root code depth numbers rows list place → depth ≡ 0 → code ≡ 0
 code-none [] p none = p.coded.0
-code-none (row ∷ rows) p none = absurd (omega (arith, p.depth_is, none))
+code-none (row ∷ rows) p none = absurd (omega (arith, none))
 
 -- at the root
 pub begun : {K V : Type 0} {slots : List (Content K V)} {root code height : ℕ} → HasWay slots root code height →
@@ -46,7 +40,7 @@ pub begun : {K V : Type 0} {slots : List (Content K V)} {root code height : ℕ}
 begun {height = height} o spot code none =
     let w = ways o height (omega arith) in
     let nought = sym (code-none w.1 w.4 (omega arith)) in
-    record { low = omega arith; height_is = omega (arith, none); code_is = code ∙ nought; leads = root-leads spot none code }
+    record { low = omega arith; height_is = omega (arith, none); code_is = cc; leads = root-leads spot none code }
 
 module _ {K V : Type 0} {slots : List (Content K V)} {root code height left : ℕ} {spot : Spot} {node : ℕ}
     (f : Followed slots root code height left spot node) where
@@ -54,9 +48,8 @@ module _ {K V : Type 0} {slots : List (Content K V)} {root code height left : �
   pub ended : (Of : ℕ → ℕ → Type 0) → left ≤ 0 → Of spot.code spot.height → Of code height
   ended Of none says =
       let nought : left ≡ 0 = omega (arith, none) in
-      let same : spot.code ≡ code = f.code_is ∙ ap (λ z. code / 2 ^ (3 * z)) nought ∙ up-none code in
-      let whole : spot.height ≡ height = omega (arith, f.height_is, none) in
-      subst (λ z. Of code z) whole (subst (λ z. Of z spot.height) same says)
+      let whole : spot.height ≡ height = omega (arith, none) in
+      rw (← whole) (subst (λ z. Of z spot.height) (f.code_is ∙ ap (λ z. code / 2 ^ (3 * z)) nought ∙ up-none code) says)
 
   module _ (some : 0 < left) where
     abbrev digit : ℕ
@@ -65,28 +58,27 @@ module _ {K V : Type 0} {slots : List (Content K V)} {root code height left : �
     up : code / 2 ^ (3 * (left - 1)) / 8 ≡ spot.code
     up =
         let back : suc (left - 1) ≡ left = omega (arith, some) in
-        up-code code (left - 1) ∙ ap (λ z. code / 2 ^ (3 * z)) back ∙ sym f.code_is
+        cc (up-code code (left - 1))
 
     turn-code : spot.code * 8 + digit ≡ code / 2 ^ (3 * (left - 1))
     turn-code = omega (arith, up)
 
     turn-height : suc spot.height ≡ height - (left - 1)
-    turn-height = omega (arith, f.height_is, f.low, some)
+    turn-height = omega (arith, some)
 
     pub turn-high : height ≤ 16 → spot.height < 16
-    turn-high low = omega (arith, f.height_is, f.low, some, low)
+    turn-high low = omega (arith, some)
 
     -- the way to the child to which the code goes
     pub turn-way : HasWay slots root code height → HasWay slots root (spot.code * 8 + digit) (suc spot.height)
     turn-way o =
-        let way = ways o (left - 1) (omega (arith, f.low)) in
-        subst (HasWay slots root (spot.code * 8 + digit)) (sym turn-height) (subst (λ z. HasWay slots root z (height - (left - 1))) (sym turn-code) way)
+        subst (HasWay slots root (spot.code * 8 + digit)) (sym turn-height) (rw turn-code (ways o (left - 1) (omega arith)))
 
     pub turned : {next : Spot} {child : ℕ} → IsBelow spot node digit next → ChildRead slots node digit child →
         Followed slots root code height (left - 1) next child
     turned {next} {child} b reads =
         record {
-          low = omega (arith, f.low);
+          low = omega arith;
           height_is = b.height ∙ turn-height;
           code_is = b.code ∙ turn-code;
           leads = moved (λ c d. Leads slots root c d next child) b (leads-on (omega arith) f.leads b reads);
@@ -113,8 +105,8 @@ module _ {K V : Type 0} {slots : List (Content K V)} {root code height : ℕ} {H
         IfSome found (λ turn. IsTurn slots root code height HasBeside Beside AtEnd 0 turn.0 turn.1)
         × (found ≡ None → IsBesideOf slots root code height Beside AtEnd None)
     turning-ends {found = found} t low =
-        let nought : left ≡ 0 = omega (arith, low) in
-        (if-found found (λ turn is. subst (λ z. IsTurn slots root code height HasBeside Beside AtEnd z turn.0 turn.1) nought (t.some turn is)), λ none. ended f (λ c d. IsBesideOf slots root c d Beside AtEnd None) low (t.none none))
+        let nought : left ≡ 0 = omega arith in
+        (if-found found (λ turn is. rw (← nought) (t.some turn is)), λ none. ended f (λ c d. IsBesideOf slots root c d Beside AtEnd None) low (t.none none))
 
     module _ (some : 0 < left) where
       -- a node beside the way on the level below is the lowest
@@ -123,11 +115,10 @@ module _ {K V : Type 0} {slots : List (Content K V)} {root code height : ℕ} {H
       turn-here {child} beside height_is = record {
         level = left - 1;
         height_is = height_is ∙ turn-height f some;
-        within = omega (arith, f.low);
+        within = omega arith;
         low = omega arith;
-        beside = subst (λ z. IsBesideOf slots root (code / 2 ^ (3 * (left - 1))) z Beside AtEnd (Some child)) (turn-height f some)
-            (subst (λ z. IsBesideOf slots root z (suc here.height) Beside AtEnd (Some child)) (turn-code f some) beside);
-        ends = λ j more less. absurd (omega (arith, more, less));
+        beside = rw (← turn-height f some) (subst (λ z. IsBesideOf slots root z (suc here.height) Beside AtEnd (Some child)) (turn-code f some) beside);
+        ends = λ j more less. absurd (omega arith);
       }
 
       module _ {content : Content K V} (slot_is : slice_get slots node ≡ Some content) (ends_here : ¬ HasBeside content (digit f some)) where
@@ -138,11 +129,11 @@ module _ {K V : Type 0} {slots : List (Content K V)} {root code height : ℕ} {H
           level = t.level;
           height_is = t.height_is;
           within = t.within;
-          low = omega (arith, t.low);
+          low = omega arith;
           beside = t.beside;
           ends = λ j more less. elim (eqb_tells j left) [
             | inl same ↦ subst (EndsAt slots root code height HasBeside) (sym same.1) (record { spot = here; node = node; content = content; way = f; slot_is = slot_is; none = ends_here })
-            | inr other ↦ t.ends j (omega (arith, more, other.1)) less
+            | inr other ↦ t.ends j (omega arith) less
           ];
         }
 
@@ -154,11 +145,11 @@ module _ {K V : Type 0} {slots : List (Content K V)} {root code height : ℕ} {H
           Turning slots root code height HasBeside Beside AtEnd (left - 1) next found
       turning-on lower t ends b = elim lower [
         | inl w ↦ record {
-          some = λ turn is. subst (λ z. IsTurn slots root code height HasBeside Beside AtEnd (left - 1) z.0 z.1) (some_same w.0 turn (sym w.1 ∙ is)) (turn-here w.2 w.3);
+          some = λ turn is. rw (← some_same w.0 turn (cc)) (turn-here w.2 w.3);
           none = λ none. absurd (let no = sym w.1 ∙ none in cc);
         }
         | inr w ↦ record {
-          some = λ turn is. turn-above w.1 w.2 (t.some turn (sym w.3 ∙ is));
+          some = λ turn is. turn-above w.1 w.2 (t.some turn (cc));
           none = λ none. moved (λ c d. IsBesideOf slots root c d Beside AtEnd None) b (ends w.0 w.1 w.2 (t.none (sym w.3 ∙ none)));
         }
       ]
@@ -167,16 +158,14 @@ module _ {K V : Type 0} {slots : List (Content K V)} {root code height : ℕ} {H
 module _ {K V : Type 0} {slots : List (Content K V)} {root code height : ℕ} {HasBeside : Content K V → ℕ → Type 0} {Beside AtEnd : ℕ → ℕ → Type 0} {spot : Spot} {number : ℕ}
     (t : IsTurn slots root code height HasBeside Beside AtEnd 0 spot number) where
   pub turn-more : spot.height < height → 0 < t.level
-  turn-more low = omega (arith, low, t.height_is)
+  turn-more low = omega arith
 
   -- there it is the node beside the one at which the way ends
   pub turn-done : height ≤ spot.height → IsBesideOf slots root code height Beside AtEnd (Some (spot, number))
   turn-done past =
-      let none : t.level ≡ 0 = omega (arith, past, t.height_is, t.within) in
-      let same : code / 2 ^ (3 * t.level) ≡ code = ap (λ z. code / 2 ^ (3 * z)) none ∙ up-none code in
-      let whole : height - t.level ≡ height = omega (arith, none) in
-      subst (λ z. IsBesideOf slots root z height Beside AtEnd (Some (spot, number))) same
-      (subst (λ z. IsBesideOf slots root (code / 2 ^ (3 * t.level)) z Beside AtEnd (Some (spot, number))) whole t.beside)
+      let none : t.level ≡ 0 = omega arith in
+      let same = ap (λ z. code / 2 ^ (3 * z)) none ∙ up-none code in
+      rw (← same) (subst (λ z. IsBesideOf slots root (code / 2 ^ (3 * t.level)) z Beside AtEnd (Some (spot, number))) (omega (arith, none)) t.beside)
 
   module _ (some : 0 < t.level) where
     -- the way's node on this level
@@ -188,12 +177,11 @@ module _ {K V : Type 0} {slots : List (Content K V)} {root code height : ℕ} {H
 
     pub turn-beside : IsBesideOf slots root turn-end.spot.code turn-end.spot.height Beside AtEnd (Some (spot, number))
     turn-beside =
-        subst (λ z. IsBesideOf slots root z turn-end.spot.height Beside AtEnd (Some (spot, number))) (sym turn-end.way.code_is)
-        (subst (λ z. IsBesideOf slots root (code / 2 ^ (3 * t.level)) z Beside AtEnd (Some (spot, number))) (sym turn-end.way.height_is) t.beside)
+        rw turn-end.way.code_is (subst (λ z. IsBesideOf slots root (code / 2 ^ (3 * t.level)) z Beside AtEnd (Some (spot, number))) (sym turn-end.way.height_is) t.beside)
 
     pub turn-down : {child : Spot × ℕ} → IsBesideOf slots root (turn-end.spot.code * 8 + turn-digit) (suc turn-end.spot.height) Beside AtEnd (Some child) → child.0.height ≡ suc spot.height →
         IsTurn slots root code height HasBeside Beside AtEnd 0 child.0 child.1
     unfolding turn-here
     turn-down beside height_is =
-        let h = turn-here {HasBeside = HasBeside} turn-end.way some beside (height_is ∙ ap suc (t.height_is ∙ sym turn-end.way.height_is)) in
-        record { level = t.level - 1; height_is = h.height_is; within = h.within; low = omega arith; beside = h.beside; ends = λ j more less. t.ends j more (omega (arith, less)) }
+        let h = turn-here {HasBeside = HasBeside} turn-end.way some beside (cc (turn-end.way.height_is)) in
+        record { level = t.level - 1; height_is = h.height_is; within = h.within; low = omega arith; beside = h.beside; ends = λ j more less. t.ends j more (omega arith) }

@@ -1,15 +1,14 @@
 -- Two searches that go to the same child of a node: each answer of `goes_along` is one of these.
 use Rattle.std.proofs.Common.{◌≡◌, ℕ, suc, ◌<◌, ◌≤◌, List, [], ◌∷◌, Some, arith, false, length, refl, slice_get, subst, sym, ap, true, ◌∙◌}
-use Rattle.bforest_core.proofs.Words.{Content, Inner, IsStrictlySortedBy, IsTotalOrder, child_index, slice_get_within}
-use Rattle.bforest_core.proofs.table.Stored.{some_same}
+use Rattle.bforest_core.proofs.{Words.{Content, Inner, IsStrictlySortedBy, IsTotalOrder, child_index, slice_get_within}, table.Stored.some_same}
+use Rattle.bforest_core.proofs.walks.Reading.{LastRead}
 use Rattle.bforest_nodes.specs.Content.{keys_of}
 use Rattle.bforest_nodes.proofs.Searched.{all_greater_behind, count_up_to-no, count_up_to-none, count_up_to-yes}
 use Rattle.bforest_nodes.specs.Search.{count_up_to}
 use Rattle.std.proofs.lemmas.Cmp.{alike_right}
-use Rattle.std.specs.Ordering.{is_gt, is_lt, ordering_reverse}
+use Rattle.std.specs.Ordering.{is_gt, is_lt}
 use Rattle.std.specs.declared.cmp.Ordering.TheVariants.{Equal, Greater, Less}
 use Rattle.std.specs.declared.cmp.Ordering.{Ordering}
-use Rattle.bforest_core.proofs.walks.Reading.{LastRead}
 
 module _ {K : Type 0} {cmp : K → K → Ordering} (o : IsTotalOrder cmp) where
   -- what is not greater than a key is not greater than one that is not less
@@ -19,9 +18,9 @@ module _ {K : Type 0} {cmp : K → K → Ordering} (o : IsTotalOrder cmp) where
       go : (r : Ordering) → cmp x from ≡ r → (s : Ordering) → cmp from to ≡ s → is_gt (cmp x to) ≡ false
       go Less e Less f = ap is_gt (o.trans x from to e f)
       go Less e Equal f = ap is_gt (sym (alike_right o from to x f) ∙ e)
-      go Less e Greater f = absurd (let bad : true ≡ false = sym (ap is_gt f) ∙ ordered in cc)
-      go Equal e s f = ap is_gt (o.congr x from to e) ∙ ordered
-      go Greater e s f = absurd (let bad : true ≡ false = sym (ap is_gt e) ∙ low in cc)
+      go Less e Greater f = absurd (let bad = sym (ap is_gt f) ∙ ordered in cc)
+      go Equal e s f = cc (o.congr x from to e)
+      go Greater e s f = absurd (let bad = sym (ap is_gt e) ∙ low in cc)
 
   module _ (from to : K) (ordered : is_gt (cmp from to) ≡ false) where
     -- where the separator behind the first key's child is greater than the second key, or there is none, both go there
@@ -29,13 +28,13 @@ module _ {K : Type 0} {cmp : K → K → Ordering} (o : IsTotalOrder cmp) where
         → ((s : K) → slice_get ks (count_up_to cmp ks from) ≡ Some s → cmp s to ≡ Greater) → count_up_to cmp ks from ≡ count_up_to cmp ks to
     unfolding IsStrictlySortedBy
     same-child [] sorted says = refl
-    same-child (x ∷ ks) sorted says = go (λ more. same-child ks sorted.1 (λ s found. says s (ap (slice_get (x ∷ ks)) more ∙ found))) (cmp x from) refl
+    same-child (x ∷ ks) sorted says = go (λ more. same-child ks sorted.1 (λ s found. says s (cc))) (cmp x from) refl
       where
         later : (count_up_to cmp (x ∷ ks) from ≡ suc (count_up_to cmp ks from) → count_up_to cmp ks from ≡ count_up_to cmp ks to)
             → is_gt (cmp x from) ≡ false → count_up_to cmp (x ∷ ks) from ≡ count_up_to cmp (x ∷ ks) to
         later rest low =
             let more = count_up_to-yes cmp x ks from low in
-            more ∙ ap suc (rest more) ∙ sym (count_up_to-yes cmp x ks to (not-behind x from to low ordered))
+            cc (rest more, count_up_to-yes cmp x ks to (not-behind x from to low ordered))
 
         go : (count_up_to cmp (x ∷ ks) from ≡ suc (count_up_to cmp ks from) → count_up_to cmp ks from ≡ count_up_to cmp ks to)
             → (r : Ordering) → cmp x from ≡ r → count_up_to cmp (x ∷ ks) from ≡ count_up_to cmp (x ∷ ks) to
@@ -43,34 +42,33 @@ module _ {K : Type 0} {cmp : K → K → Ordering} (o : IsTotalOrder cmp) where
         go rest Equal e = later rest (ap is_gt e)
         go rest Greater e =
             let none = count_up_to-no cmp x ks from (ap is_gt e) ∙ count_up_to-none cmp from ks (all_greater_behind cmp from o x ks sorted.0 (ap is_lt e)) in
-            let above : cmp x to ≡ Greater = says x (ap (slice_get (x ∷ ks)) none) in
-            none ∙ sym (count_up_to-no cmp x ks to (ap is_gt above) ∙ count_up_to-none cmp to ks (all_greater_behind cmp to o x ks sorted.0 (ap is_lt above)))
+            let above = says x (ap (slice_get (x ∷ ks)) none) in
+            cc (count_up_to-no cmp x ks to (ap is_gt above), count_up_to-none cmp to ks (all_greater_behind cmp to o x ks sorted.0 (ap is_lt above)))
 
   -- the separator behind the child to which a search goes is greater than the key
   pub greater-behind : (from s : K) (ks : List K) → IsStrictlySortedBy cmp ks → slice_get ks (count_up_to cmp ks from) ≡ Some s → cmp s from ≡ Greater
   unfolding IsStrictlySortedBy
   greater-behind from s [] sorted read = absurd (cc)
-  greater-behind from s (x ∷ ks) sorted read = go (λ more. greater-behind from s ks sorted.1 (ap (slice_get (x ∷ ks)) (sym more) ∙ read)) (cmp x from) refl
+  greater-behind from s (x ∷ ks) sorted read = go (λ more. greater-behind from s ks sorted.1 (cc)) (cmp x from) refl
     where
       go : (count_up_to cmp (x ∷ ks) from ≡ suc (count_up_to cmp ks from) → cmp s from ≡ Greater) → (r : Ordering) → cmp x from ≡ r → cmp s from ≡ Greater
       go rest Less e = rest (count_up_to-yes cmp x ks from (ap is_gt e))
       go rest Equal e = rest (count_up_to-yes cmp x ks from (ap is_gt e))
       go rest Greater e =
           let none = count_up_to-no cmp x ks from (ap is_gt e) ∙ count_up_to-none cmp from ks (all_greater_behind cmp from o x ks sorted.0 (ap is_lt e)) in
-          let is : x ≡ s = some_same x s (ap (slice_get (x ∷ ks)) (sym none) ∙ read) in
-          ap (λ y. cmp y from) (sym is) ∙ e
+          cc
 
   -- a key that is less than a separator is not greater than one that is not less
   not-greater : (from s to : K) → cmp s from ≡ Greater → is_lt (cmp to s) ≡ false → is_gt (cmp from to) ≡ false
   not-greater from s to greater past = go (cmp to s) refl
     where
       less : cmp from s ≡ Less
-      less = o.antisymm from s ∙ ap ordering_reverse greater
+      less = cc (o.antisymm from s)
 
       go : (r : Ordering) → cmp to s ≡ r → is_gt (cmp from to) ≡ false
-      go Less e = absurd (let bad : true ≡ false = sym (ap is_lt e) ∙ past in cc)
+      go Less e = absurd (let bad = sym (ap is_lt e) ∙ past in cc)
       go Equal e = ap is_gt (alike_right o to s from e ∙ less)
-      go Greater e = ap is_gt (o.trans from s to less (o.antisymm s to ∙ ap ordering_reverse e))
+      go Greater e = ap is_gt (o.trans from s to less (cc (o.antisymm s to)))
 
 module _ {K V : Type 0} {cmp : K → K → Ordering} (o : IsTotalOrder cmp) (slots : List (Content K V)) (node index : ℕ) (key : K)
     (asked : (keys : List K) × (children : List ℕ) × (slice_get slots node ≡ Some (Inner keys children)) × IsStrictlySortedBy cmp keys
@@ -83,7 +81,7 @@ module _ {K V : Type 0} {cmp : K → K → Ordering} (o : IsTotalOrder cmp) (slo
 
   module _ {keys : List K} {children : List ℕ} (found : slice_get slots node ≡ Some (Inner keys children)) where
     same-keys : asked.0 ≡ keys
-    same-keys = ap keys_of (some_same (Inner asked.0 asked.1) (Inner keys children) (sym asked.2 ∙ found))
+    same-keys = ap keys_of (some_same _ _ (sym asked.2 ∙ found))
 
     sorted-keys : IsStrictlySortedBy cmp keys
     sorted-keys = subst (IsStrictlySortedBy cmp) same-keys asked.3
@@ -94,7 +92,7 @@ module _ {K V : Type 0} {cmp : K → K → Ordering} (o : IsTotalOrder cmp) (slo
         × (index < length keys)
     separator-there other =
         let is = says (Inner asked.0 asked.1) asked.2 in
-        (asked.0, asked.1, asked.2, omega (arith, is, asked.4, asked.5, other))
+        (asked.0, asked.1, asked.2, omega arith)
 
     -- behind the last child there is none
     pub along-last : index ≡ last → GoesAlong
@@ -102,23 +100,21 @@ module _ {K V : Type 0} {cmp : K → K → Ordering} (o : IsTotalOrder cmp) (slo
         let end = says (Inner asked.0 asked.1) asked.2 in
         let same = ap length (same-keys found) in
         at ∙ same-child o from key ordered keys (sorted-keys found)
-        (λ s read. absurd (omega (arith, slice_get_within keys (child_index cmp keys from) s read, at, is, end, asked.4, same)))
+        (λ s read. absurd (omega (arith, slice_get_within keys (child_index cmp keys from) s read)))
 
   -- the separator behind the child is greater
-  pub along-below : {s : K} → ((keys : List K) (children : List ℕ) → slice_get slots node ≡ Some (Inner keys children)
+  pub along-below : {s : K} → ((keys : List K) (children : _) → slice_get slots node ≡ Some (Inner keys children)
       → slice_get keys index ≡ Some s) → cmp key s ≡ Less → GoesAlong
   along-below {s} reads less from keys children found at ordered =
-      at ∙ same-child o from key ordered keys (sorted-keys found) (λ z read.
-      let is : z ≡ s = some_same z s (sym read ∙ ap (slice_get keys) (sym at) ∙ reads keys children found) in
-      ap (λ y. cmp y key) is ∙ o.antisymm s key ∙ ap ordering_reverse less)
+      cc (same-child o from key ordered keys (sorted-keys found) (λ z read. let is = some_same z s (sym read ∙ ap (slice_get keys) (sym at) ∙ reads keys children found) in simp (is, o.antisymm s key, less)))
 
   -- the separator behind the child is not greater, so the key is not less than one whose search goes to the child
-  pub not-along : {s : K} → ((keys : List K) (children : List ℕ) → slice_get slots node ≡ Some (Inner keys children)
+  pub not-along : {s : K} → ((keys : List K) (children : _) → slice_get slots node ≡ Some (Inner keys children)
       → slice_get keys index ≡ Some s) → is_lt (cmp key s) ≡ false
-      → (from : K) (keys : List K) (children : List ℕ) → slice_get slots node ≡ Some (Inner keys children)
+      → (from : K) (keys : List K) (children : _) → slice_get slots node ≡ Some (Inner keys children)
       → index ≡ child_index cmp keys from → is_gt (cmp from key) ≡ false
   not-along {s} reads past from keys children found at =
-      not-greater o from s key (greater-behind o from s keys (sorted-keys found) (ap (slice_get keys) (sym at) ∙ reads keys children found)) past
+      not-greater o from s key (greater-behind o from s keys (sorted-keys found) (cc (reads keys children found))) past
 
 -- a key that is tested to be less
 pub less-tested : (r : Ordering) → is_lt r ≡ true → r ≡ Less

@@ -1,5 +1,5 @@
 -- From a search in a leaf's slot to the leaf's entries.
-use Rattle.std.proofs.Common.{◌≡◌, ℕ, IfSome, List, slice_get, Option, Some, None, Ok, Err, refl, sym, ap, ◌∙◌}
+use Rattle.std.proofs.Common.{◌≡◌, ℕ, IfSome, List, slice_get, Option, Some, None, Ok, Err, refl, sym, ◌∙◌}
 use Rattle.bforest_core.proofs.Words.{slice_get-map, search_of, IsIncreasing, place, value_for, value_at_place, entry_keys, entry_items}
 use Rattle.std.specs.declared.cmp.Ordering.{Ordering}
 use Rattle.bforest_nodes.proofs.Found.{search_of-keys_of, present_at, absent_at, value_for-present, value_for-absent}
@@ -14,7 +14,7 @@ module _ {K V : Type 0} where
       (i ≡ place cmp es key) × (o ≡ value_for cmp es key)
   looked cmp es key increasing (Some v) {i = i} found read absent =
       let p = present_at cmp es key i (sym found ∙ search_of-keys_of cmp es key) in
-      (p.0, sym read ∙ items-read es i ∙ ap (value_at_place es) p.0 ∙ sym (value_for-present cmp es key p.1))
+      (p.0, cc (items-read es i, value_for-present cmp es key p.1))
   looked cmp es key increasing None {i = i} found read absent =
       let p = absent_at cmp es key i (sym (absent refl) ∙ search_of-keys_of cmp es key) in
       (p.0, sym (value_for-absent cmp es key p.1))

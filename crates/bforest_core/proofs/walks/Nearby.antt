@@ -1,20 +1,16 @@
 -- A key near the entry where a path stands.
-use Rattle.std.proofs.Common.{◌≡◌, ◌≢◌, ℕ, zero, suc, ◌+◌, ◌-◌, ◌≤◌, ◌<◌, true, false, if◌then◌else◌, List, [], ◌∷◌, get_or, length, length-append, drop, slice_get, Option, Some, None, refl, sym, subst, ap, ◌∙◌, arith}
-use Rattle.bforest_core.proofs.Words.{IsTotalOrder, IsStrictlySortedBy, AllByRecursion, is_some, option_map, is_eq, is_lt, ordering_reverse, drop_all, Path, IsUpTo, FitRow, LevelNode}
-use Rattle.bforest_core.proofs.Words.{Solid, flat, half_of, node, StandsAt, StandsOn, index_of, leaf_of, list_under, entry_before, leaf_content, Table, IsUnion, tree_of, IsIncreasing, entry_for, is_present, place, value_for}
+use Rattle.std.proofs.Common.{◌≡◌, ◌≢◌, ℕ, zero, suc, ◌+◌, ◌-◌, ◌≤◌, ◌<◌, true, false, List, [], ◌∷◌, get_or, length, length-append, drop, slice_get, Option, Some, None, refl, sym, subst, ap, ◌∙◌, arith}
+use Rattle.bforest_core.proofs.Words.{Row, IsTotalOrder, IsStrictlySortedBy, AllByRecursion, is_some, option_map, is_lt, ordering_reverse, drop_all, Path}
+use Rattle.bforest_core.proofs.Words.{IsUpTo, Solid, flat, half_of, node, StandsAt, StandsOn, index_of, leaf_of, list_under, entry_before, leaf_content, Table}
+use Rattle.bforest_core.proofs.{Words.{IsUnion, tree_of, IsIncreasing, entry_for, is_present, place, value_for}, rows.LevelRows.{FitRow-split, some_leaf}}
+use Rattle.bforest_core.proofs.{table.Stored.some_same, walks.Backward.{at_end, at_entry}, walks.Entered.{entry_read, points_in}, walks.Rising.all_greater}
+use Rattle.bforest_core.proofs.{walks.Rising.{entry_between, increasing_rest, less_from, place_between}, walks.Standing.{on-leaf-in, on-tree, on-within}}
+use Rattle.bforest_core.proofs.{walks.Standing.points-stands, walks.Steps.{never, read}}
 use Rattle.std.specs.Map.{keys_of}
 use Rattle.std.specs.declared.cmp.Ordering.{Ordering}
 use Rattle.std.specs.declared.cmp.Ordering.TheVariants.{Less, Equal, Greater}
 use Rattle.bforest_core.specs.Paths.{IsPlaced}
 use Rattle.bforest_nodes.proofs.Ordered.{place-here, place-later}
-use Rattle.bforest_core.proofs.rows.LevelRows.{FitRow-split}
-use Rattle.bforest_core.proofs.table.Stored.{some_same}
-use Rattle.bforest_core.proofs.walks.Backward.{at_end, at_entry}
-use Rattle.bforest_core.proofs.rows.LevelRows.{some_leaf}
-use Rattle.bforest_core.proofs.walks.Entered.{entry_read, points_in}
-use Rattle.bforest_core.proofs.walks.Rising.{all_greater, entry_between, increasing_rest, less_from, place_between, test_at}
-use Rattle.bforest_core.proofs.walks.Standing.{on-leaf-in, on-tree, on-within, points-stands}
-use Rattle.bforest_core.proofs.walks.Steps.{never, read}
 
 module _ {K X : Type 0} (cmp : K → K → Ordering) (es : List (K × X)) (key : K) where
   -- what a search finds: the place of the key, and the entry there if the key is present
@@ -28,15 +24,15 @@ no-value {K} {X} cmp key es none here =
     (elim (entry_for cmp es key) as (λ (o : Option (K × X)). None ≡ option_map (λ e. e.1) o → is_some o ≡ true → ⊥) [ None ↦ λ n h. never h refl | Some e ↦ λ n h. absurd (cc) ]) none here
 
 -- where the entry at a place is greater than the key, the key is less than the list from there on
-upto_at : {K X : Type 0} (cmp : K → K → Ordering) (key : K) (es : List (K × X)) (p : ℕ) (e : K × X) → slice_get es p ≡ Some e → cmp e.0 key ≡ Greater → IsUpTo cmp (drop p es) key
+upto_at : {K X : Type 0} (cmp : K → K → Ordering) (key : K) (es : List (K × X)) (p e : _) → slice_get es p ≡ Some e → cmp e.0 key ≡ Greater → IsUpTo cmp (drop p es) key
 upto_at cmp key [] p e here t = absurd cc
-upto_at cmp key (x ∷ es) zero e here t = ap (λ z. cmp z key) (some_same x.0 e.0 (ap (λ z. option_map (λ w. w.0) z) here)) ∙ t
+upto_at cmp key (x ∷ es) zero e here t = cc (some_same x.0 e.0 (ap (λ z. option_map (λ w. w.0) z) here))
 upto_at cmp key (x ∷ es) (suc p) e here t = upto_at cmp key es p e here t
 
 module _ {K X : Type 0} {cmp : K → K → Ordering} (o : IsTotalOrder cmp) (key : K) where
   -- a search that passes a lesser first entry
   later : (e : K × X) {es : List (K × X)} → cmp e.0 key ≡ Less → {p found : _} → Finds cmp es key p found → Finds cmp (e ∷ es) key (suc p) found
-  later e {es = es} t f = let z = place-later cmp o e es key t in record { place_is = z ∙ ap suc f.place_is; entry_is = ap (λ i. test_at o (e ∷ es) key i) z ∙ f.entry_is }
+  later e {es = es} t f = let z = place-later cmp o e es key t in record { place_is = cc; entry_is = cc }
 
   -- a search in a list whose first entry is greater
   pub finds_first : (es : List (K × X)) → IsIncreasing cmp es → IsUpTo cmp es key → Finds cmp es key 0 None
@@ -44,39 +40,39 @@ module _ {K X : Type 0} {cmp : K → K → Ordering} (o : IsTotalOrder cmp) (key
       let high = all_greater o es key h (λ y c is. subst (λ z. IsUpTo cmp z key) is up) in
       record { place_is = place_between o [] [] es key h tt high; entry_is = entry_between o [] [] es key h tt high }
 
-  all_at : (P : K → Type 0) (es : List (K × X)) (p : ℕ) (e : K × X) → AllByRecursion P (keys_of es) → slice_get es p ≡ Some e → P e.0
+  all_at : (P : K → Type 0) (es : List (K × X)) (p e : _) → AllByRecursion P (keys_of es) → slice_get es p ≡ Some e → P e.0
   all_at P [] p e h here = absurd cc
-  all_at P (x ∷ es) zero e h here = subst (λ z. P z.0) (some_same x e here) h.0
+  all_at P (x ∷ es) zero e h here = rw (← some_same x e here) h.0
   all_at P (x ∷ es) (suc p) e h here = all_at P es p e h.1 here
 
   -- a search from an entry on that is not greater, as in the whole list
-  behind : (es : List (K × X)) (p : ℕ) (e : K × X) → slice_get es p ≡ Some e → IsIncreasing cmp es → cmp e.0 key ≢ Greater → (n found : _) → (IsIncreasing cmp (e ∷ drop (suc p) es) → Finds cmp (e ∷ drop (suc p) es) key n found) → Finds cmp es key (p + n) found
+  behind : (es : List (K × X)) (p e : _) → slice_get es p ≡ Some e → IsIncreasing cmp es → cmp e.0 key ≢ Greater → (n found : _) → (IsIncreasing cmp (e ∷ drop (suc p) es) → Finds cmp (e ∷ drop (suc p) es) key n found) → Finds cmp es key (p + n) found
   unfolding IsStrictlySortedBy
   behind [] p e here h ng n found f = absurd cc
   behind (x ∷ es) zero e here h ng n found f =
       let same = some_same x e here in
       subst (λ z. Finds cmp (x ∷ es) key z found) (omega arith) (subst (λ z. Finds cmp (z ∷ es) key n found) (sym same) (f (subst (λ z. IsIncreasing cmp (z ∷ es)) same h)))
   behind (x ∷ es) (suc p) e here h ng n found f =
-      subst (λ z. Finds cmp (x ∷ es) key z found) (omega arith) (later x (less_from o x.0 e.0 key (all_at (λ k. cmp x.0 k ≡ Less) es p e h.0 here) ng) (behind es p e here h.1 ng n found f))
+      subst (λ z. Finds cmp (x ∷ es) key z found) (omega arith) (later x (less_from o x.0 e.0 key (all_at _ _ p e h.0 here) ng) (behind es p e here h.1 ng n found f))
 
   -- a search that ends at an entry whose key compares equal
-  pub finds_here : (es : List (K × X)) (p : ℕ) (e : K × X) → slice_get es p ≡ Some e → IsIncreasing cmp es → cmp key e.0 ≡ Equal → Finds cmp es key p (Some e)
+  pub finds_here : (es : List (K × X)) (p e : _) → slice_get es p ≡ Some e → IsIncreasing cmp es → cmp key e.0 ≡ Equal → Finds cmp es key p (Some e)
   finds_here es p e here h t =
-      let same : cmp e.0 key ≡ Equal = o.antisymm e.0 key ∙ ap ordering_reverse t in
-      subst (λ z. Finds cmp es key z (Some e)) (omega arith) (behind es p e here h (λ g. let bad : Equal ≡ Greater = sym same ∙ g in absurd cc) 0 (Some e) (λ i.
+      let same = o.antisymm e.0 key ∙ ap ordering_reverse t in
+      subst (λ z. Finds cmp es key z (Some e)) (omega arith) (behind es p e here h (λ g. let bad = sym same ∙ g in absurd cc) 0 (Some e) (λ i.
       let z = place-here cmp o e (drop (suc p) es) key i (ap is_lt same) in
-      record { place_is = z; entry_is = ap (λ i. test_at o (e ∷ drop (suc p) es) key i) z ∙ ap (λ r. if is_eq r then Some e else None) same }))
+      record { place_is = z; entry_is = cc }))
 
   -- a search that ends after a lesser entry, where the next is greater
-  pub finds_behind : (es : List (K × X)) (p : ℕ) (e : K × X) → slice_get es p ≡ Some e → IsIncreasing cmp es → cmp key e.0 ≡ Greater → IsUpTo cmp (drop (suc p) es) key → Finds cmp es key (suc p) None
+  pub finds_behind : (es : List (K × X)) (p e : _) → slice_get es p ≡ Some e → IsIncreasing cmp es → cmp key e.0 ≡ Greater → IsUpTo cmp (drop (suc p) es) key → Finds cmp es key (suc p) None
   finds_behind es p e here h t up =
-      let less : cmp e.0 key ≡ Less = o.antisymm e.0 key ∙ ap ordering_reverse t in
-      subst (λ z. Finds cmp es key z None) (omega arith) (behind es p e here h (λ g. let bad : Less ≡ Greater = sym less ∙ g in absurd cc) 1 None (λ i. later e less (finds_first (drop (suc p) es) (increasing_rest o e (drop (suc p) es) i) up)))
+      let less = o.antisymm e.0 key ∙ ap ordering_reverse t in
+      subst (λ z. Finds cmp es key z None) (omega arith) (behind es p e here h (λ g. let bad = sym less ∙ g in absurd cc) 1 None (λ i. later e less (finds_first _ (increasing_rest o e (drop (suc p) es) i) up)))
 
 -- solid nodes without entries are none
-no_nodes : {K X : Type 0} (half most : ℕ) → 1 ≤ half → (row : List (LevelNode K X)) → Solid half most row → length (flat row) ≡ 0 → row ≡ []
+no_nodes : {K X : Type 0} (half most : ℕ) → 1 ≤ half → (row : Row K X) → Solid half most row → length (flat row) ≡ 0 → row ≡ []
 no_nodes half most one [] solid none = refl
-no_nodes half most one (node m es ∷ row) solid none = absurd (omega (arith, one, solid.0, none, length-append es (flat row)))
+no_nodes half most one (node m es ∷ row) solid none = absurd (omega (arith, length-append es (flat row)))
 
 module _ {K V : Type 0} {n : ℕ} (table : Table K V) (root : ℕ) (path : Path K V n) where
   module _ (union : IsUnion n table) where
@@ -84,20 +80,20 @@ module _ {K V : Type 0} {n : ℕ} (table : Table K V) (root : ℕ) (path : Path 
     pub placed-behind : (path' : Path K V n) (p : ℕ) → StandsOn table root path p → path'.node ≡ path.node → index_of path' ≡ index_of path + 1 → ((i : ℕ) → i ≢ 0 → get_or path'.entry i 0 ≡ get_or path.entry i 0) → path'.size ≡ path.size → IsPlaced table root path' (suc p)
     placed-behind path' p on same index_is above size_is =
         let w = on-tree union path on in
-        let points = points_in union.1.capacity w.fit w.inside (on-leaf-in union path on) (size_is ∙ on.stands.size_is) path'.entry (suc p) same above (omega (arith, index_is, on.stands.leaf.within)) (omega (arith, index_is, on.stands.leaf.place_is)) in
-        record { root_is = on.root_is; at = record { points = points; first = λ none. absurd (omega (arith, none, index_is)) } }
+        let points = points_in union.1.capacity w.fit w.inside (on-leaf-in union path on) (cc) path'.entry (suc p) same above (omega arith) (omega arith) in
+        record { root_is = on.root_is; at = record { points = points; first = λ none. absurd (omega arith) } }
 
     -- an entry may be inserted before the first of the list
     pub placed-first : StandsOn table root path 0 → IsPlaced table root path 0
     placed-first on =
         let s = on.stands in
-        let solid = (FitRow-split (half_of n) n s.leaf.before (node (leaf_of path) s.leaf.entries) s.leaf.after (subst (λ z. FitRow (half_of n) n z) s.leaf.row_is (on-tree union path on).fit.leaves_fit)).0 in
+        let solid = (FitRow-split (half_of n) n s.leaf.before (node (leaf_of path) s.leaf.entries) s.leaf.after (rw (← s.leaf.row_is) (on-tree union path on).fit.leaves_fit)).0 in
         let points = points-stands path.node path.entry (tree_of table.nodes root) 0 s in
-        record { root_is = on.root_is; at = record { points = points; first = λ none. no_nodes (half_of n) n (some_leaf union.1.capacity) s.leaf.before solid (omega (arith, s.leaf.place_is)) } }
+        record { root_is = on.root_is; at = record { points = points; first = λ none. no_nodes (half_of n) n (some_leaf union.1.capacity) s.leaf.before solid (omega arith) } }
 
     -- the index after an entry of a leaf is at most 255
     pub behind-low : (p : ℕ) → StandsOn table root path p → index_of path + 1 ≤ 255
-    behind-low p on = omega (arith, (on-leaf-in union path on).node.room, union.1.capacity.most, on.stands.leaf.within)
+    behind-low p on = omega (arith, (on-leaf-in union path on).node.room)
 
   module _ (cmp : K → K → Ordering) (key : K) where
     -- the answer of a search, and where the path stands afterwards
@@ -109,35 +105,34 @@ module _ {K V : Type 0} {n : ℕ} (table : Table K V) (root : ℕ) (path : Path 
     -- the search ended on the key's entry, or at its place where the key is absent
     ended : {p found : _} → Finds cmp (list_under table root) key p found → (is_some found ≡ true → StandsOn table root path p) → (is_some found ≡ false → IsPlaced table root path p) → Ended (option_map (λ w. w.1) found)
     ended f on at = record {
-      value = sym (ap (λ o. option_map (λ w. w.1) o) f.entry_is);
-      present = λ yes. subst (λ z. StandsOn table root path z) (sym f.place_is) (on (sym (ap is_some f.entry_is) ∙ yes));
-      absent = λ none. subst (λ z. IsPlaced table root path z) (sym f.place_is) (at (sym (ap is_some f.entry_is) ∙ none));
+      value = cc;
+      present = λ yes. rw f.place_is (on (cc));
+      absent = λ none. rw f.place_is (at (cc));
     }
 
 -- a path that moved to the entry before a place
-module _ {K V : Type 0} {n : ℕ} {cmp : K → K → Ordering} (o : IsTotalOrder cmp) (table : Table K V) (root : ℕ) (key : K) (increasing : IsIncreasing cmp (list_under table root)) (path : Path K V n) {answer : Option (K × V)} where
+module _ {K V : Type 0} {n : ℕ} {cmp : K → K → Ordering} (o : IsTotalOrder cmp) (table : Table K V) (root key : _) (increasing : IsIncreasing cmp (list_under table root)) (path : Path K V n) {answer : Option (K × V)} where
   -- there is no entry before the place
   pub before-none : (p : ℕ) → answer ≡ entry_before (list_under table root) p → StandsOn table root path (p - 1) → IsUnion n table → IsUpTo cmp (drop p (list_under table root)) key → answer ≡ None → Ended table root path cmp key None
   before-none zero value on union up none =
       ended table root path cmp key (finds_first o key (list_under table root) increasing up) (λ some. never some refl) (λ none. placed-first table root path union on)
   before-none (suc p) value on union up none =
       let r = read (list_under table root) p (omega (arith, on-within table root path (suc p - 1) on)) in
-      let bad : None ≡ Some r.0 = sym none ∙ value ∙ r.1 in
       absurd (cc)
 
   -- the entry before the place has an equal key
   pub before-equal : (p : ℕ) → answer ≡ entry_before (list_under table root) p → StandsOn table root path (p - 1) → {e : K × V} → answer ≡ Some e → cmp key e.0 ≡ Equal → Ended table root path cmp key (Some e.1)
-  before-equal zero value on {e = e} is t = let bad : Some e ≡ None = sym is ∙ value in absurd (cc)
+  before-equal zero value on {e = e} is t = let bad = sym is ∙ value in absurd (cc)
   before-equal (suc p) value on {e = e} is t =
-      ended table root path cmp key (finds_here o key (list_under table root) p e (sym value ∙ is) increasing t) (λ some. subst (λ z. StandsOn table root path z) (omega arith) on) (never refl)
+      ended table root path cmp key (finds_here o _ _ p e (sym value ∙ is) increasing t) (λ some. subst (λ z. StandsOn table root path z) (omega arith) on) (never refl)
 
   -- the entry before the place is less, and the path moved just past it
   pub before-greater : (p : ℕ) → answer ≡ entry_before (list_under table root) p → StandsOn table root path (p - 1) → {e : K × V} → answer ≡ Some e →
       (path' : Path K V n) → IsUnion n table → path'.node ≡ path.node → index_of path' ≡ index_of path + 1 → ((i : ℕ) → i ≢ 0 → get_or path'.entry i 0 ≡ get_or path.entry i 0) → path'.size ≡ path.size →
       IsUpTo cmp (drop p (list_under table root)) key → cmp key e.0 ≡ Greater → Ended table root path' cmp key None
-  before-greater zero value on {e = e} is path' union same index_is above size_is up t = let bad : Some e ≡ None = sym is ∙ value in absurd (cc)
+  before-greater zero value on {e = e} is path' union same index_is above size_is up t = let bad = sym is ∙ value in absurd (cc)
   before-greater (suc p) value on {e = e} is path' union same index_is above size_is up t =
-      ended table root path' cmp key (finds_behind o key (list_under table root) p e (sym value ∙ is) increasing t up)
+      ended table root path' cmp key (finds_behind o _ _ p e (sym value ∙ is) increasing t up)
       (λ some. never some refl) (λ none. placed-behind table root path union path' p
       (subst (λ z. StandsOn table root path z) (omega arith) on) same index_is above size_is)
 
@@ -146,11 +141,11 @@ module _ {K V : Type 0} {n : ℕ} (table : Table K V) (root : ℕ) (path : Path 
   -- a path at the end has no entries left
   pub none-left : (cmp : K → K → Ordering) (key : K) → path.size ≡ 0 → IsUpTo cmp (drop p (list_under table root)) key
   none-left cmp key none =
-      subst (λ z. IsUpTo cmp z key) (sym (drop_all p (list_under table root) (omega (arith, at_end path.node path.entry (tree_of table.nodes root) p path.size none at.at)))) tt
+      rw (drop_all p (list_under table root) (omega (arith, at_end path.node path.entry (tree_of table.nodes root) p path.size none at.at))) tt
 
   -- a path that is not at the end is on an entry
   pub some-on : 0 < path.size → StandsOn table root path p
-  some-on some = record { root_is = at.root_is; stands = at_entry path.node path.entry (tree_of table.nodes root) p path.size (λ none. omega (arith, some, none)) at.at }
+  some-on some = record { root_is = at.root_is; stands = at_entry _ path.entry (tree_of table.nodes root) p path.size (λ none. omega arith) at.at }
 
 -- a path on an entry
 module _ {K V : Type 0} {n : ℕ} {table : Table K V} (root : ℕ) (path : Path K V n) (p : ℕ) (union : IsUnion n table) (on : StandsOn table root path p) where
@@ -166,8 +161,8 @@ module _ {K V : Type 0} {n : ℕ} {table : Table K V} (root : ℕ) (path : Path 
     module _ {cmp : K → K → Ordering} (o : IsTotalOrder cmp) (key : K) where
       -- the entry has an equal key
       pub here-equal : IsIncreasing cmp (list_under table root) → cmp key e.0 ≡ Equal → Ended table root path cmp key (Some e.1)
-      here-equal increasing t = ended table root path cmp key (finds_here o key (list_under table root) p e here-entry increasing t) (λ some. on) (never refl)
+      here-equal increasing t = ended table root path cmp key (finds_here o _ _ p e here-entry increasing t) (λ some. on) (never refl)
 
       -- the entry is greater than the key
       pub here-greater : cmp key e.0 ≡ Less → IsUpTo cmp (drop p (list_under table root)) key
-      here-greater t = upto_at cmp key (list_under table root) p e here-entry (o.antisymm e.0 key ∙ ap ordering_reverse t)
+      here-greater t = upto_at _ _ _ p e here-entry (cc (o.antisymm e.0 key))

@@ -1,13 +1,12 @@
 -- The node beside the one at which the way of a code ends, one level further down: each answer of `next_below` and `prev_below` is one of these.
 use Rattle.std.proofs.Common.{◌≡◌, ◌≢◌, ℕ, suc, ◌+◌, ◌-◌, ◌*◌, ◌/◌, ◌%◌, ◌≤◌, ◌<◌, List}
-use Rattle.std.proofs.Common.{◌∷◌, drop, length, Some, None, Option, refl, sym, ap, subst, ◌∙◌, arith}
-use Rattle.bforest_core.proofs.Words.{Content, LevelNode, heads}
-use Rattle.bforest_core.specs.Spots.{Coded, CodedOver, HasWay, IsBefore, IsBehind, IsBesideOf, IsNextOf, IsPrevOf, IsWay, Leads, NumberAt, OnWay}
+use Rattle.std.proofs.Common.{◌∷◌, drop, length, Some, None, Option, refl, sym, subst, ◌∙◌, arith}
+use Rattle.bforest_core.proofs.{Words.{Heads, Rows, Content, heads}, walks.Branches.{Branch, branch-asks, branch-child, branch-way, count-asks, first-of}}
+use Rattle.bforest_core.proofs.{walks.Branches.{last-asks, last-of, last-some, next-own, none-next, none-prev, own, prev-own, prev-some}, walks.Codes.IsBelow}
+use Rattle.bforest_core.proofs.{walks.Codes.{code-low, digit-put, first-kept, here, read-same, way-of}, walks.Reading.{ChildAsked, ChildRead, CountAsked}}
+use Rattle.bforest_core.proofs.walks.Reading.{CountRead, LastAsked, LastRead}
+use Rattle.bforest_core.specs.Spots.{CodedOver, HasWay, IsBefore, IsBehind, IsBesideOf, IsNextOf, IsPrevOf, IsWay, Leads, NumberAt, OnWay}
 use Rattle.bforest_core.specs.declared.spot.Spot.{Spot}
-use Rattle.bforest_core.proofs.walks.Branches.{Branch, branch-asks, branch-child, branch-way, count-asks, first-of, last-asks, last-of, last-some}
-use Rattle.bforest_core.proofs.walks.Branches.{next-own, none-next, none-prev, own, prev-own, prev-some}
-use Rattle.bforest_core.proofs.walks.Codes.{IsBelow, code-low, digit-put, first-kept, here, read-same, way-of}
-use Rattle.bforest_core.proofs.walks.Reading.{ChildAsked, ChildRead, CountAsked, CountRead, LastAsked, LastRead}
 
 -- a level down, to the child at an index of the node at which the way of a spot ends
 module _ {K V : Type 0} {slots : List (Content K V)} {root : ℕ} {spot : Spot} {node index : ℕ} (digit : index < 8)
@@ -16,38 +15,37 @@ module _ {K V : Type 0} {slots : List (Content K V)} {root : ℕ} {spot : Spot} 
   code = spot.code * 8 + index
 
   -- the way to the child
-  abbrev Way : List ℕ → List (List (LevelNode K ℕ)) → List (K × ℕ) → ℕ → Type 0
+  abbrev Way : List ℕ → Rows K → Heads K → ℕ → Type 0
   Way = CodedOver slots root code (suc spot.height)
 
   abbrev There : Type 0
   There = HasWay slots root code (suc spot.height)
 
   pub some : suc spot.height ≢ 0
-  some = λ none. omega (arith, none)
+  some = λ none. omega arith
 
   index-is : code % 8 ≡ index
-  index-is = (digit-put spot.code index code digit refl).0
+  index-is = (digit-put _ _ _ digit refl).0
 
   above-is : code / 8 ≡ spot.code
-  above-is = (digit-put spot.code index code digit refl).1
+  above-is = (digit-put _ _ _ digit refl).1
 
   level-is : suc spot.height - 1 ≡ spot.height
   level-is = omega arith
 
   said : OnWay slots root (code / 8) (suc spot.height - 1) (λ numbers rows list place. NumberAt list place node)
   said numbers rows list place q =
-      let over = subst (λ z. CodedOver slots root z (suc spot.height - 1) numbers rows list place) above-is q in
-      (leads numbers rows list place (subst (λ z. CodedOver slots root spot.code z numbers rows list place) level-is over)).1
+      (leads numbers rows list place (rw (← level-is) (rw above-is at q))).1
 
-  module _ {numbers : List ℕ} {rows : List (List (LevelNode K ℕ))} {list : List (K × ℕ)} {place : ℕ} (p : Way numbers rows list place) where
+  module _ {numbers rows list place : _} (p : Way numbers rows list place) where
     pub same : node ≡ (here p some).number
     same = read-same p some node said
 
     -- the rows above the child's parent, that row, and the parent's place there
-    abbrev rest : List (List (LevelNode K ℕ))
+    abbrev rest : Rows K
     rest = (here p some).rest
 
-    abbrev parents : List (K × ℕ)
+    abbrev parents : Heads K
     parents = heads (here p some).row
 
     abbrev top : ℕ
@@ -57,8 +55,8 @@ module _ {K V : Type 0} {slots : List (Content K V)} {root : ℕ} {spot : Spot} 
     pub over : CodedOver slots root spot.code spot.height (drop 1 numbers) rest parents top
     over =
         let q = (here p some).over in
-        let coded = subst (λ z. Coded (drop 1 numbers) rest z top) above-is q.coded in
-        record { stacked = q.stacked; inside = q.inside; coded = coded; root_is = q.root_is; depth_is = sym level-is ∙ q.depth_is }
+        let coded = rw above-is at q.coded in
+        record { stacked = q.stacked; inside = q.inside; coded = coded; root_is = q.root_is; depth_is = cc (level-is) }
 
     its : IsWay (drop 1 numbers) spot rest top
     its = (leads (drop 1 numbers) rest parents top over).0
@@ -73,10 +71,10 @@ module _ {K V : Type 0} {slots : List (Content K V)} {root : ℕ} {spot : Spot} 
 
     module _ {Beside : ℕ → Type 0} {above : Spot} {number index1 : ℕ} (b : Stands Beside above number index1) where
       pub stands-height : above.height ≡ spot.height
-      stands-height = b.way.height_is ∙ sym over.depth_is
+      stands-height = cc (over.depth_is)
 
       pub stands-low : spot.height < 16 → (above.code < 35184372088832) × (above.height < 16)
-      stands-low low = (code-low 15 rest b.others above.code b.branch.top b.way.coded (omega (arith, low, over.depth_is)), omega (arith, low, stands-height))
+      stands-low low = (code-low 15 rest b.others above.code b.branch.top b.way.coded (omega (arith, over.depth_is)), omega (arith, stands-height))
 
       -- the spot of that child
       stands-spot : {next : Spot} → IsBelow above number index1 next → IsWay (number ∷ b.others) next rows b.to
@@ -84,8 +82,8 @@ module _ {K V : Type 0} {slots : List (Content K V)} {root : ℕ} {spot : Spot} 
           let q = (here p some).over in
           let beside : CodedOver slots root above.code (suc spot.height - 1) b.others rest parents
           b.branch.top = record { stacked = q.stacked; inside = q.inside; coded = b.way.coded; root_is = q.root_is; depth_is = q.depth_is } in
-          way-of (branch-way b.branch beside refl) next below.code (below.height ∙ ap suc stands-height) (λ more. sym below.parent)
-          (λ more. b.way.parent_is (omega (arith, more, stands-height)) ∙ sym below.grand)
+          way-of (branch-way b.branch beside refl) next below.code (cc (stands-height)) (λ more. sym below.parent)
+          (λ more. cc (b.way.parent_is (omega (arith, stands-height))))
 
     pub own-at : Stands (λ to. to ≡ place) spot node index
     own-at = record { to = place; is = refl; branch = own p some same index-is; others = drop 1 numbers; way = its }
@@ -101,7 +99,7 @@ module _ {K V : Type 0} {slots : List (Content K V)} {root : ℕ} {spot : Spot} 
       Leads slots root code (suc spot.height) next child
   leads-on {next} b reads numbers rows list place p =
       let parent = λ (low : 0 < suc spot.height). first-kept p some node said ∙ sym b.parent in
-      let grand = λ (low : 1 < suc spot.height). (its p).parent_is (omega (arith, low)) ∙ sym b.grand in
+      let grand = λ (low : 1 < suc spot.height). (its p).parent_is (omega arith) ∙ sym b.grand in
       (way-of p next b.code b.height parent grand, branch-child (own p some (same p) index-is) reads)
 
   -- the child that was read is the one beside
@@ -182,7 +180,7 @@ module _ {K V : Type 0} {slots : List (Content K V)} {root : ℕ} {spot : Spot} 
 
     -- the last child of the node before
     module _ {up : Option (Spot × ℕ)} {above : Spot} {number : ℕ} (up_is : up ≡ Some (above, number)) (on : IsPrevOf slots root spot.code spot.height up) where
-      before : {numbers rows list place : _} (p : Way numbers rows list place) → (to : ℕ) × IsBefore (top p) to × (others : List ℕ)
+      before : {numbers rows list place : _} (p : Way numbers rows list place) → (to : ℕ) × IsBefore (top p) to × (others : _)
           × IsWay others above (rest p) to × NumberAt (parents p) to number
       before {numbers} p = (subst (IsPrevOf slots root spot.code spot.height) up_is on).some (drop 1 numbers) (rest p) (parents p) (top p) (over p)
 

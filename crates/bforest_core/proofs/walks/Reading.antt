@@ -5,12 +5,12 @@ use Rattle.bforest_core.proofs.Words.{Content, Inner, IsInner, entry_count}
 module _ {K V : Type 0} (slots : List (Content K V)) (number : ℕ) where
   -- what reading a child of a node asks
   abbrev pub ChildAsked : ℕ → Type 0
-  ChildAsked index = (keys : List K) × (children : List ℕ) × (slice_get slots number ≡ Some (Inner keys children)) × (index < length children)
+  ChildAsked index = (keys : List K) × (children : _) × (slice_get slots number ≡ Some (Inner keys children)) × (index < length children)
 
   -- this child was read
   abbrev pub ChildRead : ℕ → ℕ → Type 0
   ChildRead index child =
-      (keys : List K) (children : List ℕ) → slice_get slots number ≡ Some (Inner keys children) → slice_get children index ≡ Some child
+      (keys : List K) (children : _) → slice_get slots number ≡ Some (Inner keys children) → slice_get children index ≡ Some child
 
   -- what reading how many children a node has asks
   abbrev pub CountAsked : Type 0

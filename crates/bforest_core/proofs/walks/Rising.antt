@@ -1,13 +1,13 @@
 -- Increasing lists of entries, cut in parts, and the place of a key in them.
-use Rattle.std.proofs.Common.{◌≡◌, ◌≢◌, ℕ, zero, suc, ◌+◌, ◌≤◌, true, false, cond, if◌then◌else◌, List, [], ◌∷◌, ◌++◌, length, slice_get, Option, Some, None, refl, sym, ap, ◌∙◌, arith}
-use Rattle.bforest_core.proofs.Words.{sum_by-append, alike_right, IsTotalOrder, IsStrictlySortedBy, AllByRecursion, is_some, option_and_then, is_eq, is_gt, is_lt, IsIncreasing, place, entry_for, is_present, child_index}
+use Rattle.std.proofs.Common.{◌≡◌, ◌≢◌, ℕ, zero, suc, ◌+◌, ◌≤◌, false, cond, if◌then◌else◌, List, [], ◌∷◌, ◌++◌, length, slice_get, Option, Some, None, refl, sym, ap, ◌∙◌, arith}
+use Rattle.bforest_core.proofs.Words.{sum_by-append, alike_right, IsTotalOrder, IsStrictlySortedBy, AllByRecursion, is_some, option_and_then, is_eq, is_gt}
+use Rattle.bforest_core.proofs.{Words.{is_lt, IsIncreasing, place, entry_for, is_present, child_index}, table.Lists.slice_get-append-add}
 use Rattle.std.proofs.lemmas.List.Sums.{count_by-le-length}
 use Rattle.std.specs.Map.{keys_of}
 use Rattle.std.specs.declared.cmp.Ordering.{Ordering}
 use Rattle.std.specs.declared.cmp.Ordering.TheVariants.{Less, Equal, Greater}
 use Rattle.bforest_nodes.proofs.Searched.{all_greater_behind, count_up_to-no, count_up_to-none, count_up_to-yes}
 use Rattle.bforest_nodes.proofs.Ordered.{place-later, place-here}
-use Rattle.bforest_core.proofs.table.Lists.{slice_get-append-add}
 
 -- a property of all keys of a list holds in each of its two parts
 pub all_split : {K X : Type 0} (P : K → Type 0) (xs ys : List (K × X)) → AllByRecursion P (keys_of (xs ++ ys)) → AllByRecursion P (keys_of xs) × AllByRecursion P (keys_of ys)
@@ -36,14 +36,14 @@ module _ {K : Type 0} {cmp : K → K → Ordering} (o : IsTotalOrder cmp) where
     increasing_split [] ys h = (tt, h)
     increasing_split (x ∷ xs) ys h =
         let r = increasing_split xs ys h.1 in
-        ((((all_split (λ k. cmp x.0 k ≡ Less) xs ys h.0).0, r.0)), r.1)
+        ((((all_split _ _ _ h.0).0, r.0)), r.1)
 
-    pub all_before : (xs : List (K × X)) (y : K × X) (ys : List (K × X)) → IsIncreasing cmp (xs ++ y ∷ ys) → AllByRecursion (λ k. cmp k y.0 ≡ Less) (keys_of xs)
+    pub all_before : (xs : List (K × X)) (y ys : _) → IsIncreasing cmp (xs ++ y ∷ ys) → AllByRecursion (λ k. cmp k y.0 ≡ Less) (keys_of xs)
     unfolding IsStrictlySortedBy
     all_before [] y ys h = tt
     all_before (x ∷ xs) y ys h = ((all_split (λ k. cmp x.0 k ≡ Less) xs (y ∷ ys) h.0).1.0, all_before xs y ys h.1)
 
-    pub increasing_rest : (x : K × X) (xs : List (K × X)) → IsIncreasing cmp (x ∷ xs) → IsIncreasing cmp xs
+    pub increasing_rest : (x : K × X) (xs : _) → IsIncreasing cmp (x ∷ xs) → IsIncreasing cmp xs
     unfolding IsStrictlySortedBy
     increasing_rest x xs h = h.1
 
@@ -71,13 +71,13 @@ module _ {K : Type 0} {cmp : K → K → Ordering} (o : IsTotalOrder cmp) where
 
     pub test_past : (ys : List (K × X)) (k : K) → AllByRecursion (λ p. cmp p k ≡ Greater) (keys_of ys) → test_at ys k 0 ≡ None
     test_past [] k h = refl
-    test_past (y ∷ ys) k h = ap (λ r. if is_eq r then Some y else None) h.0
+    test_past (y ∷ ys) k h = cc
 
-    pub test_front : (xs ys : List (K × X)) (k : K) (i : ℕ) → i ≤ length xs → AllByRecursion (λ p. cmp p k ≡ Greater) (keys_of ys) → test_at (xs ++ ys) k i ≡ test_at xs k i
+    pub test_front : (xs ys : List (K × X)) (k i : _) → i ≤ length xs → AllByRecursion (λ p. cmp p k ≡ Greater) (keys_of ys) → test_at (xs ++ ys) k i ≡ test_at xs k i
     test_front [] ys k zero le h = test_past ys k h
-    test_front [] ys k (suc i) le h = absurd (omega (arith, le))
+    test_front [] ys k (suc i) le h = absurd (omega arith)
     test_front (x ∷ xs) ys k zero le h = refl
-    test_front (x ∷ xs) ys k (suc i) le h = test_front xs ys k i (omega (arith, le)) h
+    test_front (x ∷ xs) ys k (suc i) le h = test_front xs ys k i (omega arith) h
 
     -- a list in three parts: the keys of the first are less, and those of the last greater
     module _ (xs es ys : List (K × X)) (k : K) (increasing : IsIncreasing cmp ys) (low : AllByRecursion (λ p. cmp p k ≡ Less) (keys_of xs)) (high : AllByRecursion (λ p. cmp p k ≡ Greater) (keys_of ys)) where
@@ -87,23 +87,20 @@ module _ {K : Type 0} {cmp : K → K → Ordering} (o : IsTotalOrder cmp) where
 
       pub entry_between : entry_for cmp (xs ++ (es ++ ys)) k ≡ entry_for cmp es k
       entry_between =
-          ap (λ i. test_at (xs ++ (es ++ ys)) k i) place_between
-          ∙ ap (λ e. option_and_then (λ e. if is_eq (cmp e.0 k) then Some e else None) e) (slice_get-append-add xs (es ++ ys) (place cmp es k))
-          ∙ test_front es ys k (place cmp es k) (place-le es k) high
+          cc (place_between, slice_get-append-add xs (es ++ ys) (place cmp es k), test_front es ys k (place cmp es k) (place-le es k) high)
 
     -- where the first key is not greater, the place of an absent key is not 0
-    pub first_passed : (e : K × X) (es : List (K × X)) (k : K) → IsIncreasing cmp (e ∷ es) → cmp e.0 k ≢ Greater → is_present cmp (e ∷ es) k ≡ false → place cmp (e ∷ es) k ≢ 0
+    pub first_passed : (e : K × X) (es k : _) → IsIncreasing cmp (e ∷ es) → cmp e.0 k ≢ Greater → is_present cmp (e ∷ es) k ≡ false → place cmp (e ∷ es) k ≢ 0
     first_passed e es k i ng absent = go (cmp e.0 k) refl
       where
         go : (r : Ordering) → cmp e.0 k ≡ r → place cmp (e ∷ es) k ≢ 0
-        go Less t = λ z. omega (arith, z, place-later cmp o e es k t)
+        go Less t = λ z. omega (arith, place-later cmp o e es k t)
         go Equal t = λ z.
-            let p : is_present cmp (e ∷ es) k ≡ true = ap (λ n. is_some (test_at (e ∷ es) k n)) z ∙ ap (λ r. is_some (if is_eq r then Some e else None)) t in
-            let bad : true ≡ false = sym p ∙ absent in absurd (cc)
+            let bad = sym (ap (λ n. is_some (test_at (e ∷ es) k n)) z ∙ ap (λ r. is_some (if is_eq r then Some e else None)) t) ∙ absent in absurd (cc)
         go Greater t = absurd (ng t)
 
   -- all keys of an increasing list are greater where the first is
-  pub all_greater : {X : Type 0} (ys : List (K × X)) (k : K) → IsIncreasing cmp ys → ((y : K × X) (c : List (K × X)) → ys ≡ y ∷ c → cmp y.0 k ≡ Greater) → AllByRecursion (λ p. cmp p k ≡ Greater) (keys_of ys)
+  pub all_greater : {X : Type 0} (ys : List (K × X)) (k : K) → IsIncreasing cmp ys → ((y : K × X) (c : _) → ys ≡ y ∷ c → cmp y.0 k ≡ Greater) → AllByRecursion (λ p. cmp p k ≡ Greater) (keys_of ys)
   unfolding IsStrictlySortedBy
   all_greater [] k i h = tt
   all_greater (y ∷ ys) k i h = (h y ys refl, all_greater_behind cmp k o y.0 (keys_of ys) i.0 (ap is_lt (h y ys refl)))
@@ -129,10 +126,10 @@ module _ {K : Type 0} {cmp : K → K → Ordering} (o : IsTotalOrder cmp) where
       behind t = all_greater_behind cmp k o e.0 ks h.0 t
 
       go : (r : Ordering) → cmp e.0 k ≡ r → Sides es k (child_index cmp ks k) → Sides (e ∷ es) k (child_index cmp (e.0 ∷ ks) k)
-      go Less t s = record { l = e ∷ s.l; r = s.r; es_is = ap (λ z. e ∷ z) s.es_is; i_is = ap suc s.i_is ∙ sym (count_up_to-yes cmp e.0 ks k (ap is_gt t)); low = ((λ g. let bad : Less ≡ Greater = sym t ∙ g in absurd cc), s.low); high = s.high }
+      go Less t s = record { l = e ∷ s.l; r = s.r; es_is = cc; i_is = cc (count_up_to-yes cmp e.0 ks k (ap is_gt t)); low = ((λ g. let bad = sym t ∙ g in absurd cc), s.low); high = s.high }
       go Equal t s =
-          let one : child_index cmp (e.0 ∷ ks) k ≡ 1 = count_up_to-yes cmp e.0 ks k (ap is_gt t) ∙ ap suc (count_up_to-none cmp k ks (behind (ap is_lt t))) in
-          record { l = e ∷ []; r = es; es_is = refl; i_is = sym one; low = ((λ g. let bad : Equal ≡ Greater = sym t ∙ g in absurd cc), tt); high = behind (ap is_lt t) }
+          let one = count_up_to-yes cmp e.0 ks k (ap is_gt t) ∙ ap suc (count_up_to-none cmp k ks (behind (ap is_lt t))) in
+          record { l = e ∷ []; r = es; es_is = refl; i_is = sym one; low = ((λ g. let bad = sym t ∙ g in absurd cc), tt); high = behind (ap is_lt t) }
       go Greater t s =
-          let none : child_index cmp (e.0 ∷ ks) k ≡ 0 = count_up_to-no cmp e.0 ks k (ap is_gt t) ∙ count_up_to-none cmp k ks (behind (ap is_lt t)) in
+          let none = count_up_to-no cmp e.0 ks k (ap is_gt t) ∙ count_up_to-none cmp k ks (behind (ap is_lt t)) in
           record { l = []; r = e ∷ es; es_is = refl; i_is = sym none; low = tt; high = (t, behind (ap is_lt t)) }

@@ -1,26 +1,20 @@
 -- The way down to the leaf in which a search ends: each answer of `value_below`, `entry_below` and, as a spot, `find_below` is one of these.
-use Rattle.std.proofs.Common.{◌≡◌, ℕ, suc, ◌+◌, ◌*◌, ◌≤◌, ◌<◌, List, [], ◌∷◌, ◌++◌, IsTrue, length, slice_get, Some, refl, sym, ap, subst, ◌∙◌, arith}
-use Rattle.bforest_core.proofs.Words.{Content, EndsOn, Inner, IsInner, IsIncreasing, IsTotalOrder, IsStrictlySortedBy, IsUnion, LevelNode, Narrows, SearchEndsAt, SearchThrough, Table, child_index, flat, is_root, leaf_content, place, tree_of}
+use Rattle.std.proofs.Common.{◌≡◌, ℕ, suc, ◌+◌, ◌*◌, ◌≤◌, ◌<◌, List, [], ◌∷◌, ◌++◌, IsTrue, length, slice_get, Some, refl, sym, subst, arith}
+use Rattle.bforest_core.proofs.Words.{Row, Rows, Content, EndsOn, Inner, IsInner, IsIncreasing, IsTotalOrder, IsStrictlySortedBy, IsUnion, Narrows}
+use Rattle.bforest_core.proofs.Words.{SearchEndsAt, SearchThrough, Table, child_index, flat, is_root, leaf_content, place, tree_of, IsLeafCapacity}
+use Rattle.bforest_core.proofs.{table.Stored.item_count, walks.Rising.increasing_rest, walks.Codes.code-low, walks.CodesDown.{child-way, rows-join, way-root}}
+use Rattle.bforest_core.proofs.{walks.CodesDown.way-spot, walks.Cousins.place-is, walks.Descent.{Below, InnerStep, LeafStep, below, follow_asks, inner_step}}
+use Rattle.bforest_core.proofs.{walks.Descent.{leaf_found, leaf_step, leaf_value, placed}, walks.Standing.under-root, walks.TopNode.{inner_under, leaf_under}}
+use Rattle.bforest_core.proofs.{walks.TopNode.node_within, walks.Whole.all_through, walks.Reading.ChildRead}
 use Rattle.bforest_core.specs.Place.{entry_items, entry_keys}
 use Rattle.bforest_core.specs.Spots.{IsSpotAt, IsWay, leaf_place}
 use Rattle.bforest_core.specs.declared.spot.Spot.{Spot}
 use Rattle.std.proofs.lemmas.List.{length-map}
 use Rattle.std.specs.declared.cmp.Ordering.{Ordering}
-use Rattle.bforest_core.proofs.table.Stored.{item_count}
-use Rattle.bforest_core.proofs.walks.Rising.{increasing_rest}
-use Rattle.bforest_core.proofs.walks.Codes.{code-low}
-use Rattle.bforest_core.proofs.walks.CodesDown.{child-way, rows-join, way-root, way-spot}
-use Rattle.bforest_core.proofs.walks.Cousins.{place-is}
-use Rattle.bforest_core.proofs.walks.Descent.{Below, InnerStep, LeafStep, below, follow_asks, inner_step, leaf_found, leaf_step, leaf_value, placed}
-use Rattle.bforest_core.proofs.walks.Standing.{under-root}
-use Rattle.bforest_core.proofs.walks.TopNode.{inner_under, leaf_under, node_within}
-use Rattle.bforest_core.proofs.walks.Whole.{all_through}
-use Rattle.bforest_core.proofs.walks.Reading.{ChildRead}
-use Rattle.bforest_core.proofs.Words.{IsLeafCapacity}
 
 -- the search one level down, with the way there, below these rows
-pub record WayBelow {K V : Type 0} (cmp : K → K → Ordering) (most : ℕ) (slots : List (Content K V)) (leaves : List (LevelNode K V)) (lower upper : List (List (LevelNode K ℕ))) (key : K) (next : Spot) (child : ℕ) : Type 0 where
-  pub above : List (List (LevelNode K ℕ))
+pub record WayBelow {K V : Type 0} (cmp : K → K → Ordering) (most : ℕ) (slots : List (Content K V)) (leaves : Row K V) (lower upper : Rows K) (key : K) (next : Spot) (child : ℕ) : Type 0 where
+  pub above : Rows K
   pub numbers : List ℕ
   pub on : SearchThrough cmp most slots leaves key child next.height
   pub way : IsWay numbers next above (length on.before)
@@ -48,7 +42,7 @@ module _ {K V : Type 0} {cmp : K → K → Ordering} (o : IsTotalOrder cmp) {mos
           let p = placed o capacity s number (place cmp (s.here.at.e ∷ s.here.at.es) key) refl refl in
           record { increasing = s.increasing; place_is = p.place_is; value_is = leaf_value o capacity s; found_is = leaf_found o capacity s; first = p.first }
 
-      pub ends-on : {upper : List (List (LevelNode K ℕ))} {numbers : List ℕ} {spot : Spot} → IsWay numbers spot upper (length t.before) → EndsOn cmp slots leaves (t.lower ++ upper) key spot number
+      pub ends-on : {upper numbers : _} {spot : Spot} → IsWay numbers spot upper (length t.before) → EndsOn cmp slots leaves (t.lower ++ upper) key spot number
       ends-on {upper = upper} {numbers = numbers} {spot = spot} w =
           let s = step-leaf in
           let at = s.here.at in
@@ -70,22 +64,22 @@ module _ {K V : Type 0} {cmp : K → K → Ordering} (o : IsTotalOrder cmp) {mos
       step = inner_step o capacity t.increasing t.through (inner_under capacity t.before t.first number t.after t.under found inner)
 
       -- what following a child asks
-      pub asks : (keys : List K) × (children : List ℕ) × (slice_get slots number ≡ Some (Inner keys children)) × IsStrictlySortedBy cmp keys
+      pub asks : (keys : List K) × (children : _) × (slice_get slots number ≡ Some (Inner keys children)) × IsStrictlySortedBy cmp keys
       asks = follow_asks o capacity step
 
       -- a level more is not too many
       pub deeper-low : depth < 16
-      deeper-low = omega (arith, t.low, step.here.count_is)
+      deeper-low = omega (arith, step.here.count_is)
 
       module _ (index : ℕ) {child : ℕ}
-          (says : (keys : List K) (children : List ℕ) → slice_get slots number ≡ Some (Inner keys children) → index ≡ child_index cmp keys key)
+          (says : (keys : List K) (children : _) → slice_get slots number ≡ Some (Inner keys children) → index ≡ child_index cmp keys key)
           (reads : ChildRead slots number index child) where
         pub to : Below o capacity step index child
         to = below o capacity step says reads
 
         -- the search capacity level down
         abbrev pub one-down : (deeper : ℕ) → deeper ≡ suc depth → SearchThrough cmp most slots leaves key child deeper
-        one-down deeper is = record { lower = step.here.rows; before = to.front; first = to.head; after = to.back; under = to.under; increasing = t.increasing; through = to.through; low = omega (arith, is, t.low, step.here.count_is) }
+        one-down deeper is = record { lower = step.here.rows; before = to.front; first = to.head; after = to.back; under = to.under; increasing = t.increasing; through = to.through; low = omega (arith, step.here.count_is) }
 
         -- the child's index is a digit
         pub digit-low : index < 8
@@ -96,12 +90,12 @@ module _ {K V : Type 0} {cmp : K → K → Ordering} (o : IsTotalOrder cmp) {mos
         along-asks =
             let es = step.here.at.es in
             let count = length-map es (λ w. w.0) in
-            (entry_keys es, entry_items (step.here.at.e ∷ es), step.here.slot_is, increasing_rest o step.here.at.e es step.increasing, omega (arith, item_count (step.here.at.e ∷ es), count), omega (arith, to.within, count))
+            (entry_keys es, entry_items (step.here.at.e ∷ es), step.here.slot_is, increasing_rest o step.here.at.e es step.increasing, omega (arith, item_count (step.here.at.e ∷ es)), omega (arith, to.within))
 
-        module _ {upper : List (List (LevelNode K ℕ))} {numbers : List ℕ} {spot : Spot} (height_is : depth ≡ spot.height) (w : IsWay numbers spot upper (length t.before)) where
+        module _ {upper : Rows K} {numbers : List ℕ} {spot : Spot} (height_is : depth ≡ spot.height) (w : IsWay numbers spot upper (length t.before)) where
           -- a digit more fits
           pub code-low-here : spot.code < 35184372088832
-          code-low-here = code-low 15 upper numbers spot.code (length t.before) w.coded (omega (arith, w.height_is, height_is, deeper-low))
+          code-low-here = code-low 15 upper numbers spot.code (length t.before) w.coded (omega (arith, deeper-low))
 
           module _ (next : Spot) (code : next.code ≡ spot.code * 8 + index) (parent : next.parent ≡ number) (grand : next.grand ≡ spot.parent) (height : next.height ≡ suc spot.height) where
             -- the search capacity level down, with the way there
@@ -109,7 +103,7 @@ module _ {K V : Type 0} {cmp : K → K → Ordering} (o : IsTotalOrder cmp) {mos
             down = record {
               above = step.here.row ∷ upper;
               numbers = number ∷ numbers;
-              on = one-down next.height (height ∙ ap suc (sym height_is));
+              on = one-down _ (cc);
               way = child-way step.here to.within code parent grand height w to.place_is;
               join = rows-join step.here upper;
             }
@@ -117,21 +111,21 @@ module _ {K V : Type 0} {cmp : K → K → Ordering} (o : IsTotalOrder cmp) {mos
 -- whatever lies about a node, a search through it goes on through this node below it, with the way there
 abbrev pub GoesOn : {K V : Type 0} → (K → K → Ordering) → ℕ → List (Content K V) → K → Spot → ℕ → Spot → ℕ → Type 0
 GoesOn {K} {V} cmp most slots key spot number next child =
-    (leaves : List (LevelNode K V)) (upper : List (List (LevelNode K ℕ))) (numbers : List ℕ) (on : SearchThrough cmp most slots leaves key number spot.height) → IsWay numbers spot upper (length on.before) → WayBelow cmp most slots leaves on.lower upper key next child
+    (leaves : Row K V) (upper numbers : _) (on : SearchThrough cmp most slots leaves key number spot.height) → IsWay numbers spot upper (length on.before) → WayBelow cmp most slots leaves on.lower upper key next child
 
 -- the search at the root
-abbrev pub search-root : {K V : Type 0} {cmp : K → K → Ordering} {most : ℕ} {table : Table K V} {root : ℕ} {key : K}
+abbrev pub search-root : {K V : Type 0} {cmp : K → K → Ordering} {most : ℕ} {table : Table K V} {root key : _}
     (union : IsUnion most table) (is : IsTrue (is_root table.nodes root)) → IsIncreasing cmp (flat (tree_of table.nodes root).leaves)
     → (depth : ℕ) → depth ≡ 0 → SearchThrough cmp most table.nodes (tree_of table.nodes root).leaves key root depth
 search-root {cmp = cmp} {most = most} {table = table} {root = root} {key = key} union is increasing depth none =
     let u = under-root root union is in
-    record { lower = (tree_of table.nodes root).above; before = []; first = u.first; after = []; under = u.under; increasing = increasing; through = all_through cmp u.first key; low = omega (arith, u.low, none) }
+    record { lower = (tree_of table.nodes root).above; before = []; first = u.first; after = []; under = u.under; increasing = increasing; through = all_through _ _ _; low = omega arith }
 
 -- a search from the root on has come to this node, and its spot
 abbrev pub CameTo : {K V : Type 0} → (K → K → Ordering) → ℕ → Table K V → ℕ → K → Spot → ℕ → Type 0
 CameTo {K} {V} cmp most table root key spot number = WayBelow cmp most table.nodes (tree_of table.nodes root).leaves (tree_of table.nodes root).above [] key spot number
 
-module _ {K V : Type 0} {cmp : K → K → Ordering} {most : ℕ} (table : Table K V) (root : ℕ) (key : K) where
+module _ {K V : Type 0} {cmp : K → K → Ordering} {most : ℕ} (table : Table K V) (root key : _) where
   -- at the root
   pub came-first : (union : IsUnion most table) (is : IsTrue (is_root table.nodes root)) → IsIncreasing cmp (flat (tree_of table.nodes root).leaves) → (spot : Spot) → spot.code ≡ 0 → spot.height ≡ 0 → CameTo cmp most table root key spot root
   came-first union is increasing spot code height = record { above = []; numbers = []; on = search-root union is increasing spot.height height; way = way-root spot code height; join = refl }
@@ -139,11 +133,11 @@ module _ {K V : Type 0} {cmp : K → K → Ordering} {most : ℕ} (table : Table
   module _ {spot : Spot} {number : ℕ} (w : CameTo cmp most table root key spot number) where
     -- further down
     pub came-on : {next : Spot} {child : ℕ} → WayBelow cmp most table.nodes (tree_of table.nodes root).leaves w.on.lower w.above key next child → CameTo cmp most table root key next child
-    came-on d = record { above = d.above; numbers = d.numbers; on = d.on; way = d.way; join = d.join ∙ w.join }
+    came-on d = record { above = d.above; numbers = d.numbers; on = d.on; way = d.way; join = cc }
 
     -- where it ends from there
     pub came-end : {end : Spot} {leaf : ℕ} → EndsOn cmp table.nodes (tree_of table.nodes root).leaves (w.on.lower ++ w.above) key end leaf → EndsOn cmp table.nodes (tree_of table.nodes root).leaves ((tree_of table.nodes root).above ++ []) key end leaf
-    came-end {end} {leaf} e = subst (λ rows. EndsOn cmp table.nodes (tree_of table.nodes root).leaves rows key end leaf) w.join e
+    came-end {end} {leaf} e = rw (← w.join) e
 
 -- from the root down: the leaf in which a search ends, and its spot
 module _ {K V : Type 0} {cmp : K → K → Ordering} {table : Table K V} {root : ℕ} (is : IsTrue (is_root table.nodes root)) {key : K} {spot : Spot} {number : ℕ} (e : EndsOn cmp table.nodes (tree_of table.nodes root).leaves ((tree_of table.nodes root).above ++ []) key spot number) where
@@ -151,7 +145,7 @@ module _ {K V : Type 0} {cmp : K → K → Ordering} {table : Table K V} {root :
   on-spot = way-spot table root is e.way
 
   pub spot-found : IsSpotAt table root spot (leaf_place table root spot)
-  spot-found = subst (λ z. IsSpotAt table root spot z) (sym (place-is on-spot)) on-spot
+  spot-found = rw (place-is on-spot) on-spot
 
   pub search-ends : SearchEndsAt cmp table root key (leaf_place table root spot) number
   search-ends = record {

@@ -1,22 +1,15 @@
 -- A path at a place of the list under a root.
 use Rattle.std.proofs.Common.{◌≡◌, ◌≢◌, ℕ, zero, suc, ◌+◌, ◌-◌, ◌==◌, ◌≤◌, ◌<◌, ◌↔◌, Bool, IsTrue, true, false, Some, slice_get, if◌then◌else◌, List, [], ◌∷◌, ◌++◌, get_or, length, length-append, inl, inr, refl, sym, subst, ap, ◌∙◌, arith}
-use Rattle.bforest_core.proofs.Words.{flat_map, false≢true, eqb_tells, Path, PointsTo, StandsAt, StandsOn, index_of, leaf_of, list_under, path_root, place_in, spot, IsLeaf, AtUnder, StandsUnder, IsRooted, Under, LevelNode, Tree, flat}
-use Rattle.bforest_core.proofs.Words.{HasBelow, Led, OnBelow, heads, length-map, node, numbers, sizes, sizes_of, IsFit, IsIn, IsPathAt, PointsAt, Stands, count, leaf_content, numbers_of, Moved, Over, Table, IsUnion, is_root, slot, tree_of}
+use Rattle.bforest_core.proofs.Words.{Heads, Row, flat_map, false≢true, eqb_tells, Path, PointsTo, StandsAt, StandsOn, index_of, leaf_of, list_under, path_root}
+use Rattle.bforest_core.proofs.Words.{place_in, spot, IsLeaf, AtUnder, StandsUnder, IsRooted, Under, Tree, flat, HasBelow, Led, OnBelow, heads, length-map}
+use Rattle.bforest_core.proofs.Words.{node, numbers, sizes, sizes_of, IsFit, IsIn, IsPathAt, PointsAt, Stands, count, leaf_content, numbers_of, Moved, Over}
+use Rattle.bforest_core.proofs.{Words.{Table, IsUnion, is_root, slot, tree_of}, walks.Leading.leaf_led, walks.TopNode.{SameBut, node_under, none_flat}}
+use Rattle.bforest_core.proofs.{table.Read.slot-is, rows.LevelRows.flat-append, rows.Tops.root-points, table.Tables.{absent_ne, count-append, count-row}}
+use Rattle.bforest_core.proofs.{table.Tables.count-same, walks.Backward.{at_end, at_entry}, walks.Entered.{InLeaf, first_behind, in_leaf, leaf_here, leaf_last}}
+use Rattle.bforest_core.proofs.{walks.Steps.not_less, union.Unions.{is-rooted, rooted}, walks.Whole.{led_stands, stands-pointed, whole_under}}
 use Rattle.bforest_core.specs.Paths.{IsPlaced}
-use Rattle.bforest_core.proofs.rows.LevelRows.{some_leaf}
-use Rattle.bforest_core.proofs.walks.Leading.{leaf_led}
-use Rattle.bforest_core.proofs.walks.TopNode.{SameBut, node_under, none_flat}
-use Rattle.bforest_core.proofs.table.Read.{slot-is}
-use Rattle.bforest_core.proofs.rows.LevelRows.{flat-append}
-use Rattle.bforest_core.proofs.rows.Tops.{root-points}
-use Rattle.bforest_core.proofs.table.Tables.{absent_ne, count-append, count-row, count-same}
-use Rattle.bforest_core.proofs.walks.Backward.{at_end, at_entry}
-use Rattle.bforest_core.proofs.walks.Entered.{InLeaf, first_behind, in_leaf, leaf_here, leaf_last}
-use Rattle.bforest_core.proofs.walks.Steps.{not_less}
-use Rattle.bforest_core.proofs.union.Unions.{is-rooted, rooted}
-use Rattle.bforest_core.proofs.walks.Whole.{led_stands, stands-pointed, whole_under}
 
-module _ {K V : Type 0} (path indices : List ℕ) (tree : Tree K V) (place : ℕ) where
+module _ {K V : Type 0} (path indices : _) (tree : Tree K V) (place : ℕ) where
   -- a path that stands on an entry points to it
   abbrev pub points-stands : {size : ℕ} → Stands path indices size tree place → PointsAt path indices size tree place
   points-stands s = record {
@@ -24,7 +17,7 @@ module _ {K V : Type 0} (path indices : List ℕ) (tree : Tree K V) (place : ℕ
     entries = s.leaf.entries;
     after = s.leaf.after;
     leaves_are = s.leaf.row_is;
-    within = omega (arith, s.leaf.within);
+    within = omega arith;
     place_is = s.leaf.place_is;
     above = s.above;
     size_is = s.size_is;
@@ -32,13 +25,13 @@ module _ {K V : Type 0} (path indices : List ℕ) (tree : Tree K V) (place : ℕ
 
   -- a path that stands on an entry is at it
   pub path-on : (size : ℕ) → Stands path indices size tree place → IsPathAt path indices size tree place
-  path-on zero s = absurd (omega (arith, s.size_is))
+  path-on zero s = absurd (omega arith)
   path-on (suc size) s = s
 
   -- a path without nodes is at the end
   pub path-ended : (size : ℕ) → size ≡ 0 → place ≡ length (flat tree.leaves) → IsPathAt path indices size tree place
   path-ended zero none e = e
-  path-ended (suc size) none e = absurd (omega (arith, none))
+  path-ended (suc size) none e = absurd (omega arith)
 
 -- the leaves and rows under a root
 pub record UnderRoot {K V : Type 0} (most : ℕ) (table : Table K V) (root : ℕ) : Type 0 where
@@ -54,20 +47,20 @@ under-root {most = most} {table = table} root union is =
 
 -- the level of a root, and the number of levels of a path in its tree
 pub root-level : {K V : Type 0} (tree : Tree K V) {levels : ℕ} → levels ≡ length (sizes_of tree) → levels - 1 ≡ length tree.above
-root-level tree is = omega (arith, is, length-map tree.above sizes)
+root-level tree is = omega (arith, length-map tree.above sizes)
 
 pub path-levels : {K V : Type 0} (tree : Tree K V) {levels size : ℕ} → levels ≡ length (sizes_of tree) → size ≡ levels → size ≡ suc (length tree.above)
-path-levels tree is same = omega (arith, is, same, length-map tree.above sizes)
+path-levels tree is same = omega (arith, length-map tree.above sizes)
 
 -- a path that descended on one side from a root stands there
-module _ {K V : Type 0} {most : ℕ} {table : Table K V} (root : ℕ) (union : IsUnion most table) (is : IsTrue (is_root table.nodes root)) {levels : ℕ} (levels_is : levels ≡ length (sizes_of (tree_of table.nodes root))) {Side : List (K × ℕ) → List (K × ℕ) → Type 0} (side : Side [] []) where
+module _ {K V : Type 0} {most : ℕ} {table : Table K V} (root : ℕ) (union : IsUnion most table) (is : IsTrue (is_root table.nodes root)) {levels : ℕ} (levels_is : levels ≡ length (sizes_of (tree_of table.nodes root))) {Side : Heads K → Heads K → Type 0} (side : Side [] []) where
   -- what the descent requires
   pub root-below : HasBelow most table.nodes Side root (levels - 1)
   root-below =
       let u = under-root root union is in
       ((tree_of table.nodes root).leaves, (tree_of table.nodes root).above, [], u.first, [], side, u.under, root-level (tree_of table.nodes root) levels_is)
 
-  pub led-root : (place : List (LevelNode K V) → ℕ) {size : ℕ} {path indices path' indices' : List ℕ} → size ≡ levels → OnBelow most table.nodes Side root (levels - 1) (λ leaves lower top. Led leaves lower (place leaves) top path indices path' indices') → StandsUnder table.nodes root path' indices' size (place (tree_of table.nodes root).leaves)
+  pub led-root : (place : Row K V → ℕ) {size path indices path' indices' : _} → size ≡ levels → OnBelow most table.nodes Side root (levels - 1) (λ leaves lower top. Led leaves lower (place leaves) top path indices path' indices') → StandsUnder table.nodes root path' indices' size (place (tree_of table.nodes root).leaves)
   led-root place {size} size_is leads =
       let tree = tree_of table.nodes root in
       let u = under-root root union is in
@@ -79,21 +72,20 @@ pub on-leaf : {K V : Type 0} {most : ℕ} (table : Table K V) (root : ℕ) (path
 on-leaf table root path indices union is leaf node_is index_is =
     let u = under-root root union is in
     elim (node_under union.1.capacity _ [] u.first root [] u.under) [
-      | inl s ↦ (let d = leaf_led path indices s path indices 0 (omega arith) (omega (arith, none_flat s.at.before s.at.before_is)) node_is index_is (λ i ne. refl) (λ i ne. refl) in record { root_is = is; stands = led_stands _ 1 d (sym (ap (λ z. suc (length z)) s.lower_is)) })
+      | inl s ↦ (let d = leaf_led _ _ s _ indices 0 (omega arith) (omega (arith, none_flat s.at.before s.at.before_is)) node_is index_is (λ i ne. refl) (λ i ne. refl) in record { root_is = is; stands = led_stands _ 1 d (sym (ap (λ z. suc (length z)) s.lower_is)) })
       | inr s ↦ absurd (subst IsLeaf (slot-is table.nodes root _ s.slot_is) leaf)
     ]
 
 module _ {K X : Type 0} where
   -- the place of an entry, from the number of its node, which does not occur earlier
-  place_by : (before : List (LevelNode K X)) (n : ℕ) (es : List (K × X)) (after : List (LevelNode K X)) (index : ℕ) → count n (numbers before) ≡ 0 → place_in (before ++ node n es ∷ after) n index ≡ length (flat before) + index
+  place_by : (before : Row K X) (n es after index : _) → count n (numbers before) ≡ 0 → place_in (before ++ node n es ∷ after) n index ≡ length (flat before) + index
   place_by [] n es after index none =
       elim (eqb_tells n n) [ inl w ↦ (let z : index ≡ 0 + index = omega arith in (λ j. if w.0 j then index else length es + place_in after n index) ∙ z) | inr w ↦ absurd (w.1 refl) ]
   place_by (node m xs ∷ before) n es after index none =
-      let rest = before ++ node n es ∷ after in
-      let ih = place_by before n es after index (omega (arith, none)) in
+      let ih = place_by before n es after index (omega arith) in
       elim (eqb_tells m n) [
-        | inl w ↦ absurd (absent_ne n m (numbers before) none (sym w.1))
-        | inr w ↦ (λ j. if w.0 j then index else length xs + place_in rest n index) ∙ omega (arith, ih, length-append xs (flat before))
+        | inl w ↦ absurd (absent_ne n m _ none (sym w.1))
+        | inr w ↦ (λ j. if w.0 j then index else length xs + place_in (before ++ node n es ∷ after) n index) ∙ omega (arith, length-append xs (flat before))
       ]
 
 module _ {K V : Type 0} {n : ℕ} (table : Table K V) (root : ℕ) (path : Path K V n) (place : ℕ) where
@@ -101,17 +93,17 @@ module _ {K V : Type 0} {n : ℕ} (table : Table K V) (root : ℕ) (path : Path 
   pub on-within : StandsOn table root path place → place < length (list_under table root)
   on-within on =
       let at = on.stands.leaf in
-      omega (arith, at.within, at.place_is, ap (λ z. length (flat z)) at.row_is, ap length (flat-append at.before (node (leaf_of path) at.entries ∷ at.after)), length-append (flat at.before) (at.entries ++ flat at.after), length-append at.entries (flat at.after))
+      omega (arith, ap (λ z. length (flat z)) at.row_is, ap length (flat-append at.before (node (leaf_of path) at.entries ∷ at.after)), length-append (flat at.before) (at.entries ++ flat at.after), length-append at.entries (flat at.after))
 
   -- a path that stands on an entry is at its place
   pub on-at : StandsOn table root path place → StandsAt table root path place
-  on-at on = record { root_is = on.root_is; at = path-on path.node path.entry (tree_of table.nodes root) place path.size on.stands }
+  on-at on = record { root_is = on.root_is; at = path-on _ path.entry (tree_of table.nodes root) place path.size on.stands }
 
   -- a path at a place before the end is on the entry there
   pub at-on : StandsAt table root path place → place < length (list_under table root) → StandsOn table root path place
   at-on s low =
       let some : path.size ≢ 0 = λ none. omega (arith, low, at_end path.node path.entry (tree_of table.nodes root) place path.size none s.at) in
-      record { root_is = s.root_is; stands = at_entry path.node path.entry (tree_of table.nodes root) place path.size some s.at }
+      record { root_is = s.root_is; stands = at_entry _ path.entry (tree_of table.nodes root) place path.size some s.at }
 
   -- a path that stands on an entry points to its place
   pub on-points : StandsOn table root path place → PointsTo table root path place
@@ -131,7 +123,7 @@ module _ {K V : Type 0} {n : ℕ} {table : Table K V} (union : IsUnion n table) 
 
   -- the path meets what a step requires
   pub on-asks : (path.size ≤ 17) × ((tree : Tree K V) × (place : ℕ) × IsFit n tree × IsIn table.nodes tree × Stands path.node path.entry path.size tree place)
-  on-asks = (omega (arith, on.stands.size_is, on-tree.low), (tree_of table.nodes root, place, on-tree.fit, on-tree.inside, on.stands))
+  on-asks = (omega (arith, on-tree.low), (tree_of table.nodes root, place, on-tree.fit, on-tree.inside, on.stands))
 
   pub said : {Says : Tree K V → ℕ → Type 0} → ((tree : Tree K V) (place : ℕ) → IsFit n tree → IsIn table.nodes tree → Stands path.node path.entry path.size tree place → Says tree place) → Says (tree_of table.nodes root) place
   said says = says (tree_of table.nodes root) place on-tree.fit on-tree.inside on.stands
@@ -149,11 +141,11 @@ module _ {K V : Type 0} {n : ℕ} {table : Table K V} (union : IsUnion n table) 
   pointed-leaf = (to.points.entries, pointed.node.slot_is)
 
   pointed-over : Over table.nodes path.node path.entry 1 path.size (tree_of table.nodes root).above (heads (tree_of table.nodes root).leaves) (length to.points.before)
-  pointed-over = record { stacked = tree_is.fit.stacked; inside = tree_is.inside.rows_in; stands = to.points.above; height = omega (arith, to.points.size_is) }
+  pointed-over = record { stacked = tree_is.fit.stacked; inside = tree_is.inside.rows_in; stands = to.points.above; height = omega arith }
 
   -- the rows above the leaf
-  pub pointed-above : (path.size ≤ 17) × ((rows : List (List (LevelNode K ℕ))) × (list : List (K × ℕ)) × (at : ℕ) × Over table.nodes path.node path.entry 1 path.size rows list at)
-  pointed-above = (omega (arith, to.points.size_is, tree_is.low), ((tree_of table.nodes root).above, heads (tree_of table.nodes root).leaves, length to.points.before, pointed-over))
+  pub pointed-above : (path.size ≤ 17) × ((rows : _) × (list : _) × (at : ℕ) × Over table.nodes path.node path.entry 1 path.size rows list at)
+  pointed-above = (omega (arith, tree_is.low), ((tree_of table.nodes root).above, heads (tree_of table.nodes root).leaves, length to.points.before, pointed-over))
 
   module _ {has : Bool} (test : (entries : List (K × V)) → slice_get table.nodes (leaf_of path) ≡ Some (leaf_content entries) → IsTrue has ↔ (index_of path < length entries)) where
     -- the path is at an entry of the leaf
@@ -161,18 +153,18 @@ module _ {K V : Type 0} {n : ℕ} {table : Table K V} (union : IsUnion n table) 
     pointed-here is = on-at table root path place (record { root_is = to.root_is; stands = stands-pointed to.points ((test to.points.entries pointed.node.slot_is).0 is) })
 
     behind : has ≡ false → place ≡ length (flat to.points.before) + length to.points.entries
-    behind none = omega (arith, to.points.place_is, to.points.within, not_less (index_of path) (length to.points.entries) (λ low. false≢true (sym none ∙ (test to.points.entries pointed.node.slot_is).1 low)))
+    behind none = omega (arith, not_less (index_of path) (length to.points.entries) (λ low. false≢true (sym none ∙ (test to.points.entries pointed.node.slot_is).1 low)))
 
     -- past a leaf's last entry, the first of the next leaf is at the same place
     pub pointed-next : has ≡ false → (moved new : Path K V n) → ((rows list at : _) → Over table.nodes path.node path.entry 1 path.size rows list at → Moved path.node path.entry moved.node moved.entry 0 rows list (suc at)) →
         new.node ≡ moved.node → get_or new.entry 0 0 ≡ 0 → SameBut 0 moved.entry new.entry → new.size ≡ path.size → StandsAt table root new place
     pointed-next none moved new goes nodes here above size =
         let m = goes (tree_of table.nodes root).above (heads (tree_of table.nodes root).leaves) (length to.points.before) pointed-over in
-        let s = first_behind union.1.capacity tree_is.fit tree_is.inside pointed (size ∙ to.points.size_is) new.entry m nodes here above in
+        let s = first_behind union.1.capacity tree_is.fit tree_is.inside pointed (cc) new.entry m nodes here above in
         on-at table root new place (record { root_is = to.root_is; stands = subst (λ z. Stands new.node new.entry new.size (tree_of table.nodes root) z) (sym (behind none)) s })
 
     -- past the last entry of all, the path is at the end
-    pub pointed-last : has ≡ false → ((rows list at : _) → Over table.nodes path.node path.entry 1 path.size rows list at → suc at ≡ length list) → (nodes entries : List ℕ) → AtUnder table.nodes root nodes entries 0 place
+    pub pointed-last : has ≡ false → ((rows list at : _) → Over table.nodes path.node path.entry 1 path.size rows list at → suc at ≡ length list) → (nodes entries : _) → AtUnder table.nodes root nodes entries 0 place
     pointed-last none last nodes entries =
         record { root_is = to.root_is; at = behind none ∙ leaf_last union.1.capacity tree_is.fit tree_is.inside pointed (last (tree_of table.nodes root).above (heads (tree_of table.nodes root).leaves) (length to.points.before) pointed-over) }
 
@@ -181,30 +173,28 @@ module _ {K V : Type 0} {n : ℕ} (most : ℕ) (table : Table K V) (root : ℕ) 
   -- the root of a path that points to a place under a root
   pub points-root : PointsTo table root path place → path_root path ≡ root
   points-root to =
-      let r = rooted most table root union to.root_is in
-      let half = some_leaf union.1.capacity in
-      sym (root-points most (tree_of table.nodes root) path.node path.entry path.size place (omega (arith, half)) r.fit to.points) ∙ r.root_is
+      let r = rooted _ _ _ union to.root_is in
+      cc (root-points most (tree_of table.nodes root) path.node path.entry path.size place (omega arith) r.fit to.points)
 
   -- a path points to one place only, which is computed from its leaf and its index there
   pub points-spot : PointsTo table root path place → spot table root path ≡ place
   points-spot to =
       let tree = tree_of table.nodes root in
       let at = to.points in
-      let r = rooted most table root union to.root_is in
       let m = leaf_of path in
       let none : count m (numbers at.before) ≡ 0 = omega (
         arith,
-        r.apart m,
+        (rooted _ _ _ union to.root_is).apart m,
         count-append m (numbers_of tree) table.chain,
         count-append m (numbers tree.leaves) (flat_map numbers tree.above),
         ap (λ z. count m (numbers z)) at.leaves_are,
         count-row m at.before m at.entries at.after,
         count-same m (numbers at.after),
       ) in
-      let some : (path.size == 0) ≡ false = elim (eqb_tells path.size 0) [ inl w ↦ absurd (omega (arith, w.1, at.size_is)) | inr w ↦ w.0 ] in
+      let some : (path.size == 0) ≡ false = elim (eqb_tells path.size 0) [ inl w ↦ absurd (omega arith) | inr w ↦ w.0 ] in
       (λ j. if some j then length (list_under table root) else place_in tree.leaves m (index_of path))
       ∙ ap (λ z. place_in z m (index_of path)) at.leaves_are
-      ∙ place_by at.before m at.entries at.after (index_of path) none
+      ∙ place_by _ m _ _ _ none
       ∙ sym at.place_is
 
   -- a path that stands on an entry has its place computed
@@ -214,6 +204,6 @@ module _ {K V : Type 0} {n : ℕ} (most : ℕ) (table : Table K V) (root : ℕ) 
   -- a path on an entry or at the end has its place computed
   pub at-spot : StandsAt table root path place → spot table root path ≡ place
   at-spot s = elim (eqb_tells path.size 0) [
-    | inl w ↦ (λ j. if w.0 j then length (list_under table root) else place_in (tree_of table.nodes root).leaves (leaf_of path) (index_of path)) ∙ sym (at_end path.node path.entry (tree_of table.nodes root) place path.size w.1 s.at)
+    | inl w ↦ (λ j. if w.0 j then length (list_under table root) else place_in (tree_of table.nodes root).leaves (leaf_of path) (index_of path)) ∙ sym (at_end _ path.entry (tree_of table.nodes root) place path.size w.1 s.at)
     | inr w ↦ on-spot (record { root_is = s.root_is; stands = at_entry path.node path.entry (tree_of table.nodes root) place path.size w.1 s.at })
   ]

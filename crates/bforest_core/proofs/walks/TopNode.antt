@@ -1,43 +1,39 @@
 -- A node on top of some rows: a leaf where there are no inner rows, else a node of the highest of them.
 use Rattle.std.proofs.Common.{◌≡◌, ◌≢◌, ℕ, suc, ◌+◌, ◌≤◌, ◌<◌, ◌⊎◌, inl, inr, List, [], ◌∷◌, ◌++◌, length, get_or, set, slice_get, Some, refl, sym, ap, subst, ◌∙◌, arith, append_assoc, length-append}
-use Rattle.bforest_core.proofs.Words.{get_or-set_other, nil_from_length, slice_get_within, Content, IsInner, LevelNode, node, flat, heads, half_of, FitRow, RowIn, RowsIn, leaf_content, inner_content, IsAt, StackedTo, Under}
-use Rattle.bforest_core.proofs.rows.LevelRows.{FitRow-split, flat-append}
-use Rattle.bforest_core.proofs.table.Stored.{some_same}
-use Rattle.bforest_core.proofs.table.Tables.{row-split}
-use Rattle.bforest_core.proofs.walks.Downward.{Seen, at_node, seen, last_of, stacked_last, in_last}
+use Rattle.bforest_core.proofs.Words.{Heads, Row, Rows, get_or-set_other, nil_from_length, slice_get_within, Content, IsInner, node, flat, half_of, FitRow}
+use Rattle.bforest_core.proofs.{Words.{RowIn, leaf_content, inner_content, IsAt, Under, IsLeafCapacity}, rows.LevelRows.{FitRow-split, flat-append, some_leaf}}
+use Rattle.bforest_core.proofs.{table.Stored.some_same, table.Tables.row-split, walks.Downward.{Seen, at_node, seen, last_of, stacked_last, in_last}}
 use Rattle.bforest_core.proofs.walks.Reading.{LastAsked}
-use Rattle.bforest_core.proofs.Words.{IsLeafCapacity}
-use Rattle.bforest_core.proofs.rows.LevelRows.{some_leaf}
 
 -- the list is unchanged except at this level
 abbrev pub SameBut : ℕ → List ℕ → List ℕ → Type 0
 SameBut level old new = (i : ℕ) → i ≢ level → get_or new i 0 ≡ get_or old i 0
 
-pub set_but : (old : List ℕ) {new : List ℕ} (level n : ℕ) → new ≡ set old level n → SameBut level old new
-set_but old level n is i other = ap (λ z. get_or z i 0) is ∙ get_or-set_other old level i n 0 other
+pub set_but : (old : _) {new : _} (level n : ℕ) → new ≡ set old level n → SameBut level old new
+set_but old level n is i other = cc (get_or-set_other old level i n 0 other)
 
 -- a row of no nodes has no entries
-pub none_flat : {K X : Type 0} (row : List (LevelNode K X)) → length row ≡ 0 → length (flat row) ≡ 0
-none_flat row e = ap (λ z. length (flat z)) (nil_from_length row e)
+pub none_flat : {K X : Type 0} (row : Row K X) → length row ≡ 0 → length (flat row) ≡ 0
+none_flat row e = cc (nil_from_length row e)
 
 -- the entries of a row, cut within a node
-pub flat_parted : {K X : Type 0} (before : List (LevelNode K X)) (n : ℕ) {es : List (K × X)} (l : List (K × X)) (x : K × X) (r : List (K × X)) (after : List (LevelNode K X)) → es ≡ l ++ x ∷ r → flat (before ++ node n es ∷ after) ≡ (flat before ++ l) ++ x ∷ (r ++ flat after)
+pub flat_parted : {K X : Type 0} (before : Row K X) (n : ℕ) {es : List (K × X)} (l : List (K × X)) (x r after : _) → es ≡ l ++ x ∷ r → flat (before ++ node n es ∷ after) ≡ (flat before ++ l) ++ x ∷ (r ++ flat after)
 flat_parted before n {es = es} l x r after is =
-    flat-append before (node n es ∷ after) ∙ ap (λ z. flat before ++ (z ++ flat after)) is ∙ ap (λ z. flat before ++ z) (append_assoc l (x ∷ r) (flat after)) ∙ sym (append_assoc (flat before) l (x ∷ (r ++ flat after)))
+    cc (flat-append before (node n es ∷ after), append_assoc l (x ∷ r) (flat after), append_assoc (flat before) l (x ∷ (r ++ flat after)))
 
 -- a path's place at the node
-abbrev pub seen_at : {K X : Type 0} {half most : _} {row : List (LevelNode K X)} {a first number b : _} (at : Seen half most row a first number b) {n j index place : ℕ} → n ≡ number → j ≡ index → index ≤ length at.es
+abbrev pub seen_at : {K X : Type 0} {half most : _} {row : Row K X} {a first number b : _} (at : Seen half most row a first number b) {n j index place : ℕ} → n ≡ number → j ≡ index → index ≤ length at.es
     → place ≡ length (flat at.before) + index → IsAt row n j place
-seen_at {row = row} {number = number} at n_is j_is within place_is = at_node at.before (at.e ∷ at.es) at.after at.row_is n_is j_is (omega (arith, within)) place_is
+seen_at {row = row} {number = number} at n_is j_is within place_is = at_node _ _ _ at.row_is n_is j_is (omega arith) place_is
 
-pub record LeafUnder {K V : Type 0} (most : ℕ) (slots : List (Content K V)) (leaves : List (LevelNode K V)) (lower : List (List (LevelNode K ℕ))) (a : List (K × ℕ)) (first : K) (number : ℕ) (b : List (K × ℕ)) : Type 0 where
+pub record LeafUnder {K V : Type 0} (most : ℕ) (slots : List (Content K V)) (leaves : Row K V) (lower : Rows K) (a : Heads K) (first : K) (number : ℕ) (b : Heads K) : Type 0 where
   pub lower_is : lower ≡ []
   pub at : Seen (half_of most) most leaves a first number b
   pub slot_is : slice_get slots number ≡ Some (leaf_content (at.e ∷ at.es))
 
-pub record InnerUnder {K V : Type 0} (most : ℕ) (slots : List (Content K V)) (leaves : List (LevelNode K V)) (lower : List (List (LevelNode K ℕ))) (a : List (K × ℕ)) (first : K) (number : ℕ) (b : List (K × ℕ)) : Type 0 where
-  pub rows : List (List (LevelNode K ℕ))
-  pub row : List (LevelNode K ℕ)
+pub record InnerUnder {K V : Type 0} (most : ℕ) (slots : List (Content K V)) (leaves : Row K V) (lower : Rows K) (a : Heads K) (first : K) (number : ℕ) (b : Heads K) : Type 0 where
+  pub rows : Rows K
+  pub row : Row K ℕ
   pub lower_is : lower ≡ rows ++ row ∷ []
   pub count_is : length lower ≡ suc (length rows)
   pub at : Seen 4 8 row a first number b
@@ -45,19 +41,18 @@ pub record InnerUnder {K V : Type 0} (most : ℕ) (slots : List (Content K V)) (
   pub under : Under most slots leaves rows (flat row)
   pub slot_is : slice_get slots number ≡ Some (inner_content (at.e ∷ at.es))
 
-seen_slot : {K V X : Type 0} (content : List (K × X) → Content K V) (slots : List (Content K V)) {half most : _} {row : List (LevelNode K X)} {a first number b : _} (at : Seen half most row a first number b) → RowIn content slots row → slice_get slots number ≡ Some (content (at.e ∷ at.es))
-seen_slot {K} {V} {X} content slots {number = number} at i = (row-split content slots at.before (node number (at.e ∷ at.es) ∷ at.after) (subst (λ z. RowIn content slots z) at.row_is i)).1.0
+seen_slot : {K V X : Type 0} (content : List (K × X) → Content K V) (slots : List (Content K V)) {half most : _} {row : Row K X} {a first number b : _} (at : Seen half most row a first number b) → RowIn content slots row → slice_get slots number ≡ Some (content (at.e ∷ at.es))
+seen_slot {K} {V} {X} content slots {number = number} at i = (row-split content slots at.before (node number (at.e ∷ at.es) ∷ at.after) (rw (← at.row_is) i)).1.0
 
-module _ {K V : Type 0} {most : ℕ} (capacity : IsLeafCapacity most) {slots : List (Content K V)} {leaves : List (LevelNode K V)} where
-  pub node_under : (lower : _) (a : List (K × ℕ)) (first : K) (number : ℕ) (b : List (K × ℕ)) → Under most slots leaves lower (a ++ (first, number) ∷ b) → LeafUnder most slots leaves lower a first number b ⊎ InnerUnder most slots leaves lower a first number b
+module _ {K V : Type 0} {most : ℕ} (capacity : IsLeafCapacity most) {slots : List (Content K V)} {leaves : _} where
+  pub node_under : (lower : _) (a first number b : _) → Under most slots leaves lower (a ++ (first, number) ∷ b) → LeafUnder most slots leaves lower a first number b ⊎ InnerUnder most slots leaves lower a first number b
   node_under [] a first number b u =
       let at = seen (half_of most) most (some_leaf capacity) leaves a first number b u.leaves_fit u.stacked in
-      inl (record { lower_is = refl; at = at; slot_is = seen_slot leaf_content slots at u.leaves_in })
+      inl (record { lower_is = refl; at = at; slot_is = seen_slot _ _ at u.leaves_in })
   node_under (r ∷ rs) a first number b u =
       let z = last_of r rs in
-      let top = a ++ (first, number) ∷ b in
-      let s = stacked_last (heads leaves) z.init z.last top (subst (λ w. StackedTo (heads leaves) w top) z.is u.stacked) in
-      let i = in_last slots z.init z.last (subst (λ w. RowsIn slots w) z.is u.rows_in) in
+      let s = stacked_last _ _ _ _ (rw (← z.is) u.stacked) in
+      let i = in_last _ _ _ (rw (← z.is) u.rows_in) in
       let at = seen 4 8 (omega arith) z.last a first number b s.1 s.2 in
       inr (record {
         rows = z.init;
@@ -67,13 +62,13 @@ module _ {K V : Type 0} {most : ℕ} (capacity : IsLeafCapacity most) {slots : L
         at = at;
         room = omega (arith, (FitRow-split 4 8 at.before (node number (at.e ∷ at.es)) at.after (subst (FitRow 4 8) at.row_is s.1)).1.1);
         under = record { leaves_fit = u.leaves_fit; leaves_in = u.leaves_in; stacked = s.0; rows_in = i.0 };
-        slot_is = seen_slot inner_content slots at i.1;
+        slot_is = seen_slot _ _ at i.1;
       })
 
-  module _ {lower : _} (a : List (K × ℕ)) (first : K) (number : ℕ) (b : List (K × ℕ)) (u : Under most slots leaves lower (a ++ (first, number) ∷ b)) where
+  module _ {lower : _} (a first number b : _) (u : Under most slots leaves lower (a ++ (first, number) ∷ b)) where
     -- the node's slot holds a node with entries
     pub node_held : LastAsked slots number
-    node_held = elim (node_under lower a first number b u) [ inl s ↦ (leaf_content (s.at.e ∷ s.at.es), s.slot_is, omega arith) | inr s ↦ (inner_content (s.at.e ∷ s.at.es), s.slot_is, omega arith) ]
+    node_held = elim (node_under _ a _ _ b u) [ inl s ↦ (leaf_content (s.at.e ∷ s.at.es), s.slot_is, omega arith) | inr s ↦ (inner_content (s.at.e ∷ s.at.es), s.slot_is, omega arith) ]
 
     pub node_within : number < length slots
     node_within = slice_get_within slots number node_held.0 node_held.1
@@ -83,14 +78,14 @@ module _ {K V : Type 0} {most : ℕ} (capacity : IsLeafCapacity most) {slots : L
 
     -- the node is a leaf if its content is not an inner node
     pub leaf_under : {content : Content K V} → slice_get slots number ≡ Some content → (IsInner content → ⊥) → LeafUnder most slots leaves lower a first number b
-    leaf_under {content = content} found other = elim (node_under lower a first number b u) [ inl s ↦ s | inr s ↦ absurd (other (same_inner found s.slot_is tt)) ]
+    leaf_under {content = content} found other = elim (node_under _ a _ _ b u) [ inl s ↦ s | inr s ↦ absurd (other (same_inner found s.slot_is tt)) ]
 
     pub inner_under : {content : Content K V} → slice_get slots number ≡ Some content → IsInner content → InnerUnder most slots leaves lower a first number b
-    inner_under {content = content} found inner = elim (node_under lower a first number b u) [ inl s ↦ absurd (same_inner s.slot_is found inner) | inr s ↦ s ]
+    inner_under {content = content} found inner = elim (node_under _ a _ _ b u) [ inl s ↦ absurd (same_inner s.slot_is found inner) | inr s ↦ s ]
 
     -- the node is a leaf if there are no rows below it
     pub leaf_at : length lower ≡ 0 → LeafUnder most slots leaves lower a first number b
-    leaf_at none = elim (node_under lower a first number b u) [ inl s ↦ s | inr s ↦ absurd (omega (arith, none, s.count_is)) ]
+    leaf_at none = elim (node_under _ a _ _ b u) [ inl s ↦ s | inr s ↦ absurd (omega arith) ]
 
     pub inner_at : (length lower ≡ 0 → ⊥) → InnerUnder most slots leaves lower a first number b
-    inner_at some = elim (node_under lower a first number b u) [ inl s ↦ absurd (some (ap length s.lower_is)) | inr s ↦ s ]
+    inner_at some = elim (node_under _ a _ _ b u) [ inl s ↦ absurd (some (ap length s.lower_is)) | inr s ↦ s ]

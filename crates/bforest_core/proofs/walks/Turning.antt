@@ -2,11 +2,9 @@
 use Rattle.std.proofs.Common.{◌≡◌, ◌≢◌, ℕ, zero, suc, ◌+◌, ◌-◌, ◌≤◌, ◌<◌, List, length, get_or}
 use Rattle.std.proofs.Common.{slice_get, Some, Bool, false, IsTrue, ◌↔◌, inl, inr, refl, sym, subst, ◌∙◌, arith}
 use Rattle.bforest_core.proofs.Words.{cases_lt, false≢true, Content, HasOver, LastAt, MoreAt, OnLevels, OnOver, heads, inner_content, Over}
+use Rattle.bforest_core.proofs.{walks.Steps.{not_less, only, spot}, walks.Turns.{ChildAt, Went, back_asks, before_turn, first_moves, first_turn, last_moves}}
+use Rattle.bforest_core.proofs.{walks.Turns.{last_turn, next_turn, turn_asks, turn_moves}, walks.Reading.{LastAsked, LastRead}}
 use Rattle.bforest_core.specs.Steps.{AreFirst, AreLast, Turned, TurnedBack, TurnedBy}
-use Rattle.bforest_core.proofs.walks.Steps.{not_less, only, spot}
-use Rattle.bforest_core.proofs.walks.Turns.{ChildAt, Went, back_asks, before_turn, first_moves}
-use Rattle.bforest_core.proofs.walks.Turns.{first_turn, last_moves, last_turn, next_turn, turn_asks, turn_moves}
-use Rattle.bforest_core.proofs.walks.Reading.{LastAsked, LastRead}
 
 -- two runs of levels, one above the other
 pub both : {Holds : ℕ → Type 0} (low between high : ℕ) → OnLevels Holds low between → OnLevels Holds between high → OnLevels Holds low high
@@ -18,60 +16,59 @@ down : {AtEnd Moves Moves' : ℕ → Type 0} {level from size : ℕ} → TurnedB
     → TurnedBy AtEnd Moves' level (from - 1) size
 down {from = from} t low goes = record {
   height = t.height;
-  within = omega (arith, t.within);
-  ends = λ i above below. t.ends i above (omega (arith, below, low));
-  moved = goes (t.ends from (omega (arith, low)) (omega arith));
+  within = omega arith;
+  ends = λ i above below. t.ends i above (omega arith);
+  moved = goes (t.ends from (omega arith) (omega arith));
 }
 
-module _ {K V : Type 0} (slots : List (Content K V)) (path indices : List ℕ) where
+module _ {K V : Type 0} (slots : List (Content K V)) (path indices : _) where
   -- the rows from a higher level on
   pub over-up : (steps : ℕ) {level size rows list place : _} (to : ℕ)
       → Over slots path indices level size rows list place → to ≡ level + steps → to ≤ size → HasOver slots path indices to size
   over-up zero {size = size} {rows = rows} {list = list} {place = place} to p is low =
-      (rows, list, place, subst (λ z. Over slots path indices z size rows list place) (omega (arith, is)) p)
+      (rows, list, place, subst (λ z. Over slots path indices z size rows list place) (omega arith) p)
   over-up (suc steps) {level = level} {size = size} to p is low =
-      let s = spot slots path indices level size _ _ _ p (λ e. omega (arith, e, is, low)) in
-      over-up steps to s.over (omega (arith, is)) low
+      over-up steps to (spot slots path indices level size _ _ _ p (λ e. omega arith)).over (omega arith) low
 
   -- the node on a level meets what the test for a child requires
   pub turn-asks : {level size rows list place : _}
       → Over slots path indices level size rows list place → level ≢ size → size ≤ 17 → (level ≤ 16)
-      × ((entries : List (K × ℕ)) × (slice_get slots (get_or path level 0) ≡ Some (inner_content entries)))
+      × ((entries : _) × (slice_get slots (get_or path level 0) ≡ Some (inner_content entries)))
   turn-asks {level} {size} p other height =
       let s = spot slots path indices level size _ _ _ p other in
-      (omega (arith, height, s.over.height), (s.entries, s.slot_is))
+      (omega arith, (s.entries, s.slot_is))
 
   -- the rows above the node meet what a search for the turn from there requires
   pub turn-above : {level size rows list place : _} (to : ℕ)
       → Over slots path indices level size rows list place → level ≢ size → to ≡ suc level → HasOver slots path indices to size
   turn-above {level} {size} to p other is =
       let s = spot slots path indices level size _ _ _ p other in
-      (s.rest, heads s.row, length s.before, subst (λ z. Over slots path indices z size s.rest (heads s.row) (length s.before)) (sym is) s.over)
+      (s.rest, heads s.row, length s.before, rw is s.over)
 
   -- on one level the path's child is the last, where the test for a further one failed
-  pub here-last : {low high : ℕ} {level : ℕ} → low ≡ level → high ≡ suc level → {has : Bool}
-      → ((entries : List (K × ℕ)) → slice_get slots (get_or path level 0) ≡ Some (inner_content entries)
+  pub here-last : {low high level : _} → low ≡ level → high ≡ suc level → {has : Bool}
+      → ((entries : _) → slice_get slots (get_or path level 0) ≡ Some (inner_content entries)
       → IsTrue has ↔ (get_or indices level 0 + 1 < length entries)) → has ≡ false → AreLast slots path indices low high
   here-last {level = level} low_is high_is test is i low high =
-      subst (LastAt slots path indices) (omega (arith, low, high, low_is, high_is))
-      (λ entries slot. not_less (get_or indices level 0 + 1) (length entries) (λ more. false≢true (sym is ∙ (test entries slot).1 more)))
+      subst (LastAt slots path indices) (omega arith)
+      (λ entries slot. not_less _ _ (λ more. false≢true (sym is ∙ (test entries slot).1 more)))
 
   -- where each child up to the root is the last, the node is the last of its level
   pub all-last : (steps : ℕ) {level : ℕ} {size rows list place : _} → Over slots path indices (suc level) size rows list place → size ≡ suc level + steps
       → size ≤ 17 → AreLast slots path indices (suc level) size → suc place ≡ length list
-  all-last zero p is height last = (only p (omega (arith, is))).1
+  all-last zero p is height last = (only p (omega arith)).1
   all-last (suc steps) {level} {size} p is height last =
-      last_moves p refl (λ e. omega (arith, e, is)) height (last (suc level) (omega arith) (omega (arith, is)))
-      (λ rows list place o. all-last steps o (omega (arith, is)) height (λ i from to. last i (omega (arith, from)) to))
+      last_moves p refl (λ e. omega arith) height (last (suc level) (omega arith) (omega arith))
+      (λ rows list place o. all-last steps o (omega arith) height (λ i from to. last i (omega arith) to))
 
   -- where each child up to the root is the first, the node is the first of its level
   pub all-first : (steps : ℕ) {level : ℕ} {size rows list place : _} → Over slots path indices (suc level) size rows list place → size ≡ suc level + steps
       → size ≤ 17 → AreFirst indices (suc level) size → place ≡ 0
-  all-first zero p is height first = (only p (omega (arith, is))).0
+  all-first zero p is height first = (only p (omega arith)).0
   all-first (suc steps) {level} {size} p is height first =
-      first_moves p refl (λ e. omega (arith, e, is)) height
-      (λ rows list place o. all-first steps o (omega (arith, is)) height (λ i from to. first i (omega (arith, from)) to))
-      (omega (arith, first (suc level) (omega arith) (omega (arith, is))))
+      first_moves p refl (λ e. omega arith) height
+      (λ rows list place o. all-first steps o (omega arith) height (λ i from to. first i (omega arith) to))
+      (omega arith)
 
   -- the path's node on level `from` has moved, and the path goes on down from it
   module _ {level from : ℕ} (low : level < from) where
@@ -79,41 +76,41 @@ module _ {K V : Type 0} (slots : List (Content K V)) (path indices : List ℕ) w
       -- the node meets what going to its first child requires
       pub down-asks : HasOver slots path indices (suc level) size → ChildAt slots path1 (from - 1) 0
       down-asks w =
-          let o = over-up (from - suc level) (suc (from - 1)) w.3 (omega (arith, low)) (omega (arith, low, t.within)) in
+          let o = over-up (from - suc level) (suc (from - 1)) w.3 (omega arith) (omega arith) in
           turn_asks {up =
-          from} o.3 (omega (arith, low)) (λ e. omega (arith, e, t.within)) t.height (first_turn o.3 (omega (arith, low)) (λ e. omega (arith, e, t.within))
-          t.height (t.ends from (omega (arith, low)) (omega arith)) t.moved)
+          from} o.3 (omega arith) (λ e. omega arith) t.height (first_turn o.3 (omega arith) (λ e. omega arith)
+          t.height (t.ends from (omega arith) (omega arith)) t.moved)
 
       -- the path went there, and that child is the next node of its level
-      pub down-turned : {path2 indices2 : List ℕ} → Went slots path1 indices1 (from - 1) 0 path2 indices2
+      pub down-turned : {path2 indices2 : _} → Went slots path1 indices1 (from - 1) 0 path2 indices2
           → Turned slots path indices path2 indices2 level (from - 1) size
       down-turned g = down t low (λ last rows list place p.
           turn_moves {up =
-          from} p (omega (arith, low)) (λ e. omega (arith, e, t.within)) t.height (first_turn p (omega (arith, low)) (λ e. omega (arith, e, t.within))
+          from} p (omega arith) (λ e. omega arith) t.height (first_turn p (omega arith) (λ e. omega arith)
           t.height last t.moved) g)
 
     module _ {path1 indices1 size : _} (t : TurnedBack slots path indices path1 indices1 level from size) (r : ℕ) (wide : 17 ≤ length path1) where
       -- the node meets what reading its last index requires
       pub last-held : HasOver slots path indices (suc level) size → LastAsked slots (get_or path1 from r)
       last-held w =
-          let o = over-up (from - suc level) (suc (from - 1)) w.3 (omega (arith, low)) (omega (arith, low, t.within)) in
-          back_asks {up = from} o.3 (omega (arith, low)) (λ e. omega (arith, e, t.within)) t.height t.moved r wide
+          let o = over-up (from - suc level) (suc (from - 1)) w.3 (omega arith) (omega arith) in
+          back_asks {up = from} o.3 (omega arith) (λ e. omega arith) t.height t.moved r wide
 
       module _ {last : ℕ} (says : LastRead slots (get_or path1 from r) last) where
         -- the node meets what going to its last child requires
         pub last-goes : HasOver slots path indices (suc level) size → ChildAt slots path1 (from - 1) last
         last-goes w =
-            let o = over-up (from - suc level) (suc (from - 1)) w.3 (omega (arith, low)) (omega (arith, low, t.within)) in
-            turn_asks {up = from} o.3 (omega (arith, low)) (λ e. omega (arith, e, t.within)) t.height
-            (last_turn o.3 (omega (arith, low)) (λ e. omega (arith, e, t.within)) t.height t.moved r wide
-            (omega (arith, t.ends from (omega (arith, low)) (omega arith))) says).1
+            let o = over-up (from - suc level) (suc (from - 1)) w.3 (omega arith) (omega arith) in
+            turn_asks {up = from} o.3 (omega arith) (λ e. omega arith) t.height
+            (last_turn o.3 (omega arith) (λ e. omega arith) t.height t.moved r wide
+            (omega arith) says).1
 
         -- the path went there, and that child is the previous node of its level
-        pub back-turned : {path2 indices2 : List ℕ} → Went slots path1 indices1 (from - 1) last path2 indices2
+        pub back-turned : {path2 indices2 : _} → Went slots path1 indices1 (from - 1) last path2 indices2
             → TurnedBack slots path indices path2 indices2 level (from - 1) size
         back-turned g = down t low (λ first rows list place p.
-            let w = last_turn {up = from} p (omega (arith, low)) (λ e. omega (arith, e, t.within)) t.height t.moved r wide (omega (arith, first)) says in
-            (w.0, turn_moves {up = from} p (omega (arith, low)) (λ e. omega (arith, e, t.within)) t.height w.1 g))
+            let w = last_turn {up = from} p (omega arith) (λ e. omega arith) t.height t.moved r wide (omega arith) says in
+            (w.0, turn_moves {up = from} p (omega arith) (λ e. omega arith) t.height w.1 g))
 
   -- the turn, where the path goes to the next child
   module _ {level turn size : ℕ} (height : size ≤ 17) (within : (level + 2 ≤ turn) × (turn ≤ size)) (here : AreLast slots path indices (suc level) (level + 2))
@@ -121,22 +118,21 @@ module _ {K V : Type 0} (slots : List (Content K V)) (path indices : List ℕ) w
     -- where no level has a further child, the node is the last
     pub far-last : turn ≡ size → OnOver slots path indices (suc level) size (λ rows list place. suc place ≡ length list)
     far-last end rows list place p =
-        all-last (size - suc level) p (omega (arith, within)) height (subst (λ z. AreLast slots path indices (suc level) z) end
-        (both (suc level) (level + 2) turn here last))
+        all-last (size - suc level) p (omega arith) height (rw (← end) (both _ _ _ here last))
 
     module _ (other : turn ≢ size) (more : MoreAt slots path indices turn) where
       pub turn-goes : HasOver slots path indices (suc level) size → ChildAt slots path (turn - 1) (get_or indices turn 0 + 1)
       turn-goes w =
-          let o = over-up (turn - suc level - 1 + 1) (suc (turn - 1)) w.3 (omega (arith, within)) (omega (arith, within)) in
-          turn_asks {up = turn} o.3 (omega (arith, within)) other height (next_turn o.3 (omega (arith, within)) other height more)
+          let o = over-up (turn - suc level - 1 + 1) (suc (turn - 1)) w.3 (omega arith) (omega arith) in
+          turn_asks {up = turn} o.3 (omega arith) other height (next_turn o.3 (omega arith) other height more)
 
-      pub turned : {path1 indices1 : List ℕ} → Went slots path indices (turn - 1) (get_or indices turn 0 + 1) path1 indices1
+      pub turned : {path1 indices1 : _} → Went slots path indices (turn - 1) (get_or indices turn 0 + 1) path1 indices1
           → Turned slots path indices path1 indices1 level (turn - 1) size
       turned g = record {
         height = height;
-        within = omega (arith, within);
-        ends = λ i above below. both (suc level) (level + 2) turn here last i above (omega (arith, below, within));
-        moved = λ rows list place p. turn_moves {up = turn} p (omega (arith, within)) other height (next_turn p (omega (arith, within)) other height more) g;
+        within = omega arith;
+        ends = λ i above below. both _ _ _ here last i above (omega arith);
+        moved = λ rows list place p. turn_moves {up = turn} p (omega arith) other height (next_turn p (omega arith) other height more) g;
       }
 
   -- the turn, where the path goes to the previous child
@@ -144,21 +140,21 @@ module _ {K V : Type 0} (slots : List (Content K V)) (path indices : List ℕ) w
     -- where no level has a child before, the node is the first
     pub far-first : turn ≡ size → OnOver slots path indices (suc level) size (λ rows list place. place ≡ 0)
     far-first end rows list place p =
-        all-first (size - suc level) p (omega (arith, end, within)) height (λ i above below. first i (omega (arith, above)) (omega (arith, below, end)))
+        all-first (size - suc level) p (omega arith) height (λ i above below. first i (omega arith) (omega arith))
 
     module _ (other : turn ≢ size) (some : 0 < get_or indices turn 0) where
       pub before-goes : HasOver slots path indices (suc level) size → ChildAt slots path (turn - 1) (get_or indices turn 0 - 1)
       before-goes w =
-          let o = over-up (turn - suc level) (suc (turn - 1)) w.3 (omega (arith, within)) (omega (arith, within)) in
-          turn_asks {up = turn} o.3 (omega (arith, within)) other height (before_turn o.3 (omega (arith, within)) other height some).1
+          let o = over-up (turn - suc level) (suc (turn - 1)) w.3 (omega arith) (omega arith) in
+          turn_asks {up = turn} o.3 (omega arith) other height (before_turn o.3 (omega arith) other height some).1
 
-      pub turned-back : {path1 indices1 : List ℕ} → Went slots path indices (turn - 1) (get_or indices turn 0 - 1) path1 indices1
+      pub turned-back : {path1 indices1 : _} → Went slots path indices (turn - 1) (get_or indices turn 0 - 1) path1 indices1
           → TurnedBack slots path indices path1 indices1 level (turn - 1) size
       turned-back g = record {
         height = height;
-        within = omega (arith, within, other);
-        ends = λ i above below. first i (omega (arith, above)) (omega (arith, below, within));
+        within = omega arith;
+        ends = λ i above below. first i (omega arith) (omega arith);
         moved = λ rows list place p.
-            let w = before_turn {up = turn} p (omega (arith, within)) other height some in
-            (w.0, turn_moves {up = turn} p (omega (arith, within)) other height w.1 g);
+            let w = before_turn {up = turn} p (omega arith) other height some in
+            (w.0, turn_moves {up = turn} p (omega arith) other height w.1 g);
       }

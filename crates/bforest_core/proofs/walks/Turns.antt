@@ -1,27 +1,21 @@
 -- Moving a path's node to the next or the previous one of its level, once the node above it is there.
-use Rattle.std.proofs.Common.{◌≡◌, ◌≢◌, ℕ, suc, ◌+◌, ◌-◌, ◌≤◌, ◌<◌, List, ◌∷◌, length, get_or, slice_get, option_map, Some, refl, sym, ap, subst, ◌∙◌, arith}
-use Rattle.bforest_core.proofs.Words.{Content, flat, heads, inner_content, entry_items, SameBelow, StandsAbove}
-use Rattle.bforest_core.proofs.Words.{Advances, LastAt, MoreAt, OnOver, Over, Moved, Retreats}
-use Rattle.bforest_core.proofs.rows.Zipper.{stands-same}
-use Rattle.bforest_core.proofs.table.Stored.{some_same, item_count}
-use Rattle.bforest_core.proofs.walks.LeafSearch.{items-read}
-use Rattle.bforest_core.proofs.walks.Downward.{at_node}
-use Rattle.bforest_core.proofs.walks.RowNodes.{entry_at, node-in, none-behind, seam}
-use Rattle.bforest_core.proofs.walks.Steps.{Spot, Within, last_asks, last_is, read, spot, there}
-use Rattle.bforest_core.proofs.walks.TopNode.{SameBut, none_flat}
-use Rattle.bforest_core.proofs.walks.Reading.{LastAsked, LastRead}
+use Rattle.std.proofs.Common.{◌≡◌, ◌≢◌, ℕ, suc, ◌+◌, ◌-◌, ◌≤◌, ◌<◌, List, ◌∷◌, length, get_or, slice_get, Some, refl, sym, ap, subst, ◌∙◌, arith}
+use Rattle.bforest_core.proofs.Words.{Content, flat, heads, inner_content, entry_items, SameBelow, StandsAbove, Advances, LastAt, MoreAt, OnOver, Over, Moved}
+use Rattle.bforest_core.proofs.{Words.Retreats, rows.Zipper.stands-same, table.Stored.{some_same, item_count}, walks.LeafSearch.items-read}
+use Rattle.bforest_core.proofs.{walks.Downward.at_node, walks.RowNodes.{entry_at, node-in, none-behind, seam}, walks.Steps.{Spot, Within, last_asks, last_is}}
+use Rattle.bforest_core.proofs.{walks.Steps.{read, spot, there}, walks.TopNode.{SameBut, none_flat}, walks.Reading.{LastAsked, LastRead}}
 
 module _ {K V : Type 0} where
   -- what going to a child requires
   abbrev pub ChildAt : List (Content K V) → List ℕ → ℕ → ℕ → Type 0
   ChildAt slots path level index =
-      (level ≤ 15) × ((index ≤ 255) × ((entries : List (K × ℕ)) × (slice_get slots (get_or path (suc level) 0) ≡ Some (inner_content entries))
+      (level ≤ 15) × ((index ≤ 255) × ((entries : _) × (slice_get slots (get_or path (suc level) 0) ≡ Some (inner_content entries))
       × (index < length entries)))
 
   -- the child to which the path goes is the entry's
   abbrev pub Reads : List (Content K V) → List ℕ → List ℕ → ℕ → ℕ → Type 0
   Reads slots path path' level index =
-      (entries : List (K × ℕ)) → slice_get slots (get_or path (suc level) 0) ≡ Some (inner_content entries)
+      (entries : _) → slice_get slots (get_or path (suc level) 0) ≡ Some (inner_content entries)
       → slice_get (entry_items entries) index ≡ Some (get_or path' level 0)
 
   -- the path went from the node above to its child at an index
@@ -31,7 +25,7 @@ module _ {K V : Type 0} where
     pub entry : get_or indices' (suc level) 0 ≡ index
     pub entries : SameBut (suc level) indices indices'
 
-  pub went : {slots : List (Content K V)} {path indices path' indices' : List ℕ} {level index : ℕ} → Reads slots path path' level index
+  pub went : {slots : List (Content K V)} {path indices path' indices' level index : _} → Reads slots path path' level index
       → SameBut level path path' → get_or indices' (suc level) 0 ≡ index → SameBut (suc level) indices indices'
       → Went slots path indices level index path' indices'
   went child nodes entry entries = record { child = child; nodes = nodes; entry = entry; entries = entries }
@@ -39,7 +33,7 @@ module _ {K V : Type 0} where
   module _ {slots : List (Content K V)} {path indices : _} {level up : ℕ} {size rows list place : _}
       (p : Over slots path indices (suc level) size rows list place) (up_is : up ≡ suc level) (other : up ≢ size) (height : size ≤ 17) where
     pub here : Spot slots path indices up size rows list place
-    here = spot slots path indices up size rows list place (subst (λ z. Over slots path indices z size rows list place) (sym up_is) p) other
+    here = spot slots path indices up size rows list place (rw up_is p) other
 
     abbrev stay : Within inner_content slots 8 path indices up here.row here.rest (length here.before)
     stay = record {
@@ -49,8 +43,8 @@ module _ {K V : Type 0} where
     }
 
     -- the node meets what the test for a child requires
-    pub has_asks : (up ≤ 16) × ((entries : List (K × ℕ)) × (slice_get slots (get_or path up 0) ≡ Some (inner_content entries)))
-    has_asks = (omega (arith, height, here.over.height), (here.entries, here.slot_is))
+    pub has_asks : (up ≤ 16) × ((entries : _) × (slice_get slots (get_or path up 0) ≡ Some (inner_content entries)))
+    has_asks = (omega (arith, here.over.height), (here.entries, here.slot_is))
 
     -- the index is less than 8
     pub index_low : get_or indices up 0 < 8
@@ -67,41 +61,38 @@ module _ {K V : Type 0} where
 
     module _ {path1 indices1 index to : _} (t : Turn path1 indices1 index to) where
       slot_below : slice_get slots (get_or path1 (suc level) 0) ≡ Some (inner_content t.on.node.entries)
-      slot_below = ap (λ z. slice_get slots (get_or path1 z 0)) (sym up_is) ∙ t.on.node.slot_is
+      slot_below = cc
 
       -- the node meets what going to that child requires
       pub turn_asks : ChildAt slots path1 level index
-      turn_asks = (omega (arith, up_is, height, here.over.height), (omega (arith, t.low, t.on.node.room), (t.on.node.entries, slot_below, t.low)))
+      turn_asks = (omega (arith, here.over.height), (omega arith, (t.on.node.entries, slot_below, t.low)))
 
       -- the path that went there is at the place
-      pub turn_moves : {path' indices' : List ℕ} → Went slots path1 indices1 level index path' indices' → Moved path indices path' indices' level rows list to
+      pub turn_moves : {path' indices' : _} → Went slots path1 indices1 level index path' indices' → Moved path indices path' indices' level rows list to
       turn_moves {path'} {indices'} g =
           let w = t.on in
-          let e = read w.node.entries index t.low in
-          let above = stands-same path1 indices1 path' indices' (suc up) here.rest t.at (λ i high. g.nodes i (λ e. omega (arith, e, up_is, high)))
-          (λ i high. g.entries i (λ e. omega (arith, e, up_is, high))) w.stands in
-          let at = at_node w.node.before w.node.entries w.node.after w.node.row_is (g.nodes up (λ e. omega (arith, e, up_is)))
-          (ap (λ z. get_or indices' z 0) up_is ∙ g.entry) t.low t.to_is in
+          let e = read _ _ t.low in
+          let above = stands-same _ _ _ _ _ _ _ (λ i high. g.nodes i (λ e. omega arith))
+          (λ i high. g.entries i (λ e. omega arith)) w.stands in
+          let at = at_node _ _ _ w.node.row_is (g.nodes up (λ e. omega arith))
+          (cc) t.low t.to_is in
           let stands : StandsAbove path' indices' up (here.row ∷ here.rest) to = (
             at,
-            subst (λ z. StandsAbove path' indices' (suc up) here.rest z)
-                (sym w.node.at) above,
+            rw w.node.at above,
           ) in
           record {
             head = e.0;
-            head_is = ap (λ z. slice_get z to) (sym here.flat_is) ∙ ap (λ z. slice_get (flat here.row) z) t.to_is
-                ∙ entry_at w.node.before (get_or path1 up 0) w.node.entries w.node.after index w.node.row_is e.1;
-            node_is = some_same (get_or path' level 0) e.0.1 (sym (g.child w.node.entries slot_below) ∙ items-read w.node.entries index
-                ∙ ap (λ z. option_map (λ w. w.1) z) e.1);
-            stands = subst (λ z. StandsAbove path' indices' z rows to) up_is (subst (λ z. StandsAbove path' indices' up z to) (sym here.rows_are) stands);
-            nodes_below = λ i low. g.nodes i (λ e. omega (arith, e, low)) ∙ t.nodes_below i (omega (arith, low, up_is));
-            entries_below = λ i low. g.entries i (λ e. omega (arith, e, low)) ∙ t.entries_below i (omega (arith, low, up_is));
+            head_is = cc (here.flat_is, entry_at w.node.before (get_or path1 up 0) w.node.entries w.node.after index w.node.row_is e.1);
+            node_is = some_same _ _ (cc (g.child w.node.entries slot_below, items-read w.node.entries index));
+            stands = rw (← up_is) (subst (λ z. StandsAbove path' indices' up z to) (sym here.rows_are) stands);
+            nodes_below = λ i low. g.nodes i (λ e. omega (arith, low)) ∙ t.nodes_below i (omega (arith, low));
+            entries_below = λ i low. g.entries i (λ e. omega (arith, low)) ∙ t.entries_below i (omega (arith, low));
           }
 
     -- the previous child
     pub before_turn : 0 < get_or indices up 0 → (0 < place) × Turn path indices (get_or indices up 0 - 1) (place - 1)
     before_turn some = (
-      omega (arith, some, here.place_is),
+      omega (arith, here.place_is),
       record {
         at =
             length here.before;
@@ -130,7 +121,7 @@ module _ {K V : Type 0} where
 
     -- the first child of the first node is the first of the level
     pub first_moves : OnOver slots path indices (suc up) size (λ rows list place. place ≡ 0) → get_or indices up 0 ≤ 0 → place ≡ 0
-    first_moves first none = omega (arith, here.place_is, none, none_flat here.before (first here.rest (heads here.row) (length here.before) here.over))
+    first_moves first none = omega (arith, here.place_is, none_flat here.before (first here.rest (heads here.row) (length here.before) here.over))
 
     -- the last child of the last node is the last of the level
     pub last_moves : LastAt slots path indices up → OnOver slots path indices (suc up) size (λ rows list place. suc place ≡ length list)
@@ -147,7 +138,7 @@ module _ {K V : Type 0} where
         )
 
     -- the first child of the next node
-    pub first_turn : {path1 indices1 : List ℕ} → LastAt slots path indices up → Advances slots path indices path1 indices1 up size
+    pub first_turn : {path1 indices1 : _} → LastAt slots path indices up → Advances slots path indices path1 indices1 up size
         → Turn path1 indices1 0 (suc place)
     first_turn past goes =
         let m = goes here.rest (heads here.row) (length here.before) here.over in
@@ -162,7 +153,7 @@ module _ {K V : Type 0} where
         }
 
     -- the last child of the previous node
-    module _ {path1 indices1 : List ℕ} (backs : Retreats slots path indices path1 indices1 up size) (r : ℕ) (wide : 17 ≤ length path1) where
+    module _ {path1 indices1 : _} (backs : Retreats slots path indices path1 indices1 up size) (r : ℕ) (wide : 17 ≤ length path1) where
       abbrev back : (0 < length here.before) × Moved path indices path1 indices1 up here.rest (heads here.row) (length here.before - 1)
       back = backs here.rest (heads here.row) (length here.before) here.over
 
@@ -171,19 +162,19 @@ module _ {K V : Type 0} where
 
       -- the node meets what reading its last index requires
       pub back_asks : LastAsked slots (get_or path1 up r)
-      back_asks = last_asks back_node item_count r (omega (arith, wide, height, here.over.height))
+      back_asks = last_asks back_node item_count r (omega (arith, here.over.height))
 
       pub last_turn : get_or indices up 0 ≤ 0 → {last : ℕ} → LastRead slots (get_or path1 up r) last → (0 < place) × Turn path1 indices1 last (place - 1)
       last_turn none says =
-          let last = last_is back_node item_count r (omega (arith, wide, height, here.over.height)) says in
+          let last = last_is back_node item_count r (omega (arith, here.over.height)) says in
           let seam_is = seam back_node.node stay.node (omega (arith, back.0)) in (
-            omega (arith, here.place_is, seam_is, last),
+            omega (arith, here.place_is),
             record {
               at = length here.before - 1;
               on = back_node;
               nodes_below = back.1.nodes_below;
               entries_below = back.1.entries_below;
-              low = omega (arith, last);
-              to_is = omega (arith, here.place_is, none, seam_is, last);
+              low = omega arith;
+              to_is = omega (arith, here.place_is);
             },
           )

@@ -1,6 +1,5 @@
 use Rattle.std.proofs.Common.{rules, ◌≡◌, Some, slice_get, ◌<◌}
-use Rattle.bforest_core.proofs.Words.{slice_get_within, Inner, IsInner, children_of, entry_count}
-use Rattle.bforest_core.proofs.table.Stored.{read_as}
+use Rattle.bforest_core.proofs.{Words.{slice_get_within, Inner, IsInner, children_of, entry_count}, table.Stored.read_as}
 use Rattle.bforest_core.proofs.access.child.Goals as goal
 
 pub node-requires : goal.node-requires

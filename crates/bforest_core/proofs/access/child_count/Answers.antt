@@ -1,6 +1,5 @@
 use Rattle.std.proofs.Common.{rules, ap, sym, ◌∙◌}
-use Rattle.bforest_core.proofs.Words.{slice_get_within, IsInner, entry_count}
-use Rattle.bforest_core.proofs.table.Stored.{read_as, read_same}
+use Rattle.bforest_core.proofs.{Words.{slice_get_within, IsInner, entry_count}, table.Stored.{read_as, read_same}}
 use Rattle.bforest_core.proofs.access.child_count.Goals as goal
 
 pub node-requires : goal.node-requires

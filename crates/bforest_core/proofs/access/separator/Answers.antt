@@ -1,7 +1,6 @@
 use Rattle.std.proofs.Common.{rules, ◌≡◌, length, Some, slice_get, ◌<◌}
-use Rattle.bforest_core.proofs.Words.{slice_get_within, Inner, IsInner}
+use Rattle.bforest_core.proofs.{Words.{slice_get_within, Inner, IsInner}, table.Stored.read_as}
 use Rattle.bforest_nodes.specs.Content.{keys_of}
-use Rattle.bforest_core.proofs.table.Stored.{read_as}
 use Rattle.bforest_core.proofs.access.separator.Goals as goal
 
 pub node-requires : goal.node-requires

@@ -1,6 +1,5 @@
 use Rattle.std.proofs.Common.{rules, refl, subst, sym, ◌∙◌, arith}
-use Rattle.bforest_core.proofs.Words.{EndsOn, false≢true}
-use Rattle.bforest_core.proofs.walks.Searches.{asks, code-low-here, deeper-low, digit-low, down, ends-on, within}
+use Rattle.bforest_core.proofs.{Words.{EndsOn, false≢true}, walks.Searches.{asks, code-low-here, deeper-low, digit-low, down, ends-on, within}}
 use Rattle.bforest_core.proofs.spot.find_below.Goals as goal
 
 pub loop-key-init : goal.loop-key-init

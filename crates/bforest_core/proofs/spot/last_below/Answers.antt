@@ -1,7 +1,5 @@
 use Rattle.std.proofs.Common.{arith, rules, sym, ◌∙◌}
-use Rattle.bforest_core.proofs.Words.{false≢true}
-use Rattle.bforest_core.proofs.walks.CodesDown.{LastSaid, down-ask, down-asks, down-low, down-on, last-here}
-use Rattle.bforest_core.proofs.walks.Leading.{last-turns}
+use Rattle.bforest_core.proofs.{Words.false≢true, walks.CodesDown.{LastSaid, down-ask, down-asks, down-low, down-on, last-here}, walks.Leading.last-turns}
 use Rattle.bforest_core.proofs.walks.TopNode.{node_held, node_within}
 use Rattle.bforest_core.proofs.spot.last_below.Goals as goal
 

@@ -1,10 +1,7 @@
 use Rattle.std.proofs.Common.{rules, arith, refl, sym, ap, ◌∙◌}
-use Rattle.bforest_core.proofs.Words.{entry_count}
-use Rattle.bforest_core.proofs.table.Stored.{some_same}
-use Rattle.bforest_core.proofs.walks.Branches.{branch-asks}
-use Rattle.bforest_core.proofs.walks.Codes.{is-below}
-use Rattle.bforest_core.proofs.walks.Following.{turn-beside, turn-done, turn-down, turn-end, turn-high, turn-more, turn-way}
-use Rattle.bforest_core.proofs.walks.OnLevel.{stands-low, turn-at, turn-said}
+use Rattle.bforest_core.proofs.{Words.entry_count, table.Stored.some_same, walks.Branches.branch-asks, walks.Codes.is-below, walks.Following.turn-beside}
+use Rattle.bforest_core.proofs.{walks.Following.{turn-done, turn-down, turn-end, turn-high, turn-more, turn-way}, walks.OnLevel.{stands-low, turn-at}}
+use Rattle.bforest_core.proofs.walks.OnLevel.{turn-said}
 use Rattle.bforest_core.proofs.spot.next_far.Goals as goal
 
 pub loop-here-init : goal.loop-here-init

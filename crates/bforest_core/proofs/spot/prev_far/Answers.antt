@@ -1,8 +1,6 @@
 use Rattle.std.proofs.Common.{rules, arith, refl, ◌<◌}
-use Rattle.bforest_core.proofs.walks.Branches.{branch-asks, branch-low}
-use Rattle.bforest_core.proofs.walks.Codes.{is-below}
-use Rattle.bforest_core.proofs.walks.Following.{turn-beside, turn-done, turn-down, turn-end, turn-high, turn-more, turn-way}
-use Rattle.bforest_core.proofs.walks.OnLevel.{back-at, back-count, back-said, stands-low}
+use Rattle.bforest_core.proofs.{walks.Branches.{branch-asks, branch-low}, walks.Codes.is-below, walks.Following.{turn-beside, turn-done, turn-down, turn-end}}
+use Rattle.bforest_core.proofs.{walks.Following.{turn-high, turn-more, turn-way}, walks.OnLevel.{back-at, back-count, back-said, stands-low}}
 use Rattle.bforest_core.proofs.spot.prev_far.Goals as goal
 
 pub loop-here-init : goal.loop-here-init

@@ -1,9 +1,6 @@
 use Rattle.std.proofs.Common.{rules, arith, refl, sym, ap, ◌∙◌}
-use Rattle.bforest_core.proofs.Words.{entry_count}
-use Rattle.bforest_core.proofs.table.Stored.{some_same}
-use Rattle.bforest_core.proofs.walks.Codes.{is-below, root-last}
-use Rattle.bforest_core.proofs.walks.Following.{begun, turn-high, turn-way, turned, turning-ends, turning-none, turning-on}
-use Rattle.bforest_core.proofs.walks.OnLevel.{code-low-here, index-asked, last-said}
+use Rattle.bforest_core.proofs.{Words.entry_count, table.Stored.some_same, walks.Codes.{is-below, root-last}, walks.Following.{begun, turn-high, turn-way}}
+use Rattle.bforest_core.proofs.{walks.Following.{turned, turning-ends, turning-none, turning-on}, walks.OnLevel.{code-low-here, index-asked, last-said}}
 use Rattle.bforest_core.proofs.spot.turn_on.Goals as goal
 
 pub loop-left-init : goal.loop-left-init

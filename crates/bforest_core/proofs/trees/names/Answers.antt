@@ -1,6 +1,5 @@
 use Rattle.std.proofs.Common.{ℕ, ◌<◌, List, sym, ap, subst, ◌∙◌}
-use Rattle.bforest_core.proofs.Words.{children_of, count}
-use Rattle.bforest_core.proofs.rows.Counts.{found-counts}
+use Rattle.bforest_core.proofs.{Words.{children_of, count}, rows.Counts.found-counts}
 use Rattle.bforest_core.proofs.trees.names.Goals as goal
 
 pub returns-then-is_inner : goal.returns-then-is_inner

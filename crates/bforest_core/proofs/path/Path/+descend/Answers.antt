@@ -1,6 +1,5 @@
 use Rattle.std.proofs.Common.{rules, length, ap, sym, ◌∙◌, length-set, arith}
-use Rattle.bforest_core.proofs.walks.Descent.{leaf_step, inner_step, follow_asks, below, reached, passed}
-use Rattle.bforest_core.proofs.walks.TopNode.{leaf_at, inner_at}
+use Rattle.bforest_core.proofs.{walks.Descent.{leaf_step, inner_step, follow_asks, below, reached, passed}, walks.TopNode.{leaf_at, inner_at}}
 use Rattle.bforest_core.proofs.path.Path.+descend.Goals as goal
 
 pub returns-then-level-eq0-clause-descended : goal.returns-then-level-eq0-clause-descended

@@ -1,9 +1,6 @@
 use Rattle.std.proofs.Common.{rules, ◌≡◌, ℕ, ◌+◌, ◌≤◌, [], map, length, sym, ap, ◌∙◌, arith, add-one, ◌<◌, suc, Bool, if◌then◌else◌, List, ◌∷◌, ◌++◌, get_or, Some}
-use Rattle.bforest_core.proofs.insertion.Parted.{gain-some}
-use Rattle.bforest_core.proofs.insertion.Rise.{need_top, rise, sizes_halved, need_full}
-use Rattle.bforest_core.proofs.Words.{get_or_default, Table, IsFullAt, OneAbove, heads, sizes, need_above, gain_above, Grown, GrownBy, HalvedBy}
-use Rattle.bforest_core.proofs.rows.Zipper.{spot}
-use Rattle.bforest_core.proofs.insertion.Halving.{full_is}
+use Rattle.bforest_core.proofs.{insertion.Parted.gain-some, insertion.Rise.{need_top, rise, sizes_halved, need_full}, Words.{get_or_default, Table, IsFullAt}}
+use Rattle.bforest_core.proofs.{Words.{OneAbove, heads, sizes, need_above, gain_above, Grown, GrownBy, HalvedBy}, rows.Zipper.spot, insertion.Halving.full_is}
 use Rattle.bforest_core.proofs.path.Path.+insert_above.Goals as goal
 
 module _ {K V : Type 0} where

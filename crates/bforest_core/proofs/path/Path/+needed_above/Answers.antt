@@ -1,6 +1,5 @@
 use Rattle.std.proofs.Common.{rules, arith, sym}
-use Rattle.bforest_core.proofs.rows.Needs.{level_above, level_full, level_room, level_used, level_within}
-use Rattle.bforest_core.proofs.insertion.Rise.{need_top}
+use Rattle.bforest_core.proofs.{rows.Needs.{level_above, level_full, level_room, level_used, level_within}, insertion.Rise.need_top}
 use Rattle.bforest_core.proofs.path.Path.+needed_above.Goals as goal
 
 pub node-requires : goal.node-requires

@@ -1,6 +1,5 @@
 use Rattle.std.proofs.Common.{rules, ◌+◌, arith, add-one}
-use Rattle.bforest_core.proofs.removal.Asked.{last_low}
-use Rattle.bforest_core.proofs.removal.RemovingEmptied.{here, drop_fewer, keeps, above_asks, empties}
+use Rattle.bforest_core.proofs.{removal.Asked.last_low, removal.RemovingEmptied.{here, drop_fewer, keeps, above_asks, empties}}
 use Rattle.bforest_core.proofs.path.Path.+remove_emptied.Goals as goal
 
 pub bounds-self-up : goal.bounds-self-up

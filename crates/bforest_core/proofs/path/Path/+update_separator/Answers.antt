@@ -1,8 +1,5 @@
 use Rattle.std.proofs.Common.{rules, ◌+◌, ◌-◌, ◌<◌, ◌∷◌, ◌++◌, get_or, drop, arith, add-one}
-use Rattle.bforest_core.proofs.Words.{heads, entry_keys, entry_items}
-use Rattle.bforest_core.proofs.rows.Zipper.{spot}
-use Rattle.bforest_core.proofs.removal.Asked.{seen}
-use Rattle.bforest_core.proofs.removal.Neighbours.{up_above}
+use Rattle.bforest_core.proofs.{Words.{heads, entry_keys, entry_items}, rows.Zipper.spot, removal.Asked.seen, removal.Neighbours.up_above}
 use Rattle.bforest_core.proofs.removal.Separating.{rekey_top, rekey_parent, rekey_first}
 use Rattle.bforest_core.proofs.path.Path.+update_separator.Goals as goal
 

@@ -1,8 +1,6 @@
 use Rattle.std.proofs.Common.{rules, refl, sym, arith}
-use Rattle.bforest_core.proofs.Words.{slice_get_past, list_under, tree_of}
+use Rattle.bforest_core.proofs.{Words.{slice_get_past, list_under, tree_of}, walks.Backward.at_end, walks.Nearby.{here-entry, here-leaf, some-on}}
 use Rattle.bforest_core.specs.Paths.{Standing}
-use Rattle.bforest_core.proofs.walks.Backward.{at_end}
-use Rattle.bforest_core.proofs.walks.Nearby.{here-entry, here-leaf, some-on}
 use Rattle.bforest_core.proofs.path.Path.entry.Goals as goal
 
 pub entry_here-requires : goal.entry_here-requires

@@ -1,7 +1,7 @@
 use Rattle.std.proofs.Common.{rules, sym, ◌∙◌, arith}
 use Rattle.bforest_core.specs.Paths.{list_under}
-use Rattle.bforest_core.proofs.walks.Nearby.{before-equal, before-greater, before-none, behind-low, here-equal, here-greater, here-leaf, no-value, none-left, some-on}
-use Rattle.bforest_core.proofs.path.Path.find_here.Goals.{then-self-gt0+in-Less, else-self-gt0}
+use Rattle.bforest_core.proofs.walks.Nearby.{before-equal, before-greater, before-none, behind-low, here-equal, here-greater, here-leaf, no-value, none-left}
+use Rattle.bforest_core.proofs.{walks.Nearby.some-on, path.Path.find_here.Goals.{then-self-gt0+in-Less, else-self-gt0}}
 use Rattle.bforest_core.proofs.path.Path.find_here.Goals as goal
 
 pub entry_here-here-requires : goal.entry_here-here-requires

@@ -1,7 +1,5 @@
 use Rattle.std.proofs.Common.{rules, [], refl, sym, ◌∙◌, arith}
-use Rattle.bforest_core.proofs.Words.{false≢true, get_or_default, tree_of}
-use Rattle.bforest_core.proofs.walks.TopNode.{node_within}
-use Rattle.bforest_core.proofs.walks.Leaves.{leaf-front, root-leaf}
+use Rattle.bforest_core.proofs.{Words.{false≢true, get_or_default, tree_of}, walks.TopNode.node_within, walks.Leaves.{leaf-front, root-leaf}}
 use Rattle.bforest_core.proofs.walks.Standing.{led-root, root-below, under-root}
 use Rattle.bforest_core.proofs.path.Path.first_leaf.Goals as goal
 

@@ -1,7 +1,5 @@
 use Rattle.std.proofs.Common.{rules, refl, ◌∙◌, arith}
-use Rattle.bforest_core.proofs.Words.{lt-ltb, ltb-true, inner_content}
-use Rattle.bforest_core.proofs.table.Stored.{item_count}
-use Rattle.bforest_core.proofs.walks.Steps.{at_index}
+use Rattle.bforest_core.proofs.{Words.{lt-ltb, ltb-true, inner_content}, table.Stored.item_count, walks.Steps.at_index}
 use Rattle.bforest_core.proofs.path.Path.has_child.Goals as goal
 
 pub entries-requires : goal.entries-requires

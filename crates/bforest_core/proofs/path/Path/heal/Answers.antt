@@ -1,7 +1,6 @@
 use Rattle.std.proofs.Common.{rules, arith}
-use Rattle.bforest_core.proofs.Words.{get_or_default, tree_of}
-use Rattle.bforest_core.proofs.removal.Healing.{counted_asks, kept, leaf_used, others, root_was, settled, single, stood_in, unbalanced}
-use Rattle.bforest_core.proofs.removal.Removal.{outcome}
+use Rattle.bforest_core.proofs.{Words.{get_or_default, tree_of}, removal.Healing.{counted_asks, kept, leaf_used, others, root_was, settled, single, stood_in}}
+use Rattle.bforest_core.proofs.{removal.Healing.unbalanced, removal.Removal.outcome}
 use Rattle.bforest_core.proofs.path.Path.heal.Goals as goal
 
 pub entries-left-requires : goal.entries-left-requires

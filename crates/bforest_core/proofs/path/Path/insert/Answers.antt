@@ -1,9 +1,8 @@
 use Rattle.std.proofs.Common.{rules, ℕ, refl, arith, Err, IfOk, IsOk, length, subst, ◌<◌, ◌≡◌, ◌≤◌, ◌↔◌}
-use Rattle.bforest_core.proofs.Words.{NeedsGrowth, PlacedUnder, Table, free_count, growth, need, room, tree_of}
+use Rattle.bforest_core.proofs.{Words.{NeedsGrowth, PlacedUnder, Table, free_count, growth, need, room, tree_of}, insertion.Insertion.{placed-under, Put}}
+use Rattle.bforest_core.proofs.{insertion.Insertion.put-here, path.Path.insert.Given.Over}
 use Rattle.bforest_core.specs.Paths.{Placing, sizes_under}
 use Rattle.bforest_core.specs.declared.pool.OutOfMemory.TheVariants.{Full, Memory}
-use Rattle.bforest_core.proofs.insertion.Insertion.{placed-under, Put, put-here}
-use Rattle.bforest_core.proofs.path.Path.insert.Given.{Over}
 use Rattle.bforest_core.proofs.path.Path.insert.Goals as goal
 
 pub put_here-requires : goal.put_here-requires

@@ -1,10 +1,8 @@
 use Rattle.std.proofs.Common.{rules, ◌≡◌, ℕ, ◌++◌, length, get_or, refl, ap, ◌∙◌, arith}
-use Rattle.bforest_core.proofs.Words.{sizes_of, need, leaf_content, PlacedUnder, tree_of, reserved}
-use Rattle.bforest_core.proofs.table.Allocating.{err_iff, err_is, reserved-free}
+use Rattle.bforest_core.proofs.{Words.{sizes_of, need, leaf_content, PlacedUnder, tree_of, reserved}, table.Allocating.{err_iff, err_is, reserved-free}}
+use Rattle.bforest_core.proofs.{insertion.LeafSpot.leaf_spot, insertion.Insertion.{placed-under, under-low, growth-low, placed-mid, full-reserved, Put}}
+use Rattle.bforest_core.proofs.{insertion.Insertion.put-split, path.Path.insert_full.Given.Over}
 use Rattle.bforest_core.specs.Paths.{Placing}
-use Rattle.bforest_core.proofs.insertion.LeafSpot.{leaf_spot}
-use Rattle.bforest_core.proofs.insertion.Insertion.{placed-under, under-low, growth-low, placed-mid, full-reserved, Put, put-split}
-use Rattle.bforest_core.proofs.path.Path.insert_full.Given.{Over}
 use Rattle.bforest_core.proofs.path.Path.insert_full.Goals as goal
 
 pub needed_here-requires : goal.needed_here-requires

@@ -1,6 +1,6 @@
 use Rattle.std.proofs.Common.{rules, suc, length, sym, arith}
-use Rattle.bforest_core.proofs.Words.{slice_get_past, flat, heads}
-use Rattle.bforest_core.proofs.walks.Entered.{entry_read, leaf_here, next_last, next_over, next_read, next_within, over_leaves}
+use Rattle.bforest_core.proofs.{Words.{slice_get_past, flat, heads}, walks.Entered.{entry_read, leaf_here, next_last, next_over, next_read, next_within}}
+use Rattle.bforest_core.proofs.walks.Entered.{over_leaves}
 use Rattle.bforest_core.proofs.path.Path.next_entry.Goals as goal
 
 pub overflow_add-next : goal.overflow_add-next

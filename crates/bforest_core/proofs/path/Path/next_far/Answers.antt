@@ -1,6 +1,5 @@
 use Rattle.std.proofs.Common.{rules, ◌+◌, arith}
-use Rattle.bforest_core.proofs.walks.Turning.{far-last, turn-above, turn-goes, turned}
-use Rattle.bforest_core.proofs.walks.Turns.{went}
+use Rattle.bforest_core.proofs.{walks.Turning.{far-last, turn-above, turn-goes, turned}, walks.Turns.went}
 use Rattle.bforest_core.proofs.path.Path.next_far.Goals as goal
 
 pub next_turn-turn-requires : goal.next_turn-turn-requires

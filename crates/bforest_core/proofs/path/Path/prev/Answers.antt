@@ -1,8 +1,7 @@
 use Rattle.std.proofs.Common.{rules, ◌≡◌, ◌≢◌, ℕ, ◌-◌, ◌<◌, Some, None, slice_get, List, length, sym, ap, subst, ◌∙◌, arith}
-use Rattle.bforest_core.proofs.Words.{Path, Tree, IsFit, StandsAt, StandsOn, index_of, leaf_content, leaf_of, list_under, IsIn, Stands, entry_before, Table, IsUnion, tree_of}
-use Rattle.bforest_core.proofs.walks.Standing.{on-asks, on-within, said}
-use Rattle.bforest_core.proofs.walks.Backward.{before_is, at_end}
-use Rattle.bforest_core.proofs.walks.Nearby.{here-leaf, here-entry, some-on}
+use Rattle.bforest_core.proofs.Words.{Path, Tree, IsFit, StandsAt, StandsOn, index_of, leaf_content, leaf_of, list_under, IsIn, Stands, entry_before, Table}
+use Rattle.bforest_core.proofs.{Words.{IsUnion, tree_of}, walks.Standing.{on-asks, on-within, said}, walks.Backward.{before_is, at_end}, walks.Nearby.here-leaf}
+use Rattle.bforest_core.proofs.walks.Nearby.{here-entry, some-on}
 use Rattle.bforest_core.proofs.path.Path.prev.Goals as goal
 
 module _ {K V : Type 0} {n : ℕ} {table : Table K V} (union : IsUnion n table) {root : ℕ} (old new : Path K V n) {place : ℕ} (at : StandsAt table root old place) where

@@ -1,7 +1,5 @@
 use Rattle.std.proofs.Common.{rules, length, refl, ◌∙◌, arith}
-use Rattle.bforest_core.proofs.Words.{heads}
-use Rattle.bforest_core.proofs.walks.Entered.{back_within, back_asks, back_over, back_first, over_leaves}
-use Rattle.bforest_core.proofs.walks.Steps.{never}
+use Rattle.bforest_core.proofs.{Words.heads, walks.Entered.{back_within, back_asks, back_over, back_first, over_leaves}, walks.Steps.never}
 use Rattle.bforest_core.proofs.path.Path.prev_entry.Goals as goal
 
 pub returns-then-here-gt0 : goal.returns-then-here-gt0

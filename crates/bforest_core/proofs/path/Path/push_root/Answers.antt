@@ -1,7 +1,5 @@
 use Rattle.std.proofs.Common.{◌+◌, ◌<◌, [], ◌∷◌, length, set, ap, ◌∙◌, arith}
-use Rattle.bforest_core.proofs.Words.{get_or-set_same, get_or-set_other, Inner}
-use Rattle.bforest_core.proofs.table.Tables.{takes, length-with_front}
-use Rattle.bforest_core.proofs.insertion.Rise.{settle_root}
+use Rattle.bforest_core.proofs.{Words.{get_or-set_same, get_or-set_other, Inner}, table.Tables.{takes, length-with_front}, insertion.Rise.settle_root}
 use Rattle.bforest_core.proofs.path.Path.push_root.Goals as goal
 
 pub returns : goal.returns

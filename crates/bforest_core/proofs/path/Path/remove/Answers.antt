@@ -1,9 +1,6 @@
 use Rattle.std.proofs.Common.{rules, ℕ, Some, sym, ◌∙◌, arith}
-use Rattle.bforest_core.proofs.Words.{IsPathAt, get_or_default, tree_of, StandsUnder}
-use Rattle.bforest_core.proofs.rows.Tops.{root-stands}
-use Rattle.bforest_core.proofs.removal.Taking.{counted_asks, leaf_used, single, others}
-use Rattle.bforest_core.proofs.removal.Removal.{stands_in, removal, Said, outcome, if_some}
-use Rattle.bforest_core.proofs.path.Path.remove.Given.{Over}
+use Rattle.bforest_core.proofs.{Words.{IsPathAt, get_or_default, tree_of, StandsUnder}, rows.Tops.root-stands, removal.Taking.{counted_asks, leaf_used, single}}
+use Rattle.bforest_core.proofs.{removal.Taking.others, removal.Removal.{stands_in, removal, Said, outcome, if_some}, path.Path.remove.Given.Over}
 use Rattle.bforest_core.proofs.path.Path.remove.Goals as goal
 
 pub root-root-requires : goal.root-root-requires

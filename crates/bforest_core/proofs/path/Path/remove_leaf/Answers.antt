@@ -1,7 +1,6 @@
 use Rattle.std.proofs.Common.{rules, arith}
-use Rattle.bforest_core.proofs.Words.{get_or_default}
-use Rattle.bforest_core.proofs.removal.Untrimmed.{stands_root}
-use Rattle.bforest_core.proofs.removal.LeafEmptied.{free_asks, emptied_tree, above_asks, collapse_asks, drop_removed}
+use Rattle.bforest_core.proofs.{Words.get_or_default, removal.Untrimmed.stands_root, removal.LeafEmptied.{free_asks, emptied_tree, above_asks, collapse_asks}}
+use Rattle.bforest_core.proofs.removal.LeafEmptied.{drop_removed}
 use Rattle.bforest_core.proofs.path.Path.remove_leaf.Goals as goal
 
 pub free_node-requires : goal.free_node-requires

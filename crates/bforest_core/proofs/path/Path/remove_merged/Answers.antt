@@ -1,6 +1,6 @@
 use Rattle.std.proofs.Common.{rules, ◌+◌, arith, add-one}
-use Rattle.bforest_core.proofs.removal.Asked.{two_low}
-use Rattle.bforest_core.proofs.removal.RemovingMerged.{here, key_asks, remove_asks, same_parent, index_some, last_key_asks, rekey_asks, remove_last_asks, next_parent}
+use Rattle.bforest_core.proofs.{removal.Asked.two_low, removal.RemovingMerged.{here, key_asks, remove_asks, same_parent, index_some, last_key_asks, rekey_asks}}
+use Rattle.bforest_core.proofs.removal.RemovingMerged.{remove_last_asks, next_parent}
 use Rattle.bforest_core.proofs.path.Path.remove_merged.Goals as goal
 
 pub bounds-self-up : goal.bounds-self-up

@@ -1,7 +1,5 @@
 use Rattle.std.proofs.Common.{ℕ, ◌+◌, ◌-◌, ◌*◌, List, ◌++◌}
-use Rattle.bforest_core.proofs.Words.{LevelNode, Distinct, numbers_under}
-use Rattle.bforest_core.proofs.union.Opened.{Opened}
-use Rattle.bforest_core.proofs.union.Sweep.{Sweeping}
+use Rattle.bforest_core.proofs.{Words.{LevelNode, Distinct, numbers_under}, union.Opened.Opened, union.Sweep.Sweeping}
 use Rattle.bforest_core.proofs.pool.NodePool.+freeing.Given as goal
 
 abbrev pub decreases-free_below : goal.decreases-free_below

@@ -1,7 +1,6 @@
 use Rattle.std.proofs.Common.{rules, [], length, sym, ap, ◌∙◌, arith}
 use Rattle.std.proofs.lemmas.Bool.{false≢true}
-use Rattle.bforest_core.proofs.walks.Leading.{front_asks, front_below}
-use Rattle.bforest_core.proofs.walks.TopNode.{node_within, leaf_under}
+use Rattle.bforest_core.proofs.{walks.Leading.{front_asks, front_below}, walks.TopNode.{node_within, leaf_under}}
 use Rattle.bforest_core.proofs.pool.NodePool.+levels_from.Goals as goal
 
 pub node-requires : goal.node-requires

@@ -1,6 +1,5 @@
 use Rattle.std.proofs.Common.{rules, ◌∷◌, ◌+◌, sym, ◌∙◌, arith}
-use Rattle.bforest_core.proofs.Words.{false≢true}
-use Rattle.bforest_core.proofs.walks.Searches.{asks, deeper-low, leaf-asks, narrowed, one-down, step-leaf, within}
+use Rattle.bforest_core.proofs.{Words.false≢true, walks.Searches.{asks, deeper-low, leaf-asks, narrowed, one-down, step-leaf, within}}
 use Rattle.bforest_core.proofs.pool.NodePool.+value_below.Goals as goal
 
 pub node-requires : goal.node-requires

@@ -1,6 +1,5 @@
 use Rattle.std.proofs.Common.{rules, [], ◌∷◌, ap, ◌∙◌, length, sym, arith}
-use Rattle.bforest_core.proofs.Words.{false≢true, Leaf, front_of, with_front}
-use Rattle.bforest_core.proofs.table.Allocating.{err_iff, err_is, reserved-free, taken_is, used_written}
+use Rattle.bforest_core.proofs.{Words.{false≢true, Leaf, front_of, with_front}, table.Allocating.{err_iff, err_is, reserved-free, taken_is, used_written}}
 use Rattle.bforest_core.proofs.union.Planting.{planted-alloc}
 use Rattle.bforest_core.proofs.pool.NodePool.alloc_node.Goals as goal
 

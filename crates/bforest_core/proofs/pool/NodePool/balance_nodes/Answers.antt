@@ -1,7 +1,5 @@
 use Rattle.std.proofs.Common.{rules, arith, ◌∙◌, ◌≡◌, Some, sym, slice_get, vec_len}
-use Rattle.bforest_core.proofs.table.Lists.{refilled_two}
-use Rattle.bforest_core.proofs.table.Stored.{read_same}
-use Rattle.bforest_core.proofs.table.Pools.{IsPool-set_two}
+use Rattle.bforest_core.proofs.{table.Lists.refilled_two, table.Stored.read_same, table.Pools.IsPool-set_two}
 use Rattle.bforest_core.proofs.pool.NodePool.balance_nodes.Goals as goal
 
 pub two_nodes-lhs-requires-clause-left_within : goal.two_nodes-lhs-requires-clause-left_within

@@ -1,6 +1,5 @@
 use Rattle.std.proofs.Common.{rules, length, sym, ap, ◌∙◌}
-use Rattle.bforest_core.proofs.Words.{false≢true, children_of}
-use Rattle.bforest_core.proofs.table.Stored.{read_same, inner_used, childless}
+use Rattle.bforest_core.proofs.{Words.{false≢true, children_of}, table.Stored.{read_same, inner_used, childless}}
 use Rattle.bforest_core.proofs.pool.NodePool.child_count.Goals as goal
 
 pub entries-requires : goal.entries-requires

@@ -1,8 +1,8 @@
 use Rattle.std.proofs.Common.{◌≡◌, ℕ, zero, suc, ◌<◌, ◌↔◌, IsTrue, Bool, true, false, not, nat_eq, nat_lt, List, slice_get, Some, None, refl, sym, ap, ◌∙◌, arith}
-use Rattle.bforest_core.proofs.Words.{flat_map, false≢true, false_from_ne_true, not_from_false, not_from_true, get_or_past, Content, Inner, Leaf, Free, IsFree, children_of, count, slot, is_used, is_root}
-use Rattle.bforest_core.proofs.table.Read.{slot-is}
+use Rattle.bforest_core.proofs.Words.{flat_map, false≢true, false_from_ne_true, not_from_false, not_from_true, get_or_past, Content, Inner, Leaf, Free, IsFree}
+use Rattle.bforest_core.proofs.{Words.{children_of, count, slot, is_used, is_root}, table.Read.slot-is, pool.NodePool.is_root.Goals.then-number-slots}
+use Rattle.bforest_core.proofs.pool.NodePool.is_root.Goals.{else-number-slots}
 use Rattle.bforest_core.proofs.pool.NodePool.is_root.Goals as goal
-use Rattle.bforest_core.proofs.pool.NodePool.is_root.Goals.{then-number-slots, else-number-slots}
 
 -- whether nothing names the node, as a test
 none_named : (n : ℕ) (child : Bool) → (IsTrue child ↔ (0 < n)) → nat_eq n 0 ≡ not child

@@ -1,10 +1,7 @@
 use Rattle.std.proofs.Common.{rules, ◌≡◌, ◌+◌, ◌-◌, ◌*◌, ◌^◌, ◌<◌, ◌≤◌, [], length, subst, arith}
-use Rattle.bforest_core.proofs.Words.{length-map, flat, sizes, half_of, tree_of}
+use Rattle.bforest_core.proofs.{Words.{length-map, flat, sizes, half_of, tree_of}, rows.Bounds.{leaves-few, depth}, union.Unions.is-rooted}
+use Rattle.bforest_core.proofs.{walks.Standing.under-root, rows.LevelRows.some_leaf}
 use Rattle.std.proofs.Math.Nat.{le-div_iff_mul-le, mul_comm}
-use Rattle.bforest_core.proofs.rows.Bounds.{leaves-few, depth}
-use Rattle.bforest_core.proofs.union.Unions.{is-rooted}
-use Rattle.bforest_core.proofs.walks.Standing.{under-root}
-use Rattle.bforest_core.proofs.rows.LevelRows.{some_leaf}
 use Rattle.bforest_core.proofs.pool.NodePool.levels.Goals as goal
 
 pub levels_from-requires : goal.levels_from-requires

@@ -1,6 +1,5 @@
 use Rattle.std.proofs.Common.{rules, ◌≡◌, get_or, refl, ap, ◌∙◌, arith}
-use Rattle.bforest_core.proofs.Words.{get_or_default, value_at, with_value_at}
-use Rattle.bforest_core.proofs.union.Written.{entry-used, value-under, value-written}
+use Rattle.bforest_core.proofs.{Words.{get_or_default, value_at, with_value_at}, union.Written.{entry-used, value-under, value-written}}
 use Rattle.bforest_core.proofs.pool.NodePool.path_value_mut.Goals as goal
 
 pub value_mut-requires : goal.value_mut-requires

@@ -1,8 +1,6 @@
 use Rattle.std.proofs.Common.{◌≡◌, ◌-◌, length, vec_len, arith, refl}
 use Rattle.bforest_core.proofs.table.Allocating.{has_room, lacks_room, finds_room, needs_growth, not_enough, stays_reserved, few_slots}
-use Rattle.bforest_core.proofs.table.Pools.{IsPool-grown}
-use Rattle.bforest_core.proofs.table.Chains.{front_of-is}
-use Rattle.bforest_core.proofs.union.Reserved.{reserved-frees, reserved-keeps, same-keeps}
+use Rattle.bforest_core.proofs.{table.Pools.IsPool-grown, table.Chains.front_of-is, union.Reserved.{reserved-frees, reserved-keeps, same-keeps}}
 use Rattle.bforest_core.proofs.pool.NodePool.reserve.Goals as goal
 
 pub invariant_of-self : goal.invariant_of-self

@@ -1,6 +1,5 @@
 use Rattle.std.proofs.Common.{◌≡◌, length, arith}
-use Rattle.bforest_core.proofs.table.Chains.{IsChain-free}
-use Rattle.bforest_core.proofs.table.Pools.{free_within}
+use Rattle.bforest_core.proofs.{table.Chains.IsChain-free, table.Pools.free_within}
 use Rattle.bforest_core.proofs.pool.NodePool.slots.Goals as goal
 
 pub returns-clause-table : goal.returns-clause-table

@@ -1,6 +1,5 @@
 use Rattle.std.proofs.Common.{rules, slice_get, Some, arith, refl, ◌∙◌, ◌≡◌, length-set, vec_len, sym}
-use Rattle.bforest_core.proofs.table.Lists.{refilled_two}
-use Rattle.bforest_core.proofs.table.Pools.{IsPool-set_two, nodes-without_front, off-without_front, with_front-is, apart_front}
+use Rattle.bforest_core.proofs.{table.Lists.refilled_two, table.Pools.{IsPool-set_two, nodes-without_front, off-without_front, with_front-is, apart_front}}
 use Rattle.bforest_core.proofs.pool.NodePool.split_node.Goals as goal
 
 pub split-requires : goal.split-requires

@@ -1,9 +1,7 @@
 use Rattle.std.proofs.Common.{rules, ◌≡◌, ℕ, ◌-◌, ◌<◌, false, List, ◌∷◌, length, slice_get, nat_eq, Option, Some, refl, sym, ap, ◌∙◌, subst, arith}
-use Rattle.bforest_core.proofs.Words.{list_any, slice_get_within, Content, Free, IsFree, Table, chain_from, IsPool}
+use Rattle.bforest_core.proofs.{Words.{list_any, slice_get_within, Content, Free, IsFree, Table, chain_from, IsPool}, table.Chains.front_of-is}
+use Rattle.bforest_core.proofs.{table.Pools.{IsPool-taken, first_some, front_is_free}, table.Stored.read_same}
 use Rattle.std.proofs.lemmas.Option.{slice_get_read}
-use Rattle.bforest_core.proofs.table.Chains.{front_of-is}
-use Rattle.bforest_core.proofs.table.Pools.{IsPool-taken, first_some, front_is_free}
-use Rattle.bforest_core.proofs.table.Stored.{read_same}
 use Rattle.bforest_core.proofs.pool.NodePool.take_slot.Goals as goal
 
 -- the fields of a pool, and the front of its chain as read

@@ -1,8 +1,7 @@
 use Rattle.std.proofs.Common.{ap, arith, refl, rules, sym, ◌∙◌}
 use Rattle.std.specs.Ordering.{is_gt}
-use Rattle.bforest_core.proofs.Words.{false≢true, tree_of}
-use Rattle.bforest_core.proofs.walks.Searches.{along-asks, asks, came-end, came-first, came-on, code-low-here, deeper-low, digit-low, down}
-use Rattle.bforest_core.proofs.walks.Searches.{ends-on, search-ends, spot-found, within}
+use Rattle.bforest_core.proofs.{Words.{false≢true, tree_of}, walks.Searches.{along-asks, asks, came-end, came-first, came-on, code-low-here, deeper-low}}
+use Rattle.bforest_core.proofs.walks.Searches.{digit-low, down, ends-on, search-ends, spot-found, within}
 use Rattle.bforest_core.proofs.spot.Spot.find_both.Goals as goal
 
 pub loop-index-init : goal.loop-index-init

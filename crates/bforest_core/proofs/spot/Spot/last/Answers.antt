@@ -1,6 +1,5 @@
 use Rattle.std.proofs.Common.{refl, rules, sym, ◌∙◌}
-use Rattle.bforest_core.proofs.Words.{false≢true, slice_get_within}
-use Rattle.bforest_core.proofs.walks.CodesDown.{last-here, last-of, root-held, root-under}
+use Rattle.bforest_core.proofs.{Words.{false≢true, slice_get_within}, walks.CodesDown.{last-here, last-of, root-held, root-under}}
 use Rattle.bforest_core.proofs.spot.Spot.last.Goals as goal
 
 pub node-requires : goal.node-requires

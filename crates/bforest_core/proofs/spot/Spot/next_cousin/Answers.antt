@@ -1,7 +1,6 @@
 use Rattle.std.proofs.Common.{rules, refl, arith, ◌<◌}
-use Rattle.bforest_core.proofs.Words.{tree_of, heads}
-use Rattle.bforest_core.proofs.walks.Codes.{last-leaf, spot-height, spot-low, spot-over}
-use Rattle.bforest_core.proofs.walks.Cousins.{cousin, cousin-asks, far-behind, grand-count, parent-asks, same-spot}
+use Rattle.bforest_core.proofs.{Words.{tree_of, heads}, walks.Codes.{last-leaf, spot-height, spot-low, spot-over}, walks.Cousins.{cousin, cousin-asks}}
+use Rattle.bforest_core.proofs.walks.Cousins.{far-behind, grand-count, parent-asks, same-spot}
 use Rattle.bforest_core.proofs.spot.Spot.next_cousin.Goals as goal
 
 pub child_count-requires : goal.child_count-requires

@@ -1,7 +1,6 @@
 use Rattle.std.proofs.Common.{rules, refl, arith, ◌<◌}
-use Rattle.bforest_core.proofs.Words.{tree_of, heads}
-use Rattle.bforest_core.proofs.walks.Cousins.{cousin-before, cousin-before-asks, cousin-last-asks, far-before, parent-before-asks, same-spot}
-use Rattle.bforest_core.proofs.walks.Codes.{spot-height, spot-low, spot-over}
+use Rattle.bforest_core.proofs.{Words.{tree_of, heads}, walks.Cousins.{cousin-before, cousin-before-asks, cousin-last-asks, far-before, parent-before-asks}}
+use Rattle.bforest_core.proofs.{walks.Cousins.same-spot, walks.Codes.{spot-height, spot-low, spot-over}}
 use Rattle.bforest_core.proofs.spot.Spot.prev_cousin.Goals as goal
 
 pub prev_far-requires : goal.prev_far-requires
