@@ -7,9 +7,6 @@ pub use Rattle.bforest_trees.specs.Forest.{Becomes, Forest, Gives, IsAccounted, 
 pub use Rattle.bforest_trees.specs.Forest.{limit_of, list_at, list_of, need_of, nodes_at, numbers_below, room_of, sizes_at, sizes_of, sizes_with, sizes_without, slots_of}
 -- Whether the sizes of a tree are fit, how a call changes them, and how many nodes an insertion needs.
 pub use Rattle.bforest_core.specs.Sizes.{IsFitAbove, IsFitFor, IsFitLevel, gain_above, growth, inner_gain, leaf_gain, loss, need, need_above, shrink}
--- How many entries a leaf has at most: of a map, and of a set.
-pub use Rattle.bforest.specs.declared.map_forest.TheConstants.{MAP_LEAF}
-pub use Rattle.bforest.specs.declared.set_forest.TheConstants.{SET_LEAF}
 
 -- the list of a handle may be searched: the handle is live, and its list increases
 pub record IsSearchable {K X : Type 0} (cmp : K → K → Ordering) (f : Forest K X) (h : Option ℕ) : Type 0 where

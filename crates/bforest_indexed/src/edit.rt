@@ -1,8 +1,9 @@
 //! Work on one map by a writing cursor.
 ghost use Rattle.bforest.specs.Cursor.{IsCursor, entries};
 ghost use Rattle.bforest.specs.Entries.{IsIncreasing};
-ghost use Rattle.bforest.specs.Forest.{IsSearchable, MAP_LEAF, list_of};
+ghost use Rattle.bforest.specs.Forest.{IsSearchable, list_of};
 ghost use Rattle.bforest.specs.Memory.{MapsFitInMemory};
+ghost use Rattle.bforest.specs.declared.map_forest.TheConstants.{MAP_LEAF};
 ghost use Rattle.bforest_indexed.specs.Edits.{Edits, Leaves};
 ghost use Rattle.std.specs.Prelude.{List};
 

@@ -2,13 +2,14 @@
 ghost use Rattle.bforest.specs.Bounds.{entries_between, entry_at_least, entry_at_most};
 ghost use Rattle.bforest.specs.Calls.{Reserves};
 ghost use Rattle.bforest.specs.Entries.{value_for};
-ghost use Rattle.bforest.specs.Forest.{IsFitFor, MAP_LEAF, empty, first_level, free_of, limit_of, slots_of};
+ghost use Rattle.bforest.specs.Forest.{IsFitFor, empty, first_level, free_of, limit_of, slots_of};
 ghost use Rattle.bforest.specs.Memory.{MapsFitInMemory};
 ghost use Rattle.bforest.specs.Retain.{Answers, MayAsk, MayAskEach};
 ghost use Rattle.bforest_indexed.specs.Edits.{EditsAt};
 ghost use Rattle.bforest_indexed.specs.Indexed.{ReservesFor};
 ghost use Rattle.bforest_indexed.specs.Indexed.{ClearsAll, ClearsAt, FiltersAt, GetsOrInsertsAt, InsertsAt};
 ghost use Rattle.bforest_indexed.specs.Indexed.{KeepsAll, PopsAt, RemovesAt, Swaps};
+ghost use Rattle.bforest.specs.declared.map_forest.TheConstants.{MAP_LEAF};
 ghost use Rattle.bforest_indexed.specs.Indexed.{comparator, count, entries, node_sizes, nodes_in_use, table};
 ghost use Rattle.std.specs.Prelude.{IfOk, IsTrue, OnErr, OnOk, length, slice_get, ◌+◌, ◌-◌, ◌/◌, ◌<◌, ◌^◌, ◌↔◌, ◌≡◌, ◌≤◌, ℕ};
 
@@ -32,7 +33,7 @@ pub struct Maps<K: Copy, V: Copy, C: Comparator<K>> {
 }
 
 impl<K: Copy, V: Copy, C: Comparator<K>> Model for Maps<K, V, C> {
-    ghost use Rattle.bforest.specs.Forest.{MAP_LEAF};
+    ghost use Rattle.bforest.specs.declared.map_forest.TheConstants.{MAP_LEAF};
     ghost use Rattle.bforest_indexed.specs.Indexed.{AreKept, Indexed};
 
     ghost Value = { Indexed K V C };

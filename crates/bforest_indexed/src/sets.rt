@@ -2,12 +2,13 @@
 ghost use Rattle.bforest.specs.Bounds.{entries_between, entry_at_least, entry_at_most};
 ghost use Rattle.bforest.specs.Calls.{Reserves};
 ghost use Rattle.bforest.specs.Entries.{is_present};
-ghost use Rattle.bforest.specs.Forest.{IsFitFor, SET_LEAF, empty, first_level, free_of, limit_of, slots_of};
+ghost use Rattle.bforest.specs.Forest.{IsFitFor, empty, first_level, free_of, limit_of, slots_of};
 ghost use Rattle.bforest.specs.Memory.{SetsFitInMemory};
 ghost use Rattle.bforest.specs.Retain.{MayAskEach};
 ghost use Rattle.bforest.specs.Set.{AnswersKey, MayAskKey, as_popped, as_put, as_removed, the_value};
 ghost use Rattle.bforest_indexed.specs.Indexed.{ReservesFor};
 ghost use Rattle.bforest_indexed.specs.Indexed.{ClearsAll, ClearsAt, FiltersAt, InsertsAt, KeepsAll, PopsAt, RemovesAt, Swaps};
+ghost use Rattle.bforest.specs.declared.set_forest.TheConstants.{SET_LEAF};
 ghost use Rattle.bforest_indexed.specs.Indexed.{comparator, count, entries, keys, node_sizes, nodes_in_use, table};
 ghost use Rattle.std.specs.Map.{keys_of};
 ghost use Rattle.std.specs.Prelude.{IfOk, IsTrue, OnErr, OnOk, length, option_map, slice_get, ◌*◌, ◌+◌, ◌-◌, ◌/◌, ◌<◌, ◌^◌, ◌↔◌, ◌≡◌, ◌≤◌, ℕ};
@@ -31,7 +32,7 @@ pub struct Sets<K: Copy, C: Comparator<K>> {
 }
 
 impl<K: Copy, C: Comparator<K>> Model for Sets<K, C> {
-    ghost use Rattle.bforest.specs.Forest.{SET_LEAF};
+    ghost use Rattle.bforest.specs.declared.set_forest.TheConstants.{SET_LEAF};
     ghost use Rattle.bforest_indexed.specs.Indexed.{AreKept, Indexed};
 
     ghost Value = { Indexed K (Unit {0}) C };

@@ -1,5 +1,5 @@
 //! What a caller can prove of maps by an index from their contracts alone.
-ghost use Rattle.bforest.specs.Forest.{MAP_LEAF};
+ghost use Rattle.bforest.specs.declared.map_forest.TheConstants.{MAP_LEAF};
 ghost use Rattle.bforest_indexed.specs.Indexed.{HasRoom, StaysWithin, comparator, count, table};
 ghost use Rattle.std.specs.Prelude.{IfOk, IsOk, ◌<◌};
 

@@ -1,5 +1,6 @@
 -- What contracts see of books: a forest, and the map of each resource in it.
-use Rattle.bforest.specs.Forest.{Forest, Gives, IsLive, IsTooMany, MAP_LEAF, NeedsGrowth, Takes, limit_of, list_of, need_of, room_of, sizes_of, sizes_with, sizes_without}
+use Rattle.bforest.specs.declared.map_forest.TheConstants.{MAP_LEAF}
+use Rattle.bforest.specs.Forest.{Forest, Gives, IsLive, IsTooMany, NeedsGrowth, Takes, limit_of, list_of, need_of, room_of, sizes_of, sizes_with, sizes_without}
 use Rattle.bforest.specs.Refusal.{Full, Memory}
 use Rattle.interval_books.specs.Bookings.{AreApart, end_of, first_met, holding, with_booking, without_booking}
 use Rattle.interval_books.specs.declared.book_error.BookError.TheVariants as why

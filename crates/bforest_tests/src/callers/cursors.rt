@@ -1,7 +1,8 @@
 //! What a caller can prove of cursors from their contracts alone.
 ghost use Rattle.bforest.specs.Calls.{Inserts};
 ghost use Rattle.bforest.specs.Cursor.{IsCursor, Moves, entries, spot};
-ghost use Rattle.bforest.specs.Forest.{IsLive, MAP_LEAF, list_of};
+ghost use Rattle.bforest.specs.Forest.{IsLive, list_of};
+ghost use Rattle.bforest.specs.declared.map_forest.TheConstants.{MAP_LEAF};
 ghost use Rattle.bforest.specs.Memory.{MapsFitInMemory};
 ghost use Rattle.bforest.specs.Entries.{IsIncreasing};
 ghost use Rattle.std.specs.Prelude.{IsSome, Option, slice_get, ℕ, ◌+◌, ◌≡◌, ◌≢◌};

@@ -1,6 +1,7 @@
 //! What a caller can prove of sets from their contracts alone.
 ghost use Rattle.bforest.specs.Entries.{IsIncreasing, is_present};
-ghost use Rattle.bforest.specs.Forest.{IsLive, SET_LEAF, limit_of, list_of, need_of};
+ghost use Rattle.bforest.specs.Forest.{IsLive, limit_of, list_of, need_of};
+ghost use Rattle.bforest.specs.declared.set_forest.TheConstants.{SET_LEAF};
 ghost use Rattle.std.specs.Prelude.{IfOk, IsOk, None, false, true, ◌≡◌, ◌≤◌};
 
 use bforest::{Comparator, OutOfMemory, Set, SetForest};
