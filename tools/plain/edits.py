@@ -220,7 +220,7 @@ SET_TELLING = ["is_empty", "contains", "get_or_less", "levels"]
 MUST_USE = {
     "bforest/map.rt": ["new", "clone", "cursor", "cursor_mut", *(it for it in TELLING if it != "contains")],
     "bforest/set.rt": ["new", "clone", "cursor", *(it for it in TELLING if it != "get")],
-    "bforest/forest.rt": ["slots", "free_slots", "node_limit"],
+    "bforest/forest.rt": ["slots", "nodes_in_use", "free_slots", "node_limit"],
     "bforest/map_forest.rt": ["new", "with_node_limit", "holds"],
     "bforest/set_forest.rt": ["new", "with_node_limit", "holds"],
     "bforest_indexed/maps.rt": [*MANY, "cursor", *(it for it in TELLING if it not in ("contains", "increases"))],

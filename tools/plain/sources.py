@@ -13,7 +13,7 @@ MODEL = r"^impl[^\n{]*\bModel for [^\n{]*\{"
 # what no plain Rust has outside of a comment
 LEFT = re.compile(r"[^\x00-\x7f]|\b(?:ghost|requires|ensures|decreases|invariant|tactic|Model|Global|rt;)\b|derive\(Drop")
 # What a public function of the forest asks of its handle, and of its handle's keys.
-LIVE, INCREASING = r"requires (?:live )?\{ IsLive ", r"requires increasing \{"
+LIVE, SEARCHABLE = r"requires (?:live )?\{ (?:IsLive|IsSearchable) ", r"requires \{ IsSearchable "
 IS_LIVE, IS_ORDERED = "The call asks that the handle is live", " and that its keys increase under the comparator"
 PANICS = "Else it may panic; debug builds often do so at once: [what a call asks](crate#what-a-call-asks)."
 GUARD = "forest.trees.expect_live(self.root);"
@@ -110,7 +110,7 @@ def guard(contract):
     """Where a handle has to be live: debug builds test it."""
     if not re.search(LIVE, contract):
         return None
-    asked = IS_LIVE + (IS_ORDERED if re.search(INCREASING, contract) else "")
+    asked = IS_LIVE + (IS_ORDERED if re.search(SEARCHABLE, contract) else "")
     return f"{asked}. {PANICS}", "cfg_attr(debug_assertions, track_caller)", f"\n        {GUARD}"
 
 

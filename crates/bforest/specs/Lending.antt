@@ -2,6 +2,7 @@
 use Rattle.bforest.specs.Cursor.{with_value_here}
 use Rattle.bforest.specs.contracts.forest.Forest.{the_row as forest_row}
 use Rattle.bforest.specs.contracts.map_cursor_mut.MapCursorMut.{the_row}
+use Rattle.bforest.specs.declared.map_forest.TheConstants.{MAP_LEAF}
 use Rattle.bforest.specs.declared.map_cursor_mut.MapCursorMut.{MapCursorMut}
 use Rattle.bforest_core.specs.Table.{with_value_at}
 use Rattle.bforest_trees.specs.Forest.{Forest}
@@ -12,7 +13,7 @@ use mir.Syntax.{named}
 
 -- the forest has the last value written through r at the entry of the node
 abbrev pub lends_value_of : (K V : RattleType) → MutBor (Forest K.Denot V.Denot) → ℕ → ℕ → MutBor V.Denot → Fml
-lends_value_of K V f node index r = Lends (forest_row K V (number 7)) V f r (with_value_at f.now node index)
+lends_value_of K V f node index r = Lends (forest_row K V (number MAP_LEAF)) V f r (with_value_at f.now node index)
 
 module _ (K V C : RattleType) where
   abbrev pub cursor_row : RattleType

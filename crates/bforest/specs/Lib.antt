@@ -4,6 +4,7 @@ pub mod Cursor
 pub mod Entries
 pub mod Forest
 pub mod Lending
+pub mod MapCursor
 pub mod Memory
 pub mod Refusal
 pub mod Retain

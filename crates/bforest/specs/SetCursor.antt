@@ -2,7 +2,7 @@
 use Rattle.bforest.specs.Cursor.{StandsIn}
 use Rattle.bforest.specs.Set.{elements}
 use Rattle.bforest.specs.declared.set_cursor.SetCursor.{SetCursor}
-use Rattle.bforest_trees.specs.Forest.{Forest}
+use Rattle.bforest_trees.specs.Forest.{Forest, list_of}
 use Rattle.bforest_trees.specs.Place.{spot_of}
 use Rattle.std.specs.Borrow.{GName}
 use Rattle.std.specs.Prelude.{List, Option, ◌≡◌, ℕ}
@@ -15,6 +15,10 @@ module _ {K C : Type 0} where
 
   abbrev pub set_now : SetCursor K C → Option ℕ
   set_now c = c.set.now
+
+  -- the list in which a cursor stands: its keys, each beside the unit
+  abbrev pub entries : SetCursor K C → List (K × Unit {0})
+  entries c = list_of (forest_now c) (set_now c)
 
   -- the keys among which a cursor stands
   abbrev pub keys : SetCursor K C → List K

@@ -1,7 +1,7 @@
 //! Forests, of maps or of sets.
 ghost use Rattle.bforest.specs.Forest.{IsAccounted, IsFitFor, empty, free_of, limit_of, list_at, sizes_at, slots_of};
 ghost use Rattle.bforest.specs.Calls.{Reserves};
-ghost use Rattle.std.specs.Prelude.{[], length, ◌<◌, ◌≡◌, ◌≢◌, ◌≤◌, ℕ};
+ghost use Rattle.std.specs.Prelude.{[], length, ◌+◌, ◌<◌, ◌≡◌, ◌≢◌, ◌≤◌, ℕ};
 
 use bforest_core::OutOfMemory;
 use bforest_trees::Trees;
@@ -37,11 +37,19 @@ impl<K: Copy, V: Copy, const N: usize> Forest<K, V, N> {
     pub fn slots(&self) -> u32
         ensures count { result ≡ slots_of self.now }
         ensures within { slots_of self.now ≤ limit_of self.now }
+    {
+        self.trees.slots()
+    }
+
+    /// Returns how many nodes the trees of all maps or sets have, which is how many slots are not free. Constant time.
+    pub fn nodes_in_use(&self) -> u32
+        ensures count { free_of self.now + result ≡ slots_of self.now }
         ensures account { IsAccounted self.now }
         ensures fit { (n : ℕ) → IsFitFor N (length (list_at self.now n)) (sizes_at self.now n) }
         ensures below { (n : ℕ) → list_at self.now n ≢ [] → n < slots_of self.now }
     {
-        self.trees.slots()
+        let trees = &self.trees;
+        trees.slots() - trees.free()
     }
 
     /// Returns how many slots are free. Insertions take these before the table grows. Constant time.

@@ -3,8 +3,8 @@ ghost use Rattle.bforest_nodes.specs.Entries.{IsIncreasing, value_for};
 ghost use Rattle.bforest.specs.Bounds.{entries_between, entry_at_least, entry_at_most};
 ghost use Rattle.bforest.specs.Calls.{Clears, Filters, GetsOrInserts, Inserts, Pops, Removes};
 ghost use Rattle.bforest.specs.Cursor.{IsCursor, comparator, forest_loan, forest_now, map_loan, map_now, spot};
-ghost use Rattle.bforest.specs.Forest.{Forest, IsLive, first_level, list_of, sizes_of};
-ghost use Rattle.bforest.specs.Memory.{IsReadable};
+ghost use Rattle.bforest.specs.Forest.{Forest, IsLive, IsSearchable, first_level, list_of, sizes_of};
+ghost use Rattle.bforest.specs.Memory.{MapsFitInMemory};
 ghost use Rattle.bforest.specs.Retain.{Answers, MayAsk, MayAskEach};
 ghost use Rattle.bforest.specs.Room.{IsEnoughFor, IsMetBy};
 ghost use Rattle.std.specs.Option.{option_map_or};
@@ -14,7 +14,7 @@ ghost use Rattle.std.specs.Prelude.{IsTrue, None, [], true, ◌↔◌, length, s
 
 use crate::map_cursor::MapCursor;
 use crate::map_cursor_mut::MapCursorMut;
-use crate::map_forest::MapForest;
+use crate::map_forest::{MAP_LEAF, MapForest};
 use crate::map_into_iter::MapIntoIter;
 use crate::map_iter::MapIter;
 use crate::map_range::MapRange;
@@ -96,8 +96,7 @@ impl<K: Copy, V: Copy> Map<K, V> {
     /// One search. It visits one node of each level, at most `1 + log4(n)` nodes for `n` entries, and compares about 3 times in each, or
     /// as often as the comparator's own search does among at most 7 keys.
     pub fn get<C: Comparator<K>>(&self, key: K, forest: &MapForest<K, V>, comp: &C) -> Option<V>
-        requires live { IsLive forest.now self.now }
-        requires increasing { IsIncreasing (C.order comp.now) (list_of forest.now self.now) }
+        requires { IsSearchable (C.order comp.now) forest.now self.now }
         ensures value { result ≡ value_for (C.order comp.now) (list_of forest.now self.now) key }
     {
         forest.trees.get(self.root, key, comp)
@@ -112,8 +111,7 @@ impl<K: Copy, V: Copy> Map<K, V> {
         forest: &MapForest<K, V>,
         comp: &C,
     ) -> Option<(K, V)>
-        requires live { IsLive forest.now self.now }
-        requires increasing { IsIncreasing (C.order comp.now) (list_of forest.now self.now) }
+        requires { IsSearchable (C.order comp.now) forest.now self.now }
         ensures entry { result ≡ entry_at_most (C.order comp.now) (list_of forest.now self.now) key }
     {
         forest.trees.get_or_less(self.root, key, comp)
@@ -128,8 +126,7 @@ impl<K: Copy, V: Copy> Map<K, V> {
         forest: &MapForest<K, V>,
         comp: &C,
     ) -> Option<(K, V)>
-        requires live { IsLive forest.now self.now }
-        requires increasing { IsIncreasing (C.order comp.now) (list_of forest.now self.now) }
+        requires { IsSearchable (C.order comp.now) forest.now self.now }
         ensures entry { result ≡ entry_at_least (C.order comp.now) (list_of forest.now self.now) key }
     {
         forest.trees.get_or_greater(self.root, key, comp)
@@ -164,9 +161,9 @@ impl<K: Copy, V: Copy> Map<K, V> {
         forest: &mut MapForest<K, V>,
         comp: &C,
     ) -> Result<Option<V>, OutOfMemory>
-        requires live { IsLive forest.old self.old }
-        requires increasing { IsIncreasing (C.order comp.now) (list_of forest.old self.old) }
-        ensures { Inserts 7 (C.order comp.now) forest.old self.old key value result forest.new self.new }
+        requires { IsSearchable (C.order comp.now) forest.old self.old }
+        ensures { Inserts MAP_LEAF (C.order comp.now) forest.old self.old key value result
+            forest.new self.new }
     {
         self.try_insert(key, value, forest, comp)
     }
@@ -188,9 +185,9 @@ impl<K: Copy, V: Copy> Map<K, V> {
         forest: &mut MapForest<K, V>,
         comp: &C,
     ) -> Result<Option<V>, OutOfMemory>
-        requires live { IsLive forest.old self.old }
-        requires increasing { IsIncreasing (C.order comp.now) (list_of forest.old self.old) }
-        ensures { Inserts 7 (C.order comp.now) forest.old self.old key value result forest.new self.new }
+        requires { IsSearchable (C.order comp.now) forest.old self.old }
+        ensures { Inserts MAP_LEAF (C.order comp.now) forest.old self.old key value result
+            forest.new self.new }
     {
         forest.trees.put(&mut self.root, key, value, comp)
     }
@@ -210,9 +207,8 @@ impl<K: Copy, V: Copy> Map<K, V> {
         forest: &mut MapForest<K, V>,
         comp: &C,
     ) -> Result<V, OutOfMemory>
-        requires live { IsLive forest.old self.old }
-        requires increasing { IsIncreasing (C.order comp.now) (list_of forest.old self.old) }
-        ensures { GetsOrInserts 7 (C.order comp.now) forest.old self.old key value result
+        requires { IsSearchable (C.order comp.now) forest.old self.old }
+        ensures { GetsOrInserts MAP_LEAF (C.order comp.now) forest.old self.old key value result
             forest.new self.new }
     {
         forest.trees.get_or_insert(&mut self.root, key, value, comp)
@@ -229,9 +225,8 @@ impl<K: Copy, V: Copy> Map<K, V> {
         forest: &mut MapForest<K, V>,
         comp: &C,
     ) -> Option<V>
-        requires live { IsLive forest.old self.old }
-        requires increasing { IsIncreasing (C.order comp.now) (list_of forest.old self.old) }
-        ensures { Removes 7 (C.order comp.now) forest.old self.old key result forest.new self.new }
+        requires { IsSearchable (C.order comp.now) forest.old self.old }
+        ensures { Removes MAP_LEAF (C.order comp.now) forest.old self.old key result forest.new self.new }
     {
         forest.trees.remove(&mut self.root, key, comp)
     }
@@ -242,7 +237,7 @@ impl<K: Copy, V: Copy> Map<K, V> {
     /// [`Map::remove`] does. No memory is taken. The handle is empty after its last entry was removed.
     pub fn pop_first(&mut self, forest: &mut MapForest<K, V>) -> Option<(K, V)>
         requires live { IsLive forest.old self.old }
-        ensures { Pops 7 forest.old self.old 0 result forest.new self.new }
+        ensures { Pops MAP_LEAF forest.old self.old 0 result forest.new self.new }
     {
         forest.trees.pop_first(&mut self.root)
     }
@@ -253,7 +248,7 @@ impl<K: Copy, V: Copy> Map<K, V> {
     /// [`Map::remove`] does. No memory is taken. The handle is empty after its last entry was removed.
     pub fn pop_last(&mut self, forest: &mut MapForest<K, V>) -> Option<(K, V)>
         requires live { IsLive forest.old self.old }
-        ensures { Pops 7 forest.old self.old (length (list_of forest.old self.old) - 1) result
+        ensures { Pops MAP_LEAF forest.old self.old (length (list_of forest.old self.old) - 1) result
             forest.new self.new }
     {
         forest.trees.pop_last(&mut self.root)
@@ -281,7 +276,7 @@ impl<K: Copy, V: Copy> Map<K, V> {
         requires live { IsLive forest.old self.old }
         requires callable { MayAskEach (Answers F.FnMut) (MayAsk F.FnMut) predicate
             (list_of forest.old self.old) }
-        ensures { Filters 7 (Answers F.FnMut) forest.old self.old predicate forest.new self.new }
+        ensures { Filters MAP_LEAF (Answers F.FnMut) forest.old self.old predicate forest.new self.new }
     {
         forest.trees.retain(&mut self.root, Asked { predicate });
     }
@@ -313,10 +308,10 @@ impl<K: Copy, V: Copy> Map<K, V> {
     /// |---|---|---|---|---|---|
     /// | Nodes | 0 | 4 | 35 | 3,336 | 333,337 |
     pub fn nodes_for(entries: usize) -> usize
-        ensures enough { IsEnoughFor 7 entries result }
-        ensures met { IsMetBy 7 entries result }
+        ensures enough { IsEnoughFor MAP_LEAF entries result }
+        ensures met { IsMetBy MAP_LEAF entries result }
     {
-        most_nodes(entries, 7)
+        most_nodes(entries, MAP_LEAF)
     }
 
     /// Returns an iterator over the entries in order. Visits one node of each level, and then each leaf once. No comparison.
@@ -324,7 +319,7 @@ impl<K: Copy, V: Copy> Map<K, V> {
     pub fn iter<'a>(&self, forest: &'a MapForest<K, V>) -> MapIter<'a, K, V>
         requires live { IsLive forest.now self.now }
         ensures entries { result ≡ list_of forest.now self.now }
-        ensures ready { IsReadable K.row V.row }
+        ensures fits { MapsFitInMemory K.row V.row }
     {
         MapIter::new(self, forest)
     }
@@ -348,11 +343,10 @@ impl<K: Copy, V: Copy> Map<K, V> {
         forest: &'a MapForest<K, V>,
         comp: &C,
     ) -> MapRange<'a, K, V, C>
-        requires live { IsLive forest.now self.now }
-        requires increasing { IsIncreasing (C.order comp.now) (list_of forest.now self.now) }
+        requires { IsSearchable (C.order comp.now) forest.now self.now }
         ensures entries { result
             ≡ entries_between (C.order comp.now) bounds.0 bounds.1 (list_of forest.now self.now) }
-        ensures ready { IsReadable K.row V.row }
+        ensures fits { MapsFitInMemory K.row V.row }
     {
         MapRange::new(self, bounds, forest, comp)
     }
@@ -363,12 +357,11 @@ impl<K: Copy, V: Copy> Map<K, V> {
         forest: &'a MapForest<K, V>,
         comp: &'a C,
     ) -> MapCursor<'a, K, V, C>
-        requires live { IsLive forest.now self.now }
-        requires increasing { IsIncreasing (C.order comp.now) (list_of forest.now self.now) }
+        requires { IsSearchable (C.order comp.now) forest.now self.now }
         ensures entries { result.entries ≡ list_of forest.now self.now }
         ensures spot { result.spot ≡ length (list_of forest.now self.now) }
         ensures comparator { result.comparator ≡ comp.now }
-        ensures ready { IsReadable K.row V.row }
+        ensures fits { MapsFitInMemory K.row V.row }
     {
         MapCursor::new(self, forest, comp)
     }
@@ -379,8 +372,7 @@ impl<K: Copy, V: Copy> Map<K, V> {
         forest: &'a mut MapForest<K, V>,
         comp: &'a C,
     ) -> MapCursorMut<'a, K, V, C>
-        requires live { IsLive forest.old self.old }
-        requires increasing { IsIncreasing (C.order comp.now) (list_of forest.old self.old) }
+        requires { IsSearchable (C.order comp.now) forest.old self.old }
         ensures map_loan { map_loan result ≡ self.entry.ghost_name }
         ensures forest_loan { forest_loan result ≡ forest.entry.ghost_name }
         ensures comparator { comparator result ≡ comp.now }
@@ -388,7 +380,7 @@ impl<K: Copy, V: Copy> Map<K, V> {
         ensures map { map_now result ≡ self.old }
         ensures spot { spot result ≡ length (list_of forest.old self.old) }
         ensures valid { IsCursor C.order result }
-        ensures ready { IsReadable K.row V.row }
+        ensures fits { MapsFitInMemory K.row V.row }
     {
         MapCursorMut::new(self, forest, comp)
     }

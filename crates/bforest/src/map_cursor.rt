@@ -1,14 +1,15 @@
 //! Cursors that read a map.
 ghost use Rattle.bforest.specs.Cursor.{at_place};
-ghost use Rattle.bforest.specs.Forest.{IsLive, list_of};
-ghost use Rattle.bforest.specs.Memory.{IsReadable};
+ghost use Rattle.bforest.specs.Forest.{IsSearchable, list_of};
+ghost use Rattle.bforest.specs.MapCursor.{comparator, entries, spot};
+ghost use Rattle.bforest.specs.Memory.{MapsFitInMemory};
 ghost use Rattle.bforest_core.specs.Place.{entry_before};
-ghost use Rattle.bforest_nodes.specs.Entries.{IsIncreasing, place, value_at_place, value_for};
+ghost use Rattle.bforest_nodes.specs.Entries.{place, value_at_place, value_for};
 ghost use Rattle.std.specs.Prelude.{IsTrue, [], length, min, option_map, slice_get, ◌+◌, ◌-◌, ◌≡◌, ◌≤◌, ◌↔◌};
 
 use crate::entry::{key_of, value_of};
 use crate::map::Map;
-use crate::map_forest::MapForest;
+use crate::map_forest::{MAP_LEAF, MapForest};
 use bforest_core::{Comparator, PackedNode};
 use bforest_trees::{Look, Trees};
 use std::marker::Model;
@@ -16,7 +17,7 @@ use std::marker::Model;
 /// A cursor that reads a map: it stands at an entry, or at the end behind the last one. [`Map::cursor`] makes it, at the end.
 #[derive(Drop)]
 pub struct MapCursor<'a, K: Copy, V: Copy, C: Comparator<K>> {
-    trees: &'a Trees<K, V, 7>,
+    trees: &'a Trees<K, V, MAP_LEAF>,
     root: PackedNode,
     comp: &'a C,
     look: Look<'a, K, V>,
@@ -46,12 +47,11 @@ impl<'a, K: Copy, V: Copy, C: Comparator<K>> MapCursor<'a, K, V, C> {
         forest: &'a MapForest<K, V>,
         comp: &'a C,
     ) -> MapCursor<'a, K, V, C>
-        requires live { IsLive forest.now map.now }
-        requires increasing { IsIncreasing (C.order comp.now) (list_of forest.now map.now) }
-        ensures entries { result.entries ≡ list_of forest.now map.now }
-        ensures spot { result.spot ≡ length (list_of forest.now map.now) }
-        ensures comparator { result.comparator ≡ comp.now }
-        ensures ready { IsReadable K.row V.row }
+        requires { IsSearchable (C.order comp.now) forest.now map.now }
+        ensures entries { entries result ≡ list_of forest.now map.now }
+        ensures spot { spot result ≡ length (list_of forest.now map.now) }
+        ensures comparator { comparator result ≡ comp.now }
+        ensures fits { MapsFitInMemory K.row V.row }
     {
         MapCursor {
             trees: &forest.trees,
@@ -63,8 +63,7 @@ impl<'a, K: Copy, V: Copy, C: Comparator<K>> MapCursor<'a, K, V, C> {
 
     /// Returns whether the map is empty. Constant time.
     pub fn is_empty(&self) -> bool
-        requires ready { IsReadable K.row V.row }
-        ensures empty { IsTrue result ↔ (self.now.entries ≡ []) }
+        ensures empty { IsTrue result ↔ (entries self.now ≡ []) }
     {
         self.root.is_none()
     }
@@ -73,9 +72,9 @@ impl<'a, K: Copy, V: Copy, C: Comparator<K>> MapCursor<'a, K, V, C> {
     /// step: no comparison.
     #[inline(always)]
     pub fn next(&mut self) -> Option<(K, V)>
-        requires ready { IsReadable K.row V.row }
-        ensures value { result ≡ slice_get self.old.entries (self.old.spot + 1) }
-        ensures moves { self.new ≡ at_place self.old (min (self.old.spot + 1) (length self.old.entries)) }
+        requires fits { MapsFitInMemory K.row V.row }
+        ensures value { result ≡ slice_get (entries self.old) (spot self.old + 1) }
+        ensures moves { self.new ≡ at_place self.old (min (spot self.old + 1) (length (entries self.old))) }
     {
         self.look.next(self.root, self.trees)
     }
@@ -84,9 +83,9 @@ impl<'a, K: Copy, V: Copy, C: Comparator<K>> MapCursor<'a, K, V, C> {
     /// `None`. One step: no comparison.
     #[inline(always)]
     pub fn prev(&mut self) -> Option<(K, V)>
-        requires ready { IsReadable K.row V.row }
-        ensures value { result ≡ entry_before self.old.entries self.old.spot }
-        ensures moves { self.new ≡ at_place self.old (self.old.spot - 1) }
+        requires fits { MapsFitInMemory K.row V.row }
+        ensures value { result ≡ entry_before (entries self.old) (spot self.old) }
+        ensures moves { self.new ≡ at_place self.old (spot self.old - 1) }
     {
         self.look.prev(self.root, self.trees)
     }
@@ -94,9 +93,8 @@ impl<'a, K: Copy, V: Copy, C: Comparator<K>> MapCursor<'a, K, V, C> {
     /// Returns the entry where the cursor stands, or `None` at the end. No comparison.
     #[inline(always)]
     pub fn entry(&self) -> Option<(K, V)>
-        requires ready { IsReadable K.row V.row }
-        ensures entry { result ≡ slice_get self.now.entries self.now.spot }
-        ensures within { self.now.spot ≤ length self.now.entries }
+        ensures entry { result ≡ slice_get (entries self.now) (spot self.now) }
+        ensures within { spot self.now ≤ length (entries self.now) }
     {
         self.look.entry()
     }
@@ -104,9 +102,8 @@ impl<'a, K: Copy, V: Copy, C: Comparator<K>> MapCursor<'a, K, V, C> {
     /// Returns the key of the entry where the cursor stands, or `None` at the end. No comparison.
     #[inline(always)]
     pub fn key(&self) -> Option<K>
-        requires ready { IsReadable K.row V.row }
-        ensures key { result ≡ option_map (λ e. e.0) (slice_get self.now.entries self.now.spot) }
-        ensures within { self.now.spot ≤ length self.now.entries }
+        ensures key { result ≡ option_map (λ e. e.0) (slice_get (entries self.now) (spot self.now)) }
+        ensures within { spot self.now ≤ length (entries self.now) }
     {
         key_of(self.entry())
     }
@@ -114,8 +111,7 @@ impl<'a, K: Copy, V: Copy, C: Comparator<K>> MapCursor<'a, K, V, C> {
     /// Returns the value of the entry where the cursor stands, or `None` at the end. No comparison.
     #[inline(always)]
     pub fn value(&self) -> Option<V>
-        requires ready { IsReadable K.row V.row }
-        ensures value { result ≡ value_at_place self.now.entries self.now.spot }
+        ensures value { result ≡ value_at_place (entries self.now) (spot self.now) }
     {
         value_of(self.entry())
     }
@@ -123,10 +119,10 @@ impl<'a, K: Copy, V: Copy, C: Comparator<K>> MapCursor<'a, K, V, C> {
     /// Moves to the entry whose key compares equal to `elem` and returns its value. Where there is none, moves to the first entry with a
     /// greater key, or to the end, and returns `None`. One search, as in [`Map::get`].
     pub fn goto(&mut self, elem: K) -> Option<V>
-        requires ready { IsReadable K.row V.row }
-        ensures value { result ≡ value_for (C.order self.old.comparator) self.old.entries elem }
+        requires fits { MapsFitInMemory K.row V.row }
+        ensures value { result ≡ value_for (C.order (comparator self.old)) (entries self.old) elem }
         ensures moves { self.new
-            ≡ at_place self.old (place (C.order self.old.comparator) self.old.entries elem) }
+            ≡ at_place self.old (place (C.order (comparator self.old)) (entries self.old) elem) }
     {
         self.look.goto(self.root, self.trees, elem, self.comp)
     }
@@ -135,8 +131,8 @@ impl<'a, K: Copy, V: Copy, C: Comparator<K>> MapCursor<'a, K, V, C> {
     /// level. No comparison.
     #[inline(always)]
     pub fn goto_first(&mut self) -> Option<V>
-        requires ready { IsReadable K.row V.row }
-        ensures value { result ≡ value_at_place self.old.entries 0 }
+        requires fits { MapsFitInMemory K.row V.row }
+        ensures value { result ≡ value_at_place (entries self.old) 0 }
         ensures moves { self.new ≡ at_place self.old 0 }
     {
         value_of(self.look.first(self.root, self.trees))
@@ -145,7 +141,7 @@ impl<'a, K: Copy, V: Copy, C: Comparator<K>> MapCursor<'a, K, V, C> {
     /// Moves to the end, behind the last entry. Constant time.
     #[inline(always)]
     pub fn goto_end(&mut self)
-        ensures moves { self.new ≡ at_place self.old (length self.old.entries) }
+        ensures moves { self.new ≡ at_place self.old (length (entries self.old)) }
     {
         self.look = Look::end();
     }

@@ -1,19 +1,19 @@
 //! Cursors that read and write a map.
 ghost use Rattle.bforest.specs.Calls.{Inserts, RemovesAt};
 ghost use Rattle.bforest.specs.Cursor.{Goes, IsCursor, Moves, Writes, comparator, entries, forest_loan, forest_now, map_loan, map_now, spot, with_value_here};
-ghost use Rattle.bforest.specs.Forest.{IsLive, list_of};
+ghost use Rattle.bforest.specs.Forest.{IsSearchable, list_of};
 ghost use Rattle.bforest.specs.Lending.{lends_here, lends_value};
-ghost use Rattle.bforest.specs.Memory.{IsReadable};
+ghost use Rattle.bforest.specs.Memory.{MapsFitInMemory};
 ghost use Rattle.bforest_core.specs.Paths.{IsAtEnd};
 ghost use Rattle.bforest_core.specs.Place.{entry_before};
-ghost use Rattle.bforest_nodes.specs.Entries.{IsIncreasing, place, value_at_place, value_for};
+ghost use Rattle.bforest_nodes.specs.Entries.{place, value_at_place, value_for};
 ghost use Rattle.std.specs.Borrow.{sem};
 ghost use Rattle.std.specs.Option.{option_copied_mut};
 ghost use Rattle.std.specs.Prelude.{IsTrue, Some, [], length, min, option_map, slice_get, ◌+◌, ◌-◌, ◌≡◌, ◌≤◌, ◌↔◌};
 
 use crate::entry::{key_of, value_of};
 use crate::map::Map;
-use crate::map_forest::MapForest;
+use crate::map_forest::{MAP_LEAF, MapForest};
 use bforest_core::{Comparator, OutOfMemory, Path};
 
 /// A cursor that reads and writes a map: it stands at an entry, or at the end behind the last one. [`Map::cursor_mut`] makes it, at the
@@ -26,7 +26,7 @@ pub struct MapCursorMut<'a, K: Copy, V: Copy, C: Comparator<K>> {
     map: &'a mut Map<K, V>,
     forest: &'a mut MapForest<K, V>,
     comp: &'a C,
-    path: Path<K, V, 7>,
+    path: Path<K, V, MAP_LEAF>,
 }
 
 impl<'a, K: Copy, V: Copy, C: Comparator<K>> MapCursorMut<'a, K, V, C> {
@@ -36,8 +36,7 @@ impl<'a, K: Copy, V: Copy, C: Comparator<K>> MapCursorMut<'a, K, V, C> {
         forest: &'a mut MapForest<K, V>,
         comp: &'a C,
     ) -> MapCursorMut<'a, K, V, C>
-        requires live { IsLive forest.old map.old }
-        requires increasing { IsIncreasing (C.order comp.now) (list_of forest.old map.old) }
+        requires { IsSearchable (C.order comp.now) forest.old map.old }
         ensures map_loan { map_loan result ≡ map.entry.ghost_name }
         ensures forest_loan { forest_loan result ≡ forest.entry.ghost_name }
         ensures comparator { comparator result ≡ comp.now }
@@ -45,7 +44,7 @@ impl<'a, K: Copy, V: Copy, C: Comparator<K>> MapCursorMut<'a, K, V, C> {
         ensures map { map_now result ≡ map.old }
         ensures spot { spot result ≡ length (list_of forest.old map.old) }
         ensures valid { IsCursor C.order result }
-        ensures ready { IsReadable K.row V.row }
+        ensures fits { MapsFitInMemory K.row V.row }
     {
         MapCursorMut {
             map,
@@ -58,7 +57,6 @@ impl<'a, K: Copy, V: Copy, C: Comparator<K>> MapCursorMut<'a, K, V, C> {
     /// Returns whether the map is empty. Constant time.
     pub fn is_empty(&self) -> bool
         requires valid { IsCursor C.order self.now }
-        requires ready { IsReadable K.row V.row }
         ensures empty { IsTrue result ↔ (entries self.now ≡ []) }
     {
         self.map.is_empty()
@@ -68,7 +66,7 @@ impl<'a, K: Copy, V: Copy, C: Comparator<K>> MapCursorMut<'a, K, V, C> {
     /// step: no comparison.
     pub fn next(&mut self) -> Option<(K, V)>
         requires valid { IsCursor C.order self.old }
-        requires ready { IsReadable K.row V.row }
+        requires fits { MapsFitInMemory K.row V.row }
         ensures value { result ≡ slice_get (entries self.old) (spot self.old + 1) }
         ensures moves { Moves C.order self.old self.new
             (min (spot self.old + 1) (length (entries self.old))) }
@@ -82,7 +80,7 @@ impl<'a, K: Copy, V: Copy, C: Comparator<K>> MapCursorMut<'a, K, V, C> {
     /// `None`. One step: no comparison.
     pub fn prev(&mut self) -> Option<(K, V)>
         requires valid { IsCursor C.order self.old }
-        requires ready { IsReadable K.row V.row }
+        requires fits { MapsFitInMemory K.row V.row }
         ensures value { result ≡ entry_before (entries self.old) (spot self.old) }
         ensures moves { Moves C.order self.old self.new (spot self.old - 1) }
     {
@@ -94,7 +92,7 @@ impl<'a, K: Copy, V: Copy, C: Comparator<K>> MapCursorMut<'a, K, V, C> {
     /// Returns the entry where the cursor stands, or `None` at the end. No comparison.
     pub fn entry(&self) -> Option<(K, V)>
         requires valid { IsCursor C.order self.now }
-        requires ready { IsReadable K.row V.row }
+        requires fits { MapsFitInMemory K.row V.row }
         ensures entry { result ≡ slice_get (entries self.now) (spot self.now) }
         ensures within { spot self.now ≤ length (entries self.now) }
     {
@@ -106,7 +104,7 @@ impl<'a, K: Copy, V: Copy, C: Comparator<K>> MapCursorMut<'a, K, V, C> {
     /// Returns the key of the entry where the cursor stands, or `None` at the end. No comparison.
     pub fn key(&self) -> Option<K>
         requires valid { IsCursor C.order self.now }
-        requires ready { IsReadable K.row V.row }
+        requires fits { MapsFitInMemory K.row V.row }
         ensures key { result ≡ option_map (λ e. e.0) (slice_get (entries self.now) (spot self.now)) }
         ensures within { spot self.now ≤ length (entries self.now) }
     {
@@ -116,7 +114,7 @@ impl<'a, K: Copy, V: Copy, C: Comparator<K>> MapCursorMut<'a, K, V, C> {
     /// Returns the value of the entry where the cursor stands, or `None` at the end. No comparison.
     pub fn value(&self) -> Option<V>
         requires valid { IsCursor C.order self.now }
-        requires ready { IsReadable K.row V.row }
+        requires fits { MapsFitInMemory K.row V.row }
         ensures value { result ≡ value_at_place (entries self.now) (spot self.now) }
     {
         value_of(self.entry())
@@ -126,7 +124,7 @@ impl<'a, K: Copy, V: Copy, C: Comparator<K>> MapCursorMut<'a, K, V, C> {
     /// and the cursor's place stay. No comparison.
     pub fn value_mut(&mut self) -> Option<&mut V>
         requires valid { IsCursor C.order self.old }
-        requires ready { IsReadable K.row V.row }
+        requires fits { MapsFitInMemory K.row V.row }
         ensures* writes_back { sem 𝓛 (lends_value K.row V.row C.row self.entry result) }
         ensures value { option_copied_mut result ≡ value_at_place (entries self.old) (spot self.old) }
         ensures written { (w : V) → Writes C.order self.old (with_value_here self.old w) w }
@@ -142,7 +140,7 @@ impl<'a, K: Copy, V: Copy, C: Comparator<K>> MapCursorMut<'a, K, V, C> {
     fn value_here(&mut self) -> &mut V
         requires on_entry { ¬ IsAtEnd self.old.path }
         requires valid { IsCursor C.order self.old }
-        requires ready { IsReadable K.row V.row }
+        requires fits { MapsFitInMemory K.row V.row }
         ensures* writes_back { sem 𝓛 (lends_here K.row V.row C.row self.entry result) }
         ensures value { value_at_place (entries self.old) (spot self.old) ≡ Some result.now }
         ensures written { (w : V) → Writes C.order self.old (with_value_here self.old w) w }
@@ -155,7 +153,7 @@ impl<'a, K: Copy, V: Copy, C: Comparator<K>> MapCursorMut<'a, K, V, C> {
     /// greater key, or to the end, and returns `None`. One search, as in [`Map::get`].
     pub fn goto(&mut self, elem: K) -> Option<V>
         requires valid { IsCursor C.order self.old }
-        requires ready { IsReadable K.row V.row }
+        requires fits { MapsFitInMemory K.row V.row }
         ensures value { result ≡ value_for (C.order (comparator self.old)) (entries self.old) elem }
         ensures moves { Moves C.order self.old self.new
             (place (C.order (comparator self.old)) (entries self.old) elem) }
@@ -169,7 +167,7 @@ impl<'a, K: Copy, V: Copy, C: Comparator<K>> MapCursorMut<'a, K, V, C> {
     /// level. No comparison.
     pub fn goto_first(&mut self) -> Option<V>
         requires valid { IsCursor C.order self.old }
-        requires ready { IsReadable K.row V.row }
+        requires fits { MapsFitInMemory K.row V.row }
         ensures value { result ≡ value_at_place (entries self.old) 0 }
         ensures moves { Moves C.order self.old self.new 0 }
     {
@@ -185,9 +183,9 @@ impl<'a, K: Copy, V: Copy, C: Comparator<K>> MapCursorMut<'a, K, V, C> {
     /// [`OutOfMemory`] where the key is absent and too few nodes are available, as in [`MapCursorMut::try_insert`].
     pub fn insert(&mut self, key: K, value: V) -> Result<Option<V>, OutOfMemory>
         requires valid { IsCursor C.order self.old }
-        requires ready { IsReadable K.row V.row }
-        ensures inserted { Inserts 7 (C.order (comparator self.old)) (forest_now self.old) (map_now self.old)
-            key value result (forest_now self.new) (map_now self.new) }
+        requires fits { MapsFitInMemory K.row V.row }
+        ensures inserted { Inserts MAP_LEAF (C.order (comparator self.old)) (forest_now self.old)
+            (map_now self.old) key value result (forest_now self.new) (map_now self.new) }
         ensures goes { Goes C.order self.old self.new
             (place (C.order (comparator self.old)) (entries self.old) key) }
     {
@@ -205,9 +203,9 @@ impl<'a, K: Copy, V: Copy, C: Comparator<K>> MapCursorMut<'a, K, V, C> {
     /// key moves it.
     pub fn try_insert(&mut self, key: K, value: V) -> Result<Option<V>, OutOfMemory>
         requires valid { IsCursor C.order self.old }
-        requires ready { IsReadable K.row V.row }
-        ensures inserted { Inserts 7 (C.order (comparator self.old)) (forest_now self.old) (map_now self.old)
-            key value result (forest_now self.new) (map_now self.new) }
+        requires fits { MapsFitInMemory K.row V.row }
+        ensures inserted { Inserts MAP_LEAF (C.order (comparator self.old)) (forest_now self.old)
+            (map_now self.old) key value result (forest_now self.new) (map_now self.new) }
         ensures goes { Goes C.order self.old self.new
             (place (C.order (comparator self.old)) (entries self.old) key) }
     {
@@ -224,9 +222,9 @@ impl<'a, K: Copy, V: Copy, C: Comparator<K>> MapCursorMut<'a, K, V, C> {
     /// After a [`MapCursorMut::goto`] that found no entry the cursor stands at the next greater one, which this call removes.
     pub fn remove(&mut self) -> Option<V>
         requires valid { IsCursor C.order self.old }
-        requires ready { IsReadable K.row V.row }
+        requires fits { MapsFitInMemory K.row V.row }
         ensures value { result ≡ value_at_place (entries self.old) (spot self.old) }
-        ensures removed { RemovesAt 7 (forest_now self.old) (map_now self.old) (spot self.old)
+        ensures removed { RemovesAt MAP_LEAF (forest_now self.old) (map_now self.old) (spot self.old)
             (forest_now self.new) (map_now self.new) }
         ensures goes { Goes C.order self.old self.new (spot self.old) }
     {

@@ -15,11 +15,14 @@ use bforest_core::Node;
 use bforest_trees::Trees;
 use std::alloc::Global;
 
+/// The most entries of a leaf of a map.
+pub const MAP_LEAF: usize = 7;
+
 /// Many ordered maps in one table of nodes. A forest owns all entries; a [`Map`] is a handle to one tree in it.
 ///
 /// A slot of the table is the place of one node. Slots that no tree uses form the free list, from which insertions take nodes before the
 /// table grows.
-pub type MapForest<K, V> = Forest<K, V, 7>;
+pub type MapForest<K, V> = Forest<K, V, MAP_LEAF>;
 
 impl<K: Copy, V: Copy> MapForest<K, V> {
     /// Returns an empty forest of at most 4294967295 slots, which is how many nodes 32 bits can name. No memory is taken.
@@ -50,12 +53,13 @@ impl<K: Copy, V: Copy> MapForest<K, V> {
 
     /// The value of the entry where a path stands, by the path's leaf and its index there, for writing.
     pub(crate) fn value_at(&mut self, leaf: Node, index: usize) -> &mut V
-        requires stands { (h : Option ℕ) × (path : Path K V 7) × OnSpot self.old h path
+        requires stands { (h : Option ℕ) × (path : Path K V MAP_LEAF) × OnSpot self.old h path
             × (leaf ≡ leaf_of path) × (index ≡ index_of path) }
         ensures* writes_back { sem 𝓛 (lends_value_of K.row V.row self.entry leaf index result) }
-        ensures value { (h : Option ℕ) (path : Path K V 7) (at : OnSpot self.old h path) → leaf ≡ leaf_of path
-            → index ≡ index_of path → value_at_place (list_of self.old h) at.place ≡ Some result.now }
-        ensures written { (h : Option ℕ) (path : Path K V 7) (at : OnSpot self.old h path)
+        ensures value { (h : Option ℕ) (path : Path K V MAP_LEAF) (at : OnSpot self.old h path)
+            → leaf ≡ leaf_of path → index ≡ index_of path
+            → value_at_place (list_of self.old h) at.place ≡ Some result.now }
+        ensures written { (h : Option ℕ) (path : Path K V MAP_LEAF) (at : OnSpot self.old h path)
             → leaf ≡ leaf_of path → index ≡ index_of path
             → (w : V) → IsWritten self.old (with_value_at self.old leaf index w) h path at.place w }
     {

@@ -4,7 +4,7 @@ ghost use Rattle.std.specs.Iterator.{YieldsFirst, item_count};
 ghost use Rattle.std.specs.Prelude.{◌≡◌};
 
 use crate::map::Map;
-use crate::map_forest::MapForest;
+use crate::map_forest::{MAP_LEAF, MapForest};
 use bforest_core::Path;
 use std::marker::Model;
 
@@ -14,7 +14,7 @@ use std::marker::Model;
 pub struct MapIntoIter<K: Copy, V: Copy> {
     forest: MapForest<K, V>,
     // The path stands on the next entry to be returned, or at the end.
-    path: Path<K, V, 7>,
+    path: Path<K, V, MAP_LEAF>,
 }
 
 impl<K: Copy, V: Copy> Model for MapIntoIter<K, V> {

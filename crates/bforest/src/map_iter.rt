@@ -1,19 +1,19 @@
 //! Iterators over a map.
 ghost use Rattle.bforest.specs.Forest.{IsLive, list_of};
-ghost use Rattle.bforest.specs.Memory.{IsReadable};
+ghost use Rattle.bforest.specs.Memory.{MapsFitInMemory};
 ghost use Rattle.std.specs.Iterator.{YieldsFirst, item_count};
 ghost use Rattle.std.specs.Prelude.{◌≡◌};
 
 use crate::map::Map;
-use crate::map_forest::MapForest;
+use crate::map_forest::{MAP_LEAF, MapForest};
 use bforest_trees::{Reader, Trees};
 use std::marker::Model;
 
 /// An iterator over the entries of a map, in order, and then `None` for ever. [`Map::iter`] makes it. A step compares nothing.
 #[derive(Drop)]
 pub struct MapIter<'a, K: Copy, V: Copy> {
-    trees: &'a Trees<K, V, 7>,
-    reader: Reader<'a, K, V, 7>,
+    trees: &'a Trees<K, V, MAP_LEAF>,
+    reader: Reader<'a, K, V, MAP_LEAF>,
 }
 
 impl<'a, K: Copy, V: Copy> Model for MapIter<'a, K, V> {
@@ -33,7 +33,7 @@ impl<'a, K: Copy, V: Copy> MapIter<'a, K, V> {
     pub(crate) fn new(map: &Map<K, V>, forest: &'a MapForest<K, V>) -> MapIter<'a, K, V>
         requires { IsLive forest.now map.now }
         ensures entries { result ≡ list_of forest.now map.now }
-        ensures ready { IsReadable K.row V.row }
+        ensures fits { MapsFitInMemory K.row V.row }
     {
         let trees = &forest.trees;
         MapIter {
@@ -44,11 +44,11 @@ impl<'a, K: Copy, V: Copy> MapIter<'a, K, V> {
 }
 
 impl<'a, K: Copy, V: Copy> Iterator for MapIter<'a, K, V> {
-    ghost use Rattle.bforest.specs.Memory.{IsReadable};
+    ghost use Rattle.bforest.specs.Memory.{MapsFitInMemory};
 
     type Item = (K, V);
 
-    ghost can_next = { λ _. IsReadable K.row V.row };
+    ghost can_next = { λ _. MapsFitInMemory K.row V.row };
 
     ghost next_gives = { YieldsFirst (λ entries. entries) };
 

@@ -1,13 +1,12 @@
 //! The entries of a map within bounds.
 ghost use Rattle.bforest.specs.Bounds.{entries_between};
-ghost use Rattle.bforest.specs.Forest.{IsLive, list_of};
-ghost use Rattle.bforest.specs.Memory.{IsReadable};
-ghost use Rattle.bforest_nodes.specs.Entries.{IsIncreasing};
+ghost use Rattle.bforest.specs.Forest.{IsSearchable, list_of};
+ghost use Rattle.bforest.specs.Memory.{MapsFitInMemory};
 ghost use Rattle.std.specs.Iterator.{YieldsFirst, YieldsLast, item_count};
 ghost use Rattle.std.specs.Prelude.{◌≡◌};
 
 use crate::map::Map;
-use crate::map_forest::MapForest;
+use crate::map_forest::{MAP_LEAF, MapForest};
 use bforest_core::{Comparator, PackedNode};
 use bforest_trees::{Ends, Trees};
 use std::marker::{Model, PhantomData};
@@ -17,7 +16,7 @@ use std::ops::Bound;
 /// makes it. A step compares nothing.
 #[derive(Drop)]
 pub struct MapRange<'a, K: Copy, V: Copy, C: Comparator<K>> {
-    trees: &'a Trees<K, V, 7>,
+    trees: &'a Trees<K, V, MAP_LEAF>,
     root: PackedNode,
     ends: Ends<'a, K, V>,
     mark: PhantomData<C>,
@@ -42,11 +41,10 @@ impl<'a, K: Copy, V: Copy, C: Comparator<K>> MapRange<'a, K, V, C> {
         forest: &'a MapForest<K, V>,
         comp: &C,
     ) -> MapRange<'a, K, V, C>
-        requires live { IsLive forest.now map.now }
-        requires increasing { IsIncreasing (C.order comp.now) (list_of forest.now map.now) }
+        requires { IsSearchable (C.order comp.now) forest.now map.now }
         ensures entries { result
             ≡ entries_between (C.order comp.now) bounds.0 bounds.1 (list_of forest.now map.now) }
-        ensures ready { IsReadable K.row V.row }
+        ensures fits { MapsFitInMemory K.row V.row }
     {
         let trees = &forest.trees;
         MapRange {
@@ -61,7 +59,7 @@ impl<'a, K: Copy, V: Copy, C: Comparator<K>> MapRange<'a, K, V, C> {
 impl<'a, K: Copy, V: Copy, C: Comparator<K>> Iterator for MapRange<'a, K, V, C> {
     type Item = (K, V);
 
-    ghost can_next = { λ _. IsReadable K.row V.row };
+    ghost can_next = { λ _. MapsFitInMemory K.row V.row };
 
     ghost next_gives = { YieldsFirst (λ entries. entries) };
 
@@ -74,7 +72,7 @@ impl<'a, K: Copy, V: Copy, C: Comparator<K>> Iterator for MapRange<'a, K, V, C> 
 }
 
 impl<'a, K: Copy, V: Copy, C: Comparator<K>> DoubleEndedIterator for MapRange<'a, K, V, C> {
-    ghost can_next_back = { λ _. IsReadable K.row V.row };
+    ghost can_next_back = { λ _. MapsFitInMemory K.row V.row };
 
     ghost next_back_gives = { YieldsLast (λ entries. entries) };
 

@@ -2,8 +2,8 @@
 ghost use Rattle.bforest_nodes.specs.Entries.{IsIncreasing, is_present};
 ghost use Rattle.bforest.specs.Bounds.{entries_between, entry_at_least, entry_at_most};
 ghost use Rattle.bforest.specs.Calls.{Clears, Filters, Inserts, Pops, Removes};
-ghost use Rattle.bforest.specs.Forest.{Forest, IsLive, first_level, list_of, sizes_of};
-ghost use Rattle.bforest.specs.Memory.{IsSetReadable};
+ghost use Rattle.bforest.specs.Forest.{Forest, IsLive, IsSearchable, first_level, list_of, sizes_of};
+ghost use Rattle.bforest.specs.Memory.{SetsFitInMemory};
 ghost use Rattle.bforest.specs.Retain.{MayAskEach};
 ghost use Rattle.bforest.specs.Room.{IsEnoughFor, IsMetBy};
 ghost use Rattle.bforest.specs.Set.{AnswersKey, MayAskKey, as_popped, as_put, as_removed, elements, the_value};
@@ -17,7 +17,7 @@ use crate::entry::key_of;
 use crate::map::follows;
 use crate::room::most_nodes;
 use crate::set_cursor::SetCursor;
-use crate::set_forest::SetForest;
+use crate::set_forest::{SET_LEAF, SetForest};
 use crate::set_iter::SetIter;
 use crate::set_range::SetRange;
 use bforest_core::{Comparator, OutOfMemory, PackedNode, SetValue};
@@ -95,8 +95,7 @@ impl<K: Copy> Set<K> {
     /// One search. It visits one node of each level, at most `1 + log4(n / 2)` nodes for `n` keys, and compares about 3 times in an inner
     /// node and 4 times in the leaf, or as often as the comparator's own search does among at most 7 and 15 keys.
     pub fn contains<C: Comparator<K>>(&self, key: K, forest: &SetForest<K>, comp: &C) -> bool
-        requires live { IsLive forest.now self.now }
-        requires increasing { IsIncreasing (C.order comp.now) (list_of forest.now self.now) }
+        requires { IsSearchable (C.order comp.now) forest.now self.now }
         ensures present { result ≡ is_present (C.order comp.now) (list_of forest.now self.now) key }
     {
         forest.trees.get(self.root, key, comp).is_some()
@@ -111,8 +110,7 @@ impl<K: Copy> Set<K> {
         forest: &SetForest<K>,
         comp: &C,
     ) -> Option<K>
-        requires live { IsLive forest.now self.now }
-        requires increasing { IsIncreasing (C.order comp.now) (list_of forest.now self.now) }
+        requires { IsSearchable (C.order comp.now) forest.now self.now }
         ensures key { result ≡ option_map (λ e. e.0)
             (entry_at_most (C.order comp.now) (list_of forest.now self.now) key) }
     {
@@ -128,8 +126,7 @@ impl<K: Copy> Set<K> {
         forest: &SetForest<K>,
         comp: &C,
     ) -> Option<K>
-        requires live { IsLive forest.now self.now }
-        requires increasing { IsIncreasing (C.order comp.now) (list_of forest.now self.now) }
+        requires { IsSearchable (C.order comp.now) forest.now self.now }
         ensures key { result ≡ option_map (λ e. e.0)
             (entry_at_least (C.order comp.now) (list_of forest.now self.now) key) }
     {
@@ -164,9 +161,8 @@ impl<K: Copy> Set<K> {
         forest: &mut SetForest<K>,
         comp: &C,
     ) -> Result<bool, OutOfMemory>
-        requires live { IsLive forest.old self.old }
-        requires increasing { IsIncreasing (C.order comp.now) (list_of forest.old self.old) }
-        ensures { Inserts 15 (C.order comp.now) forest.old self.old key the_value (as_put result)
+        requires { IsSearchable (C.order comp.now) forest.old self.old }
+        ensures { Inserts SET_LEAF (C.order comp.now) forest.old self.old key the_value (as_put result)
             forest.new self.new }
     {
         self.try_insert(key, forest, comp)
@@ -187,9 +183,8 @@ impl<K: Copy> Set<K> {
         forest: &mut SetForest<K>,
         comp: &C,
     ) -> Result<bool, OutOfMemory>
-        requires live { IsLive forest.old self.old }
-        requires increasing { IsIncreasing (C.order comp.now) (list_of forest.old self.old) }
-        ensures { Inserts 15 (C.order comp.now) forest.old self.old key the_value (as_put result)
+        requires { IsSearchable (C.order comp.now) forest.old self.old }
+        ensures { Inserts SET_LEAF (C.order comp.now) forest.old self.old key the_value (as_put result)
             forest.new self.new }
     {
         let put = forest.trees.put(&mut self.root, key, (), comp);
@@ -201,9 +196,8 @@ impl<K: Copy> Set<K> {
     /// One search, as in [`Set::contains`], and then at most two nodes of each level, which are rebalanced or merged as in
     /// [`Map::remove`](crate::Map::remove). No memory is taken, and nodes that become empty join the forest's free list.
     pub fn remove<C: Comparator<K>>(&mut self, key: K, forest: &mut SetForest<K>, comp: &C) -> bool
-        requires live { IsLive forest.old self.old }
-        requires increasing { IsIncreasing (C.order comp.now) (list_of forest.old self.old) }
-        ensures { Removes 15 (C.order comp.now) forest.old self.old key (as_removed result)
+        requires { IsSearchable (C.order comp.now) forest.old self.old }
+        ensures { Removes SET_LEAF (C.order comp.now) forest.old self.old key (as_removed result)
             forest.new self.new }
     {
         forest.trees.remove(&mut self.root, key, comp).is_some()
@@ -215,7 +209,7 @@ impl<K: Copy> Set<K> {
     /// [`Set::remove`] does. No memory is taken. The handle is empty after its last key was removed.
     pub fn pop_first(&mut self, forest: &mut SetForest<K>) -> Option<K>
         requires live { IsLive forest.old self.old }
-        ensures { Pops 15 forest.old self.old 0 (as_popped result) forest.new self.new }
+        ensures { Pops SET_LEAF forest.old self.old 0 (as_popped result) forest.new self.new }
     {
         key_of(forest.trees.pop_first(&mut self.root))
     }
@@ -226,8 +220,8 @@ impl<K: Copy> Set<K> {
     /// [`Set::remove`] does. No memory is taken. The handle is empty after its last key was removed.
     pub fn pop_last(&mut self, forest: &mut SetForest<K>) -> Option<K>
         requires live { IsLive forest.old self.old }
-        ensures { Pops 15 forest.old self.old (length (list_of forest.old self.old) - 1) (as_popped result)
-            forest.new self.new }
+        ensures { Pops SET_LEAF forest.old self.old (length (list_of forest.old self.old) - 1)
+            (as_popped result) forest.new self.new }
     {
         key_of(forest.trees.pop_last(&mut self.root))
     }
@@ -250,7 +244,7 @@ impl<K: Copy> Set<K> {
         requires live { IsLive forest.old self.old }
         requires callable { MayAskEach (AnswersKey F.FnMut) (MayAskKey F.FnMut) predicate
             (list_of forest.old self.old) }
-        ensures { Filters 15 (AnswersKey F.FnMut) forest.old self.old predicate forest.new self.new }
+        ensures { Filters SET_LEAF (AnswersKey F.FnMut) forest.old self.old predicate forest.new self.new }
     {
         forest.trees.retain(&mut self.root, AskedKey { predicate });
     }
@@ -282,10 +276,10 @@ impl<K: Copy> Set<K> {
     /// |---|---|---|---|---|---|
     /// | Nodes | 0 | 3 | 18 | 1,670 | 166,671 |
     pub fn nodes_for(keys: usize) -> usize
-        ensures enough { IsEnoughFor 15 keys result }
-        ensures met { IsMetBy 15 keys result }
+        ensures enough { IsEnoughFor SET_LEAF keys result }
+        ensures met { IsMetBy SET_LEAF keys result }
     {
-        most_nodes(keys, 15)
+        most_nodes(keys, SET_LEAF)
     }
 
     /// Returns an iterator over the keys in order. Visits one node of each level, and then each leaf once. No comparison.
@@ -293,7 +287,7 @@ impl<K: Copy> Set<K> {
     pub fn iter<'a>(&self, forest: &'a SetForest<K>) -> SetIter<'a, K>
         requires live { IsLive forest.now self.now }
         ensures keys { result ≡ elements forest.now self.now }
-        ensures ready { IsSetReadable K.row }
+        ensures fits { SetsFitInMemory K.row }
     {
         SetIter::new(self, forest)
     }
@@ -309,11 +303,10 @@ impl<K: Copy> Set<K> {
         forest: &'a SetForest<K>,
         comp: &C,
     ) -> SetRange<'a, K, C>
-        requires live { IsLive forest.now self.now }
-        requires increasing { IsIncreasing (C.order comp.now) (list_of forest.now self.now) }
+        requires { IsSearchable (C.order comp.now) forest.now self.now }
         ensures keys { result
             ≡ keys_of (entries_between (C.order comp.now) bounds.0 bounds.1 (list_of forest.now self.now)) }
-        ensures ready { IsSetReadable K.row }
+        ensures fits { SetsFitInMemory K.row }
     {
         SetRange::new(self, bounds, forest, comp)
     }
@@ -324,8 +317,7 @@ impl<K: Copy> Set<K> {
         forest: &'a mut SetForest<K>,
         comp: &'a C,
     ) -> SetCursor<'a, K, C>
-        requires live { IsLive forest.old self.old }
-        requires increasing { IsIncreasing (C.order comp.now) (list_of forest.old self.old) }
+        requires { IsSearchable (C.order comp.now) forest.old self.old }
         ensures set_loan { set_loan result ≡ self.entry.ghost_name }
         ensures forest_loan { forest_loan result ≡ forest.entry.ghost_name }
         ensures comparator { comparator result ≡ comp.now }
@@ -333,7 +325,7 @@ impl<K: Copy> Set<K> {
         ensures set { set_now result ≡ self.old }
         ensures spot { spot result ≡ length (list_of forest.old self.old) }
         ensures valid { IsCursor C.order result }
-        ensures ready { IsSetReadable K.row }
+        ensures fits { SetsFitInMemory K.row }
     {
         SetCursor::new(self, forest, comp)
     }

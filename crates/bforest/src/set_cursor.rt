@@ -1,16 +1,16 @@
 //! Cursors that read and write a set.
 ghost use Rattle.bforest.specs.Calls.{Inserts, RemovesAt};
-ghost use Rattle.bforest.specs.Forest.{IsLive, list_of};
-ghost use Rattle.bforest.specs.Memory.{IsSetReadable};
+ghost use Rattle.bforest.specs.Forest.{IsSearchable, list_of};
+ghost use Rattle.bforest.specs.Memory.{SetsFitInMemory};
 ghost use Rattle.bforest.specs.Set.{as_put, the_value};
-ghost use Rattle.bforest.specs.SetCursor.{Goes, IsCursor, Moves, comparator, forest_loan, forest_now, keys, set_loan, set_now, spot};
+ghost use Rattle.bforest.specs.SetCursor.{Goes, IsCursor, Moves, comparator, entries, forest_loan, forest_now, keys, set_loan, set_now, spot};
 ghost use Rattle.bforest_core.specs.Place.{entry_before};
-ghost use Rattle.bforest_nodes.specs.Entries.{IsIncreasing, is_present, place};
+ghost use Rattle.bforest_nodes.specs.Entries.{is_present, place};
 ghost use Rattle.std.specs.Prelude.{IsTrue, [], length, min, slice_get, ◌+◌, ◌-◌, ◌≡◌, ◌≤◌, ◌↔◌};
 
 use crate::entry::key_of;
 use crate::set::{Set, is_new};
-use crate::set_forest::SetForest;
+use crate::set_forest::{SET_LEAF, SetForest};
 use bforest_core::{Comparator, OutOfMemory, Path, SetValue};
 
 /// A cursor that reads and writes a set: it stands at a key, or at the end behind the last one. [`Set::cursor`] makes it, at the end.
@@ -22,7 +22,7 @@ pub struct SetCursor<'a, K: Copy, C: Comparator<K>> {
     set: &'a mut Set<K>,
     forest: &'a mut SetForest<K>,
     comp: &'a C,
-    path: Path<K, SetValue, 15>,
+    path: Path<K, SetValue, SET_LEAF>,
 }
 
 impl<'a, K: Copy, C: Comparator<K>> SetCursor<'a, K, C> {
@@ -32,8 +32,7 @@ impl<'a, K: Copy, C: Comparator<K>> SetCursor<'a, K, C> {
         forest: &'a mut SetForest<K>,
         comp: &'a C,
     ) -> SetCursor<'a, K, C>
-        requires live { IsLive forest.old set.old }
-        requires increasing { IsIncreasing (C.order comp.now) (list_of forest.old set.old) }
+        requires { IsSearchable (C.order comp.now) forest.old set.old }
         ensures set_loan { set_loan result ≡ set.entry.ghost_name }
         ensures forest_loan { forest_loan result ≡ forest.entry.ghost_name }
         ensures comparator { comparator result ≡ comp.now }
@@ -41,7 +40,7 @@ impl<'a, K: Copy, C: Comparator<K>> SetCursor<'a, K, C> {
         ensures set { set_now result ≡ set.old }
         ensures spot { spot result ≡ length (list_of forest.old set.old) }
         ensures valid { IsCursor C.order result }
-        ensures ready { IsSetReadable K.row }
+        ensures fits { SetsFitInMemory K.row }
     {
         SetCursor {
             set,
@@ -54,8 +53,7 @@ impl<'a, K: Copy, C: Comparator<K>> SetCursor<'a, K, C> {
     /// Returns whether the set is empty. Constant time.
     pub fn is_empty(&self) -> bool
         requires valid { IsCursor C.order self.now }
-        requires ready { IsSetReadable K.row }
-        ensures empty { IsTrue result ↔ (list_of (forest_now self.now) (set_now self.now) ≡ []) }
+        ensures empty { IsTrue result ↔ (entries self.now ≡ []) }
     {
         self.set.is_empty()
     }
@@ -64,7 +62,7 @@ impl<'a, K: Copy, C: Comparator<K>> SetCursor<'a, K, C> {
     /// no comparison.
     pub fn next(&mut self) -> Option<K>
         requires valid { IsCursor C.order self.old }
-        requires ready { IsSetReadable K.row }
+        requires fits { SetsFitInMemory K.row }
         ensures key { result ≡ slice_get (keys self.old) (spot self.old + 1) }
         ensures moves { Moves C.order self.old self.new (min (spot self.old + 1) (length (keys self.old))) }
     {
@@ -77,7 +75,7 @@ impl<'a, K: Copy, C: Comparator<K>> SetCursor<'a, K, C> {
     /// step: no comparison.
     pub fn prev(&mut self) -> Option<K>
         requires valid { IsCursor C.order self.old }
-        requires ready { IsSetReadable K.row }
+        requires fits { SetsFitInMemory K.row }
         ensures key { result ≡ entry_before (keys self.old) (spot self.old) }
         ensures moves { Moves C.order self.old self.new (spot self.old - 1) }
     {
@@ -89,7 +87,7 @@ impl<'a, K: Copy, C: Comparator<K>> SetCursor<'a, K, C> {
     /// Returns the key where the cursor stands, or `None` at the end. No comparison.
     pub fn elem(&self) -> Option<K>
         requires valid { IsCursor C.order self.now }
-        requires ready { IsSetReadable K.row }
+        requires fits { SetsFitInMemory K.row }
         ensures key { result ≡ slice_get (keys self.now) (spot self.now) }
         ensures within { spot self.now ≤ length (keys self.now) }
     {
@@ -102,11 +100,10 @@ impl<'a, K: Copy, C: Comparator<K>> SetCursor<'a, K, C> {
     /// end, and returns `false`. One search, as in [`Set::contains`].
     pub fn goto(&mut self, elem: K) -> bool
         requires valid { IsCursor C.order self.old }
-        requires ready { IsSetReadable K.row }
-        ensures present { result ≡ is_present (C.order (comparator self.old))
-            (list_of (forest_now self.old) (set_now self.old)) elem }
-        ensures moves { Moves C.order self.old self.new (place (C.order (comparator self.old))
-            (list_of (forest_now self.old) (set_now self.old)) elem) }
+        requires fits { SetsFitInMemory K.row }
+        ensures present { result ≡ is_present (C.order (comparator self.old)) (entries self.old) elem }
+        ensures moves { Moves C.order self.old self.new
+            (place (C.order (comparator self.old)) (entries self.old) elem) }
     {
         let set = &*self.set;
         let forest = &*self.forest;
@@ -120,7 +117,7 @@ impl<'a, K: Copy, C: Comparator<K>> SetCursor<'a, K, C> {
     /// comparison.
     pub fn goto_first(&mut self) -> Option<K>
         requires valid { IsCursor C.order self.old }
-        requires ready { IsSetReadable K.row }
+        requires fits { SetsFitInMemory K.row }
         ensures key { result ≡ slice_get (keys self.old) 0 }
         ensures moves { Moves C.order self.old self.new 0 }
     {
@@ -136,11 +133,11 @@ impl<'a, K: Copy, C: Comparator<K>> SetCursor<'a, K, C> {
     /// [`OutOfMemory`] where the key is absent and too few nodes are available, as in [`SetCursor::try_insert`].
     pub fn insert(&mut self, elem: K) -> Result<bool, OutOfMemory>
         requires valid { IsCursor C.order self.old }
-        requires ready { IsSetReadable K.row }
-        ensures inserted { Inserts 15 (C.order (comparator self.old)) (forest_now self.old) (set_now self.old)
-            elem the_value (as_put result) (forest_now self.new) (set_now self.new) }
-        ensures goes { Goes C.order self.old self.new (place (C.order (comparator self.old))
-            (list_of (forest_now self.old) (set_now self.old)) elem) }
+        requires fits { SetsFitInMemory K.row }
+        ensures inserted { Inserts SET_LEAF (C.order (comparator self.old)) (forest_now self.old)
+            (set_now self.old) elem the_value (as_put result) (forest_now self.new) (set_now self.new) }
+        ensures goes { Goes C.order self.old self.new
+            (place (C.order (comparator self.old)) (entries self.old) elem) }
     {
         self.try_insert(elem)
     }
@@ -156,11 +153,11 @@ impl<'a, K: Copy, C: Comparator<K>> SetCursor<'a, K, C> {
     /// key moves it.
     pub fn try_insert(&mut self, elem: K) -> Result<bool, OutOfMemory>
         requires valid { IsCursor C.order self.old }
-        requires ready { IsSetReadable K.row }
-        ensures inserted { Inserts 15 (C.order (comparator self.old)) (forest_now self.old) (set_now self.old)
-            elem the_value (as_put result) (forest_now self.new) (set_now self.new) }
-        ensures goes { Goes C.order self.old self.new (place (C.order (comparator self.old))
-            (list_of (forest_now self.old) (set_now self.old)) elem) }
+        requires fits { SetsFitInMemory K.row }
+        ensures inserted { Inserts SET_LEAF (C.order (comparator self.old)) (forest_now self.old)
+            (set_now self.old) elem the_value (as_put result) (forest_now self.new) (set_now self.new) }
+        ensures goes { Goes C.order self.old self.new
+            (place (C.order (comparator self.old)) (entries self.old) elem) }
     {
         let set = &mut *self.set;
         let forest = &mut *self.forest;
@@ -176,9 +173,9 @@ impl<'a, K: Copy, C: Comparator<K>> SetCursor<'a, K, C> {
     /// After a [`SetCursor::goto`] that found no key the cursor stands at the next greater one, which this call removes.
     pub fn remove(&mut self) -> Option<K>
         requires valid { IsCursor C.order self.old }
-        requires ready { IsSetReadable K.row }
+        requires fits { SetsFitInMemory K.row }
         ensures key { result ≡ slice_get (keys self.old) (spot self.old) }
-        ensures removed { RemovesAt 15 (forest_now self.old) (set_now self.old) (spot self.old)
+        ensures removed { RemovesAt SET_LEAF (forest_now self.old) (set_now self.old) (spot self.old)
             (forest_now self.new) (set_now self.new) }
         ensures goes { Goes C.order self.old self.new (spot self.old) }
     {

@@ -8,11 +8,14 @@ use bforest_core::SetValue;
 use bforest_trees::Trees;
 use std::alloc::Global;
 
+/// The most keys of a leaf of a set.
+pub const SET_LEAF: usize = 15;
+
 /// Many ordered sets in one table of nodes. A forest owns all keys; a [`Set`] is a handle to one tree in it.
 ///
 /// A slot of the table is the place of one node. Slots that no tree uses form the free list, from which insertions take nodes before the
 /// table grows.
-pub type SetForest<K> = Forest<K, SetValue, 15>;
+pub type SetForest<K> = Forest<K, SetValue, SET_LEAF>;
 
 impl<K: Copy> SetForest<K> {
     /// Returns an empty forest of at most 4294967295 slots, which is how many nodes 32 bits can name. No memory is taken.

@@ -1,13 +1,13 @@
 //! Iterators over a set.
 ghost use Rattle.bforest.specs.Forest.{IsLive};
-ghost use Rattle.bforest.specs.Memory.{IsSetReadable};
+ghost use Rattle.bforest.specs.Memory.{SetsFitInMemory};
 ghost use Rattle.bforest.specs.Set.{elements};
 ghost use Rattle.std.specs.Iterator.{YieldsFirst, item_count};
 ghost use Rattle.std.specs.Prelude.{◌≡◌};
 
 use crate::entry::key_of;
 use crate::set::Set;
-use crate::set_forest::SetForest;
+use crate::set_forest::{SET_LEAF, SetForest};
 use bforest_core::SetValue;
 use bforest_trees::{Reader, Trees};
 use std::marker::Model;
@@ -15,8 +15,8 @@ use std::marker::Model;
 /// An iterator over the keys of a set, in order, and then `None` for ever. [`Set::iter`] makes it. A step compares nothing.
 #[derive(Drop)]
 pub struct SetIter<'a, K: Copy> {
-    trees: &'a Trees<K, SetValue, 15>,
-    reader: Reader<'a, K, SetValue, 15>,
+    trees: &'a Trees<K, SetValue, SET_LEAF>,
+    reader: Reader<'a, K, SetValue, SET_LEAF>,
 }
 
 impl<'a, K: Copy> Model for SetIter<'a, K> {
@@ -37,7 +37,7 @@ impl<'a, K: Copy> SetIter<'a, K> {
     pub(crate) fn new(set: &Set<K>, forest: &'a SetForest<K>) -> SetIter<'a, K>
         requires { IsLive forest.now set.now }
         ensures keys { result ≡ elements forest.now set.now }
-        ensures ready { IsSetReadable K.row }
+        ensures fits { SetsFitInMemory K.row }
     {
         let trees = &forest.trees;
         SetIter {
@@ -48,11 +48,11 @@ impl<'a, K: Copy> SetIter<'a, K> {
 }
 
 impl<'a, K: Copy> Iterator for SetIter<'a, K> {
-    ghost use Rattle.bforest.specs.Memory.{IsSetReadable};
+    ghost use Rattle.bforest.specs.Memory.{SetsFitInMemory};
 
     type Item = K;
 
-    ghost can_next = { λ _. IsSetReadable K.row };
+    ghost can_next = { λ _. SetsFitInMemory K.row };
 
     ghost next_gives = { YieldsFirst (λ keys. keys) };
 

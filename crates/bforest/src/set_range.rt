@@ -1,15 +1,14 @@
 //! The keys of a set within bounds.
 ghost use Rattle.bforest.specs.Bounds.{entries_between};
-ghost use Rattle.bforest.specs.Forest.{IsLive, list_of};
-ghost use Rattle.bforest.specs.Memory.{IsSetReadable};
-ghost use Rattle.bforest_nodes.specs.Entries.{IsIncreasing};
+ghost use Rattle.bforest.specs.Forest.{IsSearchable, list_of};
+ghost use Rattle.bforest.specs.Memory.{SetsFitInMemory};
 ghost use Rattle.std.specs.Map.{keys_of};
 ghost use Rattle.std.specs.Iterator.{YieldsFirst, YieldsLast, item_count};
 ghost use Rattle.std.specs.Prelude.{◌≡◌};
 
 use crate::entry::key_of;
 use crate::set::Set;
-use crate::set_forest::SetForest;
+use crate::set_forest::{SET_LEAF, SetForest};
 use bforest_core::{Comparator, PackedNode, SetValue};
 use bforest_trees::{Ends, Trees};
 use std::marker::{Model, PhantomData};
@@ -19,7 +18,7 @@ use std::ops::Bound;
 /// it. A step compares nothing.
 #[derive(Drop)]
 pub struct SetRange<'a, K: Copy, C: Comparator<K>> {
-    trees: &'a Trees<K, SetValue, 15>,
+    trees: &'a Trees<K, SetValue, SET_LEAF>,
     root: PackedNode,
     ends: Ends<'a, K, SetValue>,
     mark: PhantomData<C>,
@@ -45,11 +44,10 @@ impl<'a, K: Copy, C: Comparator<K>> SetRange<'a, K, C> {
         forest: &'a SetForest<K>,
         comp: &C,
     ) -> SetRange<'a, K, C>
-        requires live { IsLive forest.now set.now }
-        requires increasing { IsIncreasing (C.order comp.now) (list_of forest.now set.now) }
+        requires { IsSearchable (C.order comp.now) forest.now set.now }
         ensures keys { result
             ≡ keys_of (entries_between (C.order comp.now) bounds.0 bounds.1 (list_of forest.now set.now)) }
-        ensures ready { IsSetReadable K.row }
+        ensures fits { SetsFitInMemory K.row }
     {
         let trees = &forest.trees;
         SetRange {
@@ -64,7 +62,7 @@ impl<'a, K: Copy, C: Comparator<K>> SetRange<'a, K, C> {
 impl<'a, K: Copy, C: Comparator<K>> Iterator for SetRange<'a, K, C> {
     type Item = K;
 
-    ghost can_next = { λ _. IsSetReadable K.row };
+    ghost can_next = { λ _. SetsFitInMemory K.row };
 
     ghost next_gives = { YieldsFirst (λ keys. keys) };
 
@@ -77,7 +75,7 @@ impl<'a, K: Copy, C: Comparator<K>> Iterator for SetRange<'a, K, C> {
 }
 
 impl<'a, K: Copy, C: Comparator<K>> DoubleEndedIterator for SetRange<'a, K, C> {
-    ghost can_next_back = { λ _. IsSetReadable K.row };
+    ghost can_next_back = { λ _. SetsFitInMemory K.row };
 
     ghost next_back_gives = { YieldsLast (λ keys. keys) };
 

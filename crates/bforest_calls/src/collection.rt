@@ -34,23 +34,23 @@ pub trait Collection<K: Copy, V: Copy>: Drop {
     ghost most: { ℕ };
 
     // What the calls ask of the sizes of types.
-    ghost ready: { Type 0 };
+    ghost fits: { Type 0 };
 
     /// Whether the handle is live.
     fn is_live(&self, forest: &Self::Forest) -> bool
-        requires ready { ready }
+        requires fits { fits }
         ensures live { IsTrue result ↔ IsLive (trees forest.now) (number self.now) };
 
     /// Whether the list strictly increases under a comparator.
     fn increases<C: Comparator<K>>(&self, forest: &Self::Forest, comp: &C) -> bool
-        requires ready { ready }
+        requires fits { fits }
         requires live { IsLive (trees forest.now) (number self.now) }
         ensures increasing { IsTrue result
             ↔ IsIncreasing (C.order comp.now) (list_of (trees forest.now) (number self.now)) };
 
     /// The value of a key.
     fn get<C: Comparator<K>>(&self, key: K, forest: &Self::Forest, comp: &C) -> Option<V>
-        requires ready { ready }
+        requires fits { fits }
         requires live { IsLive (trees forest.now) (number self.now) }
         requires increasing { IsIncreasing (C.order comp.now) (list_of (trees forest.now) (number self.now)) }
         ensures value { result
@@ -63,7 +63,7 @@ pub trait Collection<K: Copy, V: Copy>: Drop {
         forest: &Self::Forest,
         comp: &C,
     ) -> Option<(K, V)>
-        requires ready { ready }
+        requires fits { fits }
         requires live { IsLive (trees forest.now) (number self.now) }
         requires increasing { IsIncreasing (C.order comp.now) (list_of (trees forest.now) (number self.now)) }
         ensures entry { result
@@ -71,7 +71,7 @@ pub trait Collection<K: Copy, V: Copy>: Drop {
 
     /// All entries, by an iterator.
     fn entries(&self, alloc: Global, forest: &Self::Forest) -> Result<Vec<(K, V)>, AllocError>
-        requires ready { ready }
+        requires fits { fits }
         requires live { IsLive (trees forest.now) (number self.now) }
         ensures entries { IfOk result (λ entries.
             entries.items ≡ list_of (trees forest.now) (number self.now)) };
@@ -84,7 +84,7 @@ pub trait Collection<K: Copy, V: Copy>: Drop {
         forest: &Self::Forest,
         comp: &C,
     ) -> Result<Vec<Seen<K, V>>, AllocError>
-        requires ready { ready }
+        requires fits { fits }
         requires offered { READS ≡ true }
         requires live { IsLive (trees forest.now) (number self.now) }
         requires increasing { IsIncreasing (C.order comp.now) (list_of (trees forest.now) (number self.now)) }
@@ -101,7 +101,7 @@ pub trait Collection<K: Copy, V: Copy>: Drop {
         forest: &Self::Forest,
         comp: &C,
     ) -> Result<Vec<Seen<K, V>>, AllocError>
-        requires ready { ready }
+        requires fits { fits }
         requires live { IsLive (trees forest.now) (number self.now) }
         requires increasing { IsIncreasing (C.order comp.now) (list_of (trees forest.now) (number self.now)) }
         ensures sights { IfOk result (λ sights. sights.items ≡ all_taken (entries_between (C.order comp.now)
@@ -115,7 +115,7 @@ pub trait Collection<K: Copy, V: Copy>: Drop {
         forest: &mut Self::Forest,
         comp: &C,
     ) -> Result<Option<V>, OutOfMemory>
-        requires ready { ready }
+        requires fits { fits }
         requires live { IsLive (trees forest.old) (number self.old) }
         requires increasing { IsIncreasing (C.order comp.now) (list_of (trees forest.old) (number self.old)) }
         ensures inserts { Inserts most (C.order comp.now) (trees forest.old) (number self.old) key value
@@ -123,7 +123,7 @@ pub trait Collection<K: Copy, V: Copy>: Drop {
 
     /// Removes a key.
     fn remove<C: Comparator<K>>(&mut self, key: K, forest: &mut Self::Forest, comp: &C) -> Option<V>
-        requires ready { ready }
+        requires fits { fits }
         requires live { IsLive (trees forest.old) (number self.old) }
         requires increasing { IsIncreasing (C.order comp.now) (list_of (trees forest.old) (number self.old)) }
         ensures removes { Removes most (C.order comp.now) (trees forest.old) (number self.old) key
@@ -137,7 +137,7 @@ pub trait Collection<K: Copy, V: Copy>: Drop {
         forest: &mut Self::Forest,
         comp: &C,
     ) -> Result<Vec<Seen<K, V>>, AllocError>
-        requires ready { ready }
+        requires fits { fits }
         requires live { IsLive (trees forest.old) (number self.old) }
         requires increasing { IsIncreasing (C.order comp.now) (list_of (trees forest.old) (number self.old)) }
         ensures edits { IfOk result (λ sights. Edits most (C.order comp.now) steps.now sights.items
@@ -154,7 +154,7 @@ pub trait Collection<K: Copy, V: Copy>: Drop {
         forest: &mut Self::Forest,
         comp: &C,
     )
-        requires ready { ready }
+        requires fits { fits }
         requires live { IsLive (trees forest.old) (number self.old) }
         ensures retained { Retained most (C.order comp.now) keys.now put
             (record { forest = trees forest.old; number = number self.old })
@@ -162,7 +162,7 @@ pub trait Collection<K: Copy, V: Copy>: Drop {
 
     /// Removes all entries.
     fn clear(&mut self, forest: &mut Self::Forest)
-        requires ready { ready }
+        requires fits { fits }
         requires live { IsLive (trees forest.old) (number self.old) }
         ensures clears { Clears (trees forest.old) (number self.old) (trees forest.new) (number self.new) };
 
@@ -172,7 +172,7 @@ pub trait Collection<K: Copy, V: Copy>: Drop {
 
     /// Removes all trees of a forest.
     fn clear_all(forest: &mut Self::Forest)
-        requires ready { ready }
+        requires fits { fits }
         ensures empty { trees forest.new ≡ empty (limit_of (trees forest.old)) };
 
     ghost odd: { most % 2 ≡ 1 };

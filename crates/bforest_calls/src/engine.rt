@@ -24,7 +24,7 @@ pub fn make<K: Copy, V: Copy, C: Comparator<K>, T: Collection<K, V>>(
     handles: &mut [T],
     forest: &mut T::Forest,
 ) -> Result<Answer<K, V>, AllocError>
-    requires ready { T.ready }
+    requires fits { T.fits }
     ensures step { IfOk result (λ given. Step T.most T.READS (map C.order comps.now)
         (record { forest = T.trees forest.old; handles = T.numbers handles.old }) call.now given
         (record { forest = T.trees forest.new; handles = T.numbers handles.new })) }
@@ -63,7 +63,7 @@ fn unnamed<K: Copy, V: Copy, T: Collection<K, V>>(
     handles: &[T],
     forest: &T::Forest,
 ) -> Option<Answer<K, V>>
-    requires ready { T.ready }
+    requires fits { T.fits }
     ensures made { result ≡ None → (h < length (T.numbers handles.now))
         × Live (record { forest = T.trees forest.now; handles = T.numbers handles.now }) h }
     ensures refused { IfSome result (Refuses (h < length (T.numbers handles.now))
@@ -88,7 +88,7 @@ fn compare<K: Copy, V: Copy, C: Comparator<K>, T: Collection<K, V>>(
     handles: &mut [T],
     forest: &mut T::Forest,
 ) -> Result<Answer<K, V>, AllocError>
-    requires ready { T.ready }
+    requires fits { T.fits }
     requires compares { IsComparing T.READS h c call.now }
     ensures step { IfOk result (λ given. Step T.most T.READS (map C.order comps.now)
         (record { forest = T.trees forest.old; handles = T.numbers handles.old }) call.now given
@@ -118,7 +118,7 @@ fn compare_in<K: Copy, V: Copy, C: Comparator<K>, T: Collection<K, V>>(
     forest: &mut T::Forest,
     comp: &C,
 ) -> Result<Answer<K, V>, AllocError>
-    requires ready { T.ready }
+    requires fits { T.fits }
     requires compares { (h : ℕ) × (c : ℕ) × IsComparing T.READS h c call.now }
     requires live { IsLive (T.trees forest.old) (T.number handle.old) }
     requires increasing { IsIncreasing (C.order comp.now)
@@ -181,7 +181,7 @@ fn retain<K: Copy, V: Copy, C: Comparator<K>, T: Collection<K, V>>(
     handles: &mut [T],
     forest: &mut T::Forest,
 ) -> Answer<K, V>
-    requires ready { T.ready }
+    requires fits { T.fits }
     ensures { Step T.most T.READS (map C.order comps.now)
         (record { forest = T.trees forest.old; handles = T.numbers handles.old }) (call.Retain h c keys.now put)
         result (record { forest = T.trees forest.new; handles = T.numbers handles.new }) }
@@ -201,7 +201,7 @@ fn clear<K: Copy, V: Copy, T: Collection<K, V>>(
     handles: &mut [T],
     forest: &mut T::Forest,
 ) -> Answer<K, V>
-    requires ready { T.ready }
+    requires fits { T.fits }
     ensures { (orders : _) → Step T.most T.READS orders
         (record { forest = T.trees forest.old; handles = T.numbers handles.old }) (call.Clear h) result
         (record { forest = T.trees forest.new; handles = T.numbers handles.new }) }
@@ -219,7 +219,7 @@ fn iter<K: Copy, V: Copy, T: Collection<K, V>>(
     handles: &[T],
     forest: &T::Forest,
 ) -> Result<Answer<K, V>, AllocError>
-    requires ready { T.ready }
+    requires fits { T.fits }
     ensures { (orders : _) → IfOk result (λ given. Step T.most T.READS orders
         (record { forest = T.trees forest.now; handles = T.numbers handles.now }) (call.Iter h) given
         (record { forest = T.trees forest.now; handles = T.numbers handles.now })) }

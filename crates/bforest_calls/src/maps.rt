@@ -2,7 +2,7 @@
 ghost use Rattle.bforest.specs.Bounds.{entries_between};
 ghost use Rattle.bforest.specs.Cursor.{Goes, IsCursor, entries, forest_now, map_now, spot};
 ghost use Rattle.bforest.specs.Forest.{IsLive, list_of};
-ghost use Rattle.bforest.specs.Memory.{IsReadable};
+ghost use Rattle.bforest.specs.Memory.{MapsFitInMemory};
 ghost use Rattle.bforest_calls.specs.Looks.{all_taken};
 ghost use Rattle.bforest_calls.specs.Machine.{MayStopAt, Run};
 ghost use Rattle.bforest_calls.specs.State.{Retained, WritesAt, is_listed};
@@ -63,7 +63,7 @@ impl<K: Copy, V: Copy> Collection<K, V> for Map<K, V> {
 
     ghost most = { 7 };
 
-    ghost ready = { IsReadable K.row V.row };
+    ghost fits = { MapsFitInMemory K.row V.row };
 
     fn is_live(&self, forest: &MapForest<K, V>) -> bool {
         forest.holds(self)
@@ -109,7 +109,7 @@ impl<K: Copy, V: Copy> Collection<K, V> for Map<K, V> {
         forest: &MapForest<K, V>,
         comp: &C,
     ) -> Result<Vec<Seen<K, V>>, AllocError>
-        requires ready { IsReadable K.row V.row }
+        requires fits { MapsFitInMemory K.row V.row }
         requires live { IsLive forest.now self.now }
         requires increasing { IsIncreasing (C.order comp.now) (list_of forest.now self.now) }
         ensures sights { IfOk result (λ sights. sights.items ≡ all_taken (entries_between (C.order comp.now)
@@ -156,7 +156,7 @@ impl<K: Copy, V: Copy> Collection<K, V> for Map<K, V> {
         forest: &mut MapForest<K, V>,
         comp: &C,
     )
-        requires ready { IsReadable K.row V.row }
+        requires fits { MapsFitInMemory K.row V.row }
         requires live { IsLive forest.old self.old }
         ensures retained { Retained 7 (C.order comp.now) keys.now put
             (record { forest = forest.old; number = self.old })
@@ -205,7 +205,7 @@ fn keeps<K: Copy, V: Copy, C: Comparator<K>>(
 }
 
 impl<K: Copy, V: Copy, C: Comparator<K>> Steps<Look<K>, K, V> for MapCursor<'_, K, V, C> {
-    ghost ready = { λ _. IsReadable K.row V.row };
+    ghost ready = { λ _. MapsFitInMemory K.row V.row };
 
     ghost goes = { LooksBy C.order };
 
@@ -230,7 +230,7 @@ impl<K: Copy, V: Copy, C: Comparator<K>> Steps<Look<K>, K, V> for MapCursor<'_, 
 }
 
 impl<K: Copy, V: Copy, C: Comparator<K>> Steps<Act<K, V>, K, V> for MapCursorMut<'_, K, V, C> {
-    ghost ready = { λ cursor. IsCursor C.order cursor × IsReadable K.row V.row };
+    ghost ready = { λ cursor. IsCursor C.order cursor × MapsFitInMemory K.row V.row };
 
     ghost goes = { ActsBy 7 (map_view C.order) };
 
@@ -260,7 +260,7 @@ impl<K: Copy, V: Copy, C: Comparator<K>> Steps<Act<K, V>, K, V> for MapCursorMut
 /// Writes the value at a cursor's place, and returns whether an entry is there.
 fn write<K: Copy, V: Copy, C: Comparator<K>>(cursor: &mut MapCursorMut<'_, K, V, C>, v: V) -> bool
     requires valid { IsCursor C.order cursor.old }
-    requires ready { IsReadable K.row V.row }
+    requires fits { MapsFitInMemory K.row V.row }
     ensures there { result ≡ is_some (slice_get (entries cursor.old) (spot cursor.old)) }
     ensures writes { WritesAt (record { forest = forest_now cursor.old; number = map_now cursor.old })
         (spot cursor.old) v (record { forest = forest_now cursor.new; number = map_now cursor.new }) }
@@ -276,7 +276,7 @@ fn write<K: Copy, V: Copy, C: Comparator<K>>(cursor: &mut MapCursorMut<'_, K, V,
 }
 
 impl<K: Copy, V: Copy, C: Comparator<K>> Steps<Side, K, V> for MapRange<'_, K, V, C> {
-    ghost ready = { λ _. IsReadable K.row V.row };
+    ghost ready = { λ _. MapsFitInMemory K.row V.row };
 
     ghost goes = { TakesFrom (λ entries. entries) };
 

@@ -16,7 +16,7 @@ pub(crate) fn run<K: Copy, V: Copy, C: Comparator<K>, T: Collection<K, V>>(
     handles: &mut [T],
     forest: &mut T::Forest,
 ) -> Result<Vec<Answer<K, V>>, AllocError>
-    requires ready { T.ready }
+    requires fits { T.fits }
     ensures run { IfOk result (λ answers. Run T.most T.READS (map C.order comps.now)
         (record { forest = T.trees forest.old; handles = T.numbers handles.old }) calls.now answers.items
         (record { forest = T.trees forest.new; handles = T.numbers handles.new })) }

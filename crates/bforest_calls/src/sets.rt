@@ -1,7 +1,7 @@
 //! Lists of calls on sets, and sets as the engine asks for them: the value of a key is the unit.
 ghost use Rattle.bforest.specs.Bounds.{entries_between};
 ghost use Rattle.bforest.specs.Forest.{IsLive, list_of};
-ghost use Rattle.bforest.specs.Memory.{IsSetReadable};
+ghost use Rattle.bforest.specs.Memory.{SetsFitInMemory};
 ghost use Rattle.bforest.specs.Set.{as_put, as_removed};
 ghost use Rattle.bforest.specs.SetCursor.{IsCursor};
 ghost use Rattle.bforest_calls.specs.Looks.{all_taken, with_each};
@@ -65,7 +65,7 @@ impl<K: Copy> Collection<K, ()> for Set<K> {
 
     ghost most = { 15 };
 
-    ghost ready = { IsSetReadable K.row };
+    ghost fits = { SetsFitInMemory K.row };
 
     fn is_live(&self, forest: &SetForest<K>) -> bool {
         forest.holds(self)
@@ -114,7 +114,7 @@ impl<K: Copy> Collection<K, ()> for Set<K> {
         forest: &SetForest<K>,
         comp: &C,
     ) -> Result<Vec<Seen<K, ()>>, AllocError>
-        requires ready { IsSetReadable K.row }
+        requires fits { SetsFitInMemory K.row }
         requires live { IsLive forest.now self.now }
         requires increasing { IsIncreasing (C.order comp.now) (list_of forest.now self.now) }
         ensures sights { IfOk result (λ sights. sights.items ≡ all_taken (entries_between (C.order comp.now)
@@ -161,7 +161,7 @@ impl<K: Copy> Collection<K, ()> for Set<K> {
         forest: &mut SetForest<K>,
         comp: &C,
     )
-        requires ready { IsSetReadable K.row }
+        requires fits { SetsFitInMemory K.row }
         requires live { IsLive forest.old self.old }
         ensures retained { Retained 15 (C.order comp.now) keys.now _put
             (record { forest = forest.old; number = self.old })
@@ -227,7 +227,7 @@ fn old_unit(put: Result<bool, OutOfMemory>) -> Result<Option<()>, OutOfMemory>
 }
 
 impl<K: Copy, C: Comparator<K>> Steps<Act<K, ()>, K, ()> for SetCursor<'_, K, C> {
-    ghost ready = { λ cursor. IsCursor C.order cursor × IsSetReadable K.row };
+    ghost ready = { λ cursor. IsCursor C.order cursor × SetsFitInMemory K.row };
 
     ghost goes = { ActsBy 15 (set_view C.order) };
 
@@ -248,7 +248,7 @@ impl<K: Copy, C: Comparator<K>> Steps<Act<K, ()>, K, ()> for SetCursor<'_, K, C>
 }
 
 impl<K: Copy, C: Comparator<K>> Steps<Side, K, ()> for SetRange<'_, K, C> {
-    ghost ready = { λ _. IsSetReadable K.row };
+    ghost ready = { λ _. SetsFitInMemory K.row };
 
     ghost goes = { TakesFrom with_each };
 

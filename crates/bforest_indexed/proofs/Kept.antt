@@ -3,7 +3,7 @@ use Rattle.bforest.proofs.Balances.{clears-balance, filters-balance, inserts-bal
 use Rattle.bforest.specs.Bounds.{entries_between, entry_at_least, entry_at_most}
 use Rattle.bforest.specs.Calls.{Clears, Filters, GetsOrInserts, Inserts, Pops, Removes, Reserves}
 use Rattle.bforest.specs.Entries.{IsIncreasing, is_present, value_for}
-use Rattle.bforest.specs.Forest.{Becomes, Forest, Gives, IsFitFor, IsLive, empty, free_of, limit_of, list_at, list_of, sizes_of, slots_of}
+use Rattle.bforest.specs.Forest.{Becomes, Forest, Gives, IsFitFor, IsLive, IsSearchable, empty, free_of, limit_of, list_at, list_of, sizes_of, slots_of}
 use Rattle.bforest.specs.Refusal.{Full, OutOfMemory}
 use Rattle.bforest.specs.Retain.{MayAskEach, Retains}
 use Rattle.bforest.specs.Room.{Balances, node_count}
@@ -256,8 +256,8 @@ module _ {K X C : Type 0} where
     increasing-read : IsIncreasing cmp (list_of (table m) h)
     increasing-read = subst (λ (q : Option ℕ). IsIncreasing cmp (list_of (table m) q)) (sym read) (a.increasing i)
 
-    pub ordered-read : IsLive (table m) h × IsIncreasing cmp (list_of (table m) h)
-    ordered-read = (live-read, increasing-read)
+    pub ordered-read : IsSearchable cmp (table m) h
+    ordered-read = record { live = live-read; increasing = increasing-read }
 
     pub cleared-at : {f' : Forest K X} {h' : Option ℕ} → Clears (table m) h f' h' → AreKept most cmp (with_tree m i f' h') × ClearsAt m i (with_tree m i f' h')
     cleared-at {f'} {h'} given = let call = subst (λ (q : Option ℕ). Clears (table m) q f' h') read given in (

@@ -1,8 +1,9 @@
 //! Work on one map by a writing cursor.
 ghost use Rattle.bforest.specs.Cursor.{IsCursor, entries};
 ghost use Rattle.bforest.specs.Entries.{IsIncreasing};
-ghost use Rattle.bforest.specs.Forest.{IsLive, list_of};
-ghost use Rattle.bforest.specs.Memory.{IsReadable};
+ghost use Rattle.bforest.specs.Forest.{IsSearchable, list_of};
+ghost use Rattle.bforest.specs.Memory.{MapsFitInMemory};
+ghost use Rattle.bforest.specs.declared.map_forest.TheConstants.{MAP_LEAF};
 ghost use Rattle.bforest_indexed.specs.Edits.{Edits, Leaves};
 ghost use Rattle.std.specs.Prelude.{List};
 
@@ -22,8 +23,8 @@ pub trait Edit<K: Copy, V: Copy, C: Comparator<K>>: Drop {
     /// Does the work. The cursor stands at the end, behind the last entry.
     fn edit(self, cursor: &mut MapCursorMut<K, V, C>) -> Self::Answer
         requires valid { IsCursor C.order cursor.old }
-        requires ready { IsReadable K.row V.row }
-        ensures edits { Edits 7 C.order cursor.old cursor.new }
+        requires fits { MapsFitInMemory K.row V.row }
+        ensures edits { Edits MAP_LEAF C.order cursor.old cursor.new }
         ensures leaves { leaves self (entries cursor.old) result (entries cursor.new) };
 }
 
@@ -34,10 +35,9 @@ pub(crate) fn lend<K: Copy, V: Copy, C: Comparator<K>, E: Edit<K, V, C>>(
     order: &C,
     edit: E,
 ) -> E::Answer
-    requires live { IsLive forest.old map.old }
-    requires increasing { IsIncreasing (C.order order.now) (list_of forest.old map.old) }
+    requires { IsSearchable (C.order order.now) forest.old map.old }
     ensures answer { E.leaves edit (list_of forest.old map.old) result (list_of forest.new map.new) }
-    ensures leaves { Leaves 7 forest.old map.old forest.new map.new }
+    ensures leaves { Leaves MAP_LEAF forest.old map.old forest.new map.new }
     ensures increasing { IsIncreasing (C.order order.now) (list_of forest.new map.new) }
 {
     let mut cursor = map.cursor_mut(forest, order);

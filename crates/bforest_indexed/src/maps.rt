@@ -3,12 +3,13 @@ ghost use Rattle.bforest.specs.Bounds.{entries_between, entry_at_least, entry_at
 ghost use Rattle.bforest.specs.Calls.{Reserves};
 ghost use Rattle.bforest.specs.Entries.{value_for};
 ghost use Rattle.bforest.specs.Forest.{IsFitFor, empty, first_level, free_of, limit_of, slots_of};
-ghost use Rattle.bforest.specs.Memory.{IsReadable};
+ghost use Rattle.bforest.specs.Memory.{MapsFitInMemory};
 ghost use Rattle.bforest.specs.Retain.{Answers, MayAsk, MayAskEach};
 ghost use Rattle.bforest_indexed.specs.Edits.{EditsAt};
 ghost use Rattle.bforest_indexed.specs.Indexed.{ReservesFor};
 ghost use Rattle.bforest_indexed.specs.Indexed.{ClearsAll, ClearsAt, FiltersAt, GetsOrInsertsAt, InsertsAt};
 ghost use Rattle.bforest_indexed.specs.Indexed.{KeepsAll, PopsAt, RemovesAt, Swaps};
+ghost use Rattle.bforest.specs.declared.map_forest.TheConstants.{MAP_LEAF};
 ghost use Rattle.bforest_indexed.specs.Indexed.{comparator, count, entries, node_sizes, nodes_in_use, table};
 ghost use Rattle.std.specs.Prelude.{IfOk, IsTrue, OnErr, OnOk, length, slice_get, ◌+◌, ◌-◌, ◌/◌, ◌<◌, ◌^◌, ◌↔◌, ◌≡◌, ◌≤◌, ℕ};
 
@@ -32,13 +33,14 @@ pub struct Maps<K: Copy, V: Copy, C: Comparator<K>> {
 }
 
 impl<K: Copy, V: Copy, C: Comparator<K>> Model for Maps<K, V, C> {
+    ghost use Rattle.bforest.specs.declared.map_forest.TheConstants.{MAP_LEAF};
     ghost use Rattle.bforest_indexed.specs.Indexed.{AreKept, Indexed};
 
     ghost Value = { Indexed K V C };
 
     ghost view = { λ m. record { forest = m.forest; order = m.order; handles = m.maps.items } };
 
-    ghost invariant = { λ m. AreKept 7 (C.order m.order)
+    ghost invariant = { λ m. AreKept MAP_LEAF (C.order m.order)
         (record { forest = m.forest; order = m.order; handles = m.maps.items }) };
 }
 
@@ -181,7 +183,8 @@ impl<K: Copy, V: Copy, C: Comparator<K>> Maps<K, V, C> {
     /// room for the maps as they are then, by [`Maps::reserve_for`].
     pub fn insert(&mut self, index: usize, key: K, value: V) -> Result<Option<V>, OutOfMemory>
         requires within { index < count self.old }
-        ensures { InsertsAt 7 (C.order (comparator self.old)) self.old index key value result self.new }
+        ensures { InsertsAt MAP_LEAF (C.order (comparator self.old)) self.old index key value result
+            self.new }
     {
         self.maps[index].insert(key, value, &mut self.forest, &self.order)
     }
@@ -190,7 +193,7 @@ impl<K: Copy, V: Copy, C: Comparator<K>> Maps<K, V, C> {
     /// no memory is taken.
     pub fn remove(&mut self, index: usize, key: K) -> Option<V>
         requires within { index < count self.old }
-        ensures { RemovesAt 7 (C.order (comparator self.old)) self.old index key result self.new }
+        ensures { RemovesAt MAP_LEAF (C.order (comparator self.old)) self.old index key result self.new }
     {
         self.maps[index].remove(key, &mut self.forest, &self.order)
     }
@@ -202,7 +205,8 @@ impl<K: Copy, V: Copy, C: Comparator<K>> Maps<K, V, C> {
     /// Those of [`Maps::insert`].
     pub fn try_insert(&mut self, index: usize, key: K, value: V) -> Result<Option<V>, OutOfMemory>
         requires within { index < count self.old }
-        ensures { InsertsAt 7 (C.order (comparator self.old)) self.old index key value result self.new }
+        ensures { InsertsAt MAP_LEAF (C.order (comparator self.old)) self.old index key value result
+            self.new }
     {
         self.insert(index, key, value)
     }
@@ -215,7 +219,8 @@ impl<K: Copy, V: Copy, C: Comparator<K>> Maps<K, V, C> {
     /// Those of [`Maps::insert`], where the key is absent; nothing has changed then.
     pub fn get_or_insert(&mut self, index: usize, key: K, value: V) -> Result<V, OutOfMemory>
         requires within { index < count self.old }
-        ensures { GetsOrInsertsAt 7 (C.order (comparator self.old)) self.old index key value result self.new }
+        ensures { GetsOrInsertsAt MAP_LEAF (C.order (comparator self.old)) self.old index key value result
+            self.new }
     {
         self.maps[index].get_or_insert(key, value, &mut self.forest, &self.order)
     }
@@ -224,7 +229,7 @@ impl<K: Copy, V: Copy, C: Comparator<K>> Maps<K, V, C> {
     /// memory is taken.
     pub fn pop_first(&mut self, index: usize) -> Option<(K, V)>
         requires within { index < count self.old }
-        ensures { PopsAt 7 self.old index 0 result self.new }
+        ensures { PopsAt MAP_LEAF self.old index 0 result self.new }
     {
         self.maps[index].pop_first(&mut self.forest)
     }
@@ -233,7 +238,7 @@ impl<K: Copy, V: Copy, C: Comparator<K>> Maps<K, V, C> {
     /// memory is taken.
     pub fn pop_last(&mut self, index: usize) -> Option<(K, V)>
         requires within { index < count self.old }
-        ensures { PopsAt 7 self.old index (length (entries self.old index) - 1) result self.new }
+        ensures { PopsAt MAP_LEAF self.old index (length (entries self.old index) - 1) result self.new }
     {
         self.maps[index].pop_last(&mut self.forest)
     }
@@ -251,7 +256,7 @@ impl<K: Copy, V: Copy, C: Comparator<K>> Maps<K, V, C> {
     pub fn retain<F: FnMut(K, &mut V) -> bool>(&mut self, index: usize, predicate: F)
         requires within { index < count self.old }
         requires callable { MayAskEach (Answers F.FnMut) (MayAsk F.FnMut) predicate (entries self.old index) }
-        ensures { FiltersAt 7 (Answers F.FnMut) predicate self.old index self.new }
+        ensures { FiltersAt MAP_LEAF (Answers F.FnMut) predicate self.old index self.new }
     {
         self.maps[index].retain(&mut self.forest, predicate);
     }
@@ -273,7 +278,7 @@ impl<K: Copy, V: Copy, C: Comparator<K>> Maps<K, V, C> {
     pub fn iter(&self, index: usize) -> MapIter<'_, K, V>
         requires within { index < count self.now }
         ensures entries { result ≡ entries self.now index }
-        ensures ready { IsReadable K.row V.row }
+        ensures fits { MapsFitInMemory K.row V.row }
     {
         self.maps[index].iter(&self.forest)
     }
@@ -284,7 +289,7 @@ impl<K: Copy, V: Copy, C: Comparator<K>> Maps<K, V, C> {
         requires within { index < count self.now }
         ensures entries { result ≡ entries_between (C.order (comparator self.now)) bounds.0 bounds.1
             (entries self.now index) }
-        ensures ready { IsReadable K.row V.row }
+        ensures fits { MapsFitInMemory K.row V.row }
     {
         self.maps[index].range(bounds, &self.forest, &self.order)
     }
@@ -295,7 +300,7 @@ impl<K: Copy, V: Copy, C: Comparator<K>> Maps<K, V, C> {
         ensures entries { result.entries ≡ entries self.now index }
         ensures spot { result.spot ≡ length (entries self.now index) }
         ensures comparator { result.comparator ≡ comparator self.now }
-        ensures ready { IsReadable K.row V.row }
+        ensures fits { MapsFitInMemory K.row V.row }
     {
         self.maps[index].cursor(&self.forest, &self.order)
     }
@@ -314,7 +319,7 @@ impl<K: Copy, V: Copy, C: Comparator<K>> Maps<K, V, C> {
         ensures count { result ≡ slots_of (table self.now) }
         ensures within { slots_of (table self.now) ≤ limit_of (table self.now) }
         ensures account { slots_of (table self.now) ≡ free_of (table self.now) + nodes_in_use self.now }
-        ensures fit { (i : ℕ) → IsFitFor 7 (length (entries self.now i)) (node_sizes self.now i) }
+        ensures fit { (i : ℕ) → IsFitFor MAP_LEAF (length (entries self.now i)) (node_sizes self.now i) }
     {
         self.forest.slots()
     }
@@ -359,7 +364,7 @@ impl<K: Copy, V: Copy, C: Comparator<K>> Maps<K, V, C> {
     /// [`OutOfMemory::Full`] where the limit does not allow so many slots, which is tested first, and [`OutOfMemory::Memory`] where memory
     /// was refused; no map and no slot has changed then.
     pub fn reserve_for(&mut self, maps: usize, entries: usize) -> Result<(), OutOfMemory>
-        ensures { ReservesFor 7 maps entries self.old result self.new }
+        ensures { ReservesFor MAP_LEAF maps entries self.old result self.new }
     {
         let used = self.used_slots();
         let most = Map::<K, V>::nodes_for(entries);

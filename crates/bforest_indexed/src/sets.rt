@@ -3,11 +3,12 @@ ghost use Rattle.bforest.specs.Bounds.{entries_between, entry_at_least, entry_at
 ghost use Rattle.bforest.specs.Calls.{Reserves};
 ghost use Rattle.bforest.specs.Entries.{is_present};
 ghost use Rattle.bforest.specs.Forest.{IsFitFor, empty, first_level, free_of, limit_of, slots_of};
-ghost use Rattle.bforest.specs.Memory.{IsSetReadable};
+ghost use Rattle.bforest.specs.Memory.{SetsFitInMemory};
 ghost use Rattle.bforest.specs.Retain.{MayAskEach};
 ghost use Rattle.bforest.specs.Set.{AnswersKey, MayAskKey, as_popped, as_put, as_removed, the_value};
 ghost use Rattle.bforest_indexed.specs.Indexed.{ReservesFor};
 ghost use Rattle.bforest_indexed.specs.Indexed.{ClearsAll, ClearsAt, FiltersAt, InsertsAt, KeepsAll, PopsAt, RemovesAt, Swaps};
+ghost use Rattle.bforest.specs.declared.set_forest.TheConstants.{SET_LEAF};
 ghost use Rattle.bforest_indexed.specs.Indexed.{comparator, count, entries, keys, node_sizes, nodes_in_use, table};
 ghost use Rattle.std.specs.Map.{keys_of};
 ghost use Rattle.std.specs.Prelude.{IfOk, IsTrue, OnErr, OnOk, length, option_map, slice_get, ◌*◌, ◌+◌, ◌-◌, ◌/◌, ◌<◌, ◌^◌, ◌↔◌, ◌≡◌, ◌≤◌, ℕ};
@@ -31,13 +32,14 @@ pub struct Sets<K: Copy, C: Comparator<K>> {
 }
 
 impl<K: Copy, C: Comparator<K>> Model for Sets<K, C> {
+    ghost use Rattle.bforest.specs.declared.set_forest.TheConstants.{SET_LEAF};
     ghost use Rattle.bforest_indexed.specs.Indexed.{AreKept, Indexed};
 
     ghost Value = { Indexed K (Unit {0}) C };
 
     ghost view = { λ m. record { forest = m.forest; order = m.order; handles = m.sets.items } };
 
-    ghost invariant = { λ m. AreKept 15 (C.order m.order)
+    ghost invariant = { λ m. AreKept SET_LEAF (C.order m.order)
         (record { forest = m.forest; order = m.order; handles = m.sets.items }) };
 }
 
@@ -179,8 +181,8 @@ impl<K: Copy, C: Comparator<K>> Sets<K, C> {
     /// room for the sets as they are then, by [`Sets::reserve_for`].
     pub fn insert(&mut self, index: usize, key: K) -> Result<bool, OutOfMemory>
         requires within { index < count self.old }
-        ensures { InsertsAt 15 (C.order (comparator self.old)) self.old index key the_value (as_put result)
-            self.new }
+        ensures { InsertsAt SET_LEAF (C.order (comparator self.old)) self.old index key the_value
+            (as_put result) self.new }
     {
         self.sets[index].insert(key, &mut self.forest, &self.order)
     }
@@ -192,8 +194,8 @@ impl<K: Copy, C: Comparator<K>> Sets<K, C> {
     /// Those of [`Sets::insert`].
     pub fn try_insert(&mut self, index: usize, key: K) -> Result<bool, OutOfMemory>
         requires within { index < count self.old }
-        ensures { InsertsAt 15 (C.order (comparator self.old)) self.old index key the_value (as_put result)
-            self.new }
+        ensures { InsertsAt SET_LEAF (C.order (comparator self.old)) self.old index key the_value
+            (as_put result) self.new }
     {
         self.insert(index, key)
     }
@@ -202,7 +204,7 @@ impl<K: Copy, C: Comparator<K>> Sets<K, C> {
     /// and no memory is taken.
     pub fn remove(&mut self, index: usize, key: K) -> bool
         requires within { index < count self.old }
-        ensures { RemovesAt 15 (C.order (comparator self.old)) self.old index key (as_removed result)
+        ensures { RemovesAt SET_LEAF (C.order (comparator self.old)) self.old index key (as_removed result)
             self.new }
     {
         self.sets[index].remove(key, &mut self.forest, &self.order)
@@ -212,7 +214,7 @@ impl<K: Copy, C: Comparator<K>> Sets<K, C> {
     /// memory is taken.
     pub fn pop_first(&mut self, index: usize) -> Option<K>
         requires within { index < count self.old }
-        ensures { PopsAt 15 self.old index 0 (as_popped result) self.new }
+        ensures { PopsAt SET_LEAF self.old index 0 (as_popped result) self.new }
     {
         self.sets[index].pop_first(&mut self.forest)
     }
@@ -221,7 +223,8 @@ impl<K: Copy, C: Comparator<K>> Sets<K, C> {
     /// memory is taken.
     pub fn pop_last(&mut self, index: usize) -> Option<K>
         requires within { index < count self.old }
-        ensures { PopsAt 15 self.old index (length (entries self.old index) - 1) (as_popped result) self.new }
+        ensures { PopsAt SET_LEAF self.old index (length (entries self.old index) - 1)
+            (as_popped result) self.new }
     {
         self.sets[index].pop_last(&mut self.forest)
     }
@@ -240,7 +243,7 @@ impl<K: Copy, C: Comparator<K>> Sets<K, C> {
         requires within { index < count self.old }
         requires callable { MayAskEach (AnswersKey F.FnMut) (MayAskKey F.FnMut) predicate
             (entries self.old index) }
-        ensures { FiltersAt 15 (AnswersKey F.FnMut) predicate self.old index self.new }
+        ensures { FiltersAt SET_LEAF (AnswersKey F.FnMut) predicate self.old index self.new }
     {
         self.sets[index].retain(&mut self.forest, predicate);
     }
@@ -262,7 +265,7 @@ impl<K: Copy, C: Comparator<K>> Sets<K, C> {
     pub fn iter(&self, index: usize) -> SetIter<'_, K>
         requires within { index < count self.now }
         ensures keys { result ≡ keys self.now index }
-        ensures ready { IsSetReadable K.row }
+        ensures fits { SetsFitInMemory K.row }
     {
         self.sets[index].iter(&self.forest)
     }
@@ -273,7 +276,7 @@ impl<K: Copy, C: Comparator<K>> Sets<K, C> {
         requires within { index < count self.now }
         ensures keys { result ≡ keys_of (entries_between (C.order (comparator self.now)) bounds.0 bounds.1
             (entries self.now index)) }
-        ensures ready { IsSetReadable K.row }
+        ensures fits { SetsFitInMemory K.row }
     {
         self.sets[index].range(bounds, &self.forest, &self.order)
     }
@@ -283,7 +286,7 @@ impl<K: Copy, C: Comparator<K>> Sets<K, C> {
         ensures count { result ≡ slots_of (table self.now) }
         ensures within { slots_of (table self.now) ≤ limit_of (table self.now) }
         ensures account { slots_of (table self.now) ≡ free_of (table self.now) + nodes_in_use self.now }
-        ensures fit { (i : ℕ) → IsFitFor 15 (length (entries self.now i)) (node_sizes self.now i) }
+        ensures fit { (i : ℕ) → IsFitFor SET_LEAF (length (entries self.now i)) (node_sizes self.now i) }
     {
         self.forest.slots()
     }
@@ -328,7 +331,7 @@ impl<K: Copy, C: Comparator<K>> Sets<K, C> {
     /// [`OutOfMemory::Full`] where the limit does not allow so many slots, which is tested first, and [`OutOfMemory::Memory`] where memory
     /// was refused; no set and no slot has changed then.
     pub fn reserve_for(&mut self, sets: usize, keys: usize) -> Result<(), OutOfMemory>
-        ensures { ReservesFor 15 sets keys self.old result self.new }
+        ensures { ReservesFor SET_LEAF sets keys self.old result self.new }
     {
         let used = self.used_slots();
         let most = Set::<K>::nodes_for(keys);

@@ -1,4 +1,5 @@
 //! What a caller can prove of maps by an index from their contracts alone.
+ghost use Rattle.bforest.specs.declared.map_forest.TheConstants.{MAP_LEAF};
 ghost use Rattle.bforest_indexed.specs.Indexed.{HasRoom, StaysWithin, comparator, count, table};
 ghost use Rattle.std.specs.Prelude.{IfOk, IsOk, ◌<◌};
 
@@ -13,7 +14,7 @@ pub fn insert_in_room<K: Copy, V: Copy, C: Comparator<K>>(
 ) -> Result<Option<V>, OutOfMemory>
     requires within { index < count maps.old }
     requires stays { StaysWithin (C.order (comparator maps.old)) room.0 room.1 maps.old index entry.0 }
-    requires made { HasRoom 7 room.0 room.1 (table maps.old) }
+    requires made { HasRoom MAP_LEAF room.0 room.1 (table maps.old) }
     ensures taken { IsOk result }
 {
     maps.insert(index, entry.0, entry.1)

@@ -22,6 +22,7 @@ fn a_map_is_emptied_from_both_ends(rt: HostRuntime) {
     }
     assert!(rt; map.is_empty());
     assert_eq!(rt; forest.free_slots(), forest.slots());
+    assert_eq!(rt; forest.nodes_in_use(), 0);
 }
 
 #[test]

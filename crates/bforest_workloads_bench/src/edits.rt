@@ -2,7 +2,7 @@
 ghost use Rattle.bforest.specs.Cursor.{IsCursor};
 ghost use Rattle.bforest.specs.SetCursor.{IsCursor as IsSetCursor};
 ghost use Rattle.bforest.specs.Forest.{IsLive, list_of};
-ghost use Rattle.bforest.specs.Memory.{IsReadable, IsSetReadable};
+ghost use Rattle.bforest.specs.Memory.{MapsFitInMemory, SetsFitInMemory};
 ghost use Rattle.bforest.specs.Entries.{IsIncreasing};
 ghost use Rattle.bforest_workloads_bench.specs.Cursors.{MapContinues, SetContinues};
 
@@ -31,7 +31,7 @@ fn put_here<K: Copy, V: Copy, C: Comparator<K>>(
     entries: &[(K, V)],
 ) -> Result<u32, OutOfMemory>
     requires valid { IsCursor C.order cursor.old }
-    requires ready { IsReadable K.row V.row }
+    requires fits { MapsFitInMemory K.row V.row }
     ensures continues { MapContinues C.order cursor.old cursor.new }
 {
     let mut count = 0u32;
@@ -68,7 +68,7 @@ fn put_keys<K: Copy, C: Comparator<K>>(
     keys: &[K],
 ) -> Result<u32, OutOfMemory>
     requires valid { IsSetCursor C.order cursor.old }
-    requires ready { IsSetReadable K.row }
+    requires fits { SetsFitInMemory K.row }
     ensures continues { SetContinues C.order cursor.old cursor.new }
 {
     let mut count = 0u32;
@@ -84,7 +84,7 @@ fn put_keys<K: Copy, C: Comparator<K>>(
 // Removes at most `most` keys, from `first` on. Counts the removed ones.
 fn take_keys<K: Copy, C: Comparator<K>>(cursor: &mut SetCursor<K, C>, first: K, most: usize) -> u32
     requires valid { IsSetCursor C.order cursor.old }
-    requires ready { IsSetReadable K.row }
+    requires fits { SetsFitInMemory K.row }
     ensures continues { SetContinues C.order cursor.old cursor.new }
 {
     cursor.goto(first);

@@ -1,6 +1,6 @@
 -- What a call on the map of one resource leaves of all books.
 use Rattle.bforest.specs.Calls.{Inserts, Removes}
-use Rattle.bforest.specs.Forest.{Becomes, Forest, Gives, IsLive, Takes, list_at, list_of, room_of, sizes_of, sizes_with}
+use Rattle.bforest.specs.Forest.{Becomes, Forest, Gives, IsLive, IsSearchable, Takes, list_at, list_of, room_of, sizes_of, sizes_with}
 use Rattle.bforest.specs.Refusal.{Full, Memory}
 use Rattle.bforest.specs.Refusal.{OutOfMemory}
 use Rattle.bforest.specs.Entries.{IsIncreasing, cut, put, value_for}
@@ -211,14 +211,17 @@ module _ (f : Forest ℕ ℕ) (hs : List (Option ℕ)) (i : ℕ) (h : Option ℕ
   pub read : h ≡ get_or hs i None
   read = get_or_read hs i h within is None
 
-  pub live-read : IsLive f h
+  live-read : IsLive f h
   live-read = subst (λ (q : Option ℕ). IsLive f q) (sym read) (a.live i)
 
   pub apart-read : AreApart (list_of f h)
   apart-read = subst (λ (q : Option ℕ). AreApart (list_of f q)) (sym read) (a.apart i)
 
-  pub increasing-read : IsIncreasing nat_cmp (list_of f h)
+  increasing-read : IsIncreasing nat_cmp (list_of f h)
   increasing-read = increasing (list_of f h) apart-read
+
+  pub searchable-read : IsSearchable nat_cmp f h
+  searchable-read = record { live = live-read; increasing = increasing-read }
 
   -- books stay where the handle that was read is written back
   same : books f (slice_set hs i h) ≡ books f hs

@@ -1,4 +1,5 @@
 -- What contracts see of books: a forest, and the map of each resource in it.
+use Rattle.bforest.specs.declared.map_forest.TheConstants.{MAP_LEAF}
 use Rattle.bforest.specs.Forest.{Forest, Gives, IsLive, IsTooMany, NeedsGrowth, Takes, limit_of, list_of, need_of, room_of, sizes_of, sizes_with, sizes_without}
 use Rattle.bforest.specs.Refusal.{Full, Memory}
 use Rattle.interval_books.specs.Bookings.{AreApart, end_of, first_met, holding, with_booking, without_booking}
@@ -48,7 +49,7 @@ objection b r start end =
 
 -- the number of slots that a booking takes
 abbrev pub need : Books → ℕ → ℕ → ℕ
-need b r start = need_of 7 nat_cmp (table b) (map_of b r) start
+need b r start = need_of MAP_LEAF nat_cmp (table b) (map_of b r) start
 
 -- The answers to a booking that takes d slots of f: an objection, if there is one; else success, only where
 -- there is room for d slots;
@@ -68,7 +69,7 @@ pub record Recorded (b : Books) (r start end : ℕ) (result : Result (Unit {0}) 
   pub answer : MayAnswer (table b) (need b r start) (objection b r start end) result
   pub booked : OnOk result (bookings b' r ≡ with_booking (bookings b r) start end)
   pub others : (q : ℕ) → q ≢ r → bookings b' q ≡ bookings b q
-  pub sizes : OnOk result (node_sizes b' r ≡ sizes_with 7 nat_cmp (table b) (map_of b r) start)
+  pub sizes : OnOk result (node_sizes b' r ≡ sizes_with MAP_LEAF nat_cmp (table b) (map_of b r) start)
   pub other_sizes : (q : ℕ) → q ≢ r → node_sizes b' q ≡ node_sizes b q
   pub account : OnOk result (Takes (need b r start) (table b) (table b'))
   pub refused : OnErr result (b' ≡ b)
@@ -86,7 +87,7 @@ pub record Cancelled (b : Books) (r start : ℕ) (result : Result ℕ BookError)
   pub answer : result ≡ end_at b r start
   pub cancelled : OnOk result (bookings b' r ≡ without_booking (bookings b r) start)
   pub others : (q : ℕ) → q ≢ r → bookings b' q ≡ bookings b q
-  pub sizes : node_sizes b' r ≡ sizes_without 7 nat_cmp (table b) (map_of b r) start
+  pub sizes : node_sizes b' r ≡ sizes_without MAP_LEAF nat_cmp (table b) (map_of b r) start
   pub other_sizes : (q : ℕ) → q ≢ r → node_sizes b' q ≡ node_sizes b q
   pub account : Gives (node_sizes b r) (node_sizes b' r) (table b) (table b')
   pub refused : OnErr result (b' ≡ b)

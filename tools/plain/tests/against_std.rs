@@ -573,6 +573,7 @@ impl<C: Order> Subject for Maps<'_, C> {
 
     fn counts(&self, at: usize) -> [usize; 3] {
         let (slots, free) = (self.forest.slots() as usize, self.forest.free_slots() as usize);
+        assert_eq!(self.forest.nodes_in_use() as usize, slots - free);
         [slots, free, self.maps[at].levels(&self.forest)]
     }
 }
@@ -661,6 +662,7 @@ impl<C: Order> Subject for Sets<'_, C> {
 
     fn counts(&self, at: usize) -> [usize; 3] {
         let (slots, free) = (self.forest.slots() as usize, self.forest.free_slots() as usize);
+        assert_eq!(self.forest.nodes_in_use() as usize, slots - free);
         [slots, free, self.sets[at].levels(&self.forest)]
     }
 }

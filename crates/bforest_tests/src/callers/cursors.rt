@@ -2,7 +2,8 @@
 ghost use Rattle.bforest.specs.Calls.{Inserts};
 ghost use Rattle.bforest.specs.Cursor.{IsCursor, Moves, entries, spot};
 ghost use Rattle.bforest.specs.Forest.{IsLive, list_of};
-ghost use Rattle.bforest.specs.Memory.{IsReadable};
+ghost use Rattle.bforest.specs.declared.map_forest.TheConstants.{MAP_LEAF};
+ghost use Rattle.bforest.specs.Memory.{MapsFitInMemory};
 ghost use Rattle.bforest.specs.Entries.{IsIncreasing};
 ghost use Rattle.std.specs.Prelude.{IsSome, Option, slice_get, ℕ, ◌+◌, ◌≡◌, ◌≢◌};
 
@@ -18,7 +19,8 @@ pub fn insert_by_cursor<K: Copy, V: Copy, C: Comparator<K>>(
 ) -> Result<Option<V>, OutOfMemory>
     requires live { IsLive forest.old map.old }
     requires increasing { IsIncreasing (C.order comp.now) (list_of forest.old map.old) }
-    ensures inserted { Inserts 7 (C.order comp.now) forest.old map.old key value result forest.new map.new }
+    ensures inserted { Inserts MAP_LEAF (C.order comp.now) forest.old map.old key value result
+        forest.new map.new }
 {
     map.cursor_mut(forest, comp).try_insert(key, value)
 }
@@ -42,7 +44,7 @@ pub fn insert_by_cursor_beside<K: Copy, V: Copy, C: Comparator<K>>(
 pub fn peek_next<K: Copy, V: Copy, C: Comparator<K>>(
     cursor: &mut MapCursor<K, V, C>,
 ) -> Option<(K, V)>
-    requires ready { IsReadable K.row V.row }
+    requires fits { MapsFitInMemory K.row V.row }
     ensures value { result ≡ slice_get cursor.old.entries (cursor.old.spot + 1) }
     ensures stays { IsSome result → cursor.new ≡ cursor.old }
 {
@@ -56,7 +58,7 @@ pub fn peek_next_mut<K: Copy, V: Copy, C: Comparator<K>>(
     cursor: &mut MapCursorMut<K, V, C>,
 ) -> Option<(K, V)>
     requires valid { IsCursor C.order cursor.old }
-    requires ready { IsReadable K.row V.row }
+    requires fits { MapsFitInMemory K.row V.row }
     ensures value { result ≡ slice_get (entries cursor.old) (spot cursor.old + 1) }
     ensures stays { IsSome result → Moves C.order cursor.old cursor.new (spot cursor.old) }
 {

@@ -1,7 +1,7 @@
 //! Loops over cursors and ranges: their results follow from the contracts alone.
 ghost use Rattle.bforest.specs.Cursor.{Goes, IsCursor, at_place, entries, forest_now, map_now, spot};
 ghost use Rattle.bforest.specs.Forest.{Becomes, IsLive, list_of};
-ghost use Rattle.bforest.specs.Memory.{IsReadable};
+ghost use Rattle.bforest.specs.Memory.{MapsFitInMemory};
 ghost use Rattle.bforest.specs.Entries.{IsIncreasing, value_at_place, with_value};
 ghost use Rattle.bforest_tests.specs.Walks.{every_other, joined};
 ghost use Rattle.std.specs.Prelude.{IfOk, Some, length, remove, reverse, ◌++◌, ◌-◌, ◌<◌, ◌≡◌};
@@ -28,7 +28,7 @@ pub fn remove_every_second<K: Copy, V: Copy, C: Comparator<K>>(
 // Removes every second entry, from the second on. The cursor stands on the first.
 fn thin_out<K: Copy, V: Copy, C: Comparator<K>>(cursor: &mut MapCursorMut<K, V, C>)
     requires valid { IsCursor C.order cursor.old }
-    requires ready { IsReadable K.row V.row }
+    requires fits { MapsFitInMemory K.row V.row }
     requires first { spot cursor.old ≡ 0 }
     ensures becomes { Becomes (forest_now cursor.old) (map_now cursor.old) (forest_now cursor.new)
         (map_now cursor.new) (every_other (entries cursor.old)) }
@@ -58,7 +58,7 @@ pub fn join_ranges<K: Copy, C: Comparator<K>>(
 // Joins all ranges. The cursor stands on the first range, or at the end where there is none.
 fn join_all<K: Copy, C: Comparator<K>>(cursor: &mut MapCursorMut<K, K, C>, comp: &C)
     requires valid { IsCursor C.order cursor.old }
-    requires ready { IsReadable K.row K.row }
+    requires fits { MapsFitInMemory K.row K.row }
     requires first { spot cursor.old ≡ 0 }
     ensures becomes { Becomes (forest_now cursor.old) (map_now cursor.old) (forest_now cursor.new)
         (map_now cursor.new) (joined (C.order comp.now) (entries cursor.old)) }
@@ -72,7 +72,7 @@ fn join_all<K: Copy, C: Comparator<K>>(cursor: &mut MapCursorMut<K, K, C>, comp:
 // Joins the ranges from the first on, which ends at `end`. The cursor stands on it.
 fn join_from<K: Copy, C: Comparator<K>>(cursor: &mut MapCursorMut<K, K, C>, end: K, comp: &C)
     requires valid { IsCursor C.order cursor.old }
-    requires ready { IsReadable K.row K.row }
+    requires fits { MapsFitInMemory K.row K.row }
     requires first { spot cursor.old ≡ 0 }
     requires ends { value_at_place (entries cursor.old) 0 ≡ Some end }
     ensures becomes { Becomes (forest_now cursor.old) (map_now cursor.old) (forest_now cursor.new)
@@ -92,7 +92,7 @@ fn join_from<K: Copy, C: Comparator<K>>(cursor: &mut MapCursorMut<K, K, C>, end:
 // Removes the range where the cursor stands, and makes the range before it end at `end`. Then the cursor stands on the range before.
 fn extend<K: Copy, C: Comparator<K>>(cursor: &mut MapCursorMut<K, K, C>, end: K)
     requires valid { IsCursor C.order cursor.old }
-    requires ready { IsReadable K.row K.row }
+    requires fits { MapsFitInMemory K.row K.row }
     requires second { 0 < spot cursor.old }
     requires within { spot cursor.old < length (entries cursor.old) }
     ensures becomes { Becomes (forest_now cursor.old) (map_now cursor.old) (forest_now cursor.new)
@@ -108,7 +108,7 @@ fn extend<K: Copy, C: Comparator<K>>(cursor: &mut MapCursorMut<K, K, C>, end: K)
 
 /// Goes on until a cursor has no key: then it is at the end.
 pub fn goto_end_by_steps<K: Copy, V: Copy, C: Comparator<K>>(cursor: &mut MapCursor<K, V, C>)
-    requires ready { IsReadable K.row V.row }
+    requires fits { MapsFitInMemory K.row V.row }
     ensures { cursor.new ≡ at_place cursor.old (length cursor.old.entries) }
 {
     while cursor.key().is_some() {
@@ -123,7 +123,7 @@ pub fn take_from_ends<K: Copy, V: Copy, C: Comparator<K>>(
     range: &mut MapRange<'_, K, V, C>,
     from_front: &[bool],
 ) -> Result<(Vec<(K, V)>, Vec<(K, V)>), AllocError>
-    requires ready { IsReadable K.row V.row }
+    requires fits { MapsFitInMemory K.row V.row }
     ensures parted { IfOk result
         (λ parts. range.old ≡ parts.0.items ++ range.new ++ reverse parts.1.items) }
 {

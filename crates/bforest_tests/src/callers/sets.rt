@@ -1,6 +1,7 @@
 //! What a caller can prove of sets from their contracts alone.
 ghost use Rattle.bforest.specs.Entries.{IsIncreasing, is_present};
 ghost use Rattle.bforest.specs.Forest.{IsLive, limit_of, list_of, need_of};
+ghost use Rattle.bforest.specs.declared.set_forest.TheConstants.{SET_LEAF};
 ghost use Rattle.std.specs.Prelude.{IfOk, IsOk, None, false, true, ◌≡◌, ◌≤◌};
 
 use bforest::{Comparator, OutOfMemory, Set, SetForest};
@@ -47,7 +48,7 @@ pub fn insert_reserved<K: Copy, C: Comparator<K>>(
 ) -> Result<Result<bool, OutOfMemory>, OutOfMemory>
     requires live { IsLive forest.old set.old }
     requires increasing { IsIncreasing (C.order comp.now) (list_of forest.old set.old) }
-    requires enough { need_of 15 (C.order comp.now) forest.old set.old key ≤ nodes }
+    requires enough { need_of SET_LEAF (C.order comp.now) forest.old set.old key ≤ nodes }
     ensures { IfOk result (λ put. IsOk put) }
 {
     forest.reserve_nodes(nodes)?;

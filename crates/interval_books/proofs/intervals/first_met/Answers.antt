@@ -12,7 +12,7 @@ returns-then-is_some c =
     first-held c.args.start c.args.end (list_of c.args.forest.now c.args.map.now) c.holding-before.result None c.requires.interval c.requires.apart c.holding-before.ensures (sym c.is_some.ensures ∙ c.if-is_some.true)
 
 pub cursor-cursor-requires : goal.cursor-cursor-requires
-cursor-cursor-requires c = (search rules, (c.requires.live, increasing (list_of c.args.forest.now c.args.map.now) c.requires.apart))
+cursor-cursor-requires c = (search rules, record { live = c.requires.live; increasing = increasing (list_of c.args.forest.now c.args.map.now) c.requires.apart })
 
 pub returns-in-Some : goal.returns-in-Some
 returns-in-Some c =

@@ -6,7 +6,7 @@ use Rattle.std.proofs.Common.{None, Some, ap, if◌then◌else◌, rules, sym, �
 use Rattle.std.proofs.lemmas.Bool.{le-ltb, lt-ltb}
 
 pub get_or_less-requires : goal.get_or_less-requires
-get_or_less-requires c = (search rules, (c.requires.live, increasing (list_of c.args.forest.now c.args.map.now) c.requires.apart))
+get_or_less-requires c = (search rules, record { live = c.requires.live; increasing = increasing (list_of c.args.forest.now c.args.map.now) c.requires.apart })
 
 pub returns-in-Some : goal.returns-in-Some
 returns-in-Some c =

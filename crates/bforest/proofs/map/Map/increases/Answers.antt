@@ -7,7 +7,7 @@ use Rattle.std.specs.Map.{keys_of}
 pub entries-init : goal.entries-init
 entries-init g c =
     let whole : c.into_iter-key-iterator.result ≡ list_of c.args.forest.now c.args.self.now = c.into_iter-key-iterator.ensures.into_iter_gives ∙ c.iter-key-items.ensures.entries in
-    (c.iter-key-items.ensures.ready, subst (IsDownTo (g.C.Comparator.order c.args.comp.now) (list_of c.args.forest.now c.args.self.now) None) (sym whole) (record { down = λ up. up; up = λ up. up }))
+    (c.iter-key-items.ensures.fits, subst (IsDownTo (g.C.Comparator.order c.args.comp.now) (list_of c.args.forest.now c.args.self.now) None) (sym whole) (record { down = λ up. up; up = λ up. up }))
 
 pub returns-then-not-follows : goal.returns-then-not-follows
 returns-then-not-follows g c = record {

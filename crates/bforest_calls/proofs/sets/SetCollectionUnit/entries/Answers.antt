@@ -9,12 +9,12 @@ loop-key-init g c = record {
   left = ap (λ es. es ++ with_each c.into_iter-key-iterator.result) c.new-entries.ensures.items
       ∙ ap with_each (c.into_iter-key-iterator.ensures.into_iter_gives ∙ c.iter-key-items.ensures.keys)
       ∙ whole-each (list_of c.args.forest.now c.args.self.now);
-  ready = c.iter-key-items.ensures.ready;
+  fits = c.iter-key-items.ensures.fits;
 }
 
 pub loop-key-preserved : goal.loop-key-preserved
 loop-key-preserved g c = record {
   left = listed-next c.loop-key.entries.items c.push.new.self.items c.loop-key.key-iterator c.next.new.self c.in-Some.key _ (search rules)
       c.in-Some.ensures.steps c.loop-key.invariant.left;
-  ready = c.loop-key.invariant.ready;
+  fits = c.loop-key.invariant.fits;
 }

@@ -1,5 +1,5 @@
 use Rattle.bforest.specs.Forest.{list_of}
-use Rattle.bforest.specs.Memory.{IsSetReadable}
+use Rattle.bforest.specs.Memory.{SetsFitInMemory}
 use Rattle.bforest_calls.proofs.sets.SetCollectionUnit.entries.Given as goal
 use Rattle.bforest_calls.specs.Looks.{with_each}
 use Rattle.std.proofs.Common.{◌++◌, ◌≡◌}
@@ -8,5 +8,5 @@ use Rattle.std.proofs.Common.{◌++◌, ◌≡◌}
 abbrev pub invariant-loop-key : goal.invariant-loop-key
 invariant-loop-key g l = record {
   left : l.entries.items ++ with_each l.key-iterator ≡ list_of l.forest l.self;
-  ready : IsSetReadable g.row.K;
+  fits : SetsFitInMemory g.row.K;
 }

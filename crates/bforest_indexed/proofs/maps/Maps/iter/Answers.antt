@@ -7,4 +7,4 @@ pub iter-requires : goal.iter-requires
 iter-requires g c = (search first-field, live-read c.self.invariant (rw (← c.self.view_is) at c.requires.within) c.index.ensures)
 
 pub returns : goal.returns
-returns g c = record { entries = rw (← c.self.view_is) (c.iter.ensures.entries ∙ same-list c.self.invariant (rw (← c.self.view_is) at c.requires.within) c.index.ensures); ready = c.iter.ensures.ready }
+returns g c = record { entries = rw (← c.self.view_is) (c.iter.ensures.entries ∙ same-list c.self.invariant (rw (← c.self.view_is) at c.requires.within) c.index.ensures); fits = c.iter.ensures.fits }

@@ -8,4 +8,4 @@ pub range-requires : goal.range-requires
 range-requires g c = (search first-field, ordered-read c.self.invariant (rw (← c.self.view_is) at c.requires.within) c.index.ensures)
 
 pub returns : goal.returns
-returns g c = record { keys = rw (← c.self.view_is) (c.range.ensures.keys ∙ ap keys_of (between-read c.self.invariant (rw (← c.self.view_is) at c.requires.within) c.index.ensures _ _)); ready = c.range.ensures.ready }
+returns g c = record { keys = rw (← c.self.view_is) (c.range.ensures.keys ∙ ap keys_of (between-read c.self.invariant (rw (← c.self.view_is) at c.requires.within) c.index.ensures _ _)); fits = c.range.ensures.fits }

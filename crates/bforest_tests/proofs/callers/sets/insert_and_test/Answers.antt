@@ -12,7 +12,7 @@ made true change = change
 made false change = change
 
 pub contains-requires : goal.contains-requires
-contains-requires g c = (search rules, ((made c.in_ok-insert.field-0 c.in_ok-insert.ensures.put).live, c.in_ok-insert.ensures.increasing))
+contains-requires g c = (search rules, record { live = (made c.in_ok-insert.field-0 c.in_ok-insert.ensures.put).live; increasing = c.in_ok-insert.ensures.increasing })
 
 pub returns : goal.returns
 returns g c =

@@ -8,7 +8,7 @@ insert-requires g c =
     let old = c.args.forest.now in
     let new = c.reserve_nodes.new.self in
     let kept = c.reserve_nodes.ensures.keeps in
-    (search rules, (still-live old new kept c.args.set.now c.requires.live, subst (IsIncreasing (g.C.Comparator.order c.args.comp.now)) (sym (same-list old new kept c.args.set.now)) c.requires.increasing))
+    (search rules, record { live = still-live old new kept c.args.set.now c.requires.live; increasing = subst (IsIncreasing (g.C.Comparator.order c.args.comp.now)) (sym (same-list old new kept c.args.set.now)) c.requires.increasing })
 
 pub returns : goal.returns
 returns g c =

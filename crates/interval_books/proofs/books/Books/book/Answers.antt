@@ -1,4 +1,4 @@
-use Rattle.interval_books.proofs.Kept.{as_booked, empty-at, increasing-read, kept-booked-at, live-read, met-at, recorded-at}
+use Rattle.interval_books.proofs.Kept.{as_booked, empty-at, kept-booked-at, met-at, recorded-at, searchable-read}
 use Rattle.interval_books.proofs.books.Books.book.Goals as goal
 use Rattle.interval_books.proofs.books.Books.book.Goals.{in-Err, in-Ok}
 use Rattle.std.proofs.Common.{ap, rules, sym, ◌∙◌, ◌≡◌}
@@ -10,7 +10,7 @@ answered c = elim c.match-try_insert.branch [
 ]
 
 pub try_insert-requires : goal.try_insert-requires
-try_insert-requires c = (search rules, (live-read c.self.inside.forest c.self.inside.maps.items c.args.resource c.in-Some.map.now c.self.invariant c.in-Some.ensures.item.3.0 c.in-Some.ensures.item.1, increasing-read c.self.inside.forest c.self.inside.maps.items c.args.resource c.in-Some.map.now c.self.invariant c.in-Some.ensures.item.3.0 c.in-Some.ensures.item.1))
+try_insert-requires c = (search rules, searchable-read c.self.inside.forest c.self.inside.maps.items c.args.resource c.in-Some.map.now c.self.invariant c.in-Some.ensures.item.3.0 c.in-Some.ensures.item.1)
 
 pub invariant_of-self-2 : goal.invariant_of-self-2
 invariant_of-self-2 c =

@@ -1,9 +1,9 @@
-use Rattle.interval_books.proofs.Kept.{cancelled-at, increasing-read, kept-cancelled-at, live-read}
+use Rattle.interval_books.proofs.Kept.{cancelled-at, kept-cancelled-at, searchable-read}
 use Rattle.interval_books.proofs.books.Books.cancel.Goals as goal
 use Rattle.std.proofs.Common.{rules}
 
 pub remove-requires : goal.remove-requires
-remove-requires c = (search rules, (live-read c.self.inside.forest c.self.inside.maps.items c.args.resource c.in-Some.map.now c.self.invariant c.in-Some.ensures.item.3.0 c.in-Some.ensures.item.1, increasing-read c.self.inside.forest c.self.inside.maps.items c.args.resource c.in-Some.map.now c.self.invariant c.in-Some.ensures.item.3.0 c.in-Some.ensures.item.1))
+remove-requires c = (search rules, searchable-read c.self.inside.forest c.self.inside.maps.items c.args.resource c.in-Some.map.now c.self.invariant c.in-Some.ensures.item.3.0 c.in-Some.ensures.item.1)
 
 pub invariant_of-self-2 : goal.invariant_of-self-2
 invariant_of-self-2 c =
