@@ -25,7 +25,7 @@ unsafe extern "C" {
 }
 
 /// The subject of a run.
-#[derive(Clone, Copy, PartialEq, Debug)]
+#[derive(Clone, Copy, PartialEq)]
 pub enum Kind {
     /// Many small maps.
     Mixture,
@@ -53,27 +53,32 @@ pub enum Kind {
     Ranges,
 }
 
-/// All kinds.
-pub const KINDS: [Kind; 12] = [
-    Kind::Mixture,
-    Kind::Indexed,
-    Kind::Random,
-    Kind::Ascending,
-    Kind::RandomCursor,
-    Kind::AscendingCursor,
-    Kind::Edges,
-    Kind::EdgesCursor,
-    Kind::SetMixture,
-    Kind::RandomSet,
-    Kind::AscendingSet,
-    Kind::Ranges,
-];
+impl Kind {
+    /// The kind of this name.
+    pub fn named(name: &str) -> Option<Kind> {
+        Some(match name {
+            "Mixture" => Kind::Mixture,
+            "Indexed" => Kind::Indexed,
+            "Random" => Kind::Random,
+            "Ascending" => Kind::Ascending,
+            "RandomCursor" => Kind::RandomCursor,
+            "AscendingCursor" => Kind::AscendingCursor,
+            "Edges" => Kind::Edges,
+            "EdgesCursor" => Kind::EdgesCursor,
+            "SetMixture" => Kind::SetMixture,
+            "RandomSet" => Kind::RandomSet,
+            "AscendingSet" => Kind::AscendingSet,
+            "Ranges" => Kind::Ranges,
+            _ => return None,
+        })
+    }
+}
 
 /// A whole run, on `size` maps, sets, entries, blocks or ranges. First a phase fills them; then there are `looks` rounds of lookups, `walks` rounds
 /// that read all, or spans of ranges, and `turns` rounds of changes: the maps or sets of a mixture are cleared, a large map is emptied, edges are
 /// redirected, a large set is edited by cursors, and ranges are inserted between ranges. For a map that is read by cursors, `turns` counts the
 /// rounds that read from its last entry back.
-#[derive(Clone, Copy, PartialEq, Debug)]
+#[derive(Clone, Copy)]
 pub struct Work {
     pub kind: Kind,
     pub size: u32,
@@ -90,7 +95,7 @@ impl Work {
 }
 
 /// The implementation that a run uses.
-#[derive(Clone, Copy, PartialEq, Debug)]
+#[derive(Clone, Copy)]
 pub enum Side {
     #[cfg(library)]
     Bforest,
@@ -104,49 +109,21 @@ pub enum Side {
     Toolchain,
 }
 
-/// The sides of the tables.
-pub const SIDES: &[Side] = &[
-    #[cfg(library)]
-    Side::Bforest,
-    Side::Std,
-    #[cfg(original)]
-    Side::Original,
-];
-
-/// The sides of the tables of `driver --others`.
-pub const OTHERS: &[Side] = &[
-    #[cfg(library)]
-    Side::Bforest,
-    Side::Std,
-    Side::Vecs,
-    Side::OneMap,
-    #[cfg(library)]
-    Side::Toolchain,
-];
-
 impl Side {
-    /// The name of a side in a table.
-    pub fn name(self) -> &'static str {
-        match self {
+    /// The side of this name in a table.
+    pub fn named(name: &str) -> Option<Side> {
+        Some(match name {
             #[cfg(library)]
-            Side::Bforest => "bforest",
-            Side::Std => "BTreeMap",
+            "bforest" => Side::Bforest,
+            "BTreeMap" => Side::Std,
             #[cfg(original)]
-            Side::Original => "original",
-            Side::Vecs => "Vec",
-            Side::OneMap => "one-map",
+            "original" => Side::Original,
+            "Vec" => Side::Vecs,
+            "one-map" => Side::OneMap,
             #[cfg(library)]
-            Side::Toolchain => "toolchain",
-        }
-    }
-
-    /// Whether the side makes the runs of a kind.
-    pub fn makes(self, kind: Kind) -> bool {
-        match (self, kind) {
-            #[cfg(library)]
-            (Side::Toolchain, kind) => matches!(kind, Kind::Mixture | Kind::Indexed | Kind::Edges | Kind::SetMixture),
-            _ => true,
-        }
+            "toolchain" => Side::Toolchain,
+            _ => return None,
+        })
     }
 }
 
@@ -515,6 +492,7 @@ fn run_toolchain(work: Work) -> (u64, Duration) {
 }
 
 /// Makes a run, and returns its checksum and its time.
+#[inline(never)]
 pub fn run(side: Side, work: Work, is_kept: bool) -> (u64, Duration) {
     match side {
         #[cfg(library)]

@@ -2,9 +2,12 @@
 use Rattle.bforest.specs.Cursor.{Cursor}
 use Rattle.bforest_calls.proofs.Adding.{act-adds}
 use Rattle.bforest_calls.specs.Looks.{all_taken, sight_of, sights_of, taken}
+use Rattle.bforest_calls.specs.Machine.{Shows}
 use Rattle.bforest_calls.specs.State.{Edits, Held, Script, entries}
-use Rattle.bforest_calls.specs.Steps.{ActsBy, Chain, LooksBy, TakesFrom, View}
+use Rattle.bforest_calls.specs.Steps.{ActsBy, Chain, Chained, LooksBy, TakesFrom, View}
 use Rattle.bforest_calls.specs.declared.call.Act.{Act}
+use Rattle.bforest_calls.specs.declared.call.Answer.TheVariants as answer
+use Rattle.bforest_calls.specs.declared.call.Answer.{Answer}
 use Rattle.bforest_calls.specs.declared.call.Look.{Look}
 use Rattle.bforest_calls.specs.declared.call.Seen.{Seen}
 use Rattle.bforest_calls.specs.declared.call.Side.{Side}
@@ -100,16 +103,21 @@ edits-of most order own old first last new p q steps sights h same begins place 
       (subst (λ o. Script most o first p steps sights last q) same h))),
 )
 
+-- an answer that lists those of steps, where what the steps say tells the list
+pub shows-all : {A S K V E P : Type 0} (goes : S → A → Seen K V → S → Type 0) (old new : S) (steps : List A) (list : List (Seen K V)) (r : Result (Answer K V) E)
+    → IfOk r (Chained goes old steps new) → ((sights : List (Seen K V)) → Chain goes old steps sights new → sights ≡ list) → P
+    → IfOk r (λ given. Shows list given × P)
+shows-all goes old new steps list r chain tells p = IfOk-weaker r _ _ (λ given w. ((w.0, w.1, tells w.0.items w.2), p)) chain
+
 -- all steps of a writing cursor, or none where memory for their answers was refused
-module _ {S K V E : Type 0} (most : ℕ) (odd : most % 2 ≡ 1) (view : View S K V) (first last : S) (steps : List (Act K V))
-    (r : Result (Vec (Seen K V) Global) E)
-    (chain : IfOk r (λ sights. Chain (ActsBy most view) first steps sights.items last)) (err : OnErr r (last ≡ first)) where
+module _ {S K V E : Type 0} (most : ℕ) (odd : most % 2 ≡ 1) (view : View S K V) (first last : S) (steps : List (Act K V)) (r : Result (Answer K V) E)
+    (chain : IfOk r (Chained (ActsBy most view) first steps last)) (err : OnErr r (last ≡ first)) where
   pub loans-stay : (view.handle_loan last ≡ view.handle_loan first) × (view.forest_loan last ≡ view.forest_loan first)
   loans-stay = by r chain err
     where
-      by : (r : Result (Vec (Seen K V) Global) E) → IfOk r (λ sights. Chain (ActsBy most view) first steps sights.items last) → OnErr r (last ≡ first)
+      by : (r : Result (Answer K V) E) → IfOk r (Chained (ActsBy most view) first steps last) → OnErr r (last ≡ first)
           → (view.handle_loan last ≡ view.handle_loan first) × (view.forest_loan last ≡ view.forest_loan first)
-      by (Ok sights) h e = let s = script-of most odd view first steps sights.items last h in (s.handle_loan, s.forest_loan)
+      by (Ok given) h e = let s = script-of most odd view first steps h.0.items last h.2 in (s.handle_loan, s.forest_loan)
       by (Err why) h e = (ap view.handle_loan e, ap view.forest_loan e)
 
   module _ (old new : Held K V) (forest : (view.held first).forest ≡ old.forest) (number : (view.held first).number ≡ old.number)
@@ -121,11 +129,13 @@ module _ {S K V E : Type 0} (most : ℕ) (odd : most % 2 ≡ 1) (view : View S K
     ends j = record { forest = sym forest' j; number = sym number' j }
 
     pub all-edits : (order : K → K → Ordering) → view.order first ≡ order → view.spot first ≡ length (entries old)
-        → IfOk r (λ sights. Edits most order steps sights.items old new)
-    all-edits order same place = IfOk-weaker r _ _ (λ sights h.
-        let s = script-of most odd view first steps sights.items last h in
-        edits-of most order (view.order first) old (view.held first) (view.held last) new (view.spot first) (view.spot last)
-        steps sights.items s.script same begins place ends) chain
+        → (asked : List (Act K V)) → steps ≡ asked
+        → IfOk r (λ given. (sights : Vec (Seen K V) Global) × (given ≡ answer.Script sights) × Edits most order asked sights.items old new)
+    all-edits order same place asked is = IfOk-weaker r _ _ (λ given w.
+        let s = script-of most odd view first steps w.0.items last w.2 in
+        let made = edits-of most order (view.order first) old (view.held first) (view.held last) new (view.spot first) (view.spot last)
+        steps w.0.items s.script same begins place ends in
+        (w.0, w.1, subst (λ all. Edits most order all w.0.items old new) is made)) chain
 
     pub none-edits : OnErr r (new ≡ old)
     none-edits = on_err_weaker r (λ e. sym ends ∙ ap view.held e ∙ begins) err

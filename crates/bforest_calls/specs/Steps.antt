@@ -7,11 +7,14 @@ use Rattle.bforest.specs.declared.set_cursor.SetCursor.{SetCursor}
 use Rattle.bforest_calls.specs.Looks.{left_after, place_after, sight_of, taken}
 use Rattle.bforest_calls.specs.State.{Acts, Held}
 use Rattle.bforest_calls.specs.declared.call.Act.{Act}
+use Rattle.bforest_calls.specs.declared.call.Answer.TheVariants as answer
+use Rattle.bforest_calls.specs.declared.call.Answer.{Answer}
 use Rattle.bforest_calls.specs.declared.call.Look.{Look}
 use Rattle.bforest_calls.specs.declared.call.Seen.{Seen}
 use Rattle.bforest_calls.specs.declared.call.Side.{Side}
 use Rattle.std.specs.Borrow.{GName}
-use Rattle.std.specs.Prelude.{List, [], ◌≡◌, ◌∷◌, ℕ}
+use Rattle.std.specs.Global.{Global}
+use Rattle.std.specs.Prelude.{List, Vec, [], ◌≡◌, ◌∷◌, ℕ}
 use Rattle.std.specs.declared.cmp.Ordering.{Ordering}
 
 -- the steps in turn, each from where the step before led
@@ -21,6 +24,10 @@ module _ {A S Y : Type 0} (goes : S → A → Y → S → Type 0) where
   Chain old (step ∷ steps) (sight ∷ sights) new = (mid : S) × goes old step sight mid × Chain mid steps sights new
   Chain old [] (sight ∷ sights) new = ⊥
   Chain old (step ∷ steps) [] new = ⊥
+
+-- an answer that lists those of all steps
+abbrev pub Chained : {A S K V : Type 0} → (S → A → Seen K V → S → Type 0) → S → List A → S → Answer K V → Type 0
+Chained {K = K} {V = V} goes old steps new given = (sights : Vec (Seen K V) Global) × (given ≡ answer.Script sights) × Chain goes old steps sights.items new
 
 -- a step of a reading cursor
 abbrev pub LooksBy : {K V C : Type 0} → (C → K → K → Ordering) → Cursor K V C → Look K → Seen K V → Cursor K V C → Type 0

@@ -1,16 +1,15 @@
 //! What the engine asks of a map or of a set.
-ghost use Rattle.bforest.specs.Bounds.{entries_between, entry_at_most};
-ghost use Rattle.bforest.specs.Calls.{Clears, Inserts, Removes};
+ghost use Rattle.bforest.specs.Calls.{Clears};
 ghost use Rattle.bforest.specs.Forest.{Forest, IsLive, empty, limit_of, list_of};
-ghost use Rattle.bforest_calls.specs.Looks.{all_taken, sights_of};
-ghost use Rattle.bforest_calls.specs.State.{Edits, Retained};
-ghost use Rattle.bforest_nodes.specs.Entries.{IsIncreasing, value_for};
-ghost use Rattle.std.specs.Prelude.{Bool, IfOk, IsTrue, List, None, OnErr, Option, get_or, length, slice_set, true, ◌%◌, ◌<◌, ◌↔◌, ◌≡◌, ℕ};
+ghost use Rattle.bforest_calls.specs.Compared.{IsComparing, Makes};
+ghost use Rattle.bforest_calls.specs.Machine.{AsksRoom};
+ghost use Rattle.bforest_calls.specs.State.{Retained};
+ghost use Rattle.bforest_nodes.specs.Entries.{IsIncreasing};
+ghost use Rattle.std.specs.Prelude.{Bool, IfOk, IsTrue, List, None, OnErr, Option, get_or, length, slice_set, ◌%◌, ◌<◌, ◌↔◌, ◌≡◌, ℕ};
 
-use crate::call::{Act, Look, Seen, Side};
-use bforest::{Comparator, OutOfMemory};
+use crate::call::{Answer, Call};
+use bforest::Comparator;
 use std::alloc::{AllocError, Global};
-use std::ops::Bound;
 
 /// A handle of a map or of a set, with the calls that [`crate::make`] makes on it: implemented for [`bforest::Map`] and, with the unit as
 /// value, for [`bforest::Set`].
@@ -48,27 +47,6 @@ pub trait Collection<K: Copy, V: Copy>: Drop {
         ensures increasing { IsTrue result
             ↔ IsIncreasing (C.order comp.now) (list_of (trees forest.now) (number self.now)) };
 
-    /// The value of a key.
-    fn get<C: Comparator<K>>(&self, key: K, forest: &Self::Forest, comp: &C) -> Option<V>
-        requires fits { fits }
-        requires live { IsLive (trees forest.now) (number self.now) }
-        requires increasing { IsIncreasing (C.order comp.now) (list_of (trees forest.now) (number self.now)) }
-        ensures value { result
-            ≡ value_for (C.order comp.now) (list_of (trees forest.now) (number self.now)) key };
-
-    /// The last entry up to a key.
-    fn get_or_less<C: Comparator<K>>(
-        &self,
-        key: K,
-        forest: &Self::Forest,
-        comp: &C,
-    ) -> Option<(K, V)>
-        requires fits { fits }
-        requires live { IsLive (trees forest.now) (number self.now) }
-        requires increasing { IsIncreasing (C.order comp.now) (list_of (trees forest.now) (number self.now)) }
-        ensures entry { result
-            ≡ entry_at_most (C.order comp.now) (list_of (trees forest.now) (number self.now)) key };
-
     /// All entries, by an iterator.
     fn entries(&self, alloc: Global, forest: &Self::Forest) -> Result<Vec<(K, V)>, AllocError>
         requires fits { fits }
@@ -76,73 +54,22 @@ pub trait Collection<K: Copy, V: Copy>: Drop {
         ensures entries { IfOk result (λ entries.
             entries.items ≡ list_of (trees forest.now) (number self.now)) };
 
-    /// The answers of the steps of a reading cursor, which starts at the end.
-    fn read<C: Comparator<K>>(
-        &self,
-        alloc: Global,
-        steps: &[Look<K>],
-        forest: &Self::Forest,
-        comp: &C,
-    ) -> Result<Vec<Seen<K, V>>, AllocError>
-        requires fits { fits }
-        requires offered { READS ≡ true }
-        requires live { IsLive (trees forest.now) (number self.now) }
-        requires increasing { IsIncreasing (C.order comp.now) (list_of (trees forest.now) (number self.now)) }
-        ensures sights { IfOk result (λ sights. sights.items
-            ≡ sights_of (C.order comp.now) (list_of (trees forest.now) (number self.now))
-            (length (list_of (trees forest.now) (number self.now))) steps.now) };
-
-    /// The answers of steps from the ends of a range.
-    fn range<C: Comparator<K>>(
-        &self,
-        alloc: Global,
-        bounds: (Bound<K>, Bound<K>),
-        ends: &[Side],
-        forest: &Self::Forest,
-        comp: &C,
-    ) -> Result<Vec<Seen<K, V>>, AllocError>
-        requires fits { fits }
-        requires live { IsLive (trees forest.now) (number self.now) }
-        requires increasing { IsIncreasing (C.order comp.now) (list_of (trees forest.now) (number self.now)) }
-        ensures sights { IfOk result (λ sights. sights.items ≡ all_taken (entries_between (C.order comp.now)
-            bounds.0 bounds.1 (list_of (trees forest.now) (number self.now))) ends.now) };
-
-    /// Inserts an entry.
-    fn insert<C: Comparator<K>>(
-        &mut self,
-        key: K,
-        value: V,
-        forest: &mut Self::Forest,
-        comp: &C,
-    ) -> Result<Option<V>, OutOfMemory>
-        requires fits { fits }
-        requires live { IsLive (trees forest.old) (number self.old) }
-        requires increasing { IsIncreasing (C.order comp.now) (list_of (trees forest.old) (number self.old)) }
-        ensures inserts { Inserts most (C.order comp.now) (trees forest.old) (number self.old) key value
-            result (trees forest.new) (number self.new) };
-
-    /// Removes a key.
-    fn remove<C: Comparator<K>>(&mut self, key: K, forest: &mut Self::Forest, comp: &C) -> Option<V>
-        requires fits { fits }
-        requires live { IsLive (trees forest.old) (number self.old) }
-        requires increasing { IsIncreasing (C.order comp.now) (list_of (trees forest.old) (number self.old)) }
-        ensures removes { Removes most (C.order comp.now) (trees forest.old) (number self.old) key
-            result (trees forest.new) (number self.new) };
-
-    /// The answers of the steps of a writing cursor, which starts at the end. Room for the answers is taken before anything changes.
-    fn edit<C: Comparator<K>>(
+    /// Makes a call that compares keys. Room for an answer that is a list is taken before anything changes.
+    fn answer<C: Comparator<K>>(
         &mut self,
         alloc: Global,
-        steps: &[Act<K, V>],
+        call: &Call<K, V>,
         forest: &mut Self::Forest,
         comp: &C,
-    ) -> Result<Vec<Seen<K, V>>, AllocError>
+    ) -> Result<Answer<K, V>, AllocError>
         requires fits { fits }
+        requires compares { (h : ℕ) × (c : ℕ) × IsComparing READS h c call.now }
         requires live { IsLive (trees forest.old) (number self.old) }
         requires increasing { IsIncreasing (C.order comp.now) (list_of (trees forest.old) (number self.old)) }
-        ensures edits { IfOk result (λ sights. Edits most (C.order comp.now) steps.now sights.items
-            (record { forest = trees forest.old; number = number self.old })
+        ensures makes { IfOk result (λ given. Makes most (C.order comp.now) call.now
+            (record { forest = trees forest.old; number = number self.old }) given
             (record { forest = trees forest.new; number = number self.new })) }
+        ensures room { OnErr result (AsksRoom call.now) }
         ensures err_forest { OnErr result (forest.new ≡ forest.old) }
         ensures err_self { OnErr result (self.new ≡ self.old) };
 

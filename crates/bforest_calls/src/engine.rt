@@ -1,9 +1,7 @@
 //! One call, and the tests before it.
-ghost use Rattle.bforest.specs.Forest.{IsLive, list_of};
-ghost use Rattle.bforest_calls.specs.Compared.{IsComparing, Makes};
+ghost use Rattle.bforest_calls.specs.Compared.{IsComparing};
 ghost use Rattle.bforest_calls.specs.Machine.{AsksRoom, Live, Refuses, Step};
 ghost use Rattle.bforest_calls.specs.declared.call.Call.TheVariants as call;
-ghost use Rattle.bforest_nodes.specs.Entries.{IsIncreasing};
 ghost use Rattle.std.specs.Prelude.{IfOk, IfSome, None, OnErr, false, length, map, ◌<◌, ◌≡◌, ℕ};
 
 use crate::call::{Answer, Call};
@@ -106,53 +104,8 @@ fn compare<K: Copy, V: Copy, C: Comparator<K>, T: Collection<K, V>>(
     if !handles[h].increases(forest, &comps[c]) {
         return Ok(Answer::Unordered);
     }
-    let given = compare_in(alloc, call, &mut handles[h], forest, &comps[c])?;
+    let given = handles[h].answer(alloc, call, forest, &comps[c])?;
     Ok(given)
-}
-
-/// Makes a call that compares keys on its handle, which is live and whose list increases.
-fn compare_in<K: Copy, V: Copy, C: Comparator<K>, T: Collection<K, V>>(
-    alloc: Global,
-    call: &Call<K, V>,
-    handle: &mut T,
-    forest: &mut T::Forest,
-    comp: &C,
-) -> Result<Answer<K, V>, AllocError>
-    requires fits { T.fits }
-    requires compares { (h : ℕ) × (c : ℕ) × IsComparing T.READS h c call.now }
-    requires live { IsLive (T.trees forest.old) (T.number handle.old) }
-    requires increasing { IsIncreasing (C.order comp.now)
-        (list_of (T.trees forest.old) (T.number handle.old)) }
-    ensures makes { IfOk result (λ given. Makes T.most (C.order comp.now) call.now
-        (record { forest = T.trees forest.old; number = T.number handle.old }) given
-        (record { forest = T.trees forest.new; number = T.number handle.new })) }
-    ensures room { OnErr result (AsksRoom call.now) }
-    ensures err_forest { OnErr result (forest.new ≡ forest.old) }
-    ensures err_handle { OnErr result (handle.new ≡ handle.old) }
-{
-    match call {
-        Call::Get { k, .. } => Ok(Answer::Value(handle.get(*k, forest, comp))),
-        Call::GetOrLess { k, .. } => Ok(Answer::Pair(handle.get_or_less(*k, forest, comp))),
-        Call::Insert { k, v, .. } => Ok(Answer::Put(handle.insert(*k, *v, forest, comp))),
-        Call::Remove { k, .. } => Ok(Answer::Value(handle.remove(*k, forest, comp))),
-        Call::Read { steps, .. } => {
-            let sights = handle.read(alloc, steps, forest, comp)?;
-            Ok(Answer::Script(sights))
-        }
-        Call::Edit { steps, .. } => {
-            let sights = handle.edit(alloc, steps, forest, comp)?;
-            Ok(Answer::Script(sights))
-        }
-        Call::Range { lo, hi, ends, .. } => {
-            let sights = handle.range(alloc, (*lo, *hi), ends, forest, comp)?;
-            Ok(Answer::Script(sights))
-        }
-        Call::Retain { .. }
-        | Call::Clear { .. }
-        | Call::Iter { .. }
-        | Call::Alias { .. }
-        | Call::ForestClear => unreachable!(),
-    }
 }
 
 /// The answer to a reading cursor that is not offered.

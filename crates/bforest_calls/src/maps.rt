@@ -1,13 +1,10 @@
 //! Lists of calls on maps, and maps as the engine asks for them.
-ghost use Rattle.bforest.specs.Bounds.{entries_between};
 ghost use Rattle.bforest.specs.Cursor.{Goes, IsCursor, entries, forest_now, map_now, spot};
-ghost use Rattle.bforest.specs.Forest.{IsLive, list_of};
+ghost use Rattle.bforest.specs.Forest.{IsLive};
 ghost use Rattle.bforest.specs.Memory.{MapsFitInMemory};
-ghost use Rattle.bforest_calls.specs.Looks.{all_taken};
 ghost use Rattle.bforest_calls.specs.Machine.{MayStopAt, Run};
 ghost use Rattle.bforest_calls.specs.State.{Retained, WritesAt, is_listed};
 ghost use Rattle.bforest_calls.specs.Steps.{ActsBy, LooksBy, TakesFrom, map_view};
-ghost use Rattle.bforest_nodes.specs.Entries.{IsIncreasing};
 ghost use Rattle.std.proofs.Common.{◌∙◌};
 ghost use Rattle.std.proofs.lemmas.List.{get_or_default};
 ghost use Rattle.std.specs.Prelude.{IfOk, None, OnErr, is_some, map, refl, slice_get, take, true, unwrap_or, ◌≡◌, ℕ};
@@ -16,10 +13,9 @@ use crate::call::{Act, Answer, Call, Look, Seen, Side};
 use crate::collection::Collection;
 use crate::run::run;
 use crate::steps::{Steps, each};
-use bforest::{Comparator, Map, MapCursor, MapCursorMut, MapForest, MapRange, OutOfMemory};
+use bforest::{Comparator, Map, MapCursor, MapCursorMut, MapForest, MapRange};
 use std::alloc::{AllocError, Global};
 use std::cmp::Ordering;
-use std::ops::Bound;
 
 /// Makes the calls in order, on maps, and returns one answer for each. Handles and orders may be any: each call tests them.
 ///
@@ -73,80 +69,40 @@ impl<K: Copy, V: Copy> Collection<K, V> for Map<K, V> {
         self.increases(forest, comp)
     }
 
-    fn get<C: Comparator<K>>(&self, key: K, forest: &MapForest<K, V>, comp: &C) -> Option<V> {
-        self.get(key, forest, comp)
-    }
-
-    fn get_or_less<C: Comparator<K>>(
-        &self,
-        key: K,
-        forest: &MapForest<K, V>,
-        comp: &C,
-    ) -> Option<(K, V)> {
-        self.get_or_less(key, forest, comp)
-    }
-
     fn entries(&self, alloc: Global, forest: &MapForest<K, V>) -> Result<Vec<(K, V)>, AllocError> {
         self.iter(forest).collect(alloc)
     }
 
-    fn read<C: Comparator<K>>(
-        &self,
-        alloc: Global,
-        steps: &[Look<K>],
-        forest: &MapForest<K, V>,
-        comp: &C,
-    ) -> Result<Vec<Seen<K, V>>, AllocError> {
-        let mut cursor = self.cursor(forest, comp);
-        each(alloc, steps, &mut cursor)
-    }
-
-    fn range<C: Comparator<K>>(
-        &self,
-        alloc: Global,
-        bounds: (Bound<K>, Bound<K>),
-        ends: &[Side],
-        forest: &MapForest<K, V>,
-        comp: &C,
-    ) -> Result<Vec<Seen<K, V>>, AllocError>
-        requires fits { MapsFitInMemory K.row V.row }
-        requires live { IsLive forest.now self.now }
-        requires increasing { IsIncreasing (C.order comp.now) (list_of forest.now self.now) }
-        ensures sights { IfOk result (λ sights. sights.items ≡ all_taken (entries_between (C.order comp.now)
-            bounds.0 bounds.1 (list_of forest.now self.now)) ends.now) }
-    {
-        let mut range = self.range(bounds, forest, comp);
-        each(alloc, ends, &mut range)
-    }
-
-    fn insert<C: Comparator<K>>(
-        &mut self,
-        key: K,
-        value: V,
-        forest: &mut MapForest<K, V>,
-        comp: &C,
-    ) -> Result<Option<V>, OutOfMemory> {
-        self.insert(key, value, forest, comp)
-    }
-
-    fn remove<C: Comparator<K>>(
-        &mut self,
-        key: K,
-        forest: &mut MapForest<K, V>,
-        comp: &C,
-    ) -> Option<V> {
-        self.remove(key, forest, comp)
-    }
-
-    fn edit<C: Comparator<K>>(
+    fn answer<C: Comparator<K>>(
         &mut self,
         alloc: Global,
-        steps: &[Act<K, V>],
+        call: &Call<K, V>,
         forest: &mut MapForest<K, V>,
         comp: &C,
-    ) -> Result<Vec<Seen<K, V>>, AllocError> {
-        let mut cursor = self.cursor_mut(forest, comp);
-        each(alloc, steps, &mut cursor)
+    ) -> Result<Answer<K, V>, AllocError> {
+        match call {
+            Call::Get { k, .. } => Ok(Answer::Value(self.get(*k, forest, comp))),
+            Call::GetOrLess { k, .. } => Ok(Answer::Pair(self.get_or_less(*k, forest, comp))),
+            Call::Insert { k, v, .. } => Ok(Answer::Put(self.insert(*k, *v, forest, comp))),
+            Call::Remove { k, .. } => Ok(Answer::Value(self.remove(*k, forest, comp))),
+            Call::Read { steps, .. } => {
+                let mut cursor = self.cursor(forest, comp);
+                each(alloc, steps, &mut cursor)
+            }
+            Call::Edit { steps, .. } => {
+                let mut cursor = self.cursor_mut(forest, comp);
+                each(alloc, steps, &mut cursor)
+            }
+            Call::Range { lo, hi, ends, .. } => {
+                let mut range = self.range((*lo, *hi), forest, comp);
+                each(alloc, ends, &mut range)
+            }
+            Call::Retain { .. }
+            | Call::Clear { .. }
+            | Call::Iter { .. }
+            | Call::Alias { .. }
+            | Call::ForestClear => unreachable!(),
+        }
     }
 
     fn retain<C: Comparator<K>>(

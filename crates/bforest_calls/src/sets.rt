@@ -1,26 +1,23 @@
 //! Lists of calls on sets, and sets as the engine asks for them: the value of a key is the unit.
-ghost use Rattle.bforest.specs.Bounds.{entries_between};
 ghost use Rattle.bforest.specs.Forest.{IsLive, list_of};
 ghost use Rattle.bforest.specs.Memory.{SetsFitInMemory};
 ghost use Rattle.bforest.specs.Set.{as_put, as_removed};
 ghost use Rattle.bforest.specs.SetCursor.{IsCursor};
-ghost use Rattle.bforest_calls.specs.Looks.{all_taken, with_each};
+ghost use Rattle.bforest_calls.specs.Looks.{with_each};
 ghost use Rattle.bforest_calls.specs.Machine.{MayStopAt, Run};
 ghost use Rattle.bforest_calls.specs.State.{Retained, is_listed};
 ghost use Rattle.bforest_calls.specs.Steps.{ActsBy, TakesFrom, set_view};
-ghost use Rattle.bforest_nodes.specs.Entries.{IsIncreasing};
 ghost use Rattle.std.proofs.Common.{◌∙◌};
 ghost use Rattle.std.proofs.lemmas.List.{get_or_default};
 ghost use Rattle.std.specs.Prelude.{IfOk, None, OnErr, false, map, option_map, refl, take, ◌≡◌, ℕ};
 
-use crate::call::{Act, Answer, Call, Look, Seen, Side};
+use crate::call::{Act, Answer, Call, Seen, Side};
 use crate::collection::Collection;
 use crate::run::run;
 use crate::steps::{Steps, each};
 use bforest::{Comparator, OutOfMemory, Set, SetCursor, SetForest, SetRange};
 use std::alloc::{AllocError, Global};
 use std::cmp::Ordering;
-use std::ops::Bound;
 
 /// Makes the calls in order, on sets, and returns one answer for each. The only value is the unit: [`Call::Get`] is
 /// `contains`, and an insertion answers the unit where the key was present. [`Call::Read`] is not offered.
@@ -75,19 +72,6 @@ impl<K: Copy> Collection<K, ()> for Set<K> {
         self.increases(forest, comp)
     }
 
-    fn get<C: Comparator<K>>(&self, key: K, forest: &SetForest<K>, comp: &C) -> Option<()> {
-        unit_if(self.contains(key, forest, comp))
-    }
-
-    fn get_or_less<C: Comparator<K>>(
-        &self,
-        key: K,
-        forest: &SetForest<K>,
-        comp: &C,
-    ) -> Option<(K, ())> {
-        with_unit(self.get_or_less(key, forest, comp))
-    }
-
     fn entries(&self, alloc: Global, forest: &SetForest<K>) -> Result<Vec<(K, ())>, AllocError> {
         let mut entries = Vec::new(alloc);
         for key in self.iter(forest) {
@@ -96,62 +80,35 @@ impl<K: Copy> Collection<K, ()> for Set<K> {
         Ok(entries)
     }
 
-    fn read<C: Comparator<K>>(
-        &self,
-        _alloc: Global,
-        _steps: &[Look<K>],
-        _forest: &SetForest<K>,
-        _comp: &C,
-    ) -> Result<Vec<Seen<K, ()>>, AllocError> {
-        unreachable!()
-    }
-
-    fn range<C: Comparator<K>>(
-        &self,
-        alloc: Global,
-        bounds: (Bound<K>, Bound<K>),
-        ends: &[Side],
-        forest: &SetForest<K>,
-        comp: &C,
-    ) -> Result<Vec<Seen<K, ()>>, AllocError>
-        requires fits { SetsFitInMemory K.row }
-        requires live { IsLive forest.now self.now }
-        requires increasing { IsIncreasing (C.order comp.now) (list_of forest.now self.now) }
-        ensures sights { IfOk result (λ sights. sights.items ≡ all_taken (entries_between (C.order comp.now)
-            bounds.0 bounds.1 (list_of forest.now self.now)) ends.now) }
-    {
-        let mut range = self.range(bounds, forest, comp);
-        each(alloc, ends, &mut range)
-    }
-
-    fn insert<C: Comparator<K>>(
-        &mut self,
-        key: K,
-        _value: (),
-        forest: &mut SetForest<K>,
-        comp: &C,
-    ) -> Result<Option<()>, OutOfMemory> {
-        old_unit(self.insert(key, forest, comp))
-    }
-
-    fn remove<C: Comparator<K>>(
-        &mut self,
-        key: K,
-        forest: &mut SetForest<K>,
-        comp: &C,
-    ) -> Option<()> {
-        unit_if(self.remove(key, forest, comp))
-    }
-
-    fn edit<C: Comparator<K>>(
+    fn answer<C: Comparator<K>>(
         &mut self,
         alloc: Global,
-        steps: &[Act<K, ()>],
+        call: &Call<K, ()>,
         forest: &mut SetForest<K>,
         comp: &C,
-    ) -> Result<Vec<Seen<K, ()>>, AllocError> {
-        let mut cursor = self.cursor(forest, comp);
-        each(alloc, steps, &mut cursor)
+    ) -> Result<Answer<K, ()>, AllocError> {
+        match call {
+            Call::Get { k, .. } => Ok(Answer::Value(unit_if(self.contains(*k, forest, comp)))),
+            Call::GetOrLess { k, .. } => Ok(Answer::Pair(with_unit(self.get_or_less(
+                *k, forest, comp,
+            )))),
+            Call::Insert { k, .. } => Ok(Answer::Put(old_unit(self.insert(*k, forest, comp)))),
+            Call::Remove { k, .. } => Ok(Answer::Value(unit_if(self.remove(*k, forest, comp)))),
+            Call::Edit { steps, .. } => {
+                let mut cursor = self.cursor(forest, comp);
+                each(alloc, steps, &mut cursor)
+            }
+            Call::Range { lo, hi, ends, .. } => {
+                let mut range = self.range((*lo, *hi), forest, comp);
+                each(alloc, ends, &mut range)
+            }
+            Call::Read { .. }
+            | Call::Retain { .. }
+            | Call::Clear { .. }
+            | Call::Iter { .. }
+            | Call::Alias { .. }
+            | Call::ForestClear => unreachable!(),
+        }
     }
 
     fn retain<C: Comparator<K>>(

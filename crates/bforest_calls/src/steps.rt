@@ -1,9 +1,9 @@
 //! The steps of a cursor, or those from the ends of a range, in turn.
-ghost use Rattle.bforest_calls.specs.Steps.{Chain};
+ghost use Rattle.bforest_calls.specs.Steps.{Chained};
 ghost use Rattle.bforest_calls.specs.declared.call.Seen.{Seen};
 ghost use Rattle.std.specs.Prelude.{IfOk, OnErr, ◌≡◌};
 
-use crate::call::Seen;
+use crate::call::{Answer, Seen};
 use std::alloc::{AllocError, Global};
 
 /// A cursor or a range, which makes steps of type `A`.
@@ -21,14 +21,14 @@ pub(crate) trait Steps<A, K: Copy, V: Copy> {
         ensures goes { goes self.old step.now result self.new };
 }
 
-/// Makes each step in turn. Room for the answers is taken first.
+/// Makes each step in turn, and answers the list of what they answered. Room for it is taken first.
 pub(crate) fn each<A, K: Copy, V: Copy, S: Steps<A, K, V>>(
     alloc: Global,
     steps: &[A],
     stepper: &mut S,
-) -> Result<Vec<Seen<K, V>>, AllocError>
+) -> Result<Answer<K, V>, AllocError>
     requires ready { S.ready stepper.old }
-    ensures chain { IfOk result (λ sights. Chain S.goes stepper.old steps.now sights.items stepper.new) }
+    ensures chain { IfOk result (Chained S.goes stepper.old steps.now stepper.new) }
     ensures err { OnErr result (stepper.new ≡ stepper.old) }
 {
     let mut sights = Vec::with_capacity(alloc, steps.len())?;
@@ -36,5 +36,5 @@ pub(crate) fn each<A, K: Copy, V: Copy, S: Steps<A, K, V>>(
         let sight = stepper.step(step);
         sights.push(sight).unwrap();
     }
-    Ok(sights)
+    Ok(Answer::Script(sights))
 }

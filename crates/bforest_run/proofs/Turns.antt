@@ -1,14 +1,14 @@
 -- Lines that are answered one after another.
 use Rattle.bforest_run.proofs.Parts.{few_lines}
-use Rattle.bforest_run.proofs.Written.{Appends-none, appends_more}
+use Rattle.bforest_run.proofs.Written.{Appends-none, Grows-same, appends_more}
 use Rattle.bforest_run.specs.Lines.{lines_of}
-use Rattle.bforest_run.specs.Session.{AllAnswered, Answered, Breaks, IsBad, IsFor, Outcome, bad_text}
+use Rattle.bforest_run.specs.Session.{AllAnswered, Answered, Breaks, IsBad, IsFor, Outcome, Reached, bad_text}
 use Rattle.bforest_run.specs.Statuses.{status_of}
-use Rattle.bforest_run.specs.Output.{AppendsPart}
+use Rattle.bforest_run.specs.Output.{AppendsPart, ReadsThenWrites}
 use Rattle.bforest_run.specs.Words.{Word, words_of}
 use Rattle.bforest_run.specs.declared.stop.Stop.TheVariants.{BadLine, InputOutput, Memory}
 use Rattle.bforest_run.specs.declared.stop.Stop.{Stop}
-use Rattle.std.proofs.Common.{Err, List, Option, [], ap, append_assoc, arith, inl, inr, length, length-append, min, refl, subst, sym, take, ◌+◌, ◌++◌, ◌-◌, ◌<◌, ◌^◌, ◌∙◌, ◌∷◌, ◌≡◌, ℕ}
+use Rattle.std.proofs.Common.{Err, List, Option, [], ap, append_assoc, arith, inl, inr, length, length-append, min, refl, subst, sym, take, ◌+◌, ◌++◌, ◌-◌, ◌<◌, ◌^◌, ◌∙◌, ◌∷◌, ◌≡◌, ◌≢◌, ℕ}
 use Rattle.std.proofs.Math.Seq.{take-append_seam}
 use Rattle.std.proofs.lemmas.List.{append-nil}
 use Rattle.std.specs.Io.KnownBytes.{Appends}
@@ -49,18 +49,15 @@ module _ {S : Type 0} (tells : S → List Word → List ℕ → S → Type 0) (i
       appended = appends_more old new next t.text more t.appended written;
     }
 
+    abbrev at_line : Reached tells is_bad start bytes
+    at_line = record { before = t.before; line = line; after = rest; lines = t.lines; text = t.text; end = now; told = t.told }
+
     -- the outcome of a run that stopped at a line
     pub turned-stopped : (number' : ℕ) → number' ≡ number + 1 → (next : Option (List ℕ)) (why : Stop) → (why ≡ BadLine → IsBad tells is_bad line × Appends new next (bad_text number')) → (why ≡ Memory → Appends new next []) → (why ≡ InputOutput → Breaks tells is_bad now number' line new next) → Outcome tells is_bad start bytes old next (status_of (Err why))
     turned-stopped number' is next BadLine bad memory failed = record {
       all = λ e. absurd (cc);
       bad = λ _. let b = bad refl in record {
-        before = t.before;
-        line = line;
-        after = rest;
-        lines = t.lines;
-        text = t.text;
-        end = now;
-        told = t.told;
+        reached = at_line;
         bad = b.0;
         appended = subst (λ n. Appends old next (t.text ++ bad_text n)) (is ∙ ap (λ n. n + 1) (sym t.count)) (appends_more old new next t.text (bad_text number') t.appended b.1);
       };
@@ -84,13 +81,7 @@ module _ {S : Type 0} (tells : S → List Word → List ℕ → S → Type 0) (i
       bad = λ e. absurd (cc);
       memory = λ e. absurd (cc);
       failed = λ _. let b = failed refl in inr (record {
-        before = t.before;
-        line = line;
-        after = rest;
-        lines = t.lines;
-        text = t.text;
-        end = now;
-        told = t.told;
+        reached = at_line;
         written = b.written;
         missing = b.missing;
         some = b.some;
@@ -138,3 +129,9 @@ module _ {S : Type 0} (tells : S → List Word → List ℕ → S → Type 0) (i
   numbered start bytes old number line rest now new t small =
       let all : length (lines_of bytes) ≡ length t.before + length (line ∷ rest) = ap length t.lines ∙ length-append t.before (line ∷ rest) in
       omega (arith, all, few_lines bytes, t.count, small)
+
+-- a run that stops before its first line, and at no bad one, has written nothing
+pub stops-unread : (left o : Option (List ℕ)) (why : Stop) → why ≢ BadLine → ReadsThenWrites left o o (status_of (Err why))
+stops-unread left o BadLine other = absurd (other refl)
+stops-unread left o Memory other = record { whole = λ few. absurd (omega (arith, few)); read_first = λ _. refl; grows = Grows-same o }
+stops-unread left o InputOutput other = record { whole = λ few. absurd (omega (arith, few)); read_first = λ _. refl; grows = Grows-same o }

@@ -47,6 +47,16 @@ module _ {S : Type 0} (tells : S → List Word → List ℕ → S → Type 0) (i
     pub next : IsFor now number line (written ++ missing)
     pub appended : Appends old new written
 
+  -- the lines before one were answered, and that line is the next
+  pub record Reached (start : S) (bytes : List ℕ) : Type 0 where
+    pub before : List (List ℕ)
+    pub line : List ℕ
+    pub after : List (List ℕ)
+    pub lines : lines_of bytes ≡ before ++ line ∷ after
+    pub text : List ℕ
+    pub end : S
+    pub told : AllAnswered start before text end
+
   module _ (start : S) (bytes : List ℕ) (old new : Option (List ℕ)) where
     -- each line was answered
     pub record AllTold : Type 0 where
@@ -57,13 +67,8 @@ module _ {S : Type 0} (tells : S → List Word → List ℕ → S → Type 0) (i
 
     -- each line before the first bad one was answered, and then the bad line's number was written
     pub record ToldUpToBad : Type 0 where
-      pub before : List (List ℕ)
-      pub line : List ℕ
-      pub after : List (List ℕ)
-      pub lines : lines_of bytes ≡ before ++ line ∷ after
-      pub text : List ℕ
-      pub end : S
-      pub told : AllAnswered start before text end
+      pub reached : Reached start bytes
+      pub open reached use *
       pub bad : IsBad line
       pub appended : Appends old new (text ++ bad_text (length before + 1))
 
@@ -77,13 +82,8 @@ module _ {S : Type 0} (tells : S → List Word → List ℕ → S → Type 0) (i
 
     -- each line before one was answered, and of the text for that one a part was written
     pub record BrokenOff : Type 0 where
-      pub before : List (List ℕ)
-      pub line : List ℕ
-      pub after : List (List ℕ)
-      pub lines : lines_of bytes ≡ before ++ line ∷ after
-      pub text : List ℕ
-      pub end : S
-      pub told : AllAnswered start before text end
+      pub reached : Reached start bytes
+      pub open reached use *
       pub written : List ℕ
       pub missing : List ℕ
       pub some : missing ≢ []

@@ -1,7 +1,7 @@
 //! The run of an input of lines to an output of lines.
 ghost use Rattle.bforest_run.specs.Answers.{IsBadForMaps, IsBadForSets, MapTells, SetTells, at_start};
 ghost use Rattle.bforest_run.specs.Bookings.{AreNew, BookTells, IsBadForBooks};
-ghost use Rattle.bforest_run.specs.Output.{AppendsBeginning, AppendsPart, Grows};
+ghost use Rattle.bforest_run.specs.Output.{AppendsBeginning, AppendsPart, Grows, ReadsThenWrites};
 ghost use Rattle.bforest_run.specs.Session.{Answered, Breaks, IsBad, Outcome, Replies, bad_text};
 ghost use Rattle.bforest_run.specs.Statuses.{status_of};
 ghost use Rattle.std.specs.Io.KnownBytes.{Appends, IsAtEnd};
@@ -58,13 +58,9 @@ pub fn run_text<R: Read, W: Write>(
 ) -> u8
     ensures status { (result ≤ 4) × (result ≢ 1) }
 
-    // Each line is answered only after the whole input was read.
-    ensures whole { result ≤ 2 → IsAtEnd (R.remaining input.new) }
-    ensures read_first { (IsAtEnd (R.remaining input.new) → ⊥)
-        → W.contents output.new ≡ W.contents output.old }
-
-    // The old content of the output stays at its front.
-    ensures grows { Grows (W.contents output.old) (W.contents output.new) }
+    // The whole input is read before a line is answered, and the old content of the output stays at its front.
+    ensures served { ReadsThenWrites (R.remaining input.new)
+        (W.contents output.old) (W.contents output.new) result }
 
     // The lines are answered in turn up to the first bad one, each call as one step of the machine.
     ensures maps { kind ≡ Kind.Map → IfSome (R.remaining input.old) (λ bytes.
@@ -87,10 +83,8 @@ pub fn run_text<R: Read, W: Write>(
 /// Answers each line of the input by books of `count` resources, and returns the status.
 fn run_books<R: Read, W: Write>(alloc: Global, count: u32, input: &mut R, output: &mut W) -> u8
     ensures status { (result ≤ 4) × (result ≢ 1) }
-    ensures whole { result ≤ 2 → IsAtEnd (R.remaining input.new) }
-    ensures read_first { (IsAtEnd (R.remaining input.new) → ⊥)
-        → W.contents output.new ≡ W.contents output.old }
-    ensures grows { Grows (W.contents output.old) (W.contents output.new) }
+    ensures served { ReadsThenWrites (R.remaining input.new)
+        (W.contents output.old) (W.contents output.new) result }
     ensures outcome { IfSome (R.remaining input.old) (λ bytes.
         (start : Books) × AreNew count start × Outcome BookTells IsBadForBooks start bytes
         (W.contents output.old) (W.contents output.new) result) }
@@ -109,10 +103,8 @@ fn run<E: Engine, R: Read, W: Write>(
     output: &mut W,
 ) -> u8
     ensures status { (result ≤ 4) × (result ≢ 1) }
-    ensures whole { result ≤ 2 → IsAtEnd (R.remaining input.new) }
-    ensures read_first { (IsAtEnd (R.remaining input.new) → ⊥)
-        → W.contents output.new ≡ W.contents output.old }
-    ensures grows { Grows (W.contents output.old) (W.contents output.new) }
+    ensures served { ReadsThenWrites (R.remaining input.new)
+        (W.contents output.old) (W.contents output.new) result }
     ensures outcome { IfSome (R.remaining input.old) (λ bytes.
         Outcome E.tells E.is_bad engine.old bytes
         (W.contents output.old) (W.contents output.new) result) }
@@ -132,11 +124,8 @@ fn answer_all<E: Engine, R: Read, W: Write>(
     input: &mut R,
     output: &mut W,
 ) -> Result<(), Stop>
-    ensures ok { OnOk result (IsAtEnd (R.remaining input.new)) }
-    ensures bad { result ≡ Err Stop.BadLine → IsAtEnd (R.remaining input.new) }
-    ensures read_first { (IsAtEnd (R.remaining input.new) → ⊥)
-        → W.contents output.new ≡ W.contents output.old }
-    ensures grows { Grows (W.contents output.old) (W.contents output.new) }
+    ensures served { ReadsThenWrites (R.remaining input.new)
+        (W.contents output.old) (W.contents output.new) (status_of result) }
     ensures outcome { IfSome (R.remaining input.old) (λ bytes.
         Outcome E.tells E.is_bad engine.old bytes
         (W.contents output.old) (W.contents output.new) (status_of result)) }

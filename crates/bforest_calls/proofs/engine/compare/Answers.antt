@@ -30,8 +30,8 @@ returns-clause-step g c =
     let tested = number-lent t.number t.numbers laws.counted laws.at xs c.args.h passed.0 c.index-handles-h.result in
     let lent = number-lent t.number t.numbers laws.counted laws.at xs c.args.h passed.0 c.index-handles-h-2.result in
     let new : State g.row.K.Denot g.row.V.Denot = record
-    { forest = t.trees c.compare_in.new.forest; handles = t.numbers (slice_set xs c.args.h c.compare_in.new.handle) } in
-    let after : Held g.row.K.Denot g.row.V.Denot = record { forest = t.trees c.compare_in.new.forest; number = t.number c.compare_in.new.handle } in
+    { forest = t.trees c.answer.new.forest; handles = t.numbers (slice_set xs c.args.h c.answer.new.self) } in
+    let after : Held g.row.K.Denot g.row.V.Denot = record { forest = t.trees c.answer.new.forest; number = t.number c.answer.new.self } in
     step-of t.most t.READS (map order comps) c.args.h c.args.c (record { forest = forest; handles = t.numbers xs }) c.in_ok-given.given new c.args.call.now
     c.requires.compares
     (inr (
@@ -40,8 +40,8 @@ returns-clause-step g c =
       at_both (λ o n. IsIncreasing o (list_of forest n)) (is_order order comps c.args.c c.index-comps-c.result c.index-comps-c.is there) tested
           (c.increases.ensures.increasing.0 c.if-not-increases.false),
       (
-        t.number c.compare_in.new.handle,
-        laws.written xs c.args.h c.compare_in.new.handle,
+        t.number c.answer.new.self,
+        laws.written xs c.args.h c.answer.new.self,
         at_both (λ o n. Makes t.most o c.args.call.now (record { forest = forest; number = n }) c.in_ok-given.given after)
             (is_order order comps c.args.c c.index-comps-c-2.result c.index-comps-c-2.is there) lent c.in_ok-given.ensures.makes,
       ),

@@ -1,6 +1,6 @@
 use Rattle.bforest_calls.proofs.Chains.{chain-next, chain-whole, pushed, room-stays}
 use Rattle.bforest_calls.proofs.steps.each.Goals as goal
-use Rattle.std.proofs.Common.{ap, length, ◌+◌, ◌∙◌}
+use Rattle.std.proofs.Common.{ap, length, refl, ◌+◌, ◌∙◌}
 use Rattle.std.specs.Prelude.{is_ok}
 
 pub loop-step-preserved : goal.loop-step-preserved
@@ -19,4 +19,6 @@ loop-step-preserved g c =
 pub returns-clause-chain : goal.returns-clause-chain
 returns-clause-chain g c =
     let l = c.loop-step in
-    chain-whole g.S.Steps.goes c.args.stepper.now c.args.steps.now l.step-index l.sights.items l.stepper l.invariant.chain c.loop-step-test.false
+    let chain = chain-whole g.S.Steps.goes c.args.stepper.now c.args.steps.now l.step-index l.sights.items l.stepper l.invariant.chain
+    c.loop-step-test.false in
+    (l.sights, refl, chain)
