@@ -33,6 +33,6 @@ pub fn nodes_within<K: Copy, V: Copy>(
     requires few { length (list_of forest.now map.now) ≤ entries }
     ensures within { node_count (sizes_of forest.now map.now) ≤ result }
 {
-    let _slots = forest.slots();
+    let _nodes = forest.nodes_in_use();
     Map::<K, V>::nodes_for(entries)
 }
