@@ -1,8 +1,8 @@
 -- A row with one more entry: where its node has room, and where it is split.
-use Rattle.std.proofs.Common.{◌≡◌, ◌⊎◌, ◌/◌, ℕ, suc, ◌+◌, ◌-◌, ◌≤◌, ◌<◌, nat_lt, if◌then◌else◌, Bool, true, false, Option, Some, None, List, [], ◌∷◌, ◌++◌, length, refl, sym, ap, ◌∙◌, inl, inr, append_assoc, length-append, arith}
-use Rattle.bforest_core.proofs.{Words.{Row, append-nil, node, flat, head_of, heads, sizes, FitRow, inner_gain, past, leaf_gain, IsAt}, rows.Bounds.below_lt}
-use Rattle.bforest_core.proofs.{rows.Bounds.{above_lt, upto_le, past_le}, rows.LevelRows.{flat-append, sizes-append, least-le, FitRow-split, FitRow-join}}
-use Rattle.bforest_core.proofs.rows.LevelRows.{heads-append}
+use Rattle.bforest_core.proofs.Words.{◌≡◌, ◌⊎◌, ◌/◌, ℕ, suc, ◌+◌, ◌-◌, ◌≤◌, ◌<◌, nat_lt, if◌then◌else◌, Bool, true, false, Option, Some, None, List, [], ◌∷◌}
+use Rattle.bforest_core.proofs.Words.{◌++◌, length, refl, sym, ap, ◌∙◌, inl, inr, append_assoc, length-append, arith, Row, append-nil, node, flat, head_of}
+use Rattle.bforest_core.proofs.{Words.{heads, sizes, FitRow, inner_gain, past, leaf_gain, IsAt}, rows.Bounds.{below_lt, above_lt, upto_le, past_le}}
+use Rattle.bforest_core.proofs.rows.LevelRows.{flat-append, sizes-append, least-le, FitRow-split, FitRow-join, heads-append}
 
 -- a list with one more element is not shorter
 pub one_more : {A : Type 0} (a : List A) (x y : A) (b : List A) → length (a ++ x ∷ b) ≤ length (a ++ x ∷ y ∷ b)
@@ -22,12 +22,11 @@ module _ {K X : Type 0} where
 
   -- splitting a node keeps the entries of the row
   pub flat-halved : (before after : Row K X) (m n xs ys : _) → flat (before ++ node m xs ∷ node n ys ∷ after) ≡ flat before ++ ((xs ++ ys) ++ flat after)
-  flat-halved before after m n xs ys =
-      flat-append before _ ∙ ap (λ z. flat before ++ z) (sym (append_assoc xs ys (flat after)))
+  flat-halved before after m n xs ys = flat-append before _ ∙ ap (λ z. flat before ++ z) (sym (append_assoc xs ys (flat after)))
 
   -- a split node has two heads in the level above
   pub heads-halved : (before after : Row K X) (m n : ℕ) (x : K × X) (xs : List (K × X)) (y : K × X) (ys : List (K × X)) (key : K) → key ≡ y.0 → heads (before ++ node m (x ∷ xs) ∷ node n (y ∷ ys) ∷ after) ≡ heads before ++ (x.0, m) ∷ (key, n) ∷ heads after
-  heads-halved before after m n x xs y ys key is = rw (heads-append before (node m (x ∷ xs) ∷ node n (y ∷ ys) ∷ after), is) refl
+  heads-halved before after m n x xs y ys key is = rw (heads-append _ _, is) refl
 
   pub FitRow-halved : (half most : ℕ) (before after : Row K X) (m n es xs ys : _) → 1 ≤ half
       → FitRow half most (before ++ node m es ∷ after) → half ≤ length xs → length xs ≤ most → half ≤ length ys → length ys ≤ most
@@ -51,15 +50,8 @@ module _ {K X : Type 0} where
   pub in_right : (before after n right xs ys m j p : _) → length (heads before) ≡ length before → m ≡ right → j < length ys → p ≡ length (flat before) + (length xs + j) → InHalf before n right xs ys after m j p true
   in_right before after n right xs ys m j p seen here within place =
       let front = before ++ node n xs ∷ [] in
-      let flat_front : length (flat front) ≡ length (flat before) + length xs = ap length (flat-append before (node n xs ∷ [])) ∙ length-append (flat before) _ ∙ ap (λ z. length (flat before) + length z) (append-nil xs) in (
-        record {
-          before = front;
-          entries = ys;
-          after = after;
-          row_is = cc (append_assoc before (node n xs ∷ []) (node right ys ∷ after));
-          within = within;
-          place_is = omega arith;
-        },
+      let flat_front : length (flat front) ≡ length (flat before) + length xs = ap length (flat-append before (node n xs ∷ [])) ∙ length-append _ _ ∙ ap (λ z. length (flat before) + length z) (append-nil xs) in (
+        record { before = front; entries = ys; after = after; row_is = cc (append_assoc _ _ _); within = within; place_is = omega arith },
         length-append before (node n xs ∷ []) ∙ omega arith,
       )
 
@@ -92,15 +84,15 @@ module _ {K X : Type 0} where
 
   -- the gain of an insertion depends on the nodes before only through their number
   pub gain_spot : (before : Row K X) (n es l after : _) → inner_gain (length (flat before ++ l)) (sizes (before ++ node n es ∷ after)) ≡ inner_gain (length (flat before) + length l) (sizes before ++ length es ∷ sizes after)
-  gain_spot before n es l after = rw (length-append (flat before) l, sizes-append before (node n es ∷ after)) refl
+  gain_spot before n es l after = rw (length-append _ l, sizes-append _ _) refl
 
   -- the sizes of a level after an insertion into a node with room
   pub gain_room : (before : Row K X) (s e after : _) → e < s → s < 8 → inner_gain (length (flat before) + e) (sizes before ++ s ∷ after) ≡ (None, sizes before ++ suc s ∷ after)
-  gain_room before s e after low room = rw (gain_behind before e (s ∷ after), below_lt e s low, below_lt s 8 room) (behind_none before (suc s ∷ after))
+  gain_room before s e after low room = rw (gain_behind _ e _, below_lt e s low, below_lt s 8 room) (behind_none before (suc s ∷ after))
 
   -- the sizes of a level after an insertion that splits a full node
   pub gain_full : (before : Row K X) (s e : ℕ) (after : List ℕ) → e < s → s ≡ 8 → inner_gain (length (flat before) + e) (sizes before ++ s ∷ after) ≡ (Some (length before), sizes before ++ (if nat_lt e 4 then 5 ∷ 4 ∷ after else 4 ∷ 5 ∷ after))
-  gain_full before s e after low full = rw (gain_behind before e (s ∷ after), below_lt e s low, above_lt s 8 (omega arith)) (behind_some _ _)
+  gain_full before s e after low full = rw (gain_behind _ e _, below_lt e s low, above_lt s 8 (omega arith)) (behind_some _ _)
 
   -- an insertion into a leaf passes over the leaves before it; it is at the front of the first leaf only
   leaf_behind : (most : ℕ) (before : Row K X) (s e after : _) → (before ≡ []) ⊎ (1 ≤ e) → leaf_gain most (length (flat before) + e) (sizes before ++ s ∷ after) ≡ behind before (leaf_gain most e (s ∷ after))
@@ -108,10 +100,8 @@ module _ {K X : Type 0} where
 
   -- the sizes of the leaves after an insertion into a leaf with room
   pub leaf_room : (most : ℕ) (before : Row K X) (s e after : _) → e ≤ s → (before ≡ []) ⊎ (1 ≤ e) → s < most → leaf_gain most (length (flat before) + e) (sizes before ++ s ∷ after) ≡ (None, sizes before ++ suc s ∷ after)
-  leaf_room most before s e after low at room =
-      rw (leaf_behind most before s e after at, upto_le e s low, below_lt s most room) (behind_none before (suc s ∷ after))
+  leaf_room most before s e after low at room = rw (leaf_behind _ _ s e _ at, upto_le e s low, below_lt s most room) (behind_none before (suc s ∷ after))
 
   -- the sizes of the leaves after an insertion that splits a full leaf
   pub leaf_full : (most : ℕ) (before : Row K X) (s e after : _) → e ≤ s → (before ≡ []) ⊎ (1 ≤ e) → s ≡ most → leaf_gain most (length (flat before) + e) (sizes before ++ s ∷ after) ≡ (Some (length before), sizes before ++ (most + 1) / 2 ∷ (most + 1) / 2 ∷ after)
-  leaf_full most before s e after low at full =
-      rw (leaf_behind most before s e after at, upto_le e s low, above_lt s most (omega arith)) (behind_some _ _)
+  leaf_full most before s e after low at full = rw (leaf_behind _ _ s e _ at, upto_le e s low, above_lt s most (omega arith)) (behind_some _ _)

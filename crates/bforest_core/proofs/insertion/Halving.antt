@@ -1,9 +1,10 @@
 -- Splitting a full node, with a new entry in one half.
-use Rattle.std.proofs.Common.{◌≡◌, ℕ, suc, ◌+◌, ◌-◌, ◌≤◌, ◌<◌, ◌≢◌, true, false, if◌then◌else◌, List, [], ◌∷◌, ◌++◌, length, slice_get, Some, refl, sym, ap, ◌∙◌, subst, append_assoc, length-append, length-set, arith, IsTrue, ◌↔◌, Bool}
+use Rattle.bforest_core.proofs.Words.{◌≡◌, ℕ, suc, ◌+◌, ◌-◌, ◌≤◌, ◌<◌, ◌≢◌, true, false, if◌then◌else◌, List, [], ◌∷◌, ◌++◌, length, slice_get, Some, refl, sym}
+use Rattle.bforest_core.proofs.Words.{ap, ◌∙◌, subst, append_assoc, length-append, length-set, arith, IsTrue, ◌↔◌, Bool, Content, IsCut, left_half, Table}
+use Rattle.bforest_core.proofs.Words.{with_node, with_front, front_of, IsUsed, IsFullAt, IsSplitAt, head_of, inner_content, leaf_content, count, false≢true}
+use Rattle.bforest_core.proofs.{table.Stored.{Parts, inner_cuts, some_same, item_count}, rows.Zipper.cut}
+use Rattle.bforest_core.proofs.{table.Tables.{Puts, count-same, is_used, puts, takes, length-with_front, set_here}, insertion.LeafSpot.keys_count}
 use Rattle.bforest_nodes.specs.declared.node.SplitOff.{SplitOff}
-use Rattle.bforest_core.proofs.Words.{Content, IsCut, left_half, Table, with_node, with_front, front_of, IsUsed, IsFullAt, IsSplitAt, head_of, inner_content}
-use Rattle.bforest_core.proofs.{Words.{leaf_content, count, false≢true}, table.Tables.{Puts, count-same, is_used, puts, takes, length-with_front, set_here}}
-use Rattle.bforest_core.proofs.{table.Stored.{Parts, inner_cuts, some_same, item_count}, rows.Zipper.cut, insertion.LeafSpot.keys_count}
 
 -- nodes of one kind, by their keys and their values or children
 module _ {K V X : Type 0} (kind : List K → List X → Content K V) where
@@ -33,8 +34,7 @@ module _ {K V X : Type 0} (kind : List K → List X → Content K V) where
       put_fewer done = (has keys items slot_is).0 done
 
       pub put_in : size keys items < most → u ≡ with_node t n (write (kind keys items))
-      put_in fewer =
-          (rw ((has keys items slot_is).1 fewer) at (wrote keys items slot_is)) ∙ ap (λ z. with_node t z (write (kind keys items))) here
+      put_in fewer = (rw ((has keys items slot_is).1 fewer) at (wrote keys items slot_is)) ∙ ap (λ z. with_node t z (write (kind keys items))) here
 
       -- a failed insertion had no room and changes nothing
       pub put_past : put ≡ false → (¬ (size keys items < most)) × (u ≡ t)
@@ -103,9 +103,9 @@ module _ {K V X : Type 0} (content : List (K × X) → Content K V) where
         let c = cut es parts.lhs_entries less in
         let p = cuts c.l c.x c.r sp.left_half_is sp.right_half_is parts.crit_key c.place_is (subst (λ v. IsCut v parts.lhs_entries sp.left_half_is parts.crit_key sp.right_half_is) (cc (whole_is)) sp.cut) in
         let mid = with_front t t.chain sp.right_half_is in
-        let size = ap (λ v. length v.nodes) sp.after ∙ length-set mid.nodes n sp.left_half_is ∙ length-with_front t t.chain sp.right_half_is in
+        let size = ap (λ v. length v.nodes) sp.after ∙ length-set _ n _ ∙ length-with_front t _ _ in
         let w = takes t mid right sp.right_half_is front refl (omega arith) in
-        let ne : n ≢ right = λ (v : n ≡ right). let h = ap (λ k. count k t.chain) v in omega (arith, ap (λ k. count right k) w.chain_is, count-same right mid.chain) in
+        let ne : n ≢ right = λ v. let h = ap (λ k. count k t.chain) v in omega (arith, ap (λ k. count right k) w.chain_is, count-same right mid.chain) in
         let put = puts _ s n _ _ (w.same n ne ∙ was) sp.after in
         record {
           zs = c.l;
@@ -117,7 +117,7 @@ module _ {K V X : Type 0} (content : List (K × X) → Content K V) where
           two = record {
             ne = ne;
             here = cc;
-            there = cc (put.same right (λ (e : right ≡ n). ne (sym e)));
+            there = cc (put.same right (λ e. ne (sym e)));
             same = λ m a b. put.same m a ∙ w.same m b;
             chain_is = cc;
             slots_are = cc;
@@ -158,10 +158,10 @@ module _ {K V X : Type 0} (content : List (K × X) → Content K V) where
     into_left l l2 r es_is grown_is more low left_is right_is wrote after =
         let w = between sp.zs (sp.y ∷ sp.ys) l r (sym sp.es_is ∙ es_is) (omega (arith, sp.count_is)) in
         let put = puts s u n _ _ sp.two.here (cc (wrote w.0)) in
-        halves middle grown (l2 ++ w.0) (sp.y ∷ sp.ys) left_count right_count (cc (grown_is, append_assoc l2 w.0 (sp.y ∷ sp.ys)))
+        halves _ _ _ _ _ _ (cc (grown_is, append_assoc _ _ _))
         (omega (arith, length-append l2 w.0, length-append l w.0, ap length w.1, sp.count_is, left_is))
         (omega (arith, ap length sp.es_is, length-append sp.zs (sp.y ∷ sp.ys), sp.count_is, right_is)) (omega (arith, left_is)) (ap (λ v. (v, right) ∷ []) (sym sp.key_is))
-        (two_put u sp.two (l2 ++ w.0) (sp.y ∷ sp.ys) put put.here (put.same right (λ (v : right ≡ n). sp.two.ne (sym v)) ∙ sp.two.there) (λ k a b. a))
+        (two_put u sp.two (l2 ++ w.0) (sp.y ∷ sp.ys) put put.here (put.same right (λ v. sp.two.ne (sym v)) ∙ sp.two.there) (λ k a b. a))
 
     -- the entry was inserted into the right half
     pub into_right : (first l r r2 : _) → es ≡ l ++ r → grown ≡ l ++ r2 → length r2 ≡ suc (length r) → q ≤ length l → 1 ≤ q → q ≡ left_count → q + right_count ≡ suc (length es) →
@@ -171,7 +171,7 @@ module _ {K V X : Type 0} (content : List (K × X) → Content K V) where
         let w = between l r sp.zs (sp.y ∷ sp.ys) (sym es_is ∙ sp.es_is) (omega (arith, sp.count_is)) in
         let there = wrote w.0 (omega (arith, ap length w.1, length-append sp.zs w.0, sp.count_is)) in
         let put = puts s u _ _ _ sp.two.there (cc (there.0)) in
-        halves first grown sp.zs (w.0 ++ r2) left_count right_count (cc (grown_is, append_assoc sp.zs w.0 r2)) (sp.count_is ∙ left_is)
+        halves _ _ _ _ _ _ (cc (grown_is, append_assoc _ _ _)) (sp.count_is ∙ left_is)
         (omega (arith, length-append w.0 r2, length-append w.0 r, ap length w.2, ap length sp.es_is, length-append sp.zs (sp.y ∷ sp.ys), sp.count_is, right_is))
         (omega (arith, left_is)) (there.1 w.2)
         (two_put u sp.two sp.zs (w.0 ++ r2) put (put.same n sp.two.ne ∙ sp.two.here) put.here (λ k a b. b))

@@ -1,12 +1,12 @@
 -- Inserting an entry into the path's leaf, or splitting the leaf and inserting it into one half: the answers
 -- of `put_here` and `halve_leaf`.
-use Rattle.std.proofs.Common.{◌≡◌, ℕ, ◌+◌, ◌-◌, ◌/◌, nat_le, ◌≤◌, ◌<◌, true, false, Bool, if◌then◌else◌, [], ◌∷◌, ◌++◌, length, set, get_or, Some, refl, sym, ap, ◌∙◌, arith, append_assoc, length-append}
-use Rattle.bforest_core.proofs.Words.{get_or_default, get_or-set_same, get_or-set_other, Leaf, IsLeafCapacity, with_entry, Table, IsUsed, IsFullAt, IsSplitAt}
-use Rattle.bforest_core.proofs.{Words.{front_of, with_node, heads, half_of, leaf_content, entry_keys, Placed, Inserted, LeafHalved}, rows.Bounds.past_le}
-use Rattle.bforest_core.proofs.{rows.Bounds.upto_le, rows.LevelRows.Solid-full, table.Tables.{is_used, puts}, table.Stored.{leaf_cuts, with_entry_is}}
-use Rattle.bforest_core.proofs.{insertion.Grow.{in_left, in_right}, insertion.LeafSpot.{LeafSpot, leaf_spot, put_leaf, keys_count}, insertion.Halving.Split}
-use Rattle.bforest_core.proofs.insertion.Halving.{leaf_full_is, counted, split_at, left_used, into_left, into_right, middle_key, PutAsks, HasRoom, Written}
-use Rattle.bforest_core.proofs.{insertion.Halving.{asks_put, put_fewer, put_in, put_past}, insertion.LeafParted.leaf_parted}
+use Rattle.bforest_core.proofs.Words.{◌≡◌, ℕ, ◌+◌, ◌-◌, ◌/◌, nat_le, ◌≤◌, ◌<◌, true, false, Bool, if◌then◌else◌, [], ◌∷◌, ◌++◌, length, set, get_or, Some, refl}
+use Rattle.bforest_core.proofs.Words.{sym, ap, ◌∙◌, arith, append_assoc, length-append, get_or_default, get_or-set_same, get_or-set_other, Leaf, IsLeafCapacity}
+use Rattle.bforest_core.proofs.Words.{with_entry, Table, IsUsed, IsFullAt, IsSplitAt, front_of, with_node, heads, half_of, leaf_content, entry_keys, Placed}
+use Rattle.bforest_core.proofs.insertion.Halving.{Split, leaf_full_is, counted, split_at, left_used, into_left, into_right, middle_key, PutAsks, HasRoom}
+use Rattle.bforest_core.proofs.{Words.{Inserted, LeafHalved}, rows.Bounds.{past_le, upto_le}, table.Tables.{is_used, puts}, insertion.LeafParted.leaf_parted}
+use Rattle.bforest_core.proofs.{insertion.Halving.{Written, asks_put, put_fewer, put_in, put_past}, table.Stored.{leaf_cuts, with_entry_is}}
+use Rattle.bforest_core.proofs.{rows.LevelRows.Solid-full, insertion.Grow.{in_left, in_right}, insertion.LeafSpot.{LeafSpot, leaf_spot, put_leaf, keys_count}}
 use Rattle.bforest_nodes.specs.declared.node.SplitOff.{SplitOff}
 
 module _ {K V : Type 0} where
@@ -23,21 +23,21 @@ module _ {K V : Type 0} where
 
     -- the leaf meets what inserting the entry requires
     pub put_asks : PutAsks Leaf t (get_or ms 0 r) (get_or js 0 0)
-    put_asks = asks_put Leaf t _ _ num_is _ _ d.slot_is (get_or js 0 0) (is_used t _ _ d.slot_is d.none_chain) (omega (arith, keys_count (d.l ++ d.r), d.index_is, length-append d.l d.r))
+    put_asks = asks_put _ t _ _ num_is _ _ d.slot_is _ (is_used t _ _ d.slot_is d.none_chain) (omega (arith, keys_count (d.l ++ d.r), d.index_is, length-append d.l d.r))
 
     module _ (u : Table K V) (key : K) (value : V) (put : Bool) (has : HasRoom Leaf (λ keys vals. length keys) cap t (get_or ms 0 r) put) (wrote : Written Leaf (λ z. with_entry z (get_or js 0 0) key value) t u (get_or ms 0 r) put) where
       -- a successful insertion leaves the tree with the entry inserted
       pub put_inserts : put ≡ true → Inserted cap t u ms js size tree place (key, value)
       put_inserts done =
           let es = d.l ++ d.r in
-          let fewer : length (entry_keys es) < cap = put_fewer Leaf t _ _ num_is _ _ d.slot_is u (λ keys vals. length keys) cap (λ z. with_entry z (get_or js 0 0) key value) put has wrote done in
-          let after = put_in Leaf t _ _ num_is _ _ d.slot_is u (λ keys vals. length keys) cap (λ z. with_entry z (get_or js 0 0) key value) put has wrote fewer ∙ ap (λ z. with_node t (get_or ms 0 0) z) (with_entry_is V d.l d.r key value (get_or js 0 0) d.index_is) in
+          let fewer : length (entry_keys es) < cap = put_fewer _ t _ _ num_is _ _ d.slot_is u (λ keys vals. length keys) _ (λ z. with_entry z (get_or js 0 0) key value) _ has wrote done in
+          let after = put_in _ t _ _ num_is _ _ d.slot_is u (λ keys vals. length keys) _ (λ z. with_entry z (get_or js 0 0) key value) _ has wrote fewer ∙ ap (λ z. with_node t (get_or ms 0 0) z) (with_entry_is V _ _ _ _ _ d.index_is) in
           put_leaf _ p d (omega (arith, keys_count es)) (puts t u _ _ _ d.slot_is after)
 
       -- a failed insertion means that the leaf is full, and changes nothing
       pub put_full : put ≡ false → IsFullAt cap t.nodes (get_or ms 0 0) × (u ≡ t)
       put_full none =
-          let past = put_past Leaf t _ _ num_is _ _ d.slot_is u (λ keys vals. length keys) cap (λ z. with_entry z (get_or js 0 0) key value) put has wrote none in
+          let past = put_past _ t _ _ num_is _ _ d.slot_is u (λ keys vals. length keys) _ (λ z. with_entry z (get_or js 0 0) key value) _ has wrote none in
           (rw d.slot_is (λ free. free, omega (arith, keys_count (d.l ++ d.r), d.most_is)), past.1)
 
     module _ (s : Table K V) (full : IsFullAt cap t.nodes (get_or ms 0 0)) where
@@ -55,21 +55,20 @@ module _ {K V : Type 0} where
         left_count = counted leaf_content (get_or ms 0 0) num_is (d.l ++ d.r) d.slot_is split
 
         cut : parts.lhs_entries < length (d.l ++ d.r) → Split leaf_content t s (get_or ms 0 0) right parts.lhs_entries (d.l ++ d.r) parts.crit_key
-        cut less = split_at _ (get_or ms 0 0) num_is (d.l ++ d.r) d.slot_is split right (λ zs y ys left right2 key is c. leaf_cuts V _ y _ _ _ _ key is c) less d.none_chain front used.within
+        cut less = split_at _ _ num_is _ d.slot_is split _ (λ zs y ys left right2 key is c. leaf_cuts V _ y _ _ _ _ key is c) less d.none_chain front used.within
 
         module _ (low : get_or js 0 0 ≤ cap / 2) where
           low_is : parts.lhs_entries ≡ cap / 2
-          low_is = rw (upto_le (get_or js 0 0) (cap / 2) low) at left_count
+          low_is = rw (upto_le _ _ low) at left_count
 
           low_cut : Split leaf_content t s (get_or ms 0 0) right parts.lhs_entries (d.l ++ d.r) parts.crit_key
           low_cut = let q = low_is in let f = full_is in cut (omega arith)
 
           pub early_asks : PutAsks Leaf s (get_or ms 0 r) (get_or js 0 0)
           early_asks =
-              asks_put Leaf s _ _ num_is _ _ low_cut.two.here (get_or js 0 0) (left_used leaf_content s low_cut.two d.none_chain) (omega (arith, keys_count low_cut.zs, low_cut.count_is, low_is))
+              asks_put _ s _ _ num_is _ _ low_cut.two.here _ (left_used leaf_content s low_cut.two d.none_chain) (omega (arith, keys_count low_cut.zs, low_cut.count_is, low_is))
 
-          pub early_halves : (u key value put : _)
-              → HasRoom Leaf (λ keys vals. length keys) cap s (get_or ms 0 r) put
+          pub early_halves : (u key value put : _) → HasRoom Leaf (λ keys vals. length keys) cap s (get_or ms 0 r) put
               → Written Leaf (λ z. with_entry z (get_or js 0 0) key value) s u (get_or ms 0 r) put
               → LeafHalved cap t u ms ms js size tree place (key, value) parts.crit_key right false
           early_halves u key value put has puts =
@@ -84,7 +83,7 @@ module _ {K V : Type 0} where
 
         module _ (high : cap / 2 < get_or js 0 0) where
           high_is : parts.lhs_entries ≡ half_of cap
-          high_is = rw (past_le (get_or js 0 0) (cap / 2) high) at left_count
+          high_is = rw (past_le _ _ high) at left_count
 
           pub late_within : parts.lhs_entries ≤ get_or js 0 0
           late_within = let q = high_is in omega arith
@@ -94,10 +93,9 @@ module _ {K V : Type 0} where
 
           pub late_asks : PutAsks Leaf s right (get_or js 0 0 - parts.lhs_entries)
           late_asks =
-              asks_put Leaf s right right refl _ _ high_cut.two.there (get_or js 0 0 - parts.lhs_entries) used (omega (arith, keys_count (high_cut.y ∷ high_cut.ys), ap length high_cut.es_is, length-append high_cut.zs (high_cut.y ∷ high_cut.ys), high_cut.count_is, d.index_is, length-append d.l d.r))
+              asks_put _ s _ _ refl _ _ high_cut.two.there _ used (omega (arith, keys_count (high_cut.y ∷ high_cut.ys), ap length high_cut.es_is, length-append high_cut.zs (high_cut.y ∷ high_cut.ys), high_cut.count_is, d.index_is, length-append d.l d.r))
 
-          pub late_halves : (u key first value put : _)
-              → HasRoom Leaf (λ keys vals. length keys) cap s right put
+          pub late_halves : (u key first value put : _) → HasRoom Leaf (λ keys vals. length keys) cap s right put
               → Written Leaf (λ z. with_entry z (get_or js 0 0 - parts.lhs_entries) key value) s u right put
               → (get_or js 0 0 - parts.lhs_entries ≡ 0 → first ≡ key) → (0 < get_or js 0 0 - parts.lhs_entries → first ≡ parts.crit_key) →
               1 ≤ length js → LeafHalved cap t u ms (set ms 0 right) (set js 0 (get_or js 0 0 - parts.lhs_entries)) size tree place (key, value) first right true

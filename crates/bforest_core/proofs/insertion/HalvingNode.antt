@@ -1,14 +1,14 @@
 -- Inserting a child into the path's inner node, or splitting the node and inserting it into one half: the
 -- answers of `insert_here` and `split_here`.
-use Rattle.std.proofs.Common.{◌≡◌, ℕ, suc, ◌-◌, ◌≤◌, ◌<◌, true, false, if◌then◌else◌, [], ◌∷◌, ◌++◌, length, set, get_or, Some, refl, sym, ap, ◌∙◌, append_assoc, length-append, arith, ◌≢◌, nat_lt}
-use Rattle.bforest_core.proofs.Words.{get_or_default, get_or-set_same, get_or-set_other, Inner, with_child, Table, IsUsed, IsFullAt, IsSplitAt, front_of}
-use Rattle.bforest_core.proofs.Words.{with_node, flat, head_of, heads, sizes, inner_content, entry_items, GrownBy, Halved, HalvedBy, OneAbove, node, inner_gain}
-use Rattle.bforest_core.proofs.{table.Tables.{is_used, puts}, rows.Bounds.{below_lt, above_lt}, rows.LevelRows.{Solid-full, heads-append, sizes-append}}
-use Rattle.bforest_core.proofs.{rows.Zipper.{Spot, spot}, table.Stored.{item_count, key_count, with_child_is}, insertion.Halving.{Split, full_is, inner_parts}}
-use Rattle.bforest_core.proofs.insertion.Halving.{counted, split_at, left_used, into_left, into_right, PutAsks, HasRoom, Written, asks_put, put_fewer, put_in}
-use Rattle.bforest_core.proofs.{insertion.Halving.{put_past, Halves}, insertion.Grow.{head-grown, in_left, in_right, InHalf, gain_spot, gain_full}}
-use Rattle.bforest_core.proofs.{removal.Lifted.rows_above, insertion.Parted.part, insertion.Rise.{settle_room, step_is, step_most}}
-use Rattle.bforest_core.proofs.insertion.HalvingLeaf.{FullAt}
+use Rattle.bforest_core.proofs.Words.{◌≡◌, ℕ, suc, ◌-◌, ◌≤◌, ◌<◌, true, false, if◌then◌else◌, [], ◌∷◌, ◌++◌, length, set, get_or, Some, refl, sym, ap, ◌∙◌}
+use Rattle.bforest_core.proofs.Words.{append_assoc, length-append, arith, ◌≢◌, nat_lt, get_or_default, get_or-set_same, get_or-set_other, Inner, with_child}
+use Rattle.bforest_core.proofs.Words.{Table, IsUsed, IsFullAt, IsSplitAt, front_of, with_node, flat, head_of, heads, sizes, inner_content, entry_items, GrownBy}
+use Rattle.bforest_core.proofs.insertion.Halving.{Split, full_is, inner_parts, counted, split_at, left_used, into_left, into_right, PutAsks, HasRoom, Written}
+use Rattle.bforest_core.proofs.{Words.{Halved, HalvedBy, OneAbove, node, inner_gain}, table.Stored.{item_count, key_count, with_child_is}}
+use Rattle.bforest_core.proofs.{insertion.Halving.{asks_put, put_fewer, put_in, put_past, Halves}, rows.LevelRows.{Solid-full, heads-append, sizes-append}}
+use Rattle.bforest_core.proofs.{insertion.Rise.{settle_room, step_is, step_most}, insertion.Grow.{head-grown, in_left, in_right, InHalf, gain_spot, gain_full}}
+use Rattle.bforest_core.proofs.{table.Tables.{is_used, puts}, rows.Bounds.{below_lt, above_lt}, removal.Lifted.rows_above, insertion.HalvingLeaf.FullAt}
+use Rattle.bforest_core.proofs.{rows.Zipper.{Spot, spot}, insertion.Parted.part}
 use Rattle.bforest_nodes.specs.declared.node.SplitOff.{SplitOff}
 
 module _ {K V : Type 0} where
@@ -21,7 +21,7 @@ module _ {K V : Type 0} where
       ((i : ℕ) → i ≢ up → get_or ms' i 0 ≡ get_or ms i 0) → ((i : ℕ) → i ≢ up → get_or js' i 0 ≡ get_or js i 0) →
       length (heads d.q.before) ≡ length d.q.before → InHalf d.q.before (get_or ms up 0) right (h.z ∷ h.xs) (h.y ∷ h.ys) d.q.after (get_or ms' up 0) (get_or js' up 0) p moved →
       Halved t u ms js ms' js' up size rows (a ++ x ∷ y ∷ b) (length a) p middle right moved
-  parted {t} {ms} {js} ms' js' {up} {size} {x} y {b} {right} p moved sides halves_are d eight h far_m far_j full at =
+  parted {ms} ms' js' {up} {x} y p moved sides halves_are d eight h far_m far_j full at =
       let q = d.q in
       let n = get_or ms up 0 in
       let es = q.l ++ x ∷ q.r in
@@ -36,9 +36,9 @@ module _ {K V : Type 0} where
         head_is = first_is;
         gain_is = ap (λ z. inner_gain (length z) (sizes row)) q.a_is ∙ gain_spot q.before n es q.l q.after
             ∙ gain_full q.before (length es) (length q.l) (sizes q.after) (omega arith) eight
-            ∙ rw (q.entry_is, full, sizes-append q.before (node n (h.z ∷ h.xs) ∷ node right (h.y ∷ h.ys) ∷ q.after), h.left_is, h.right_is) (ap (λ z. (Some (length q.before), sizes q.before ++ z)) (halves_are (sizes q.after)));
-        nodes_below = λ i low_i. far_m i (λ (e : i ≡ up). omega arith);
-        entries_below = λ i low_i. far_j i (λ (e : i ≡ up). omega arith);
+            ∙ rw (q.entry_is, full, sizes-append _ _, h.left_is, h.right_is) (ap (λ z. (Some (length q.before), sizes q.before ++ z)) (halves_are (sizes q.after)));
+        nodes_below = λ i low_i. far_m i (λ e. omega arith);
+        entries_below = λ i low_i. far_j i (λ e. omega arith);
       }
 
 module _ {K V : Type 0} where
@@ -56,7 +56,7 @@ module _ {K V : Type 0} where
 
     -- the node meets what inserting the child requires
     pub put_asks : PutAsks Inner t (get_or ms up r) (get_or js up 0)
-    put_asks = asks_put Inner t _ _ num_is _ _ d.f.slot_is (get_or js up 0) (is_used t _ _ d.f.slot_is d.f.none_chain) (omega (arith, key_count (d.q.l ++ x ∷ d.q.r), d.count_is))
+    put_asks = asks_put _ t _ _ num_is _ _ d.f.slot_is _ (is_used t _ _ d.f.slot_is d.f.none_chain) (omega (arith, key_count (d.q.l ++ x ∷ d.q.r), d.count_is))
 
     module _ (u : Table K V) (key child put : _) (has : HasRoom Inner (λ keys children. length children) 8 t (get_or ms up r) put) (wrote : Written Inner (λ z. with_child z (get_or js up 0) key child) t u (get_or ms up r) put) where
       -- a successful insertion needs one node in all and leaves the rows grown
@@ -64,15 +64,15 @@ module _ {K V : Type 0} where
           GrownBy w (key, child) moved u ms (set js up index) size []
       put_grows done moved index index_is low_js =
           let es = d.q.l ++ x ∷ d.q.r in
-          let fewer : length (entry_items es) < 8 = put_fewer Inner t _ _ num_is _ _ d.f.slot_is u (λ keys children. length children) 8 (λ z. with_child z (get_or js up 0) key child) put has wrote done in
-          let after = put_in Inner t _ _ num_is _ _ d.f.slot_is u (λ keys children. length children) 8 (λ z. with_child z (get_or js up 0) key child) put has wrote fewer ∙ ap (λ z. with_node t (get_or ms up 0) z) (with_child_is V d.q.l x d.q.r key child (get_or js up 0) d.q.entry_is) in
+          let fewer : length (entry_items es) < 8 = put_fewer _ t _ _ num_is _ _ d.f.slot_is u (λ keys children. length children) 8 (λ z. with_child z (get_or js up 0) key child) _ has wrote done in
+          let after = put_in _ t _ _ num_is _ _ d.f.slot_is u (λ keys children. length children) 8 (λ z. with_child z (get_or js up 0) key child) _ has wrote fewer ∙ ap (λ z. with_node t (get_or ms up 0) z) (with_child_is V _ x _ _ _ _ d.q.entry_is) in
           settle_room _ _ _ d (omega (arith, item_count es)) (puts t u _ _ _ d.f.slot_is after)
           (get_or-set_same js up index 0 low_js ∙ index_is) (λ i other. get_or-set_other js up i index 0 other)
 
       -- a failed insertion means that the node is full, and changes nothing
       pub put_full : (cap : ℕ) → put ≡ false → IsFullAt cap t.nodes (get_or ms up 0) × (u ≡ t)
       put_full cap none =
-          let past = put_past Inner t _ _ num_is _ _ d.f.slot_is u (λ keys children. length children) 8 (λ z. with_child z (get_or js up 0) key child) put has wrote none in
+          let past = put_past _ t _ _ num_is _ _ d.f.slot_is u (λ keys children. length children) 8 (λ z. with_child z (get_or js up 0) key child) _ has wrote none in
           (rw d.f.slot_is (λ free. free, omega (arith, item_count (d.q.l ++ x ∷ d.q.r), d.most_is)), past.1)
 
     module _ (cap : ℕ) (s : Table K V) (full : IsFullAt cap t.nodes (get_or ms up 0)) where
@@ -89,15 +89,14 @@ module _ {K V : Type 0} where
         four : parts.lhs_entries ≡ 4
         four = counted inner_content (get_or ms up 0) num_is (d.q.l ++ x ∷ d.q.r) d.f.slot_is split
 
-        cut : Split {V = V} inner_content t s (get_or ms up 0) right parts.lhs_entries (d.q.l ++ x ∷ d.q.r) parts.crit_key
-        cut = let f = four in let e = eight in split_at _ (get_or ms up 0) num_is (d.q.l ++ x ∷ d.q.r) d.f.slot_is split right (inner_parts _ (omega arith)) (omega arith) d.f.none_chain front used.within
+        cut : Split inner_content t s (get_or ms up 0) right parts.lhs_entries (d.q.l ++ x ∷ d.q.r) parts.crit_key
+        cut = let f = four in let e = eight in split_at _ _ num_is _ d.f.slot_is split _ (inner_parts _ (omega arith)) (omega arith) d.f.none_chain front used.within
 
         pub early_asks : get_or js up 0 < 4 → PutAsks Inner s (get_or ms up r) (get_or js up 0)
         early_asks early =
-            asks_put Inner s _ _ num_is _ _ cut.two.here (get_or js up 0) (left_used inner_content s cut.two d.f.none_chain) (omega (arith, key_count cut.zs, cut.count_is, four))
+            asks_put _ s _ _ num_is _ _ cut.two.here _ (left_used inner_content s cut.two d.f.none_chain) (omega (arith, key_count cut.zs, cut.count_is, four))
 
-        pub early_halves : (u key child moved put index : _) → get_or js up 0 < 4
-            → HasRoom Inner (λ keys children. length children) 8 s (get_or ms up r) put
+        pub early_halves : (u key child moved put index : _) → get_or js up 0 < 4 → HasRoom Inner (λ keys children. length children) 8 s (get_or ms up r) put
             → Written Inner (λ z. with_child z (get_or js up 0) key child) s u (get_or ms up r) put
             → index ≡ (if moved then suc (get_or js up 0) else get_or js up 0) → up < length js →
             HalvedBy w (key, child) moved u ms (set js up index) parts.crit_key right false
@@ -121,11 +120,9 @@ module _ {K V : Type 0} where
         right_is = omega (arith, eight, ap length cut.es_is, length-append cut.zs (cut.y ∷ cut.ys), cut.count_is, four)
 
         pub late_asks : PutAsks Inner s right (get_or js up 0 - 4)
-        late_asks =
-            asks_put Inner s right right refl _ _ cut.two.there (get_or js up 0 - 4) used (omega (arith, key_count (cut.y ∷ cut.ys), index_small, right_is))
+        late_asks = asks_put _ s _ _ refl _ _ cut.two.there _ used (omega (arith, key_count (cut.y ∷ cut.ys), index_small, right_is))
 
-        pub late_halves : (u key child moved put index : _) → 4 ≤ get_or js up 0
-            → HasRoom Inner (λ keys children. length children) 8 s right put
+        pub late_halves : (u key child moved put index : _) → 4 ≤ get_or js up 0 → HasRoom Inner (λ keys children. length children) 8 s right put
             → Written Inner (λ z. with_child z (get_or js up 0 - 4) key child) s u right put
             → index ≡ (if moved then suc (get_or js up 0 - 4) else get_or js up 0 - 4) → up < length js →
             HalvedBy w (key, child) moved u (set ms up right) (set js up index) parts.crit_key right true

@@ -1,14 +1,13 @@
 -- The effect of an insertion into the tree under a root on the table, where nodes were reserved for it.
-use Rattle.std.proofs.Common.{◌≡◌, ℕ, suc, ◌-◌, ◌^◌, ◌≤◌, ◌<◌, ◌≢◌, ◌↔◌, IsTrue, Option, Some, None, List, [], ◌∷◌, ◌++◌, drop, map, length, insert, slice_get, sym, ap, ◌∙◌, subst, inl, inr, length-append, arith}
-use Rattle.bforest_core.proofs.Words.{Heads, Row, Rows, flat_map, cases_lt, eqb_tells, length-map, Table, fresh_nodes, front_of, free_count, slot_count, room}
-use Rattle.bforest_core.proofs.Words.{reserved, IsFullAt, node, flat, heads, sizes, numbers, Stacked, Topped, Tree, sizes_of, leaf_gain, gain_above, growth}
-use Rattle.bforest_core.proofs.Words.{need, IsAt, Stands, count, root_of, numbers_of, top_of, Placed, Inserted, tree_of, is_root, IsUnion, Changes, TakesNodes}
-use Rattle.bforest_core.proofs.{Words.{PlacedUnder, StandsUnder}, rows.LevelRows.flat-append, table.Tables.count-append, table.Lists.slice_get-append_left}
-use Rattle.bforest_core.proofs.{table.Chains.length-fresh_nodes, table.Allocating.{reserved-enough, reserved-free}, rows.Counts.{once_below, below-one}}
-use Rattle.bforest_core.proofs.{rows.Counts.few-below, union.Forests.root-among, rows.Bounds.climb-seventeen, union.Exchange.IsPlanted, union.Unions.Rooted}
-use Rattle.bforest_core.proofs.{union.Unions.rooted, union.Roots.exchanged, union.Reserved.{reserved-union, reserved-roots, reserved-then}}
-use Rattle.bforest_core.proofs.rows.Tops.{root-stands}
-use Rattle.std.proofs.Math.Seq.{drop-append_seam}
+use Rattle.bforest_core.proofs.Words.{drop-append_seam, ◌≡◌, ℕ, suc, ◌-◌, ◌^◌, ◌≤◌, ◌<◌, ◌≢◌, ◌↔◌, IsTrue, Option, Some, None, List, [], ◌∷◌, ◌++◌, drop, map}
+use Rattle.bforest_core.proofs.Words.{length, insert, slice_get, sym, ap, ◌∙◌, subst, inl, inr, length-append, arith, Heads, Row, Rows, flat_map, cases_lt}
+use Rattle.bforest_core.proofs.Words.{eqb_tells, length-map, Table, fresh_nodes, front_of, free_count, slot_count, room, reserved, IsFullAt, node, flat, heads}
+use Rattle.bforest_core.proofs.Words.{sizes, numbers, Stacked, Topped, Tree, sizes_of, leaf_gain, gain_above, growth, need, IsAt, Stands, count, root_of}
+use Rattle.bforest_core.proofs.Words.{numbers_of, top_of, Placed, Inserted, tree_of, is_root, IsUnion, Changes, TakesNodes, PlacedUnder, StandsUnder}
+use Rattle.bforest_core.proofs.{table.Lists.slice_get-append_left, rows.Counts.{once_below, below-one, few-below}, table.Chains.length-fresh_nodes}
+use Rattle.bforest_core.proofs.{rows.LevelRows.flat-append, table.Tables.count-append, rows.Bounds.climb-seventeen, union.Unions.{Rooted, rooted}}
+use Rattle.bforest_core.proofs.{union.Forests.root-among, union.Exchange.IsPlanted, union.Roots.exchanged, rows.Tops.root-stands}
+use Rattle.bforest_core.proofs.{table.Allocating.{reserved-enough, reserved-free}, union.Reserved.{reserved-union, reserved-roots, reserved-then}}
 
 -- a row in which a path stands has an entry
 row_some : {K X : Type 0} {row : Row K X} {n index place : ℕ} → IsAt row n index place → 1 ≤ length (flat row)
@@ -32,13 +31,13 @@ module _ {K V : Type 0} where
   leaves_within {table} {tree} r =
       let c = λ (m : ℕ). count-append m (numbers tree.leaves) (flat_map numbers tree.above) in
       let once : (m : ℕ) → count m (numbers tree.leaves) ≤ once_below m (length table.nodes) = λ m. elim (cases_lt m (length table.nodes)) [
-        | inl low ↦ omega (arith, below-one m (length table.nodes) low, c m, count-append m (numbers_of tree) table.chain, r.apart m)
+        | inl low ↦ omega (arith, below-one m _ low, c m, count-append m (numbers_of tree) table.chain, r.apart m)
         | inr past ↦ elim (cases_lt 0 (count m (numbers tree.leaves))) [
           | inl some ↦ absurd (omega (arith, r.within m (omega (arith, some, c m))))
           | inr none ↦ omega arith
         ]
       ] in
-      omega (arith, heads-few tree.leaves, few-below (length table.nodes) (numbers tree.leaves) once)
+      omega (arith, heads-few tree.leaves, few-below _ _ once)
 
   -- an insertion leaves at most 17 levels, where the slots have numbers
   pub growth-low : (most : ℕ) (table : Table K V) (root place : ℕ) → IsUnion most table → IsTrue (is_root table.nodes root) → slot_count table ≤ 4294967295 → length (growth most place (sizes_of (tree_of table.nodes root))) ≤ 17
@@ -49,14 +48,13 @@ module _ {K V : Type 0} where
 
   -- a path under a root is where an entry may be inserted in its tree, which is in the table
   pub placed-under : (most : ℕ) (table : Table K V) {root place path indices size : _} → IsUnion most table → PlacedUnder table.nodes root path indices size place → Placed most table path indices size (tree_of table.nodes root) place
-  placed-under most table {root} union p =
+  placed-under most table union p =
       let r = rooted _ _ _ union p.root_is in
       record { fit = r.fit; inside = r.inside; apart = r.apart; at = p.at }
 
   -- a path under a root has at least one level and at most 17
   pub under-low : (most : ℕ) (table : Table K V) {root place path indices size : _} → IsUnion most table → PlacedUnder table.nodes root path indices size place → (0 < size) × (size ≤ 17)
-  under-low most table {root} union p =
-      (omega arith, omega (arith, (rooted _ _ _ union p.root_is).low))
+  under-low most table union p = (omega arith, omega (arith, (rooted _ _ _ union p.root_is).low))
 
   -- what an insertion states of the table and of the path
   pub record Insertion (most : ℕ) (old new : Table K V) (root root' place : ℕ) (entry : K × V) (path' indices' : List ℕ) (size' : ℕ) : Type 0 where
@@ -67,14 +65,14 @@ module _ {K V : Type 0} where
 
   -- a root that was on the chain differs from the old root
   new_ne : {most : ℕ} {table : Table K V} (new : Table K V) {root : ℕ} {tree : Tree K V} (root' taken : _) → Rooted most table root tree → table.chain ≡ taken ++ new.chain → 0 < count root' taken → root' ≢ root
-  new_ne {most} {table} new {tree} root' taken r chain_is some same =
-      let among = rw (r.root_is ∙ sym same) at (root-among most table.nodes tree r.fit r.inside r.some) in
+  new_ne new root' taken r chain_is some same =
+      let among = rw (r.root_is ∙ sym same) at (root-among _ _ _ r.fit r.inside r.some) in
       omega (arith, some, r.apart root', ap (λ z. count root' z) chain_is, count-append)
 
   -- inserting an entry into the tree under a root, after the nodes that it needs were reserved
   pub insertion : {most : ℕ} (old : _) {new : _} (root : ℕ) {place path' indices' size' entry : _} → IsUnion most old → IsTrue (is_root old.nodes root) → size' ≤ 17 →
       Inserted most (reserved old (need most place (sizes_of (tree_of old.nodes root)))) new path' indices' size' (tree_of old.nodes root) place entry → Insertion most old new root (top_of path' size') place entry path' indices' size'
-  insertion {most} old {new} root {place} {path'} {indices'} {size'} {entry} union is low i =
+  insertion {most} old {new} root {place} {path'} {indices'} {size'} union is low i =
       let tree = tree_of old.nodes root in
       let n = need most place (sizes_of tree) in
       let mid = reserved old n in
@@ -131,7 +129,7 @@ module _ {K V : Type 0} where
       record {
         some = levels.0;
         low = levels.1;
-        is = insertion {most = most} old {new = new} root {place = place} {path' = path} {indices' = indices} {size' = size} {entry = entry} union p.root_is levels.1 (rw (reserved-enough old n enough) i);
+        is = insertion old root union p.root_is levels.1 (rw (reserved-enough old n enough) i);
         enough = omega (arith, enough);
       }
 
@@ -147,20 +145,14 @@ module _ {K V : Type 0} where
   pub put-split : (most : ℕ) (old mid new : Table K V) {root place path indices size : _} (n path' indices' size' : _) (entry : K × V) → IsUnion most old → PlacedUnder old.nodes root path indices size place → slot_count old ≤ 4294967295 →
       ((tree place : _) → Placed most old path indices size tree place → n ≡ need most place (sizes_of tree)) → ¬ (room old < n) → mid ≡ reserved old n →
       ((tree place : _) → Placed most mid path indices size tree place → Inserted most mid new path' indices' size' tree place entry) → Put most old new root place entry path' indices' size'
-  put-split most old mid new {root} {place} {path} {indices} {size} n path' indices' size' entry union p slots needs enough mid_is inserts =
+  put-split most old mid new {root} {place} n path' indices' size' entry union p slots needs enough mid_is inserts =
       let tree = tree_of old.nodes root in
       let n_is = needs tree place (placed-under most old union p) in
       let mid_old = mid_is ∙ ap (λ z. reserved old z) n_is in
       let i = inserts tree place (placed-mid _ _ _ _ union p mid_old) in
       let low : size' ≤ 17 = omega (arith, ap length i.sizes_are, length-map i.tree'.above sizes, growth-low most old root place union p.root_is slots) in
-      record {
-        some = omega arith;
-        low = low;
-        is = insertion {most = most} old {new = new} root {place = place} {path' = path'} {indices' = indices'} {size' = size'} {entry = entry} union p.root_is low (rw mid_old at i);
-        enough = omega (arith, enough);
-      }
+      record { some = omega arith; low = low; is = insertion old root union p.root_is low (rw mid_old at i); enough = omega (arith, enough) }
 
   -- a full leaf is full after nodes were reserved
   pub full-reserved : (most : ℕ) (table : Table K V) (n m content : _) → slice_get table.nodes m ≡ Some content → IsFullAt most table.nodes m → IsFullAt most (reserved table n).nodes m
-  full-reserved most table n m content found full =
-      rw (slice_get-append_left table.nodes (fresh_nodes (slot_count table) (n - free_count table) (front_of table.chain)) m content found) (rw found at full)
+  full-reserved most table n m content found full = rw (slice_get-append_left _ _ m _ found) (rw found at full)

@@ -1,16 +1,16 @@
 -- The leaves after a split of one, and the tree after the right half was inserted into the levels above.
-use Rattle.std.proofs.Common.{◌≡◌, ℕ, suc, ◌≤◌, ◌<◌, ◌≢◌, Bool, if◌then◌else◌, List, ◌∷◌, ◌++◌, map, length, get_or, Option, Some, sym, ap, ◌∙◌, subst, length-append, arith, refl}
-use Rattle.bforest_core.proofs.Words.{flat_map, IsLeafCapacity, Table, node, head_of, heads, sizes, numbers, Tree, IsFit, half_of, leaf_gain, gain_above}
-use Rattle.bforest_core.proofs.{Words.{need_above, leaf_content, count, Above, Stands, Placed, LeafHalved, Inserted, Grown}, rows.LevelRows.heads-append}
-use Rattle.bforest_core.proofs.{rows.LevelRows.{sizes-append, FitRow-split}, table.Tables.{counts, count-append}, rows.Tops.{root-stands, root-points}}
+use Rattle.bforest_core.proofs.Words.{◌≡◌, ℕ, suc, ◌≤◌, ◌<◌, ◌≢◌, Bool, if◌then◌else◌, List, ◌∷◌, ◌++◌, map, length, get_or, Option, Some, sym, ap, ◌∙◌, subst}
+use Rattle.bforest_core.proofs.Words.{length-append, arith, refl, flat_map, IsLeafCapacity, Table, node, head_of, heads, sizes, numbers, Tree, IsFit, half_of}
+use Rattle.bforest_core.proofs.Words.{leaf_gain, gain_above, need_above, leaf_content, count, Above, Stands, Placed, LeafHalved, Inserted, Grown}
+use Rattle.bforest_core.proofs.{insertion.LeafSpot.{LeafSpot, renewed, insert_flat, rows_count}, rows.LevelRows.{heads-append, sizes-append, FitRow-split}}
+use Rattle.bforest_core.proofs.{table.Tables.{counts, count-append}, rows.Tops.{root-stands, root-points}, insertion.Grow.{InHalf, leaf_full}}
 use Rattle.bforest_core.proofs.insertion.Parted.{chain_is, halves, inside, numbers_are, others_same, over, part, same_top, stands_at, stands_over, tops}
-use Rattle.bforest_core.proofs.{insertion.Grow.{InHalf, leaf_full}, insertion.LeafSpot.{LeafSpot, renewed, insert_flat, rows_count}, insertion.Halving.Halves}
+use Rattle.bforest_core.proofs.insertion.Halving.{Halves}
 
 module _ {K V : Type 0} where
   pub full_gain : {most : ℕ} {t : Table K V} {ms js tree place : _} → (d : LeafSpot most t ms js tree place) → length (d.l ++ d.r) ≡ most →
       leaf_gain most place (sizes tree.leaves) ≡ (Some (length d.before), sizes d.before ++ half_of most ∷ half_of most ∷ sizes d.after)
-  full_gain {most} {ms} d full =
-      rw (d.leaves_are, d.place_is, sizes-append d.before (node (get_or ms 0 0) (d.l ++ d.r) ∷ d.after)) (leaf_full most d.before (length (d.l ++ d.r)) (length d.l) (sizes d.after) (omega (arith, length-append d.l d.r)) d.first full)
+  full_gain d full = rw (d.leaves_are, d.place_is, sizes-append _ _) (leaf_full _ _ _ _ _ (omega (arith, length-append d.l d.r)) d.first full)
 
   -- the split leaf, except for where the path stands
   pub leaf_parted : {most : ℕ} {t u : Table K V} {ms js : _} (ms' js' : _) {size : ℕ} {tree : Tree K V} {place : ℕ} (entry : K × V)
@@ -20,7 +20,7 @@ module _ {K V : Type 0} where
       ((i : ℕ) → i ≢ 0 → get_or ms' i 0 ≡ get_or ms i 0) → ((i : ℕ) → i ≢ 0 → get_or js' i 0 ≡ get_or js i 0) →
       length (heads d.before) ≡ length d.before → InHalf d.before (get_or ms 0 0) right (h.z ∷ h.xs) (h.y ∷ h.ys) d.after (get_or ms' 0 0) (get_or js' 0 0) place moved →
       LeafHalved most t u ms ms' js' size tree place entry middle right moved
-  leaf_parted {most} {t} {u} {ms} {js} ms' js' {size} {tree} {place} entry {right} moved capacity p d full h far_m far_j solid_full stands =
+  leaf_parted {most} {t} {ms} {js} ms' js' {size} {tree} entry moved capacity p d full h far_m far_j solid_full stands =
       let n = get_or ms 0 0 in
       let up = renewed entry (omega arith) p d in
       let few : half_of most ≤ most = omega arith in
@@ -31,7 +31,7 @@ module _ {K V : Type 0} where
         stacked = rw (← hs0) up.stacked;
         inside = up.inside;
         stands = rw solid_full (up.stands (length d.before) d.stands);
-        height = omega (arith, rows_count tree.above up.rows' up.sizes_are);
+        height = omega (arith, rows_count _ _ up.sizes_are);
         apart = λ m. omega (arith, d.apart m, c m, count-append m (flat_map numbers up.rows') t.chain, ap (λ z. count m z) up.numbers_are);
       } in
       let apart = rw (sym up.numbers_are) at d.apart in
@@ -39,7 +39,7 @@ module _ {K V : Type 0} where
       record {
         parted = part d.before (d.l ++ d.r) d.after ms' js' moved d.inside d.fit.leaves_fit (omega arith) (omega arith, few, omega arith, few) apart h above list_is far_m far_j stands;
         leaves_were = d.leaves_are;
-        gain_is = full_gain d full ∙ rw (solid_full, sizes-append d.before (node n (h.z ∷ h.xs) ∷ node right (h.y ∷ h.ys) ∷ d.after), h.left_is, h.right_is) refl;
+        gain_is = full_gain d full ∙ rw (solid_full, sizes-append _ _, h.left_is, h.right_is) refl;
         topped = rw (← hs0) up.topped;
         sizes_above = up.sizes_are;
         numbers_above = up.numbers_are;
@@ -48,8 +48,7 @@ module _ {K V : Type 0} where
   -- the need, or the sizes above, where the leaf is split
   pub above_leaf : {X : Type 0} (change : Option ℕ → List (List ℕ) → X) {most : ℕ} {t u : Table K V} {ms ms' js' size tree place entry key right moved : _} → (h : LeafHalved most t u ms ms' js' size tree place entry key right moved) →
       change (leaf_gain most place (sizes tree.leaves)).0 (map sizes tree.above) ≡ change (Some (length (heads h.before))) (map sizes h.rest)
-  above_leaf change {tree} h =
-      cc
+  above_leaf change h = cc
 
   -- the tree after the right half was inserted into the levels above
   pub inserted : {most : ℕ} {t u v : Table K V} {ms js ms' js' ms'' js'' size size' tree place : _}
@@ -58,7 +57,7 @@ module _ {K V : Type 0} where
       suc (length taken) ≡ need_above (Some (length (heads h.before))) (map sizes h.rest) →
       Grown u v ms' js' ms'' js'' 1 size1 size' h.rest (heads h.before ++ (h.first.0, get_or ms 0 0) ∷ (key, right) ∷ heads h.after) (if moved then suc (length (heads h.before)) else length (heads h.before)) (gain_above (Some (length (heads h.before))) (map sizes h.rest)) taken →
       Inserted most t v ms'' js'' size' tree place entry
-  inserted {most} {t} {u} {v} {ms} {js} {ms'} {js'} {ms''} {js''} {size} {size'} {tree} {place} {entry} {key} {right} {moved} {taken} size_is p h needs grown =
+  inserted {most} {ms} {ms''} {js''} {size} {size'} {tree} {place} {right} {taken} size_is p h needs grown =
       let g = rw size_is at grown in
       let n = get_or ms 0 0 in
       let row2 = halves h.parted g in
@@ -83,6 +82,6 @@ module _ {K V : Type 0} where
         slots_are = cc;
         limit_is = cc;
         same_root = λ same. cc (same_top h.parted g (omega arith));
-        new_root = λ other. (let risen = g.new_top (λ (same : size' ≡ size). other (omega arith)) in
+        new_root = λ other. (let risen = g.new_top (λ same. other (omega arith)) in
             subst (λ z. 0 < count z (right ∷ taken)) (sym top') (omega arith));
       }

@@ -1,14 +1,14 @@
 -- Putting a value in at a key of the leaf in which a search for the key ends: the answers of `put_in_leaf`.
-use Rattle.std.proofs.Common.{◌≡◌, ◌<◌, ◌++◌, ◌∷◌, ◌↔◌, ℕ, Bool, IsTrue, Option, Some, None, Result, Ok, Err, List, insert, length, map, get_or, set, slice_get, nat_lt, if◌then◌else◌, true, false, refl, sym, ap, ◌∙◌, subst, length-set}
-use Rattle.bforest_core.proofs.Words.{EndsIn, PutsInLeaf, Leaf, Table, IsFullAt, IsUnion, IsUsed, Placed, PlacedUnder, StandsUnder, Changes, sizes, sizes_of}
-use Rattle.bforest_core.proofs.Words.{flat, tree_of, entry_count, entry_keys, entry_for, is_present, leaf_content, place, value_for, search_of, with_entry}
-use Rattle.bforest_core.proofs.Words.{with_node, with_value_at, growth, gain_above, need_above, is_some, option_map, get_or-set_same, lt-ltb, ltb-true}
-use Rattle.bforest_core.proofs.{table.Stored.read_same, table.Read.slot-is, table.Tables.is_used, walks.LeafSearch.items-read, insertion.Halving.HasRoom}
-use Rattle.bforest_core.proofs.{insertion.Halving.Written, insertion.HalvingLeaf.{put_full, put_inserts}, insertion.Insertion.{placed-under, put-here}}
-use Rattle.bforest_core.proofs.{insertion.LeafSpot.{keys_count, leaf_spot, room_gain}, union.Written.{entry-used, value-written}}
-use Rattle.bforest_nodes.specs.Content.{put_answer, with_put, with_value as content_with}
+use Rattle.bforest_core.proofs.Words.{put_answer, with_put, search_of-keys_of, value_for-absent, value_for-present, ◌≡◌, ◌<◌, ◌++◌, ◌∷◌, ◌↔◌, ℕ, Bool, IsTrue}
+use Rattle.bforest_core.proofs.Words.{Option, Some, None, Result, Ok, Err, List, insert, length, map, get_or, set, slice_get, nat_lt, if◌then◌else◌, true}
+use Rattle.bforest_core.proofs.Words.{false, refl, sym, ap, ◌∙◌, subst, length-set, EndsIn, PutsInLeaf, Leaf, Table, IsFullAt, IsUnion, IsUsed, Placed}
+use Rattle.bforest_core.proofs.Words.{PlacedUnder, StandsUnder, Changes, sizes, sizes_of, flat, tree_of, entry_count, entry_keys, is_present, leaf_content}
+use Rattle.bforest_core.proofs.Words.{place, value_for, search_of, with_entry, with_node, with_value_at, growth, gain_above, need_above, is_some, option_map}
+use Rattle.bforest_core.proofs.{Words.{get_or-set_same, lt-ltb, ltb-true}, insertion.Halving.{HasRoom, Written}, insertion.Insertion.{placed-under, put-here}}
+use Rattle.bforest_core.proofs.{insertion.LeafSpot.{keys_count, leaf_spot, room_gain}, table.Stored.read_same, insertion.HalvingLeaf.{put_full, put_inserts}}
+use Rattle.bforest_core.proofs.{table.Read.slot-is, table.Tables.is_used, walks.LeafSearch.items-read, union.Written.{entry-used, value-written}}
+use Rattle.bforest_nodes.specs.Content.{with_value as content_with}
 use Rattle.bforest_nodes.specs.Entries.{with_value}
-use Rattle.bforest_nodes.proofs.Found.{search_of-keys_of, value_for-absent, value_for-present}
 use Rattle.std.specs.declared.cmp.Ordering.{Ordering}
 
 -- a present key has a value
@@ -46,7 +46,7 @@ module _ {K V : Type 0} {cmp : K → K → Ordering} (most : ℕ) {table : Table
   placed none = e.absent (cc)
 
   is_placed : is_present cmp es key ≡ false → Placed most table path js size (tree_of table.nodes root) at
-  is_placed none = placed-under most table union (placed none)
+  is_placed none = placed-under _ _ union (placed none)
 
   used_by : (b : Bool) → is_present cmp es key ≡ b → IsUsed table leaf
   used_by true here = rw (← e.leaf_is) (entry-used most table root at path js size union (stands here)).0
@@ -66,16 +66,16 @@ module _ {K V : Type 0} {cmp : K → K → Ordering} (most : ℕ) {table : Table
         let after = new_is ∙ ap (λ z. with_node table leaf (with_put most (leaf_content es) z key value)) found in
         let at_index : with_value_at table (get_or path 0 0) (get_or js 0 0) value ≡ with_node table leaf (content_with (leaf_content es) p value) =
         cc (index_is, slot-is table.nodes leaf (leaf_content es) e.slot_is) in
-        let changes = subst (λ z. Changes most table z root root (with_value list at value) (sizes_of (tree_of table.nodes root))) (cc (after)) (value-written most table root at path js size union (stands here) value).0 in
+        let changes = subst (λ z. Changes most table z root root (with_value list at value) (sizes_of (tree_of table.nodes root))) (cc (after)) (value-written _ _ _ at path js size union (stands here) value).0 in
         record {
           ok = rw said (sym e.value_is);
-          slots = cc (after, length-set table.nodes leaf (content_with (leaf_content es) p value));
+          slots = cc (after, length-set _ _ _);
           chain = cc (after);
           written = λ old is. changes;
           inserted = λ is. absurd (valued _ here (let same = sym said ∙ is in cc));
           takes = λ is. absurd (valued _ here (let same = sym said ∙ is in cc));
-          room = λ is. absurd (valued (entry_for cmp es key) here (let same = sym said ∙ is in cc));
-          levels = λ is. absurd (valued (entry_for cmp es key) here (let same = sym said ∙ is in cc));
+          room = λ is. absurd (valued _ here (let same = sym said ∙ is in cc));
+          levels = λ is. absurd (valued _ here (let same = sym said ∙ is in cc));
           full = λ index is. absurd (let bad = sym said ∙ is in cc);
           placed = λ index is. absurd (let bad = sym said ∙ is in cc);
           refused = λ index is. absurd (let bad = sym said ∙ is in cc);
@@ -155,12 +155,11 @@ module _ {K V : Type 0} {cmp : K → K → Ordering} (most : ℕ) {table : Table
     by_presence false none = by_room none (nat_lt (entry_count (leaf_content es)) most) refl
 
     pub puts-in-leaf : PutsInLeaf cmp table root key most value path indices size answer new
-    puts-in-leaf = by_presence (is_present cmp es key) refl
+    puts-in-leaf = by_presence _ refl
 
     full_by : (b : Bool) → is_present cmp es key ≡ b → (r : Bool) → nat_lt (entry_count (leaf_content es)) most ≡ r → (index : ℕ) → answer ≡ Err index → IsFullAt most table.nodes leaf
     full_by true here r is index err =
-        absurd (let bad : Ok (value_for cmp es key) ≡ Err index =
-        cc (search_of-keys_of cmp es key, items-read es (place cmp es key), value_for-present cmp es key here) in cc)
+        absurd (let bad : Ok (value_for cmp es key) ≡ Err index = cc (search_of-keys_of cmp es key, items-read _ _, value_for-present cmp es key here) in cc)
     full_by false none true fits index err = absurd (let bad = sym (said none ∙ ap (λ b. if b then Ok None else Err (place cmp es key)) fits) ∙ err in cc)
     full_by false none false past index err =
         rw (← e.leaf_is) (put_full (is_placed none) 0 e.wide new key value (nat_lt (entry_count (leaf_content es)) most) (has none) (wrote none) past).0

@@ -1,10 +1,11 @@
 -- The leaf where an entry may be inserted, and the insertion where the leaf has room.
-use Rattle.std.proofs.Common.{◌≡◌, ◌⊎◌, ℕ, suc, ◌+◌, ◌≤◌, ◌<◌, List, [], ◌∷◌, ◌++◌, map, length, take, drop, insert, get_or, slice_get, Some, None, inl, inr, refl, sym, ap, ◌∙◌, append_assoc, length-append, length-take-le, take-append-drop, arith}
-use Rattle.bforest_core.proofs.Words.{Heads, Row, Rows, flat_map, cases_lt, length-map, Table, node, flat, heads, sizes, numbers, Solid, Stacked, Topped, Tree}
-use Rattle.bforest_core.proofs.Words.{IsFit, half_of, leaf_gain, RowIn, leaf_content, entry_keys, count, Distinct, StandsAbove, Stands, Placed, Inserted}
-use Rattle.bforest_core.proofs.{Words.{Content, RowsIn, IsAt}, rows.LevelRows.{flat-append, least-pos, sizes-append, FitRow-split, heads-append}}
-use Rattle.bforest_core.proofs.{table.Tables.{counts, row-split, row-put, rows-same, ne_from_count, absent_ne, Puts}, rows.Zipper.apart_here}
-use Rattle.bforest_core.proofs.{insertion.Grow.{FitRow-put, leaf_room}, rows.Tops.{root-stands, root-points}}
+use Rattle.bforest_core.proofs.Words.{◌≡◌, ◌⊎◌, ℕ, suc, ◌+◌, ◌≤◌, ◌<◌, List, [], ◌∷◌, ◌++◌, map, length, take, drop, insert, get_or, slice_get, Some, None, inl}
+use Rattle.bforest_core.proofs.Words.{inr, refl, sym, ap, ◌∙◌, append_assoc, length-append, length-take-le, take-append-drop, arith, Heads, Row, Rows, flat_map}
+use Rattle.bforest_core.proofs.Words.{cases_lt, length-map, Table, node, flat, heads, sizes, numbers, Solid, Stacked, Topped, Tree, IsFit, half_of, leaf_gain}
+use Rattle.bforest_core.proofs.Words.{RowIn, leaf_content, entry_keys, count, Distinct, StandsAbove, Stands, Placed, Inserted, Content, RowsIn, IsAt}
+use Rattle.bforest_core.proofs.{rows.LevelRows.{flat-append, least-pos, sizes-append, FitRow-split, heads-append}, rows.Tops.{root-stands, root-points}}
+use Rattle.bforest_core.proofs.rows.Zipper.{apart_here}
+use Rattle.bforest_core.proofs.{table.Tables.{counts, row-split, row-put, rows-same, ne_from_count, absent_ne, Puts}, insertion.Grow.{FitRow-put, leaf_room}}
 
 module _ {K : Type 0} where
   -- a list with its first key replaced
@@ -88,7 +89,7 @@ pub insert_flat : {K V : Type 0} (before : Row K V) (n l r after x : _) →
     insert (flat (before ++ node n (l ++ r) ∷ after)) (length (flat before) + length l) x ≡ flat before ++ ((l ++ x ∷ r) ++ flat after)
 insert_flat before n l r after x =
     let whole : flat (before ++ node n (l ++ r) ∷ after) ≡ (flat before ++ l) ++ (r ++ flat after) = simp (flat-append, append_assoc) in
-    rw (whole, ← length-append (flat before) l, insert_between (flat before ++ l) (r ++ flat after) x) (simp append_assoc)
+    rw (whole, ← length-append _ l, insert_between _ _ x) (simp append_assoc)
 
 -- rows of the same sizes are as many
 pub rows_count : {K : Type 0} (xs ys : Rows K) → map sizes ys ≡ map sizes xs → length ys ≡ length xs
@@ -117,13 +118,13 @@ module _ {K V : Type 0} where
     pub none_chain : count (get_or ms 0 0) t.chain ≡ 0
 
   pub leaf_spot : {most t ms js size tree place : _} → Placed most t ms js size tree place → LeafSpot most t ms js tree place
-  leaf_spot {most} {t} {ms} {js} {tree} p =
+  leaf_spot {most} {ms} {js} p =
       let at = p.at.points in
       let n = get_or ms 0 0 in
       let l = take (get_or js 0 0) at.entries in
       let r = drop (get_or js 0 0) at.entries in
       let l_is = length-take-le (get_or js 0 0) at.entries at.within in
-      let is = at.leaves_are ∙ ap (λ z. at.before ++ node n z ∷ at.after) (sym (take-append-drop (get_or js 0 0) at.entries)) in
+      let is = at.leaves_are ∙ ap (λ z. at.before ++ node n z ∷ at.after) (sym (take-append-drop _ _)) in
       let fit = rw is at p.fit in
       let inside = rw is at p.inside.leaves_in in
       let apart = rw is at p.apart in
@@ -153,14 +154,14 @@ module _ {K V : Type 0} where
   -- the rows over the leaves after the insertion
   pub renewed : {most : ℕ} {t : Table K V} {ms js size tree place : _} (entry : K × V) → 1 ≤ most → Placed most t ms js size tree place → (d : LeafSpot most t ms js tree place) →
       Renewed t.nodes ms js 1 tree.above (heads (d.before ++ node (get_or ms 0 0) (d.l ++ entry ∷ d.r) ∷ d.after))
-  renewed {most} {t} {ms} {js} {tree} entry one p d =
+  renewed {most} {ms} entry one p d =
       let f = FitRow-split (half_of most) most d.before (node (get_or ms 0 0) (d.l ++ d.r)) d.after d.fit.leaves_fit in
       renew _ _ _ 1 _ _ _ _ entry d.r d.after d.first (omega (arith, least-pos (half_of most) (omega (arith, one)) d.after)) d.fit.stacked d.fit.topped p.inside.rows_in
 
   -- the sizes of the leaves where the leaf has room
   pub room_gain : {most t ms js tree place : _} → (d : LeafSpot most t ms js tree place) → length (d.l ++ d.r) < most → leaf_gain most place (sizes tree.leaves) ≡ (None, sizes d.before ++ suc (length (d.l ++ d.r)) ∷ sizes d.after)
-  room_gain {most} {ms} d room =
-      rw (d.leaves_are, d.place_is, sizes-append d.before (node (get_or ms 0 0) (d.l ++ d.r) ∷ d.after)) (leaf_room most d.before (length (d.l ++ d.r)) (length d.l) (sizes d.after) (omega (arith, length-append d.l d.r)) d.first room)
+  room_gain {most} d room =
+      rw (d.leaves_are, d.place_is, sizes-append _ _) (leaf_room most d.before (length (d.l ++ d.r)) (length d.l) (sizes d.after) (omega (arith, length-append d.l d.r)) d.first room)
 
   pub put_leaf : {most t u ms js size tree place : _} (entry : _) → Placed most t ms js size tree place → (d : LeafSpot most t ms js tree place) → length (d.l ++ d.r) < most →
       Puts t u (get_or ms 0 0) (leaf_content (d.l ++ entry ∷ d.r)) → Inserted most t u ms js size tree place entry
@@ -179,7 +180,7 @@ module _ {K V : Type 0} where
       let stands : Stands ms js size (record { leaves = row2; above = above.rows' }) place = record {
         leaf = record { before = d.before; entries = es; after = d.after; row_is = refl; within = omega (arith, length-append d.l (entry ∷ d.r)); place_is = omega arith };
         above = above.stands (length d.before) d.stands;
-        size_is = p.at.points.size_is ∙ omega (arith, rows_count tree.above above.rows' above.sizes_are);
+        size_is = p.at.points.size_is ∙ omega (arith, rows_count _ _ above.sizes_are);
       } in
       record {
         tree' = record { leaves = row2; above = above.rows' };
@@ -188,8 +189,8 @@ module _ {K V : Type 0} where
         sizes_are = simp (sizes-append, len, above.sizes_are, g);
         fit = fit';
         inside = record {
-          leaves_in = row-put _ _ _ _ n _ _ d.after d.inside w.same w.here d.none;
-          rows_in = rows-same t.nodes u.nodes above.rows' (λ m some. w.same m (ne_from_count m n _ some none2)) above.inside;
+          leaves_in = row-put _ _ _ _ n _ _ _ d.inside w.same w.here d.none;
+          rows_in = rows-same _ _ _ (λ m some. w.same m (ne_from_count m n _ some none2)) above.inside;
         };
         stands = stands;
         numbers_are = λ m. omega (arith, c0 m, ap (λ z. count m z) above.numbers_are, c2 m, counts m d.before n es d.after above.rows' u.chain);
@@ -198,8 +199,8 @@ module _ {K V : Type 0} where
         chain_is = sym w.chain_is;
         slots_are = w.slots_are;
         limit_is = w.limit_is;
-        same_root = λ same. root-stands fit' stands ∙ sym (root-points most tree ms js size place (omega arith) p.fit p.at.points);
-        new_root = λ other. absurd (other (rows_count tree.above above.rows' above.sizes_are));
+        same_root = λ same. root-stands fit' stands ∙ sym (root-points _ _ _ _ _ _ (omega arith) p.fit p.at.points);
+        new_root = λ other. absurd (other (rows_count _ _ above.sizes_are));
       }
 
 -- entries have as many keys

@@ -1,10 +1,10 @@
 -- A level whose node was split, for leaves and inner nodes alike: what the split leaves, and what the levels above do
 -- to it once they gained the right half.
-use Rattle.std.proofs.Common.{◌≡◌, ◌≢◌, ℕ, suc, ◌+◌, ◌-◌, ◌≤◌, Bool, if◌then◌else◌, List, [], ◌∷◌, ◌++◌, map, length, get_or, slice_get, Some, ap, ◌∙◌, arith}
-use Rattle.bforest_core.proofs.Words.{Row, flat_map, length-map, Content, Table, node, flat, heads, sizes, numbers, FitRow, Stacked, Topped, gain_above, RowIn}
-use Rattle.bforest_core.proofs.{Words.{count, Distinct, IsAt, StandsAbove, Above, Grown, Parted, top_of}, table.Tables.{counts, count-append, count-same}}
-use Rattle.bforest_core.proofs.{table.Tables.{row-same, row-changed, rows-same, ne_from_count, absent_ne}, rows.Zipper.stands-same, insertion.Grow.InHalf}
-use Rattle.bforest_core.proofs.{insertion.Grow.{flat-halved, FitRow-halved, heads-halved, one_more}, insertion.Halving.Halves}
+use Rattle.bforest_core.proofs.Words.{◌≡◌, ◌≢◌, ℕ, suc, ◌+◌, ◌-◌, ◌≤◌, Bool, if◌then◌else◌, List, [], ◌∷◌, ◌++◌, map, length, get_or, slice_get, Some, ap, ◌∙◌}
+use Rattle.bforest_core.proofs.Words.{arith, Row, flat_map, length-map, Content, Table, node, flat, heads, sizes, numbers, FitRow, Stacked, Topped, gain_above}
+use Rattle.bforest_core.proofs.{Words.{RowIn, count, Distinct, IsAt, StandsAbove, Above, Grown, Parted, top_of}, insertion.Halving.Halves}
+use Rattle.bforest_core.proofs.{insertion.Grow.{InHalf, flat-halved, FitRow-halved, heads-halved, one_more}, rows.Zipper.stands-same}
+use Rattle.bforest_core.proofs.table.Tables.{counts, count-append, count-same, row-same, row-changed, rows-same, ne_from_count, absent_ne}
 
 -- a level with a split node has a level above it
 pub gain-some : (p levels : _) → 1 ≤ length (gain_above (Some p) levels)
@@ -39,13 +39,13 @@ module _ {K V X : Type 0} {content : List (K × X) → Content K V} {half most :
         next = h.y;
         more = h.ys;
         key_is = h.middle_is;
-        flat_is = cc (flat-halved before after n right (h.z ∷ h.xs) (h.y ∷ h.ys));
+        flat_is = cc (flat-halved _ _ n _ _ _);
         fit = FitRow-halved half most before after n right es (h.z ∷ h.xs) (h.y ∷ h.ys) one fit (omega arith) (omega arith) (omega arith) (omega arith);
         inside = row-changed content t.nodes u.nodes before (node n es ∷ []) (node n (h.z ∷ h.xs) ∷ node right (h.y ∷ h.ys) ∷ []) after n right inside h.two.same (h.two.here, (h.two.there, tt)) none none_right;
         above = record {
           stacked = above.stacked;
           inside = rows-same t.nodes u.nodes rest (λ m some. h.two.same m (ne_from_count m n (flat_map numbers rest) some none_rest) (ne_from_count m right (flat_map numbers rest) some none_right_rest)) above.inside;
-          stands = stands-same _ _ _ _ _ _ _ (λ i high. far_m i (λ (e : i ≡ up). omega arith)) (λ i high. far_j i (λ (e : i ≡ up). omega arith)) above.stands;
+          stands = stands-same _ _ _ _ _ _ _ (λ i high. far_m i (λ e. omega arith)) (λ i high. far_j i (λ e. omega arith)) above.stands;
           height = above.height;
           apart = λ m. omega (arith, apart m, c m, c4 m, count-append m (flat_map numbers rest) u.chain);
         };
@@ -56,7 +56,7 @@ module _ {K V X : Type 0} {content : List (K × X) → Content K V} {half most :
         chain_is = h.two.chain_is;
         slots_are = h.two.slots_are;
         limit_is = h.two.limit_is;
-        nodes_above = λ i high. far_m i (λ (e : i ≡ up). omega arith);
+        nodes_above = λ i high. far_m i (λ e. omega arith);
       }
 
 module _ {K V X : Type 0} {content : List (K × X) → Content K V} {half most : ℕ} {t u : Table K V} {ms ms' js' up size list p key right moved : _} where

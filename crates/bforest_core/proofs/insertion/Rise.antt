@@ -1,11 +1,11 @@
 -- A level with a split node, and the levels above it.
-use Rattle.std.proofs.Common.{◌≡◌, ℕ, suc, ◌+◌, ◌-◌, ◌≤◌, ◌<◌, ◌≢◌, Bool, if◌then◌else◌, List, [], ◌∷◌, ◌++◌, map, length, get_or, Some, refl, sym, ap, ◌∙◌, subst, length-append, arith, true, false, append_assoc}
-use Rattle.bforest_core.proofs.Words.{Heads, Rows, flat_map, Inner, Table, node, heads, sizes, numbers, Topped, gain_above, need_above, inner_content, count}
-use Rattle.bforest_core.proofs.{Words.{Above, Grown, Halved, flat}, rows.LevelRows.{heads-append, flat-append, sizes-append}, table.Tables.counts}
-use Rattle.bforest_core.proofs.{table.Tables.{count-append, count-same, absent_ne, Takes, row-put, rows-same, ne_from_count, Puts}, rows.Zipper.Spot}
-use Rattle.bforest_core.proofs.{rows.Zipper.{stands_here, stands-same}, insertion.Parted.{Rises, chain_is, halves, inside, numbers_are, others_same, over}}
-use Rattle.bforest_core.proofs.{insertion.Parted.{same_top, stands_at, stands_over, tops}, insertion.Grow.{gain_spot, gain_full, head-grown, FitRow-put}}
-use Rattle.bforest_core.proofs.insertion.Grow.{gain_room}
+use Rattle.bforest_core.proofs.Words.{◌≡◌, ℕ, suc, ◌+◌, ◌-◌, ◌≤◌, ◌<◌, ◌≢◌, Bool, if◌then◌else◌, List, [], ◌∷◌, ◌++◌, map, length, get_or, Some, refl, sym, ap}
+use Rattle.bforest_core.proofs.Words.{◌∙◌, subst, length-append, arith, true, false, append_assoc, Heads, Rows, flat_map, Inner, Table, node, heads, sizes}
+use Rattle.bforest_core.proofs.Words.{numbers, Topped, gain_above, need_above, inner_content, count, Above, Grown, Halved, flat}
+use Rattle.bforest_core.proofs.{insertion.Grow.{gain_spot, gain_full, head-grown, FitRow-put, gain_room}, rows.Zipper.{Spot, stands_here, stands-same}}
+use Rattle.bforest_core.proofs.rows.LevelRows.{heads-append, flat-append, sizes-append}
+use Rattle.bforest_core.proofs.table.Tables.{counts, count-append, count-same, absent_ne, Takes, row-put, rows-same, ne_from_count, Puts}
+use Rattle.bforest_core.proofs.insertion.Parted.{Rises, chain_is, halves, inside, numbers_are, others_same, over, same_top, stands_at, stands_over, tops}
 
 -- 1 where the path moved on, else 0
 abbrev pub step : Bool → ℕ
@@ -48,11 +48,9 @@ module _ {K V : Type 0} where
               row-put inner_content t.nodes u.nodes q.before n old es q.after d.f.inside w.same w.here d.f.none,
               rows-same t.nodes u.nodes q.rest (λ m some. w.same m (ne_from_count m n (flat_map numbers q.rest) some d.f.none_rest)) ab.inside.1,
             );
-            stands = stands_here _ _ _ _ _ n
-                _ _ _ _ _ d.f.solid refl refl at_is
-                (omega (arith, length-append q.l (x ∷ y ∷ q.r), step_most moved))
+            stands = stands_here _ _ _ _ _ n _ _ _ _ _ d.f.solid refl refl at_is (omega (arith, length-append q.l (x ∷ y ∷ q.r), step_most moved))
                 (step_is moved (length (flat q.before ++ q.l)) ∙ omega (arith, length-append (flat q.before) q.l))
-                (stands-same ms js ms js' (suc up) q.rest (length (heads q.before)) (λ i high. refl) (λ i high. far i (λ (e : i ≡ up). omega arith)) q.stands);
+                (stands-same ms js ms js' (suc up) q.rest (length (heads q.before)) (λ i high. refl) (λ i high. far i (λ e. omega arith)) q.stands);
             height = ab.height;
             apart = λ m. omega (arith, ab.apart m, c m, c2 m, ap (λ z. count m z) w.chain_is);
           };
@@ -64,7 +62,7 @@ module _ {K V : Type 0} where
           slots_are = w.slots_are;
           limit_is = w.limit_is;
           nodes_below = λ i low. refl;
-          entries_below = λ i low. far i (λ (e : i ≡ up). omega arith);
+          entries_below = λ i low. far i (λ e. omega arith);
           same_top = λ same. refl;
           new_top = λ other. absurd (other refl);
         },
@@ -74,18 +72,16 @@ module _ {K V : Type 0} where
   -- the need and the number of levels above a level with a split node, from those one level up
   pub sizes_halved : {t u : Table K V} {ms js ms' js' up size rows list was p key right moved : _} → (h : Halved t u ms js ms' js' up size rows list was p key right moved) →
       (need_above (Some was) (map sizes rows) ≡ suc (need_above (Some (length (heads h.before))) (map sizes h.rest))) × (length (gain_above (Some was) (map sizes rows)) ≡ suc (length (gain_above (Some (length (heads h.before))) (map sizes h.rest))))
-  sizes_halved {was} h = (
+  sizes_halved h = (
     cc,
     cc,
   )
 
   -- the rows from a level up, after the right half was inserted into the levels above
   pub rise : {t u v : Table K V} {ms js ms' js' ms'' js'' up size size' rows : _}
-      {hs list q was p key right moved taken : _} → Above t ms js up size rows hs q
-      → (h : Halved t u ms js ms' js' up size rows list was p key right moved) →
-      Rises h.parted v ms'' js'' size' taken →
-      Grown t v ms js ms'' js'' up size size' rows list p (gain_above (Some was) (map sizes rows)) (right ∷ taken)
-  rise {t} {v = v} {ms} {up} {rows} {was} {taken} ab h g =
+      {hs list q was p key right moved taken : _} → Above t ms js up size rows hs q → (h : Halved t u ms js ms' js' up size rows list was p key right moved) →
+      Rises h.parted v ms'' js'' size' taken → Grown t v ms js ms'' js'' up size size' rows list p (gain_above (Some was) (map sizes rows)) (right ∷ taken)
+  rise {t} {v = v} {ms} {up} {rows} {taken} ab h g =
       let n = get_or ms up 0 in
       let row = h.before ++ node n h.entries ∷ h.after in
       let hs0 : heads row ≡ heads h.before ++ (h.first.0, n) ∷ heads h.after = heads-append h.before _ ∙ ap (λ z. heads h.before ++ (z ++ heads h.after)) h.head_is in
@@ -147,8 +143,8 @@ module _ {K V : Type 0} where
             chain_is = w.chain_is;
             slots_are = w.slots_are;
             limit_is = w.limit_is;
-            nodes_below = λ i low. far_m i (λ (e : i ≡ size). omega arith);
-            entries_below = λ i low. far_j i (λ (e : i ≡ size). omega arith);
+            nodes_below = λ i low. far_m i (λ e. omega arith);
+            entries_below = λ i low. far_j i (λ e. omega arith);
             same_top = λ same. absurd (omega arith);
             new_top = λ other. (let top : size' - 1 ≡ size = omega arith in
                 rw (ap (λ z. get_or ms' z 0) top ∙ m_is) (omega (arith, count-same root [])));

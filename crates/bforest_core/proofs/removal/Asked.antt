@@ -1,9 +1,9 @@
 -- What the calls on the nodes of a path and on the rows above a level require and ensure, as their contracts
 -- state it.
-use Rattle.std.proofs.Common.{◌≡◌, ℕ, suc, ◌+◌, ◌≤◌, ◌<◌, Option, Some, List, [], ◌∷◌, ◌++◌, map, length, drop, get_or, slice_get, ap, ◌∙◌, arith}
+use Rattle.bforest_core.proofs.Words.{◌≡◌, ℕ, suc, ◌+◌, ◌≤◌, ◌<◌, Option, Some, List, [], ◌∷◌, ◌++◌, map, length, drop, get_or, slice_get, ap, ◌∙◌, arith}
 use Rattle.bforest_core.proofs.Words.{Heads, Rows, Inner, IsFree, IsUsed, entry_count, with_key, without_child, Table, with_node, sizes, inner_content}
 use Rattle.bforest_core.proofs.Words.{entry_keys, entry_items, count, Above, LastAbove, NextIs, OneAbove, Rebuilt, TwoAbove, get_or_default}
-use Rattle.bforest_core.proofs.{table.Stored.{key_count, item_count}, table.Tables.is_used, rows.Zipper.{Spot, spot, above_two}}
+use Rattle.bforest_core.proofs.{table.Stored.{key_count, item_count}, rows.Zipper.{Spot, spot, above_two}, table.Tables.is_used}
 
 module _ {K V : Type 0} where
   -- a used node, whose entries are counted
@@ -74,7 +74,7 @@ module _ {K V : Type 0} where
   pub seen : {t path indices up size rows : _} (a x : _)
       (b : _) → Above t path indices up size rows (a ++ x ∷ b) (length a) → up < size → (r : ℕ) → length path ≡ 17 → size ≤ 17
       → Seen t path indices up size rows a x b r
-  seen {t} {path} {indices} {up} {size} {rows} a x b p low r wide height =
+  seen {t} {path} {up} a x b p low r wide height =
       let d = spot a x b p low in
       let es = d.q.l ++ x ∷ d.q.r in
       let num_is = get_or_default path up r 0 (omega arith) in

@@ -1,9 +1,10 @@
 -- Leaves and inner nodes as stored, for the calls on two neighbours.
-use Rattle.std.proofs.Common.{true, ◌≡◌, ℕ, suc, ◌+◌, ◌-◌, ◌/◌, ◌≤◌, ◌<◌, ◌≢◌, List, [], ◌∷◌, ◌++◌, length, slice_get, Option, Some, None, refl, sym, ap, ◌∙◌, subst, inl, inr, length-append, arith}
-use Rattle.bforest_core.proofs.Words.{length-map, map-append, cases_lt, Content, IsFree, IsSameKind, entry_count, entry_capacity, joined, IsCut, Balances}
-use Rattle.bforest_core.proofs.Words.{left_share, Table, with_node, IsBalancedAt, Frees, Bool, false, IsLeafCapacity, content_at, half_at, most_at}
-use Rattle.bforest_core.proofs.{Words.{inner_content, leaf_content}, table.Stored.{some_same, Parts, inner_cuts, leaf_cuts}, table.Tables.{count-same, puts}}
-use Rattle.bforest_core.proofs.{rows.LevelRows.head-is, rows.Zipper.cut, removal.Frees.{frees-after, frees-puts}}
+use Rattle.bforest_core.proofs.Words.{true, ◌≡◌, ℕ, suc, ◌+◌, ◌-◌, ◌/◌, ◌≤◌, ◌<◌, ◌≢◌, List, [], ◌∷◌, ◌++◌, length, slice_get, Option, Some, None, refl, sym}
+use Rattle.bforest_core.proofs.Words.{ap, ◌∙◌, subst, inl, inr, length-append, arith, length-map, map-append, cases_lt, Content, IsFree, IsSameKind}
+use Rattle.bforest_core.proofs.Words.{entry_count, entry_capacity, joined, IsCut, Balances, left_share, Table, with_node, IsBalancedAt, Frees, Bool, false}
+use Rattle.bforest_core.proofs.{Words.{IsLeafCapacity, content_at, half_at, most_at, inner_content, leaf_content}, removal.Frees.{frees-after, frees-puts}}
+use Rattle.bforest_core.proofs.{rows.LevelRows.head-is, table.Stored.{some_same, Parts, inner_cuts, leaf_cuts}, table.Tables.{count-same, puts}}
+use Rattle.bforest_core.proofs.rows.Zipper.{cut}
 
 -- half of a node's capacity and the whole of it
 pub record IsHalf (half most : ℕ) : Type 0 where
@@ -24,7 +25,7 @@ module _ {K : Type 0} where
   -- inner nodes are stored with a capacity of 8
   pub inner_stored : {V : Type 0} (n : ℕ) → IsStored {K = K} {V = V} inner_content n 8
   inner_stored {V} n = record {
-    count_is = λ es. length-map es (λ (w : K × ℕ). w.1);
+    count_is = λ es. length-map es (λ w. w.1);
     capacity_is = λ es. refl;
     used = λ es free. free;
     kind = λ es fs. tt;
@@ -35,7 +36,7 @@ module _ {K : Type 0} where
   -- leaves are stored with a capacity of n
   pub leaf_stored : {V : Type 0} (n : ℕ) → IsStored {K = K} {V = V} leaf_content n n
   leaf_stored {V} n = record {
-    count_is = λ es. length-map es (λ (w : K × V). w.0);
+    count_is = λ es. length-map es (λ w. w.0);
     capacity_is = λ es. refl;
     used = λ es free. free;
     kind = λ es fs. tt;
@@ -67,12 +68,12 @@ module _ {K V X : Type 0} (content : List (K × X) → Content K V) where
       let v = with_node t n c in
       let own = n ∷ q ∷ [] in
       let one = puts t v n c old_n fn refl in
-      let two = puts v u q d old_q (one.same q (λ (e : q ≡ n). ne (sym e)) ∙ fq) is in
+      let two = puts v u q d old_q (one.same q (λ e. ne (sym e)) ∙ fq) is in
       record {
         here = two.same n ne ∙ one.here;
         there = two.here;
         same = λ m a b. two.same m b ∙ one.same m a;
-        frees = frees-after {t = t} {own = own} (λ m none. none) (frees-puts own (omega (arith, count-same n (q ∷ []))) one) (frees-puts own (omega (arith, count-same q [])) two);
+        frees = frees-after (λ m none. none) (frees-puts own (omega (arith, count-same n (q ∷ []))) one) (frees-puts own (omega (arith, count-same q [])) two);
       }
 
   -- both nodes were merged into the right one

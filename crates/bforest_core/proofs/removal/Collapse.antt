@@ -1,11 +1,11 @@
 -- Discarding roots with a single child: from the root down, and in the sizes from the leaves up. These are
 -- the answers of `collapse_root`.
-use Rattle.std.proofs.Common.{◌≡◌, ◌≢◌, ℕ, suc, ◌+◌, ◌-◌, ◌≤◌, ◌<◌, Some, List, [], ◌∷◌, ◌++◌, map, length, drop, get_or, slice_get, refl, sym, ap, ◌∙◌, append_assoc, append-nil, length-append, arith}
-use Rattle.bforest_core.proofs.Words.{Heads, Row, Rows, nil_from_length, flat_map, flat_map-append, Content, IsUsed, Table, with_freed, node, flat, heads}
-use Rattle.bforest_core.proofs.Words.{sizes, numbers, Stacked, Topped, trimmed, RowsIn, inner_content, entry_keys, entry_items, count, root_above, first_number}
-use Rattle.bforest_core.proofs.{Words.{StandsAbove, UpTo, Trimmed}, rows.LevelRows.{least-pos, head-is}, walks.RowNodes.fit_full, table.Tables.count-append}
-use Rattle.bforest_core.proofs.{table.Tables.{count-same, ne_from_count, rows-same, is_used}, table.Stored.{item_count, some_same}, removal.Asked.NodeAt}
-use Rattle.bforest_core.proofs.{removal.Asked.{ChildAt, ReadsChild, Counts}, removal.Frees.{frees-refl, freed_other, frees-first}}
+use Rattle.bforest_core.proofs.Words.{◌≡◌, ◌≢◌, ℕ, suc, ◌+◌, ◌-◌, ◌≤◌, ◌<◌, Some, List, [], ◌∷◌, ◌++◌, map, length, drop, get_or, slice_get, refl, sym, ap, ◌∙◌}
+use Rattle.bforest_core.proofs.Words.{append_assoc, append-nil, length-append, arith, Heads, Row, Rows, nil_from_length, flat_map, flat_map-append, Content}
+use Rattle.bforest_core.proofs.Words.{IsUsed, Table, with_freed, node, flat, heads, sizes, numbers, Stacked, Topped, trimmed, RowsIn, inner_content, entry_keys}
+use Rattle.bforest_core.proofs.{Words.{entry_items, count, root_above, first_number, StandsAbove, UpTo, Trimmed}, table.Stored.{item_count, some_same}}
+use Rattle.bforest_core.proofs.{walks.RowNodes.fit_full, rows.LevelRows.{least-pos, head-is}, removal.Frees.{frees-refl, freed_other, frees-first}}
+use Rattle.bforest_core.proofs.{removal.Asked.{NodeAt, ChildAt, ReadsChild, Counts}, table.Tables.{count-append, count-same, ne_from_count, rows-same, is_used}}
 
 -- a row has one size per node
 pub length-sizes : {K X : Type 0} (row : Row K X) → length (sizes row) ≡ length row
@@ -83,7 +83,7 @@ module _ {K : Type 0} where
 
 -- how often a number occurs in rows with a row of one node on top
 pub count_top : {K : Type 0} (m : ℕ) (init : Rows K) (root : ℕ) (es : Heads K) → count m (flat_map numbers (init ++ (node root es ∷ []) ∷ [])) ≡ count m (flat_map numbers init) + count m (root ∷ [])
-count_top m init root es = cc (flat_map-append numbers init ((node root es ∷ []) ∷ []), count-append m (flat_map numbers init) (root ∷ []))
+count_top m init root es = cc (flat_map-append _ _ _, count-append m (flat_map numbers init) (root ∷ []))
 
 module _ {K V : Type 0} where
   -- the lower and the upper rows are each in the table
@@ -110,12 +110,12 @@ module _ {K V : Type 0} where
 
   -- a leaf that is the root stays
   pub trim_leaf : {t : Table K V} {size : ℕ} (rows : _) {list root : _} → UpTo t size rows list root → size ≡ 1 → Trimmed t t size size rows list root root []
-  trim_leaf {t} {size} [] {list} {root} u one = trim_none u tt
+  trim_leaf [] u one = trim_none u tt
   trim_leaf (row ∷ rows) u one = absurd (omega arith)
 
   top_of_up : {t : Table K V} {size : ℕ} (rows : _) {list root : _} → UpTo t size rows list root → size ≢ 1 → Top rows root
   top_of_up [] u more = absurd (more (sym u.height))
-  top_of_up (row ∷ rows) {list} {root} u more = top_of_rows _ _ _ _ u.stacked u.root_is
+  top_of_up (row ∷ rows) u more = top_of_rows _ _ _ _ u.stacked u.root_is
 
   -- there is a level above the leaves
   module _ {t : Table K V} {size rows list root : _} (u : UpTo t size rows list root) (more : size ≢ 1) where
@@ -148,8 +148,7 @@ module _ {K V : Type 0} where
 
       -- a root with two children or more stays
       pub trim_stays : 1 < n → Trimmed t t size size rows list root root []
-      trim_stays two =
-          trim_none u (rw top.rows_are (topped-here _ _ _ _ (omega (arith, count_is)) whole.stacked).1)
+      trim_stays two = trim_none u (rw top.rows_are (topped-here _ _ _ _ (omega (arith, count_is)) whole.stacked).1)
 
       -- the root has a single child
       module _ (few : n ≤ 1) where
@@ -185,7 +184,7 @@ module _ {K V : Type 0} where
 
           -- the rows below the root, after further roots were discarded
           pub trim_then : {w size' root' gone : _} → Trimmed v w (size - 1) size' top.init list only root' gone → Trimmed t w size size' rows list root root' (gone ++ root ∷ [])
-          trim_then {w} {size'} {gone} r =
+          trim_then {size'} {gone} r =
               let row = node root top.entries ∷ [] in
               let c = λ (m : ℕ). count_top m r.discarded root top.entries in
               let d = λ (m : ℕ). count-append m gone (root ∷ []) in

@@ -1,16 +1,15 @@
 -- Restoring a tree whose leaf lost the entry on which a path stood: the answers of `heal` and `heal_alone`.
-use Rattle.std.proofs.Common.{◌≡◌, ◌≢◌, ℕ, ◌+◌, ◌/◌, ◌≤◌, ◌<◌, List, ◌∷◌, ◌++◌, None, Some, ap, arith, get_or, inl, inr, length, length-append, refl, slice_get, ◌∙◌}
-use Rattle.std.proofs.lemmas.List.{set-set}
-use Rattle.std.proofs.lemmas.List.Edits.{length-remove}
-use Rattle.bforest_core.proofs.Words.{nil_from_length, Content, Free, EntryTaken, HasOthers, IsSingle, IsUsed, LeafLoss, Removed, Shrinks, StandsIn, Unbalanced}
-use Rattle.bforest_core.proofs.Words.{Table, Tree, entry_keys, front_of, leaf_content, root_of, tree_of, with_freed, with_node, without_entry}
-use Rattle.bforest_core.proofs.{rows.Tops.root-stands, table.Tables.{is_used, puts}, union.Unions.rooted, removal.Asked.{Counts, NodeAt}}
-use Rattle.bforest_core.proofs.{removal.LeafEmptied.emptied_tree, removal.PastEnd.alone_last, removal.Removal.{outcome, removal, stands_in}}
-use Rattle.bforest_core.proofs.{removal.Removing.kept_removed, removal.Taking.alone_loss, removal.LeafAt.{LeafAt, leaf_at, leaf_count, leaf_keys, some_first}}
+use Rattle.bforest_core.proofs.Words.{set-set, length-remove, ◌≡◌, ◌≢◌, ℕ, ◌+◌, ◌/◌, ◌≤◌, ◌<◌, List, ◌∷◌, ◌++◌, None, Some, ap, arith, get_or, inl, inr, length}
+use Rattle.bforest_core.proofs.Words.{length-append, refl, slice_get, ◌∙◌, nil_from_length, Content, Free, EntryTaken, HasOthers, IsSingle, IsUsed, LeafLoss}
+use Rattle.bforest_core.proofs.Words.{Removed, Shrinks, StandsIn, Unbalanced, Table, Tree, entry_keys, front_of, leaf_content, root_of, tree_of, with_freed}
+use Rattle.bforest_core.proofs.{Words.{with_node, without_entry}, removal.Asked.{Counts, NodeAt}, removal.PastEnd.alone_last, removal.LeafEmptied.emptied_tree}
+use Rattle.bforest_core.proofs.{rows.Tops.root-stands, table.Tables.{is_used, puts}, removal.Removing.kept_removed, removal.Taking.alone_loss}
+use Rattle.bforest_core.proofs.{removal.Removal.{outcome, removal, stands_in}, removal.LeafAt.{LeafAt, leaf_at, leaf_count, leaf_keys, some_first}}
+use Rattle.bforest_core.proofs.union.Unions.{rooted}
 
 -- a node that is written and freed is a node that is freed
 freed_again : {K V : Type 0} (t : Table K V) (n c : _) → with_freed (with_node t n c) n ≡ with_freed t n
-freed_again {K} {V} t n c = cc (set-set t.nodes n c (Free (front_of t.chain)))
+freed_again t n c = cc (set-set t.nodes n c (Free (front_of t.chain)))
 
 module _ {K V : Type 0} {most : ℕ} {old now : Table K V} {root place path indices size : _} (e : EntryTaken most old now root place path indices size) where
   abbrev tree : Tree K V
@@ -52,7 +51,7 @@ module _ {K V : Type 0} {most : ℕ} {old now : Table K V} {root place path indi
 
   -- the effect of a removal from the tree on the table
   pub settled : {new : _} {Now : Tree K V → Type 0} {root' : ℕ} → Removed most old new path Now tree place root' → Shrinks most old new path root place (Some root')
-  settled {new} {Now} r = (removal most old new Now e.union e.stood r).shrinks
+  settled r = (removal _ _ _ _ e.union e.stood r).shrinks
 
   module _ (read : ℕ) (num_is : read ≡ leaf) where
     slot_read : slice_get now.nodes read ≡ Some left
@@ -71,11 +70,7 @@ module _ {K V : Type 0} {most : ℕ} {old now : Table K V} {root place path indi
       single none =
           let h = some_first es (omega (arith, within)) in
           let one = h.2 ∙ ap (λ z. h.0 ∷ z) (nil_from_length h.1 (omega (arith, count_is, ap length h.2))) in
-          record {
-            entry = h.0;
-            slot_was = cc;
-            freed_is = cc (freed_again old leaf left);
-          }
+          record { entry = h.0; slot_was = cc; freed_is = cc (freed_again old leaf left) }
 
       -- the leaf has others
       pub others : m ≢ 0 → HasOthers old now path indices
@@ -83,13 +78,7 @@ module _ {K V : Type 0} {most : ℕ} {old now : Table K V} {root place path indi
           let h = some_first es (omega (arith, within)) in
           let k = some_first h.1 (omega (arith, count_is, ap length h.2)) in
           let two = h.2 ∙ ap (λ z. h.0 ∷ z) k.2 in
-          record {
-            x = h.0;
-            y = k.0;
-            more = k.1;
-            slot_was = cc;
-            new_is = cc;
-          }
+          record { x = h.0; y = k.0; more = k.1; slot_was = cc; new_is = cc }
 
       -- the leaf has others, and the rows above have its first key
       module _ (some : m ≢ 0) (v : _) (renews : (t tree' place' : _) → StandsIn most t path indices size tree' place' → HasOthers t now path indices → LeafLoss most t v path indices size tree' place') where

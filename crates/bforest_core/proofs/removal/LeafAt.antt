@@ -1,10 +1,10 @@
 -- The leaf where a path stands, cut at the path's entry, and the leaf without it.
-use Rattle.std.proofs.Common.{◌≡◌, ℕ, suc, ◌+◌, ◌≤◌, ◌<◌, Some, Option, List, [], ◌∷◌, ◌++◌, map, length, get_or, slice_get, refl, sym, ap, ◌∙◌, append_assoc, length-append, arith}
-use Rattle.bforest_core.proofs.Words.{Row, map-append, flat_map, remove, length-map, Content, without_entry, Table, node, flat, heads, sizes, numbers, FitRow}
-use Rattle.bforest_core.proofs.Words.{Solid, Tree, half_of, RowIn, leaf_content, entry_keys, count, Distinct, numbers_of, Above, Rebuilt, StandsIn, LeafLoss}
-use Rattle.bforest_core.proofs.{rows.LevelRows.{flat-append, sizes-append, FitRow-split, Solid-full, least-pos, heads-append}, table.Tables.count-append}
-use Rattle.bforest_core.proofs.{table.Tables.{counts, count-same, row-split, row-put, row-same, Puts}, rows.Contents.remove_at, rows.Zipper.{cut, apart_here}}
-use Rattle.bforest_core.proofs.removal.Frees.{frees-after, frees-puts}
+use Rattle.bforest_core.proofs.Words.{◌≡◌, ℕ, suc, ◌+◌, ◌≤◌, ◌<◌, Some, Option, List, [], ◌∷◌, ◌++◌, map, length, get_or, slice_get, refl, sym, ap, ◌∙◌}
+use Rattle.bforest_core.proofs.Words.{append_assoc, length-append, arith, Row, map-append, flat_map, remove, length-map, Content, without_entry, Table, node}
+use Rattle.bforest_core.proofs.Words.{flat, heads, sizes, numbers, FitRow, Solid, Tree, half_of, RowIn, leaf_content, entry_keys, count, Distinct, numbers_of}
+use Rattle.bforest_core.proofs.{Words.{Above, Rebuilt, StandsIn, LeafLoss}, table.Tables.{count-append, counts, count-same, row-split, row-put, row-same, Puts}}
+use Rattle.bforest_core.proofs.{rows.LevelRows.{flat-append, sizes-append, FitRow-split, Solid-full, least-pos, heads-append}, rows.Zipper.{cut, apart_here}}
+use Rattle.bforest_core.proofs.{removal.Frees.{frees-after, frees-puts}, rows.Contents.remove_at}
 
 remove_map : {X Y : Type 0} (f : X → Y) (l r : List X) (x : X) → remove (map f (l ++ x ∷ r)) (length l) ≡ map f (l ++ r)
 remove_map f l r x = cc (map-append f l (x ∷ r), remove_at (map f l) (f x) (map f r) (length l) (length-map l f), map-append f l r)
@@ -14,9 +14,9 @@ pub remove_flat : {K V : Type 0} (before : Row K V) (n l x r after : _) →
     remove (flat (before ++ node n (l ++ x ∷ r) ∷ after)) (length (flat before) + length l) ≡ flat (before ++ node n (l ++ r) ∷ after)
 remove_flat before n l x r after =
     let whole : flat (before ++ node n (l ++ x ∷ r) ∷ after) ≡ (flat before ++ l) ++ x ∷ (r ++ flat after) =
-    flat-append before _ ∙ ap (λ z. flat before ++ z) (append_assoc l (x ∷ r) (flat after)) ∙ sym (append_assoc (flat before) l _) in
-    ap (λ z. remove z (length (flat before) + length l)) whole ∙ ap (λ z. remove ((flat before ++ l) ++ x ∷ (r ++ flat after)) z) (sym (length-append (flat before) l)) ∙ remove_at (flat before ++ l) x (r ++ flat after) (length (flat before ++ l)) refl
-    ∙ append_assoc (flat before) l _ ∙ ap (λ z. flat before ++ z) (sym (append_assoc l r (flat after))) ∙ sym (flat-append before (node n (l ++ r) ∷ after))
+    flat-append before _ ∙ ap (λ z. flat before ++ z) (append_assoc l _ _) ∙ sym (append_assoc _ l _) in
+    ap (λ z. remove z (length (flat before) + length l)) whole ∙ ap (λ z. remove ((flat before ++ l) ++ x ∷ (r ++ flat after)) z) (sym (length-append _ l)) ∙ remove_at (flat before ++ l) x (r ++ flat after) (length (flat before ++ l)) refl
+    ∙ append_assoc _ l _ ∙ ap (λ z. flat before ++ z) (sym (append_assoc l r _)) ∙ sym (flat-append before (node n (l ++ r) ∷ after))
 
 -- a leaf has as many keys as entries
 pub leaf_keys : {K V : Type 0} (es : List (K × V)) → length (entry_keys es) ≡ length es
@@ -47,8 +47,7 @@ as_many_heads before n (e ∷ es) (f ∷ fs) after some too =
 module _ {K V : Type 0} where
   -- removing an entry from a leaf
   pub without_entry_is : (l : List (K × V)) (x r e : _) → length l ≡ e → without_entry (leaf_content (l ++ x ∷ r)) e ≡ leaf_content (l ++ r)
-  without_entry_is l x r e is =
-      cc (remove_map (λ w. w.0) l r x, remove_map (λ w. w.1) l r x)
+  without_entry_is l x r e is = cc (remove_map (λ w. w.0) l r x, remove_map (λ w. w.1) l r x)
 
   -- the tree, cut at the entry in its leaf
   pub record LeafAt (most : ℕ) (t : Table K V) (path indices : List ℕ) (size : ℕ) (tree : Tree K V) (place : ℕ) : Type 0 where
@@ -73,7 +72,7 @@ module _ {K V : Type 0} where
 
   -- a tree in which a path stands can be cut at the path's entry
   pub leaf_at : {most t path indices size tree place : _} → StandsIn most t path indices size tree place → LeafAt most t path indices size tree place
-  leaf_at {most} {t} {path} {indices} {tree} s =
+  leaf_at {most} {path} {indices} s =
       let at = s.stands.leaf in
       let n = get_or path 0 0 in
       let c = cut at.entries (get_or indices 0 0) at.within in
@@ -117,7 +116,7 @@ module _ {K V : Type 0} where
   -- the leaf without the entry, under rows that have its first key
   pub leaf_loss : {most t u v path indices size tree place : _} → (d : LeafAt most t path indices size tree place) → 1 ≤ length (d.l ++ d.r) → Puts t u (get_or path 0 0) (leaf_content (d.l ++ d.r)) →
       Rebuilt u v path indices path indices 1 size tree.above (heads (d.before ++ node (get_or path 0 0) (d.l ++ d.r) ∷ d.after)) (length (heads d.before)) (map sizes tree.above) [] → LeafLoss most t v path indices size tree place
-  leaf_loss {t} {u} {v} {path} {tree} {place} d more w b =
+  leaf_loss {t} {u} {v} {path} {tree} d more w b =
       let n = get_or path 0 0 in
       let old = d.l ++ d.x ∷ d.r in
       let es = d.l ++ d.r in

@@ -1,12 +1,12 @@
 -- Removing the only entry of a leaf together with the leaf, which is the rightmost.
-use Rattle.std.proofs.Common.{◌≡◌, ◌≢◌, suc, ◌+◌, ◌≤◌, List, ◌∷◌, ◌++◌, map, length, get_or, slice_get, refl, sym, ap, ◌∙◌, append-nil, length-append, arith, ℕ, []}
-use Rattle.bforest_core.proofs.Words.{Heads, Rows, nil_from_length, flat_map, IsLeafCapacity, Table, IsUsed, with_freed, node, flat, heads, sizes, numbers}
-use Rattle.bforest_core.proofs.Words.{FitRow, Topped, Tree, half_of, loss, leaf_content, count, Distinct, root_of, numbers_of, IsPathAt, nodes_up, Above}
-use Rattle.bforest_core.proofs.{Words.{LastAbove, UpTo, Trimmed, StandsIn, IsSingle, Removed, Emptied}, rows.LevelRows.{flat-append, heads-append}}
-use Rattle.bforest_core.proofs.{rows.LevelRows.{sizes-append, Solid-full}, table.Tables.{count-append, counts, count-same, row-split, row-same, ne_from_count}}
-use Rattle.bforest_core.proofs.{rows.Tops.root-stands, removal.Losses.loss_at, removal.Frees.{freed_other, frees-one, frees-first}}
-use Rattle.bforest_core.proofs.{removal.RemovingEmptied.{fit_solid, LastOf, last_of_solid, last_heads, above_freed, Drops}, removal.Collapse.heads-flat}
-use Rattle.bforest_core.proofs.{removal.LeafAt.{remove_flat, leaf_count, LeafAt, leaf_at}, removal.Untrimmed.{Untrimmed, up_to, trimmed_removed}}
+use Rattle.bforest_core.proofs.Words.{◌≡◌, ◌≢◌, suc, ◌+◌, ◌≤◌, List, ◌∷◌, ◌++◌, map, length, get_or, slice_get, refl, sym, ap, ◌∙◌, append-nil, length-append}
+use Rattle.bforest_core.proofs.Words.{arith, ℕ, [], Heads, Rows, nil_from_length, flat_map, IsLeafCapacity, Table, IsUsed, with_freed, node, flat, heads, sizes}
+use Rattle.bforest_core.proofs.Words.{numbers, FitRow, Topped, Tree, half_of, loss, leaf_content, count, Distinct, root_of, numbers_of, IsPathAt, nodes_up}
+use Rattle.bforest_core.proofs.{Words.{Above, LastAbove, UpTo, Trimmed, StandsIn, IsSingle, Removed, Emptied}, rows.Tops.root-stands}
+use Rattle.bforest_core.proofs.{removal.Collapse.heads-flat, removal.RemovingEmptied.{fit_solid, LastOf, last_of_solid, last_heads, above_freed, Drops}}
+use Rattle.bforest_core.proofs.{rows.LevelRows.{flat-append, heads-append, sizes-append, Solid-full}, removal.LeafAt.{remove_flat, leaf_count, LeafAt, leaf_at}}
+use Rattle.bforest_core.proofs.{removal.Losses.loss_at, table.Tables.{count-append, counts, count-same, row-split, row-same, ne_from_count}}
+use Rattle.bforest_core.proofs.{removal.Frees.{freed_other, frees-one, frees-first}, removal.Untrimmed.{Untrimmed, up_to, trimmed_removed}}
 
 -- no node follows a node of one entry
 none_after : {K X : Type 0} (half most m : ℕ) (es : List (K × X)) (after : _) → 2 ≤ half → length es ≡ 1 → FitRow half most (node m es ∷ after) → after ≡ []
@@ -62,7 +62,7 @@ module _ {K V : Type 0} {most : ℕ} {t : Table K V} {path indices size : _} (ca
         let above_is = nil_from_length tree.above (omega arith) in
         let seen = rw above_is at s.fit.stacked in
         let seen_is = seen in
-        let none = nil_from_length f.before (omega (arith, Solid-full (half_of most) most f.half f.before f.solid, heads_are)) in
+        let none = nil_from_length _ (omega (arith, Solid-full (half_of most) most f.half f.before f.solid, heads_are)) in
         let only = leaves_are ∙ ap (λ z. z ++ node n (f.x ∷ []) ∷ []) none in
         let levels = ap (λ z. sizes z ∷ map sizes tree.above) only ∙ ap (λ z. (1 ∷ []) ∷ map sizes z) above_is in
         let nums : (m : ℕ) → count m (n ∷ []) ≡ count m (numbers_of tree) = λ m. sym (simp (only, above_is)) in
@@ -80,7 +80,7 @@ module _ {K V : Type 0} {most : ℕ} {t : Table K V} {path indices size : _} (ca
       -- the last of the leaves before it
       pub o : LastOf f.before
       o =
-          let two = two_leaves _ _ s.fit.topped (λ (e : length tree.above ≡ 0). more (omega arith)) in
+          let two = two_leaves _ _ s.fit.topped (λ e. more (omega arith)) in
           last_of_solid _ _ f.half _ f.solid (omega (arith, heads_are, heads-flat f.before))
 
       pub above_then : Above v path indices 1 size tree.above (heads o.init ++ (o.w.0, o.number) ∷ (f.x.0, get_or path 0 0) ∷ []) (suc (length (heads o.init)))
@@ -128,17 +128,15 @@ module _ {K V : Type 0} {most : ℕ} {t : Table K V} {path indices size : _} (ca
 
         module _ (root : ℕ) (root_is : root_of tree ≡ root) where
           up : UpTo u size dropped.1.rows' (heads f.before) root
-          up = up_to size root s untrimmed refl root_is
+          up = up_to _ _ s untrimmed refl root_is
 
           -- the rows above meet what discarding roots requires
           pub collapse_asks : (rows : _) × (list : _) × UpTo u size rows list root
           collapse_asks = (dropped.1.rows', heads f.before, up)
 
           -- the tree after roots with a single child were discarded: the path is at the end
-          pub drop_removed : (u2 : Table K V) (path' indices' size2 root' : _)
-              → ((rows list : _) → UpTo u size rows list root → (gone : _)
-              × Trimmed u u2 size size2 rows list root root' gone)
-              → Removed most t u2 path (λ z. IsPathAt path' indices' 0 z place) tree place root'
+          pub drop_removed : (u2 : Table K V) (path' indices' size2 root' : _) → ((rows list : _) → UpTo u size rows list root → (gone : _)
+              × Trimmed u u2 size size2 rows list root root' gone) → Removed most t u2 path (λ z. IsPathAt path' indices' 0 z place) tree place root'
           drop_removed u2 path' indices' size2 root' trims =
               let g = trims dropped.1.rows' (heads f.before) up in
               trimmed_removed (suc dropped.0) (λ z. IsPathAt path' indices' 0 z place) s untrimmed root_is g.1 refl place_is

@@ -1,11 +1,9 @@
 -- Removing a key from the leaf in which a search for it ends: the answers of `take_from_leaf`.
-use Rattle.std.proofs.Common.{◌≡◌, ℕ, Bool, IfSome, Option, Some, None, Ok, Err, List, option_map, set, if◌then◌else◌, true, false, refl, ap, ◌∙◌}
+use Rattle.bforest_core.proofs.Words.{take_answer, with_taken, search_of-keys_of, value_for-absent, value_for-present, ◌≡◌, ℕ, Bool, IfSome, Option, Some, None}
+use Rattle.bforest_core.proofs.Words.{Ok, Err, List, option_map, set, if◌then◌else◌, true, false, refl, ap, ◌∙◌, EndsIn, EntryTaken, TakesFromLeaf, IsUnion}
+use Rattle.bforest_core.proofs.{Words.{entry_keys, flat, is_present, leaf_content, place, search_of, tree_of, value_for, with_node}, table.Lists.set-kept}
+use Rattle.bforest_core.proofs.{insertion.LeafPut.{index_is, slot, stands, valued}, walks.LeafSearch.items-read}
 use Rattle.std.specs.declared.cmp.Ordering.{Ordering}
-use Rattle.bforest_core.proofs.Words.{EndsIn, EntryTaken, TakesFromLeaf, IsUnion, entry_keys, flat, is_present, leaf_content, place, search_of, tree_of}
-use Rattle.bforest_core.proofs.{Words.{value_for, with_node}, table.Lists.set-kept, walks.LeafSearch.items-read, insertion.LeafPut.{index_is, slot, stands}}
-use Rattle.bforest_core.proofs.insertion.LeafPut.{valued}
-use Rattle.bforest_nodes.specs.Content.{take_answer, with_taken}
-use Rattle.bforest_nodes.proofs.Found.{search_of-keys_of, value_for-absent, value_for-present}
 
 module _ {V : Type 0} (index : ℕ) where
   -- a value with its index, and the value of it
@@ -31,15 +29,11 @@ module _ {K V : Type 0} {cmp : K → K → Ordering} (most : ℕ) {table root le
   takes here =
       let p = place cmp es key in
       let found : search_of cmp (entry_keys es) key ≡ Ok p = cc (search_of-keys_of cmp es key) in
-      let said : answer ≡ option_map (λ (v : V). (p, v)) (value_for cmp es key) = cc (items-read es p, value_for-present cmp es key here) in
+      let said : answer ≡ option_map (λ v. (p, v)) (value_for cmp es key) = cc (items-read es p, value_for-present cmp es key here) in
       let taken : EntryTaken most table new root at path (set indices 0 p) size = record {
         union = union;
         stood = stands most union e here;
-        leaf = record {
-          entries = es;
-          slot_was = slot most union e;
-          new_is = cc (index_is most union e);
-        };
+        leaf = record { entries = es; slot_was = slot most union e; new_is = cc (index_is most union e) };
       } in
       record {
         value = cc (value-back p (value_for cmp es key));
@@ -64,4 +58,4 @@ module _ {K V : Type 0} {cmp : K → K → Ordering} (most : ℕ) {table root le
   by_presence false none = leaves none
 
   pub takes-from-leaf : TakesFromLeaf cmp table root key most path indices size answer new
-  takes-from-leaf = by_presence (is_present cmp es key) refl
+  takes-from-leaf = by_presence _ refl

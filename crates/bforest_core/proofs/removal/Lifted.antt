@@ -1,10 +1,10 @@
 -- The rows above a level: in another table, and under a row whose keys were written.
-use Rattle.std.proofs.Common.{◌≡◌, ℕ, suc, ◌+◌, ◌<◌, ◌≤◌, List, [], ◌∷◌, ◌++◌, map, length, set, get_or, slice_get, refl, sym, ap, ◌∙◌, subst, append_assoc, length-append, arith}
-use Rattle.bforest_core.proofs.Words.{Heads, Row, set_at, length-map, map-append, flat_map, Table, node, flat, heads, head_of, sizes, numbers, FitRow, RowIn}
-use Rattle.bforest_core.proofs.{Words.{inner_content, count, Distinct, Above, Rebuilt, Frees, with_key, with_node, entry_keys}, rows.LevelRows.HeadIs}
-use Rattle.bforest_core.proofs.{rows.LevelRows.{least-pos, flat-append, heads-append, sizes-append, FitRow-join}, table.Tables.{count-append, count-same}}
-use Rattle.bforest_core.proofs.{table.Tables.{count-row, counts, row-put, row-same, rows-same, ne_from_count, Puts, puts}, rows.Zipper.{Spot, stands_here}}
-use Rattle.bforest_core.proofs.removal.Frees.{frees-puts, frees-refl, frees-wider}
+use Rattle.bforest_core.proofs.Words.{◌≡◌, ℕ, suc, ◌+◌, ◌<◌, ◌≤◌, List, [], ◌∷◌, ◌++◌, map, length, set, get_or, slice_get, refl, sym, ap, ◌∙◌, subst}
+use Rattle.bforest_core.proofs.Words.{append_assoc, length-append, arith, Heads, Row, set_at, length-map, map-append, flat_map, Table, node, flat, heads}
+use Rattle.bforest_core.proofs.Words.{head_of, sizes, numbers, FitRow, RowIn, inner_content, count, Distinct, Above, Rebuilt, Frees, with_key, with_node}
+use Rattle.bforest_core.proofs.{Words.entry_keys, removal.Frees.{frees-puts, frees-refl, frees-wider}}
+use Rattle.bforest_core.proofs.{rows.Zipper.{Spot, stands_here}, rows.LevelRows.{HeadIs, least-pos, flat-append, heads-append, sizes-append, FitRow-join}}
+use Rattle.bforest_core.proofs.table.Tables.{count-append, count-same, count-row, counts, row-put, row-same, rows-same, ne_from_count, Puts, puts}
 
 -- a node's first key does not change with a later entry's item
 pub head-other : {K X : Type 0} (n : ℕ) (l : List (K × X)) (k : K) (x y : X) (r s : List (K × X)) → head_of n (l ++ (k, x) ∷ r) ≡ head_of n (l ++ (k, y) ∷ s)
@@ -25,8 +25,8 @@ with_key_is [] y s e key p_is = absurd (omega arith)
 with_key_is {K} (z ∷ p) y s e key p_is =
     let e_is : e ≡ length p = omega arith in
     let keys : set (entry_keys (p ++ y ∷ s)) (length p) key ≡ entry_keys (p ++ (key, y.1) ∷ s) =
-    cc (map-append (λ (w : K × ℕ). w.0) p (y ∷ s), set_at (entry_keys p) y.0 (entry_keys s) key (length p) (length-map p (λ (w : K × ℕ). w.0)), map-append (λ (w : K × ℕ). w.0) p ((key, y.1) ∷ s)) in
-    rw (e_is, keys, map-append (λ (w : K × ℕ). w.1) (z ∷ p) (y ∷ s) ∙ sym (map-append (λ (w : K × ℕ). w.1) (z ∷ p) ((key, y.1) ∷ s))) refl
+    cc (map-append (λ w. w.0) p _, set_at (entry_keys p) y.0 (entry_keys s) key (length p) (length-map p (λ w. w.0)), map-append (λ w. w.0) p _) in
+    rw (e_is, keys, map-append (λ w. w.1) (z ∷ p) (y ∷ s) ∙ sym (map-append (λ w. w.1) (z ∷ p) ((key, y.1) ∷ s))) refl
 
 -- the next node of a row, whose first key and number these are
 pub record NextNode {K X : Type 0} (after : Row K X) (k : K) (q : ℕ) : Type 0 where
@@ -47,22 +47,21 @@ next_of {K} half most one (node m (x ∷ xs) ∷ after) k q cs f e =
 module _ {K V : Type 0} where
   -- the rows above, in a table that agrees on their slots
   pub above_same : {t : Table K V} (u : Table K V) {path indices up size rows list p : _} → ((m : ℕ) → 0 < count m (flat_map numbers rows) → slice_get u.nodes m ≡ slice_get t.nodes m) →
-      Distinct (flat_map numbers rows ++ u.chain) →
-      Above t path indices up size rows list p → Above u path indices up size rows list p
-  above_same {t} u {rows} same apart a = record { stacked = a.stacked; inside = rows-same _ _ _ same a.inside; stands = a.stands; height = a.height; apart = apart }
+      Distinct (flat_map numbers rows ++ u.chain) → Above t path indices up size rows list p → Above u path indices up size rows list p
+  above_same u same apart a = record { stacked = a.stacked; inside = rows-same _ _ _ same a.inside; stands = a.stands; height = a.height; apart = apart }
 
   -- the rows above, cut at a node of the level
   pub headed : {X : Type 0} {t : Table K V} {path indices up size : _} (before : Row K X) {n : ℕ}
       {es : List (K × X)} (after : Row K X) {rest : _} (h : HeadIs n es)
       → Above t path indices up size rest (heads (before ++ node n es ∷ after)) (length (heads before)) →
       Above t path indices up size rest (heads before ++ (h.first.0, n) ∷ heads after) (length (heads before))
-  headed {t} {path} {indices} {up} {size} before {n} {es} after {rest} h p =
-      subst (λ z. Above t path indices up size rest z (length (heads before))) (cc (heads-append before (node n es ∷ after))) p
+  headed {t} {path} {indices} {up} {size} before after {rest} h p =
+      subst (λ z. Above t path indices up size rest z (length (heads before))) (cc (heads-append _ _)) p
 
   -- the rows above, after a write to a slot that is not theirs
   pub above_written : {t u : Table K V} {n c path indices up size rows list p : _} → Puts t u n c → count n (flat_map numbers rows) ≡ 0 →
       Above t path indices up size rows list p → Above u path indices up size rows list p
-  above_written {t} {u} {n} {path} {indices} {up} {size} {rows} {list} {p} w none a =
+  above_written {u} {n} w none a =
       above_same u (λ m some. w.same m (ne_from_count m n _ some none))
       (λ m. omega (arith, a.apart m, ap (λ z. count m z) w.chain_is, count-append)) a
 
@@ -101,8 +100,7 @@ module _ {K V : Type 0} where
 
     -- the list of a level's nodes, with other nodes from the path's on
     pub flat_at : (es rest after : _) → es ++ flat after ≡ d.q.l ++ rest → flat (d.q.before ++ node (get_or path up 0) es ∷ after) ≡ a ++ rest
-    flat_at es rest after is =
-        cc (flat-append d.q.before (node (get_or path up 0) es ∷ after), append_assoc (flat d.q.before) d.q.l rest)
+    flat_at es rest after is = cc (flat-append d.q.before (node (get_or path up 0) es ∷ after), append_assoc (flat d.q.before) d.q.l rest)
 
     -- the path's place in the list of nodes
     pub place_at : length a ≡ length (flat d.q.before) + get_or indices up 0
@@ -130,7 +128,7 @@ module _ {K V : Type 0} where
             height = omega arith;
             apart = λ m. omega (arith, d.whole.apart m, r.numbers_are m, c m, c2 m, c3 m, c4 m);
           };
-          sizes_are = cc (sizes-append q.before (node n es ∷ after), sizes-append q.before (node n old ∷ q.after));
+          sizes_are = cc (sizes-append _ _, sizes-append _ _);
           numbers_are = λ m. omega (arith, c m, c2 m, c3 m, r.numbers_are m, ap (λ z. count m (flat_map numbers z)) q.rows_are);
           frees = rw q.rows_are frees;
           nodes_below = λ i low. refl;
@@ -142,7 +140,7 @@ module _ {K V : Type 0} where
     pub lifted_above : {u : Table K V} (es after : _) {list : _} (rest : _) → length es ≡ length (d.q.l ++ x ∷ d.q.r) → sizes after ≡ sizes d.q.after → numbers after ≡ numbers d.q.after → es ++ flat after ≡ d.q.l ++ rest →
         list ≡ heads (d.q.before ++ node (get_or path up 0) es ∷ after) → FitRow 4 8 (node (get_or path up 0) es ∷ after) → RowIn inner_content t.nodes (d.q.before ++ node (get_or path up 0) es ∷ after) →
         Rebuilt t u path indices path indices (suc up) size d.q.rest list (length (heads d.q.before)) (map sizes d.q.rest) [] → Rebuilt t u path indices path indices up size rows (a ++ rest) (length a) (map sizes rows) []
-    lifted_above {u} es after {list} rest len sizes_same numbers_same flat_is heads_are fits inside r =
+    lifted_above es after rest len sizes_same numbers_same flat_is heads_are fits inside r =
         let q = d.q in
         let n = get_or path up 0 in
         let c = λ (m : ℕ). counts m q.before n (q.l ++ x ∷ q.r) q.after q.rest t.chain in
@@ -166,5 +164,4 @@ module _ {K V : Type 0} where
         lifted es q.after rest len refl refl flat_is
         (heads-put q.before n old es q.after head) (omega arith, omega arith, d.f.fit.2)
         (row-put inner_content t.nodes u.nodes q.before n old es q.after d.f.inside w.same w.here d.f.none)
-        (frees-puts _ (let c = counts n q.before n old q.after q.rest t.chain in omega (arith, count-same n (numbers q.after))) w)
-        (rebuilt_same above)
+        (frees-puts _ (let c = counts n q.before n old q.after q.rest t.chain in omega (arith, count-same n (numbers q.after))) w) (rebuilt_same above)

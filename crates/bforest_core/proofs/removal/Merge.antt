@@ -1,11 +1,11 @@
 -- Removing an entry from a level of leaves or inner nodes: its row is rebalanced, then those above.
-use Rattle.std.proofs.Common.{◌≡◌, ℕ, suc, ◌+◌, ◌≤◌, ◌<◌, false, Bool, List, [], ◌∷◌, ◌++◌, map, length, get_or, Some, refl, sym, ap, ◌∙◌, subst, append_assoc, length-append, arith}
-use Rattle.bforest_core.proofs.Words.{Heads, Row, Rows, flat_map, Content, Table, node, flat, heads, sizes, numbers, FitRow, rebalanced, loss_above, RowIn}
-use Rattle.bforest_core.proofs.Words.{inner_content, count, nodes_up, Above, TwoAbove, SameBelow, top_of, Frees, Rebuilt, Loosened, Healed, Joined, Loses}
-use Rattle.bforest_core.proofs.{Words.{least, false≢true}, rows.LevelRows.{flat-append, heads-append, sizes-append, FitRow-join, FitRow-split, Solid-full}}
-use Rattle.bforest_core.proofs.{rows.LevelRows.least-pos, table.Tables.{count-append, count-same, count-row, counts, row-same}, rows.Zipper.stands_here}
-use Rattle.bforest_core.proofs.{removal.Frees.{only_here, frees-then, frees-after, frees-wider}, removal.Losses.{placed, lost, lost_above, loss_level}}
-use Rattle.bforest_core.proofs.removal.Losses.{nodes_up-same}
+use Rattle.bforest_core.proofs.Words.{◌≡◌, ℕ, suc, ◌+◌, ◌≤◌, ◌<◌, false, Bool, List, [], ◌∷◌, ◌++◌, map, length, get_or, Some, refl, sym, ap, ◌∙◌, subst}
+use Rattle.bforest_core.proofs.Words.{append_assoc, length-append, arith, Heads, Row, Rows, flat_map, Content, Table, node, flat, heads, sizes, numbers, FitRow}
+use Rattle.bforest_core.proofs.Words.{rebalanced, loss_above, RowIn, inner_content, count, nodes_up, Above, TwoAbove, SameBelow, top_of, Frees, Rebuilt}
+use Rattle.bforest_core.proofs.{Words.{Loosened, Healed, Joined, Loses, least, false≢true}, removal.Frees.{only_here, frees-then, frees-after, frees-wider}}
+use Rattle.bforest_core.proofs.rows.LevelRows.{flat-append, heads-append, sizes-append, FitRow-join, FitRow-split, Solid-full, least-pos}
+use Rattle.bforest_core.proofs.{rows.Zipper.stands_here, table.Tables.{count-append, count-same, count-row, counts, row-same}}
+use Rattle.bforest_core.proofs.removal.Losses.{placed, lost, lost_above, loss_level, nodes_up-same}
 
 -- a level that lost an entry is rebalanced, with the rows above it: its entries are `list`, nodes of these numbers
 -- were freed, and the path goes through one of its nodes
@@ -107,7 +107,7 @@ module _ {K V X : Type 0} {content : List (K × X) → Content K V} {half most o
         let full = Solid-full half most one l.before p.solid in
         let c = λ (m : ℕ). counts m l.before n l.entries l.after l.rest mid.chain in
         let c0 = λ (m : ℕ). ap (λ z. count m (n ∷ numbers z)) j.after_is in
-        let list_is = sym (cc (heads-append l.before (node j.right both ∷ j.after'))) in
+        let list_is = sym (cc (heads-append _ _)) in
         let fits = subst (λ z. FitRow half most z) j.after_is p.fits in
         let left = frees-then (λ m none. omega (arith, c m)) (λ m here. only_here m n _ here (omega (arith, p.apart n, c n, count-same n (numbers l.after))))
         (frees-wider own1 (λ m none. omega (arith, c m)) j.frees) r.frees in (
@@ -118,9 +118,9 @@ module _ {K V X : Type 0} {content : List (K × X) → Content K V} {half most o
             after = j.after';
             rows = r.rows';
             row_is = ap (λ z. l.before ++ node z both ∷ j.after') (sym (cc (r.nodes_below level (omega arith))));
-            list_is = cc (flat-append l.before (node j.right both ∷ j.after'), append_assoc l.entries j.right_entries (flat j.after'), flat-append l.before (node n l.entries ∷ node j.right j.right_entries ∷ j.after'));
+            list_is = cc (flat-append _ _, append_assoc _ _ _, flat-append _ _);
             fit = j.fit;
-            inside = row-same content w.nodes new.nodes row (λ m more. r.frees.others m (omega (arith, p.apart m, c0 m, c m, count-row m l.before j.right both j.after'))) j.inside;
+            inside = row-same _ _ _ _ (λ m more. r.frees.others m (omega (arith, p.apart m, c0 m, c m, count-row m l.before j.right both j.after'))) j.inside;
             above = subst (λ z. Above new path' indices' (suc level) size r.rows' z (length (heads l.before))) list_is r.above;
             sizes_are = ap (λ z. z ∷ map sizes r.rows') (sizes-append _ _)
                 ∙ ap (λ z. (sizes l.before ++ length both ∷ sizes j.after') ∷ z) (cc) ∙ sizes_by _ j.outcome;
@@ -140,7 +140,7 @@ module _ {K V : Type 0} {t u : Table K V} {path indices : List ℕ} {up size : �
   -- the rebalanced level is one of the rows
   rebuilt : {v : Table K V} {path' indices' freed : _} → Restores l v path' indices' freed → SameBelow up path path' → SameBelow up indices indices' → top_of path' size ≡ top_of path size
       → Rebuilt t v path indices path' indices' up size rows hs p (loss_above (Some p) (map sizes rows)) freed
-  rebuilt {v} {path'} {indices'} {freed} restored below below_too top =
+  rebuilt {path'} restored below below_too top =
       let r = restored.0 in
       let n' = get_or path' up 0 in
       let solid = (FitRow-split 4 8 r.front (node n' r.entries) r.after (rw (← r.row_is) r.fit)).0 in
@@ -153,7 +153,7 @@ module _ {K V : Type 0} {t u : Table K V} {path indices : List ℕ} {up size : �
           height = omega arith;
           apart = λ i. omega (arith, l.on_level.apart i, l.numbers_are i, r.numbers_are i, ap (λ z. count i z) r.frees.chain_is, ap (λ z. count i z) l.frees.chain_is, count-append);
         };
-        sizes_are = cc (lost_above p (map sizes rows));
+        sizes_are = cc (lost_above p _);
         numbers_are = r.numbers_are;
         frees = r.frees;
         nodes_below = below;

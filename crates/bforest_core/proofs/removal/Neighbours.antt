@@ -1,10 +1,11 @@
 -- The right neighbour of a node, under the same parent or another: the answers of `right_sibling`, and the
 -- move of a path there.
-use Rattle.std.proofs.Common.{◌≡◌, ◌≢◌, ℕ, suc, ◌+◌, ◌-◌, ◌≤◌, ◌<◌, true, false, Option, List, [], ◌∷◌, ◌++◌, map, length, drop, get_or, slice_get, Some, None, refl, sym, ap, ◌∙◌, subst, append_assoc, length-append, arith, add-one}
-use Rattle.bforest_core.proofs.Words.{Heads, Rows, Table, node, flat, heads, RowIn, inner_content, entry_keys, entry_items, Above, NextIs, OneAbove, Bool, Over}
-use Rattle.bforest_core.proofs.{Words.{Moved, nil_from_length}, rows.LevelRows.head-is, table.Tables.row-split, rows.Zipper.{Spot, stands-same}}
+use Rattle.bforest_core.proofs.Words.{◌≡◌, ◌≢◌, ℕ, suc, ◌+◌, ◌-◌, ◌≤◌, ◌<◌, true, false, Option, List, [], ◌∷◌, ◌++◌, map, length, drop, get_or, slice_get}
+use Rattle.bforest_core.proofs.Words.{Some, None, refl, sym, ap, ◌∙◌, subst, append_assoc, length-append, arith, add-one, Heads, Rows, Table, node, flat, heads}
+use Rattle.bforest_core.proofs.Words.{RowIn, inner_content, entry_keys, entry_items, Above, NextIs, OneAbove, Bool, Over, Moved, nil_from_length}
+use Rattle.bforest_core.proofs.{removal.Lifted.{headed, NextNode, next_of, rows_above}, rows.Zipper.{Spot, stands-same}, removal.LeafAt.{no_nodes, some_first}}
+use Rattle.bforest_core.proofs.{rows.LevelRows.head-is, table.Tables.row-split}
 use Rattle.bforest_core.proofs.{table.Stored.{item_count, slice_get_at, some_same}, removal.Asked.{ChildAt, Counts, ReadsKey, ReadsChild, Beside, Seen, seen}}
-use Rattle.bforest_core.proofs.{removal.LeafAt.{no_nodes, some_first}, removal.Lifted.{headed, NextNode, next_of, rows_above}}
 
 second : {X Y : Type 0} (f : X → Y) (l : List X) (x y : X) (r : List X) → slice_get (map f (l ++ x ∷ y ∷ r)) (suc (length l)) ≡ Some (f y)
 second f [] x y r = refl
@@ -20,7 +21,7 @@ module _ {K V : Type 0} where
       {b : _} → (d : Spot t path indices up size rows a x b) → (k : K)
       × Above t path indices (suc up) size d.q.rest (heads d.q.before ++ (k, get_or path up 0) ∷ heads d.q.after)
       (length (heads d.q.before))
-  up_above {t} {path} {indices} {up} {size} {rows} {a} {x} {b} d =
+  up_above d =
       let h = head-is _ _ (omega (arith, d.count_is)) in
       (h.first.0, headed d.q.before d.q.after h (rows_above d))
 
@@ -37,9 +38,9 @@ module _ {K V : Type 0} where
   -- the rows after a step, with another index below them
   pub entered_next : {t : Table K V} {path indices path' indices' : _} (indices2 : _) {level size rows : _} (a x y b : _) → Above t path indices (suc level) size rows (a ++ x ∷ y ∷ b) (length a) →
       Moved path indices path' indices' level rows (a ++ x ∷ y ∷ b) (suc (length a)) → ((i : ℕ) → suc level ≤ i → get_or indices2 i 0 ≡ get_or indices' i 0) → Above t path' indices2 (suc level) size rows (a ++ x ∷ y ∷ b) (suc (length a)) × (get_or path' level 0 ≡ y.1)
-  entered_next {path'} {indices'} indices2 {level} {rows} a x y b p m same =
-      let len : length (a ++ x ∷ []) ≡ suc (length a) = length-append a (x ∷ []) ∙ omega arith in
-      let found = ap (λ z. slice_get z (suc (length a))) (sym (append_assoc a (x ∷ []) (y ∷ b))) ∙ slice_get_at _ y b _ len in
+  entered_next indices2 a x y b p m same =
+      let len : length (a ++ x ∷ []) ≡ suc (length a) = length-append a _ ∙ omega arith in
+      let found = ap (λ z. slice_get z (suc (length a))) (sym (append_assoc a _ _)) ∙ slice_get_at _ y b _ len in
       let head_is = some_same m.head y (cc) in (
         record { stacked = p.stacked; inside = p.inside; stands = stands-same _ _ _ _ _ _ _ (λ i high. refl) same m.stands; height = p.height; apart = p.apart },
         cc,
@@ -98,8 +99,8 @@ module _ {K V : Type 0} where
           let es = d.q.l ++ x ∷ d.q.r in
           let w = some_first d.q.r (omega (arith, here.counted m value, d.count_is)) in
           let high : suc (length d.q.l) ≡ get_or indices up 0 + 1 = omega (arith, d.q.entry_is) in
-          let key_is = some_same w.0.0 key (cc (second_key d.q.l x w.0 w.1, d.q.entry_is, reads_key (drop 1 (entry_keys es)) (entry_items es) here.slot_is)) in
-          let child_is = some_same _ _ (cc (second (λ z. z.1) d.q.l x w.0 w.1, reads_child (drop 1 (entry_keys es)) (entry_items es) here.slot_is)) in
+          let key_is = some_same _ _ (cc (second_key d.q.l x w.0 w.1, d.q.entry_is, reads_key (drop 1 (entry_keys es)) (entry_items es) here.slot_is)) in
+          let child_is = some_same _ _ (cc (second (λ z. z.1) _ x _ _, reads_child (drop 1 (entry_keys es)) (entry_items es) here.slot_is)) in
           (w.1 ++ flat d.q.after, d.q.b_is ∙ ap (λ z. z ++ flat d.q.after) w.2 ∙ ap (λ z. (z, w.0.1) ∷ (w.1 ++ flat d.q.after)) key_is ∙ ap (λ z. (key, z) ∷ (w.1 ++ flat d.q.after)) child_is)
 
       module _ (less : m ≤ get_or indices up 0 + 1) where
@@ -108,7 +109,7 @@ module _ {K V : Type 0} where
 
         -- there is no right neighbour
         pub none_right : (o : Option (K × ℕ)) → o ≡ None → Beside t path indices (up + 1) size o → NextIs None b
-        none_right o is beside = cc (behind, no_nodes 4 8 (omega arith) d.q.after d.f.fit.2 (next_above None (subst (Beside t path indices (up + 1) size) is beside)))
+        none_right o is beside = cc (behind, no_nodes 4 8 (omega arith) _ d.f.fit.2 (next_above None (subst (Beside t path indices (up + 1) size) is beside)))
 
         -- the right neighbour has another parent
         pub next_parent : (o : Option (K × ℕ)) (next : _) (is : o ≡ Some next) (beside : Beside t path indices (up + 1) size o) (child : ℕ) → ReadsChild t next.1 0 child → NextIs (Some (next.0, child)) b

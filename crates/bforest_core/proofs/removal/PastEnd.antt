@@ -1,8 +1,8 @@
 -- The leaf after it lost an entry: whether the path is past all entries.
-use Rattle.std.proofs.Common.{◌≡◌, ℕ, ◌≤◌, ◌<◌, Some, None, Option, Bool, true, false, not, [], ◌∷◌, ◌++◌, length, get_or, slice_get, ap, ◌∙◌, length-append, arith}
-use Rattle.bforest_core.proofs.Words.{is_some, nil_from_length, Table, node, flat, heads, half_of, leaf_content, Above, OneAbove, NextIs, LeafLoss}
-use Rattle.bforest_core.proofs.{Words.{get_or_default, Content, entry_count}, rows.LevelRows.{HeadIs, head-is}, table.Tables.row-split, removal.Lifted.headed}
-use Rattle.bforest_core.proofs.{removal.Lifted.top_one, removal.Asked.{NodeAt, Beside}, removal.LeafAt.{no_nodes, leaf_keys}, removal.Collapse.heads-flat}
+use Rattle.bforest_core.proofs.Words.{◌≡◌, ℕ, ◌≤◌, ◌<◌, Some, None, Option, Bool, true, false, not, [], ◌∷◌, ◌++◌, length, get_or, slice_get, ap, ◌∙◌}
+use Rattle.bforest_core.proofs.Words.{length-append, arith, is_some, nil_from_length, Table, node, flat, heads, half_of, leaf_content, Above, OneAbove, NextIs}
+use Rattle.bforest_core.proofs.{Words.{LeafLoss, get_or_default, Content, entry_count}, rows.LevelRows.{HeadIs, head-is}, removal.LeafAt.{no_nodes, leaf_keys}}
+use Rattle.bforest_core.proofs.{table.Tables.row-split, removal.Collapse.heads-flat, removal.Lifted.{headed, top_one}, removal.Asked.{NodeAt, Beside}}
 
 module _ {K V : Type 0} {most : ℕ} {t v : Table K V} {path indices size tree place : _} (l : LeafLoss most t v path indices size tree place) where
   pub named : HeadIs (get_or path 0 0) l.entries
@@ -22,7 +22,7 @@ module _ {K V : Type 0} {most : ℕ} {t v : Table K V} {path indices size tree p
 
   -- no leaf follows
   none_follows : (found : Option (K × ℕ)) → NextIs found (heads l.after) → is_some found ≡ false → l.after ≡ []
-  none_follows None next is = no_nodes (half_of most) most loss_half l.after l.fits next
+  none_follows None next is = no_nodes _ _ loss_half _ l.fits next
   none_follows (Some x) next is = absurd cc
 
   -- no leaf follows where the leaf is the whole tree
@@ -34,8 +34,7 @@ module _ {K V : Type 0} {most : ℕ} {t v : Table K V} {path indices size tree p
   -- a leaf follows
   pub one_follows : (found : Option (K × ℕ)) (none : Bool) → Beside v path indices 1 size found → is_some found ≡ not none → none ≡ false → get_or indices 0 0 < length (l.entries ++ flat l.after)
   one_follows None none beside is so = absurd (let e = ap not so in cc)
-  one_follows (Some x) none beside is so =
-      omega (arith, ap length (beside beside_asks).1, heads-flat l.after, length-append l.entries (flat l.after))
+  one_follows (Some x) none beside is so = omega (arith, ap length (beside beside_asks).1, heads-flat l.after, length-append l.entries (flat l.after))
 
   module _ (r : ℕ) (wide : length path ≡ 17) where
     slot : slice_get v.nodes (get_or path 0 r) ≡ Some (leaf_content l.entries)
@@ -55,5 +54,4 @@ module _ {K V : Type 0} {most : ℕ} {t v : Table K V} {path indices size tree p
 
       -- the path is past all entries
       pub behind_all : (found : Option (K × ℕ)) (none : Bool) → m ≤ get_or indices 0 0 → Beside v path indices 1 size found → is_some found ≡ not none → none ≡ true → (l.after ≡ []) × (get_or indices 0 0 ≡ length l.entries)
-      behind_all found none high beside is so =
-          (none_follows found (beside beside_asks) (cc), omega (arith, count_is))
+      behind_all found none high beside is so = (none_follows found (beside beside_asks) (cc), omega (arith, count_is))

@@ -1,12 +1,12 @@
 -- A node that lost an entry: it stays, or is balanced with its right neighbour.
-use Rattle.std.proofs.Common.{◌≡◌, ℕ, zero, suc, ◌+◌, ◌-◌, ◌*◌, ◌/◌, ◌≤◌, ◌<◌, ◌≢◌, ◌⊎◌, true, false, List, [], ◌∷◌, ◌++◌, map, length, set, get_or, refl, sym, ap, ◌∙◌, inl, inr, append_assoc, length-append, arith}
-use Rattle.std.proofs.lemmas.Bool.{le-leb, lt-leb, lt-ltb, le-ltb}
-use Rattle.bforest_core.proofs.Words.{Row, flat_map, append-nil, get_or-set_other, get_or-set_same, Content, Table, with_freed, node, flat, heads, sizes}
-use Rattle.bforest_core.proofs.Words.{numbers, least, rebalanced, Frees, count, Above, SameBelow, top_of, Rebuilt, OnLevel, Healed, Joined}
-use Rattle.bforest_core.proofs.{rows.LevelRows.{flat-append, heads-append, sizes-append, numbers-append, FitRow-join, least-le}, table.Tables.count-append}
-use Rattle.bforest_core.proofs.{table.Tables.{counts, count-same, count-row, row-same, row-put_two, row-drop_put, rows-same}, rows.Zipper.above_two}
-use Rattle.bforest_core.proofs.{rows.Zipper.stands-same, removal.Frees.{frees-refl, frees-after, frees-wider, frees-one, freed_other}}
-use Rattle.bforest_core.proofs.{removal.Lifted.above_same, removal.Balance.{IsHalf, PutsTwo, AllRight, Spread}}
+use Rattle.bforest_core.proofs.Words.{le-leb, lt-leb, lt-ltb, le-ltb, ◌≡◌, ℕ, zero, suc, ◌+◌, ◌-◌, ◌*◌, ◌/◌, ◌≤◌, ◌<◌, ◌≢◌, ◌⊎◌, true, false, List, [], ◌∷◌}
+use Rattle.bforest_core.proofs.Words.{◌++◌, map, length, set, get_or, refl, sym, ap, ◌∙◌, inl, inr, append_assoc, length-append, arith, Row, flat_map}
+use Rattle.bforest_core.proofs.Words.{append-nil, get_or-set_other, get_or-set_same, Content, Table, with_freed, node, flat, heads, sizes, numbers, least}
+use Rattle.bforest_core.proofs.Words.{rebalanced, Frees, count, Above, SameBelow, top_of, Rebuilt, OnLevel, Healed, Joined}
+use Rattle.bforest_core.proofs.{rows.LevelRows.{flat-append, heads-append, sizes-append, numbers-append, FitRow-join, least-le}, removal.Lifted.above_same}
+use Rattle.bforest_core.proofs.table.Tables.{count-append, counts, count-same, count-row, row-same, row-put_two, row-drop_put, rows-same}
+use Rattle.bforest_core.proofs.{rows.Zipper.{above_two, stands-same}, removal.Frees.{frees-refl, frees-after, frees-wider, frees-one, freed_other}}
+use Rattle.bforest_core.proofs.removal.Balance.{IsHalf, PutsTwo, AllRight, Spread}
 
 -- the last node, if not empty, stays
 pub rebalanced_last : (q m : ℕ) → 1 ≤ m → rebalanced q m [] ≡ (false, m ∷ [])
@@ -53,7 +53,7 @@ module _ {K V X : Type 0} {content : List (K × X) → Content K V} {half most :
           rest' = rest;
           stays = cc;
           inside = rw same p.inside;
-          fit = rw same (FitRow-join half most before (node n es) after p.solid (enough half es after p.some why, p.most_is, p.fits));
+          fit = rw same (FitRow-join half most before (node n es) after p.solid (enough _ _ _ p.some why, p.most_is, p.fits));
           list_is = cc;
           above = above;
           number_is = m_is;
@@ -91,7 +91,7 @@ module _ {K V X : Type 0} {content : List (K × X) → Content K V} {half most :
         let same = append_assoc before (node n (e ∷ es) ∷ []) (node q (f ∷ fs) ∷ after) in
         let len : length (heads front) ≡ suc (length (heads before)) = ap length (heads-append before (node n (e ∷ es) ∷ [])) ∙ length-append (heads before) ((e.0, n) ∷ []) ∙ omega arith in
         let flats = ap length (flat-append before (node n (e ∷ es) ∷ []) ∙ ap (λ z. flat before ++ z) (append-nil (e ∷ es))) ∙ length-append (flat before) (e ∷ es) in
-        settle_same p (inl healthy) {path' = path'} {indices' = indices'} front q (f ∷ fs) after same (rw (same, heads-append before (node n (e ∷ es) ∷ node q (f ∷ fs) ∷ after), len) above.0) above.1 (λ low. omega arith) (omega arith) below below_too top_is
+        settle_same p (inl healthy) front q (f ∷ fs) after same (rw (same, heads-append before (node n (e ∷ es) ∷ node q (f ∷ fs) ∷ after), len) above.0) above.1 (λ low. omega arith) (omega arith) below below_too top_is
 
     -- the two nodes are different and in no other row, and the right one is off the chain
     pub apart : (n ≢ q) × (count n (numbers before) + count n (numbers after) ≡ 0) × (count q (numbers before) + count q (numbers after) ≡ 0) × (count q t.chain ≡ 0)
@@ -99,7 +99,7 @@ module _ {K V X : Type 0} {content : List (K × X) → Content K V} {half most :
         let c = λ (m : ℕ). counts m before n (e ∷ es) (node q (f ∷ fs) ∷ after) rest t.chain in
         let sn = count-same n (q ∷ numbers after) in
         let sq = count-same q (numbers after) in (
-          λ (same : n ≡ q). let h = ap (λ z. count z (q ∷ numbers after)) same in omega (arith, c n),
+          λ same. let h = ap (λ z. count z (q ∷ numbers after)) same in omega (arith, c n),
           omega (arith, p.apart n, c n),
           omega (arith, p.apart q, c q),
           omega (arith, p.apart q, c q),
@@ -107,11 +107,11 @@ module _ {K V X : Type 0} {content : List (K × X) → Content K V} {half most :
 
     -- writing the two slots changes only slots of the row
     two_frees : {u c d : _} → PutsTwo content t u n q c d → Frees t u (numbers row) []
-    two_frees {u} {c} w = frees-wider _ (λ m none. let c = count-row m before n (e ∷ es) (node q (f ∷ fs) ∷ after) in omega arith) w.frees
+    two_frees {c} w = frees-wider _ (λ m none. let c = count-row m before n (e ∷ es) (node q (f ∷ fs) ∷ after) in omega arith) w.frees
 
     -- the rows above, after a write of the two slots
     pub above_two_put : {u c d : _} → PutsTwo content t u n q c d → Above u path indices (suc up) size rest (heads before ++ (e.0, n) ∷ (f.0, q) ∷ heads after) (length (heads before))
-    above_two_put {u} {c} {d} w =
+    above_two_put {u} w =
         let k = λ (m : ℕ). counts m before n (e ∷ es) (node q (f ∷ fs) ∷ after) rest t.chain in
         let b = above_both in
         above_same u (λ m some. (two_frees w).others m (omega (arith, p.apart m, k m)))
@@ -133,11 +133,9 @@ module _ {K V X : Type 0} {content : List (K × X) → Content K V} {half most :
           let c = λ (m : ℕ). counts m before n (e ∷ es) (node q (f ∷ fs) ∷ after) rest t.chain in
           let c2 = λ (m : ℕ). count-row m before n (s.x ∷ s.xs) (node q (s.y ∷ s.ys) ∷ after) in
           let in_u = row-put_two _ _ _ _ n q _ _ _ _ after p.inside s.two.same s.two.here s.two.there apart.1 apart.2 in
-          let flats = flat-append before (node n (s.x ∷ s.xs) ∷ node q (s.y ∷ s.ys) ∷ after)
-          ∙ ap (λ z. flat before ++ z)
-          (cc (append_assoc (s.x ∷ s.xs) (s.y ∷ s.ys) (flat after), append_assoc (e ∷ es) (f ∷ fs) (flat after))) ∙ sym (flat-append before (node n (e ∷ es) ∷ node q (f ∷ fs) ∷ after)) in
-          let hs : heads before ++ (e.0, n) ∷ (key, q) ∷ heads after ≡ heads row2 =
-          cc (heads-append before (node n (s.x ∷ s.xs) ∷ node q (s.y ∷ s.ys) ∷ after)) in
+          let flats = flat-append before (node n (s.x ∷ s.xs) ∷ node q (s.y ∷ s.ys) ∷ after) ∙ ap (λ z. flat before ++ z)
+          (cc (append_assoc _ _ _, append_assoc _ _ _)) ∙ sym (flat-append before (node n (e ∷ es) ∷ node q (f ∷ fs) ∷ after)) in
+          let hs : heads before ++ (e.0, n) ∷ (key, q) ∷ heads after ≡ heads row2 = cc (heads-append _ _) in
           record {
             before' = before;
             number' = n;
@@ -184,20 +182,20 @@ module _ {K V X : Type 0} {content : List (K × X) → Content K V} {half most :
             entries_are = refl;
             after_is = refl;
             outcome = cc;
-            inside = row-drop_put content t.nodes v.nodes before n q (e ∷ es) (f ∷ fs) both after p.inside (λ m x y. other m x ∙ s.two.same m x y) (cc (other q (λ (w : q ≡ n). apart.0 (sym w)))) apart.1 apart.2;
+            inside = row-drop_put content t.nodes v.nodes before n q (e ∷ es) (f ∷ fs) both after p.inside (λ m x y. other m x ∙ s.two.same m x y) (cc (other q (λ w. apart.0 (sym w)))) apart.1 apart.2;
             fit = FitRow-join half most before (node q both) after p.solid (omega arith, omega arith, fit_q.2);
             above = record {
               stacked = a.stacked;
               inside = rows-same t.nodes v.nodes rest (λ m some. frees.others m (omega (arith, p.apart m, c m))) a.inside;
-              stands = stands-same _ _ _ _ _ _ _ (λ i high. get_or-set_other path up i q 0 (λ (w : i ≡ up). omega arith)) (λ i high. refl) a.stands;
+              stands = stands-same _ _ _ _ _ _ _ (λ i high. get_or-set_other path up i q 0 (λ w. omega arith)) (λ i high. refl) a.stands;
               height = a.height;
               apart = λ m. omega (arith, p.apart m, c m, count-append m (flat_map numbers rest) v.chain, ap (λ z. count m z) frees.chain_is);
             };
             number_is = get_or-set_same path up q 0 low;
             entry_is = refl;
             frees = frees;
-            nodes_below = λ i below. get_or-set_other path up i q 0 (λ (w : i ≡ up). omega arith);
-            nodes_above = λ i above. get_or-set_other path up i q 0 (λ (w : i ≡ up). omega arith);
+            nodes_below = λ i below. get_or-set_other path up i q 0 (λ w. omega arith);
+            nodes_above = λ i above. get_or-set_other path up i q 0 (λ w. omega arith);
             entries_below = λ i low. refl;
-            same_top = get_or-set_other path up (size - 1) q 0 (λ (w : size - 1 ≡ up). omega arith);
+            same_top = get_or-set_other path up (size - 1) q 0 (λ w. omega arith);
           }

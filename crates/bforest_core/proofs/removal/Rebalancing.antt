@@ -1,12 +1,12 @@
 -- Rebalancing a level, from what its calls state: the answers of `rebalance`.
-use Rattle.std.proofs.Common.{◌≡◌, add-one, suc, ◌+◌, ◌≤◌, ◌<◌, ◌≢◌, List, [], ◌∷◌, ◌++◌, length, set, get_or, slice_get, Some, None, Option, refl, ap, ◌∙◌, subst, inl, inr, length-append, arith, ℕ}
-use Rattle.bforest_core.proofs.Words.{Row, get_or_default, content_at, half_at, most_at, Item, Heals, Joins, Loses, Content, Table, IsUsed, IsUnderflowedAt}
-use Rattle.bforest_core.proofs.Words.{IsBalancedAt, with_freed, node, flat, heads, numbers, FitRow, count, Above, OneAbove, TwoAbove, NextIs, SameBelow, top_of}
-use Rattle.bforest_core.proofs.{Words.{OnLevel, Healed, Joined}, rows.LevelRows.{least-pos, head-is, HeadIs}, table.Tables.{row-split, is_used}}
-use Rattle.bforest_core.proofs.{rows.Zipper.apart_here, removal.LeafAt.no_nodes, removal.Lifted.{headed, NextNode, next_of}, removal.Balance.{IsHalf, IsStored}}
-use Rattle.bforest_core.proofs.{removal.Balance.{kind_half, kind_stored, AllRight, Spread, all_right_at, spread_at}, removal.Asked.{NodeAt, Counts, Beside}}
-use Rattle.bforest_core.proofs.{removal.Asked.{Rekeys, Enters}, removal.Rebalance.{settle_stay, above_both, settle_move, apart, above_two_put, settle_spread}}
-use Rattle.bforest_core.proofs.removal.Rebalance.{settle_join}
+use Rattle.bforest_core.proofs.Words.{◌≡◌, add-one, suc, ◌+◌, ◌≤◌, ◌<◌, ◌≢◌, List, [], ◌∷◌, ◌++◌, length, set, get_or, slice_get, Some, None, Option, refl, ap}
+use Rattle.bforest_core.proofs.Words.{◌∙◌, subst, inl, inr, length-append, arith, ℕ, Row, get_or_default, content_at, half_at, most_at, Item, Heals, Joins}
+use Rattle.bforest_core.proofs.Words.{Loses, Content, Table, IsUsed, IsUnderflowedAt, IsBalancedAt, with_freed, node, flat, heads, numbers, FitRow, count}
+use Rattle.bforest_core.proofs.{Words.{Above, OneAbove, TwoAbove, NextIs, SameBelow, top_of, OnLevel, Healed, Joined}, table.Tables.{row-split, is_used}}
+use Rattle.bforest_core.proofs.removal.Lifted.{headed, NextNode, next_of}
+use Rattle.bforest_core.proofs.{removal.Asked.{NodeAt, Counts, Beside, Rekeys, Enters}, rows.LevelRows.{least-pos, head-is, HeadIs}, rows.Zipper.apart_here}
+use Rattle.bforest_core.proofs.{removal.Balance.{IsHalf, IsStored, kind_half, kind_stored, AllRight, Spread, all_right_at, spread_at}, removal.LeafAt.no_nodes}
+use Rattle.bforest_core.proofs.removal.Rebalance.{settle_stay, above_both, settle_move, apart, above_two_put, settle_spread, settle_join}
 
 both_back : {A B : Type 0} (P : A → B → Type 0) (a c : A) (b d : B) → a ≡ c → b ≡ d → P c d → P a b
 both_back P a c b d e f w = rw (e, f) w
@@ -39,7 +39,7 @@ module _ {K V : Type 0} {cap least : ℕ} {t : Table K V} {path indices up size 
   hm = kind_half w.leaf w.capacity
 
   s : IsStored content cap most
-  s = kind_stored cap w.leaf
+  s = kind_stored _ _
 
   low : up < length path
   low = omega (arith, p.above.height)
@@ -78,13 +78,11 @@ module _ {K V : Type 0} {cap least : ℕ} {t : Table K V} {path indices up size 
 
   -- the level, with the node's first entry and the next node named
   level : {k q : _} (d : NextNode after k q) → OnLevel content half most t path indices up size before n (e ∷ others) (node q (d.f ∷ d.fs) ∷ d.rest) rest
-  level d =
-      rw (← d.after_is) (subst (λ z. OnLevel content half most t path indices up size before n z after rest) named.es_is p)
+  level d = rw (← d.after_is) (subst (λ z. OnLevel content half most t path indices up size before n z after rest) named.es_is p)
 
   -- the level so named is rebalanced, and so the level is
   heals : {k q : _} (d : NextNode after k q) (v path' indices' : _)
-      → Healed content half most t v path indices path' indices' up size before n (e ∷ others) (node q (d.f ∷ d.fs) ∷ d.rest) rest
-      → Heals w v path' indices'
+      → Healed content half most t v path indices path' indices' up size before n (e ∷ others) (node q (d.f ∷ d.fs) ∷ d.rest) rest → Heals w v path' indices'
   heals d v path' indices' h =
       both_back (λ y z. Healed content half most t v path indices path' indices' up size before n y z rest) es _ after _ named.es_is d.after_is h
 
@@ -100,8 +98,7 @@ module _ {K V : Type 0} {cap least : ℕ} {t : Table K V} {path indices up size 
       module _ (past : get_or indices up 0 ≡ m) where
         -- there is a next node where the path is past the node's last entry
         pub behind : (k : K) × (q : ℕ) × NextNode after k q
-        behind =
-            first_after _ _ half_some _ p.fits (omega (arith, count_read m value, length-append es (flat after)))
+        behind = first_after _ _ half_some _ p.fits (omega (arith, count_read m value, length-append es (flat after)))
 
         abbrev then : NextNode after behind.0 behind.1
         then = behind.2
@@ -136,13 +133,12 @@ module _ {K V : Type 0} {cap least : ℕ} {t : Table K V} {path indices up size 
   -- the last node stays
   pub last_heals : Beside t path indices (up + 1) size None → Heals w t path indices
   last_heals beside =
-      let none = no_nodes half most half_some after p.fits (next_is None beside) in
+      let none = no_nodes _ _ half_some _ p.fits (next_is None beside) in
       settle_stay hm p (inr none) (λ some. omega (arith, length-append es (flat after), ap (λ z. length (flat z)) none))
 
   module _ (m : ℕ) (value : Counts t (get_or path up r) m) (under : m < least) {o : Option (K × ℕ)} {next : _} (is : o ≡ Some next) (beside : Beside t path indices (up + 1) size o) where
     pub d : NextNode after next.0 next.1
-    d =
-        next_of _ _ half_some _ _ _ _ p.fits (rw is at (next_is o beside)).1
+    d = next_of _ _ half_some _ _ _ _ p.fits (rw is at (next_is o beside)).1
 
     abbrev q : ℕ
     q = next.1
@@ -183,7 +179,7 @@ module _ {K V : Type 0} {cap least : ℕ} {t : Table K V} {path indices up size 
       -- the two nodes share their entries, and the key between them has to be updated
       module _ {key : K} (got_is : got ≡ Some key) where
         spread : Spread content t u most n q (e ∷ others) (d.f ∷ d.fs) key
-        spread = spread_at content t u n q e others d.f d.fs s lies.0 (omega (arith, hm.hi, hm.two)) slots.0 slots.1 (balanced_as _ got_is)
+        spread = spread_at _ t u n q e _ _ _ s lies.0 (omega (arith, hm.hi, hm.two)) slots.0 slots.1 (balanced_as _ got_is)
 
         pub above_is : Above u path indices (suc up) size rest (heads before ++ (e.0, n) ∷ (d.f.0, q) ∷ heads d.rest) (length (heads before))
         above_is = above_two_put hm (level d) spread.two
@@ -194,18 +190,16 @@ module _ {K V : Type 0} {cap least : ℕ} {t : Table K V} {path indices up size 
 
         -- updating the key leaves the level rebalanced
         pub rekey_heals : (v : _) → Rekeys u v path indices (up + 1) size key → Heals w v path indices
-        rekey_heals v rekeys =
-            heals d v _ _ (settle_spread hm (level d) v under_is spread (rw (add-one up) at (rekeys rekey_asks)))
+        rekey_heals v rekeys = heals d v _ _ (settle_spread hm (level d) v under_is spread (rw (add-one up) at (rekeys rekey_asks)))
 
       -- all entries are in the right node, and the left one has to be freed
       module _ (got_is : got ≡ None) where
         all_right : AllRight content t u most n q (e ∷ others) (d.f ∷ d.fs)
-        all_right = all_right_at content t u n q e others d.f d.fs s lies.0 (omega (arith, hm.hi, hm.two)) slots.0 slots.1 (balanced_as None got_is)
+        all_right = all_right_at _ t u n q e _ _ _ s lies.0 (omega (arith, hm.hi, hm.two)) slots.0 slots.1 (balanced_as None got_is)
 
         -- the left node meets what freeing it requires
         pub free_asks : IsUsed u (get_or path up r)
-        free_asks =
-            rw num_is (is_used u n _ all_right.two.here (cc (none_here)))
+        free_asks = rw num_is (is_used u n _ all_right.two.here (cc (none_here)))
 
         -- freeing the left node leaves the two merged
         pub free_joins : (v : _) → v ≡ with_freed u (get_or path up r) → Joins w v (set path up q) indices

@@ -1,10 +1,9 @@
 -- The effect of a removal from the tree under a root on the table.
-use Rattle.std.proofs.Common.{IsTrue, ◌≡◌, ℕ, suc, ◌<◌, Option, Some, None, IfSome, List, ◌∷◌, ◌++◌, length, get_or, refl, sym, ap, ◌∙◌, subst, inl, inr, append_assoc, length-append, arith}
-use Rattle.std.proofs.lemmas.List.Edits.{length-remove}
-use Rattle.bforest_core.proofs.Words.{eqb_tells, length-map, Table, node, flat, sizes, Tree, sizes_of, nodes_up, shrink, count, root_of, numbers_of, Stands}
-use Rattle.bforest_core.proofs.{Words.{tree_of, IsUnion, is_root, Shrinks, StandsUnder, node_count, StandsIn, Removed, Emptied}, rows.LevelRows.flat-append}
-use Rattle.bforest_core.proofs.{table.Tables.count-append, union.Forests.root-among, union.Exchange.IsPlanted, union.Unions.rooted, union.Roots.exchanged-freed}
-use Rattle.bforest_core.proofs.{union.Roots.uprooted-union, union.Account.{length-same, nodes-count}}
+use Rattle.bforest_core.proofs.Words.{length-remove, IsTrue, ◌≡◌, ℕ, suc, ◌<◌, Option, Some, None, IfSome, List, ◌∷◌, ◌++◌, length, get_or, refl, sym, ap, ◌∙◌}
+use Rattle.bforest_core.proofs.Words.{subst, inl, inr, append_assoc, length-append, arith, eqb_tells, length-map, Table, node, flat, sizes, Tree, sizes_of}
+use Rattle.bforest_core.proofs.Words.{nodes_up, shrink, count, root_of, numbers_of, Stands, tree_of, IsUnion, is_root, Shrinks, StandsUnder, node_count}
+use Rattle.bforest_core.proofs.{Words.{StandsIn, Removed, Emptied}, union.Roots.{exchanged-freed, uprooted-union}, union.Account.{length-same, nodes-count}}
+use Rattle.bforest_core.proofs.{rows.LevelRows.flat-append, table.Tables.count-append, union.Forests.root-among, union.Exchange.IsPlanted, union.Unions.rooted}
 
 -- an implication, applied to the value of an option, if any
 pub if_some : {A : Type 0} (P Q : A → Type 0) (found : Option A) → ((x : A) → P x → Q x) → IfSome found P → IfSome found Q
@@ -14,7 +13,7 @@ if_some P Q (Some x) h p = h x p
 module _ {K V : Type 0} where
   -- a path under a root stands in its tree, which is in the table
   pub stands_in : (most : ℕ) (table : Table K V) {root place path indices size : _} → IsUnion most table → StandsUnder table.nodes root path indices size place → StandsIn most table path indices size (tree_of table.nodes root) place
-  stands_in most table {root} union s =
+  stands_in most table union s =
       let r = rooted _ _ _ union s.root_is in
       record { fit = r.fit; inside = r.inside; apart = r.apart; low = r.low; stands = s.stands }
 
@@ -85,14 +84,14 @@ module _ {K V : Type 0} where
 
     -- removing an entry of a tree that has others
     pub removal : {root' : ℕ} → Removed most old new path Now (tree_of old.nodes root) place root' → Said most old new path root place Now (Some root')
-    removal {root'} i = rw (← i.root_is) (removed_root i)
+    removal i = rw (← i.root_is) (removed_root i)
 
     -- removing the last entry of a tree
     ending : Emptied most old new (tree_of old.nodes root) place → Said most old new path root place Now None
     ending i =
         let tree = tree_of old.nodes root in
         let r = rooted _ _ _ union s.root_is in
-        let u = uprooted-union most root union s.root_is i.frees i.freed_is in
+        let u = uprooted-union _ _ union s.root_is i.frees i.freed_is in
         let among = root-among _ _ _ r.fit r.inside r.some in
         record {
           at = tt;
@@ -103,7 +102,7 @@ module _ {K V : Type 0} where
               given = i.freed;
               chain_is = i.frees.chain_is;
               slots = i.frees.slots_are;
-              count_is = omega (arith, length-same i.freed (numbers_of tree) i.freed_is, nodes-count tree, ap (λ z. node_count z) i.none_left);
+              count_is = omega (arith, length-same _ _ i.freed_is, nodes-count tree, ap (λ z. node_count z) i.none_left);
             };
             order = record { roots = i.freed; up = 0; chain_is = i.frees.chain_is; roots_are = omega (arith, ap length i.levels_are, ap length i.none_left) };
             last = (λ is. i.single, λ is. refl);

@@ -1,12 +1,11 @@
 -- A tree after a removal from a leaf that has other entries, from the calls that make it.
-use Rattle.std.proofs.Common.{◌≡◌, suc, ◌≤◌, ◌<◌, Some, List, ◌∷◌, ◌++◌, ◌⊎◌, map, length, get_or, refl, sym, ap, ◌∙◌, subst, length-append, arith, ℕ, [], inr}
-use Rattle.bforest_core.proofs.Words.{remove, Table, node, flat, heads, sizes, FitRow, Tree, half_of, loss_above, leaf_content, root_of, numbers_of, Stands}
-use Rattle.bforest_core.proofs.Words.{IsPathAt, nodes_up, TwoAbove, top_of, Rebuilt, Healed, Joined, UpTo, Trimmed, StandsIn, LeafLoss, Removed, Solid}
-use Rattle.bforest_core.proofs.{Words.sizes_of, rows.LevelRows.{flat-append, FitRow-split, Solid-full, least-pos}, walks.RowNodes.fit_full}
-use Rattle.bforest_core.proofs.{rows.Tops.{root-stands, top_tree}, removal.Merge.{Restored, Restores, healed_restored, joined_restored, kept_restored}}
-use Rattle.bforest_core.proofs.{removal.Merge.merge_asks, removal.Losses.nodes_up-same, removal.Rebalance.{enough, judged}, removal.PastEnd.loss_half}
-use Rattle.bforest_core.proofs.{removal.Collapse.{length-sizes, topped-sizes, stands-below, trim_none}, removal.Untrimmed.{Untrimmed, length-numbers, path-at}}
-use Rattle.bforest_core.proofs.removal.Untrimmed.{trimmed_removed, up_to}
+use Rattle.bforest_core.proofs.Words.{◌≡◌, suc, ◌≤◌, ◌<◌, Some, List, ◌∷◌, ◌++◌, ◌⊎◌, map, length, get_or, refl, sym, ap, ◌∙◌, subst, length-append, arith, ℕ}
+use Rattle.bforest_core.proofs.Words.{[], inr, remove, Table, node, flat, heads, sizes, FitRow, Tree, half_of, loss_above, leaf_content, root_of, numbers_of}
+use Rattle.bforest_core.proofs.Words.{Stands, IsPathAt, nodes_up, TwoAbove, top_of, Rebuilt, Healed, Joined, UpTo, Trimmed, StandsIn, LeafLoss, Removed, Solid}
+use Rattle.bforest_core.proofs.{Words.sizes_of, rows.Tops.{root-stands, top_tree}, removal.Collapse.{length-sizes, topped-sizes, stands-below, trim_none}}
+use Rattle.bforest_core.proofs.{removal.Rebalance.{enough, judged}, removal.Untrimmed.{Untrimmed, length-numbers, path-at, trimmed_removed, up_to}}
+use Rattle.bforest_core.proofs.{rows.LevelRows.{flat-append, FitRow-split, Solid-full, least-pos}, walks.RowNodes.fit_full, removal.PastEnd.loss_half}
+use Rattle.bforest_core.proofs.{removal.Merge.{Restored, Restores, healed_restored, joined_restored, kept_restored, merge_asks}, removal.Losses.nodes_up-same}
 
 module _ {K V : Type 0} {most : ℕ} {old : Table K V} {path indices size tree place : _} (s : StandsIn most old path indices size tree place) (half : 1 ≤ half_of most) {root : ℕ} (root_is : root_of tree ≡ root) where
   module _ {new : Table K V} {path' indices' freed : _} (r : Restored leaf_content (half_of most) most old new path' indices' 0 size (sizes_of tree) (numbers_of tree) (remove (flat tree.leaves) place) place freed)
@@ -46,7 +45,7 @@ module _ {K V : Type 0} {most : ℕ} {old : Table K V} {path indices size tree p
     -- no root is discarded where each level keeps its nodes
     whole : {size1 : ℕ} → size1 ≡ size → length r.row ≡ length tree.leaves → map sizes r.rows ≡ map sizes tree.above → Trimmed new new size1 size1 r.rows (heads r.row) root root []
     whole is len same =
-        let many : length (heads r.row) ≡ length (heads tree.leaves) = omega (arith, fit_full (half_of most) most half r.row r.fit, fit_full (half_of most) most half tree.leaves s.fit.leaves_fit) in
+        let many : length (heads r.row) ≡ length (heads tree.leaves) = omega (arith, fit_full _ _ half _ r.fit, fit_full _ _ half _ s.fit.leaves_fit) in
         trim_none (up_here is) (topped-sizes _ _ _ _ s.fit.stacked r.above.stacked many same s.fit.topped)
 
     -- the path stands at the place, in the rows that stay
@@ -129,7 +128,7 @@ module _ {K V : Type 0} {most : ℕ} {old mid : Table K V} {path indices size tr
       above : (levels : ℕ) × Merged size (nodes_up path 1 levels)
       above =
           let m = merged leaf_merge_asks in
-          (m.0, rw (← nodes_up-same path path1 1 m.0 j.nodes_above) (subst (λ z. Merged z (nodes_up path1 1 m.0)) size_is m.1))
+          (m.0, rw (← nodes_up-same _ _ 1 _ j.nodes_above) (subst (λ z. Merged z (nodes_up path1 1 m.0)) size_is m.1))
 
       joined : Restores l.loss new path' indices' (nodes_up path 0 (suc above.0))
       joined = joined_restored l.loss j above.1 half

@@ -1,14 +1,14 @@
 -- Removing the entry of a level's rightmost node, which was removed, and the nodes that this empties: the
 -- answers of `remove_emptied`.
-use Rattle.std.proofs.Common.{◌≡◌, ◌≢◌, ℕ, suc, ◌+◌, ◌-◌, ◌≤◌, ◌<◌, List, [], ◌∷◌, ◌++◌, map, length, drop, get_or, Some, refl, sym, ap, ◌∙◌, subst, append_assoc, length-append, arith}
-use Rattle.bforest_core.proofs.Words.{Heads, Row, Rows, flat_map, append-nil, nil_from_length, without_child, Table, with_node, with_freed, node, flat, heads}
-use Rattle.bforest_core.proofs.Words.{sizes, numbers, FitRow, Solid, loss_above, inner_content, entry_keys, entry_items, count, Distinct, root_above, Above}
-use Rattle.bforest_core.proofs.{Words.{LastAbove, nodes_up, Dropped, rebalanced}, rows.LevelRows.{flat-append, heads-append, sizes-append, FitRow-join}}
-use Rattle.bforest_core.proofs.{rows.LevelRows.Solid-full, table.Tables.{count-append, counts, count-same, row-split, row-put, row-same, rows-same}}
-use Rattle.bforest_core.proofs.{table.Tables.{ne_from_count, puts}, removal.Frees.{frees-puts, freed_other, frees-first}, rows.Zipper.{Cut_above, Facts, facts}}
-use Rattle.bforest_core.proofs.{rows.Zipper.{Spot, above_two}, rows.Contents.removed_last, removal.Lifted.{heads-put, above_same, rows_above}}
-use Rattle.bforest_core.proofs.{removal.LeafAt.{some_first, no_nodes}, removal.Collapse.heads-flat, removal.Losses.{placed, loss_level, lost_above}}
-use Rattle.bforest_core.proofs.{removal.Asked.{Counts, Removes, Seen, seen}, rows.Tops.top_rows, removal.Rebalance.rebalanced_last}
+use Rattle.bforest_core.proofs.Words.{◌≡◌, ◌≢◌, ℕ, suc, ◌+◌, ◌-◌, ◌≤◌, ◌<◌, List, [], ◌∷◌, ◌++◌, map, length, drop, get_or, Some, refl, sym, ap, ◌∙◌, subst}
+use Rattle.bforest_core.proofs.Words.{append_assoc, length-append, arith, Heads, Row, Rows, flat_map, append-nil, nil_from_length, without_child, Table}
+use Rattle.bforest_core.proofs.Words.{with_node, with_freed, node, flat, heads, sizes, numbers, FitRow, Solid, loss_above, inner_content, entry_keys}
+use Rattle.bforest_core.proofs.{Words.{entry_items, count, Distinct, root_above, Above, LastAbove, nodes_up, Dropped, rebalanced}, removal.Collapse.heads-flat}
+use Rattle.bforest_core.proofs.{removal.Losses.{placed, loss_level, lost_above}, removal.Lifted.{heads-put, above_same, rows_above}, rows.Contents.removed_last}
+use Rattle.bforest_core.proofs.{removal.Asked.{Counts, Removes, Seen, seen}, rows.LevelRows.{flat-append, heads-append, sizes-append, FitRow-join, Solid-full}}
+use Rattle.bforest_core.proofs.{rows.Tops.top_rows, removal.Rebalance.rebalanced_last, removal.LeafAt.{some_first, no_nodes}}
+use Rattle.bforest_core.proofs.{rows.Zipper.{Cut_above, Facts, facts, Spot, above_two}, removal.Frees.{frees-puts, freed_other, frees-first}}
+use Rattle.bforest_core.proofs.table.Tables.{count-append, counts, count-same, row-split, row-put, row-same, rows-same, ne_from_count, puts}
 
 -- solid nodes fit as a row
 pub fit_solid : {K X : Type 0} (half most : ℕ) → 1 ≤ half → (row : Row K X) → Solid half most row → FitRow half most row
@@ -39,15 +39,14 @@ last_heads o = cc (o.is, heads-append o.init (node o.number (o.w ∷ o.ws) ∷ [
 module _ {K V : Type 0} where
   -- the rows above a level, after its last node was freed
   pub above_freed : {X : Type 0} {t : Table K V} (v : Table K V) {path indices up size : _} (n : ℕ) {before : Row K X} (x : K × X)
-      {rest : _} (o : LastOf before)
-      → Distinct ((numbers (before ++ node n (x ∷ []) ∷ []) ++ flat_map numbers rest) ++ t.chain) → v ≡ with_freed t n →
+      {rest : _} (o : LastOf before) → Distinct ((numbers (before ++ node n (x ∷ []) ∷ []) ++ flat_map numbers rest) ++ t.chain) → v ≡ with_freed t n →
       Above t path indices up size rest (heads (before ++ node n (x ∷ []) ∷ [])) (length (heads before)) → Above v path indices up size rest (heads o.init ++ (o.w.0, o.number) ∷ (x.0, n) ∷ []) (suc (length (heads o.init)))
   above_freed {t} v {path} {indices} {up} {size} n {before} x {rest} o apart is p =
       let c = λ (m : ℕ). counts m before n (x ∷ []) [] rest t.chain in
       let none : count n (flat_map numbers rest) ≡ 0 = omega (arith, apart n, c n, count-same n []) in
       let list = heads-append before (node n (x ∷ []) ∷ []) ∙ ap (λ z. z ++ (x.0, n) ∷ []) (last_heads o) ∙ append_assoc (heads o.init) ((o.w.0, o.number) ∷ []) ((x.0, n) ∷ []) in
       let len : length (heads before) ≡ suc (length (heads o.init)) = omega (arith, ap length (last_heads o), length-append (heads o.init) ((o.w.0, o.number) ∷ [])) in
-      above_same {t = t} v {path = path} {indices = indices} {up = up} {size = size} {rows = rest} (λ m some. freed_other t v n is m (ne_from_count m n _ some none)) (λ m. omega (arith, apart m, c m, count-append m (flat_map numbers rest) v.chain, ap (λ z. count m z.chain) is)) (rw (list, len) at p)
+      above_same v (λ m some. freed_other t v n is m (ne_from_count m n _ some none)) (λ m. omega (arith, apart m, c m, count-append m (flat_map numbers rest) v.chain, ap (λ z. count m z.chain) is)) (rw (list, len) at p)
 
   -- what the call ensures
   abbrev pub Drops : Table K V → Table K V → List ℕ → ℕ → ℕ → Rows K → Heads K → K × ℕ → Type 0
@@ -122,25 +121,23 @@ module _ {K V : Type 0} where
           let e = ends in
           let apart = whole.apart in
           let p = rows_above d in
-          above_freed {t = t} v {path = path} {indices = indices} {up = suc up} {size = size} (get_or path up 0) x {rest = d.q.rest} front (rw l_none at apart) v_is (rw (l_none, e.0, e.1) at p)
+          above_freed v (get_or path up 0) x front (rw l_none at apart) v_is (rw (l_none, e.0, e.1) at p)
 
-      drop_empty : {u freed : _}
-          → Dropped v u path size d.q.rest (heads front.init ++ (front.w.0, front.number) ∷ [])
+      drop_empty : {u freed : _} → Dropped v u path size d.q.rest (heads front.init ++ (front.w.0, front.number) ∷ [])
           (loss_above (Some (suc (length (heads front.init)))) (map sizes d.q.rest)) freed
           → Dropped t u path size rows a (loss_above (Some (length a)) (map sizes rows)) (freed ++ get_or path up 0 ∷ [])
-      drop_empty {u} {freed} r =
+      drop_empty r =
           let q = d.q in
           let n = get_or path up 0 in
           let hs = last_heads front in
           let len : length q.before ≡ suc (length (heads front.init)) = omega (arith, Solid-full 4 8 (omega arith) q.before d.f.solid, ap length hs, length-append (heads front.init) ((front.w.0, front.number) ∷ [])) in
-          let in_v = row-same inner_content t.nodes v.nodes q.before
-          (λ m some. freed_other t v n v_is m (ne_from_count m n (numbers q.before) some (omega (arith, known.none))))
-          (row-split _ _ _ (node n (q.l ++ x ∷ []) ∷ []) known.inside).0 in
+          let in_v = row-same _ _ _ _ (λ m some. freed_other t v n v_is m (ne_from_count m n (numbers q.before) some (omega (arith, known.none))))
+          (row-split _ _ _ _ known.inside).0 in
           let c = λ (m : ℕ). counts m q.before n (q.l ++ x ∷ []) [] q.rest t.chain in
           record {
             rows' = q.before ∷ r.rows';
-            stacked = (a_front, fit_solid 4 8 (omega arith) q.before d.f.solid, rw hs r.stacked);
-            inside = (row-same inner_content v.nodes u.nodes q.before (λ m some. r.frees.others m (omega (arith, some, whole.apart m, c m))) in_v, r.inside);
+            stacked = (a_front, fit_solid 4 8 (omega arith) _ d.f.solid, rw hs r.stacked);
+            inside = (row-same _ _ _ _ (λ m some. r.frees.others m (omega (arith, some, whole.apart m, c m))) in_v, r.inside);
             height = cc;
             sizes_are = simp (r.sizes_are, len, append-nil, lost, l_none);
             numbers_are = λ m. omega (arith, own_is m, r.numbers_are m, count-append);
@@ -155,11 +152,11 @@ module _ {K V : Type 0} where
     top = above_two rows a y x [] p
 
     len_is : length (a ++ y ∷ []) ≡ suc (length a)
-    len_is = length-append a (y ∷ []) ∙ omega arith
+    len_is = length-append a _ ∙ omega arith
 
     -- the parent of the node
     pub here : Seen t path indices up size rows (a ++ y ∷ []) x [] r
-    here = seen {t = t} {path = path} {indices = indices} {up = up} {size = size} {rows = rows} (a ++ y ∷ []) x [] (rw (append_assoc a (y ∷ []) (x ∷ []), len_is) p) top r wide height
+    here = seen (a ++ y ∷ []) x [] (rw (append_assoc a _ _, len_is) p) top r wide height
 
     pub drop_fewer : (high n : ℕ) → high ≡ suc up → size - up ≡ n → size - high < n
     drop_fewer high n high_is bound = let low = top in omega arith
@@ -171,7 +168,7 @@ module _ {K V : Type 0} where
           let s = here in
           let es = s.d.q.l ++ x ∷ s.d.q.r in
           let u_is = removes (drop 1 (entry_keys es)) (entry_items es) s.slot_is in
-          (0, rw (← len_is) (drop_keep s.d u (λ (e : length es ≡ 1). more (s.counted cnt value ∙ e)) (rw s.num_is at u_is)))
+          (0, rw (← len_is) (drop_keep s.d u (λ e. more (s.counted cnt value ∙ e)) (rw s.num_is at u_is)))
 
       module _ (one : cnt ≡ 1) (v : Table K V) (freed : v ≡ with_freed t (get_or path up r)) (high : ℕ) (high_is : high ≡ suc up) where
         pub single : length (here.d.q.l ++ x ∷ here.d.q.r) ≡ 1

@@ -1,14 +1,14 @@
 -- Removing an entry from the row above a level, whose key passes to the next entry: the answers of
 -- `remove_merged`.
-use Rattle.std.proofs.Common.{◌≡◌, ℕ, suc, ◌+◌, ◌-◌, ◌≤◌, ◌<◌, [], ◌∷◌, ◌++◌, map, length, drop, set, get_or, slice_get, Some, refl, sym, ap, ◌∙◌, append_assoc, length-append, arith}
-use Rattle.bforest_core.proofs.Words.{Heads, flat_map, entry_count, Inner, IsUsed, with_key, without_child, Table, with_node, node, flat, heads, head_of, sizes}
-use Rattle.bforest_core.proofs.Words.{numbers, FitRow, RowIn, inner_content, entry_keys, entry_items, count, Above, TwoAbove, Rebuilt, Loosened}
-use Rattle.bforest_core.proofs.{rows.LevelRows.{heads-append, sizes-append}, table.Tables.{counts, count-same, count-row, row-same, row-put, is_used, Puts}}
-use Rattle.bforest_core.proofs.{table.Tables.{puts, puts-then}, table.Stored.{item_count, read_same, some_same}, rows.Contents.{removed_same, removed_last}}
-use Rattle.bforest_core.proofs.{rows.Contents.last_key, rows.Zipper.{Spot, above_two}, removal.Frees.{frees-puts, frees-after, frees-wider}}
-use Rattle.bforest_core.proofs.{removal.Lifted.{head-other, heads-put, above_written, rebuilt_same, rows_above, flat_at, place_at}, removal.Separating.next_in}
-use Rattle.bforest_core.proofs.{removal.Separating.{Across, across, across_in, across_above}, removal.Asked.{KeyAt, ChildAt, Counts, ReadsKey, Writes, Removes}}
-use Rattle.bforest_core.proofs.removal.Asked.{Rekeys, Seen, seen}
+use Rattle.bforest_core.proofs.Words.{◌≡◌, ℕ, suc, ◌+◌, ◌-◌, ◌≤◌, ◌<◌, [], ◌∷◌, ◌++◌, map, length, drop, set, get_or, slice_get, Some, refl, sym, ap, ◌∙◌}
+use Rattle.bforest_core.proofs.Words.{append_assoc, length-append, arith, Heads, flat_map, entry_count, Inner, IsUsed, with_key, without_child, Table}
+use Rattle.bforest_core.proofs.Words.{with_node, node, flat, heads, head_of, sizes, numbers, FitRow, RowIn, inner_content, entry_keys, entry_items, count}
+use Rattle.bforest_core.proofs.{Words.{Above, TwoAbove, Rebuilt, Loosened}, rows.LevelRows.{heads-append, sizes-append}}
+use Rattle.bforest_core.proofs.{table.Tables.{counts, count-same, count-row, row-same, row-put, is_used, Puts, puts, puts-then}, rows.Zipper.{Spot, above_two}}
+use Rattle.bforest_core.proofs.{table.Stored.{item_count, read_same, some_same}, removal.Frees.{frees-puts, frees-after, frees-wider}}
+use Rattle.bforest_core.proofs.removal.Lifted.{head-other, heads-put, above_written, rebuilt_same, rows_above, flat_at, place_at}
+use Rattle.bforest_core.proofs.{rows.Contents.{removed_same, removed_last, last_key}, removal.Separating.{next_in, Across, across, across_in, across_above}}
+use Rattle.bforest_core.proofs.removal.Asked.{KeyAt, ChildAt, Counts, ReadsKey, Writes, Removes, Rekeys, Seen, seen}
 
 module _ {K V : Type 0} where
   module _ {t : Table K V} {path indices up size rows a x y b : _} (d : Spot t path indices up size rows a x (y ∷ b)) where
@@ -47,9 +47,9 @@ module _ {K V : Type 0} where
           list_is = flat_at d es ((x.0, y.1) ∷ b) after flat_is;
           place_is = place_at d;
           was = λ fs slot. omega (arith, item_count fs, item_count old, ap entry_count (read_same t.nodes num (inner_content old) (inner_content fs) d.f.slot_is slot));
-          sizes_were = cc (sizes-append q.before (node num old ∷ q.after));
+          sizes_were = cc (sizes-append _ _);
           numbers_are = λ i. omega (arith, c i, c2 i, c3 i, r.numbers_are i, ap (λ z. count i (flat_map numbers z)) q.rows_are);
-          frees = rw q.rows_are (frees-after {v = u} {wide = own} {freed = []} (λ i none. none) (frees-wider own (λ i none. omega (arith, c i)) r.frees) (frees-puts own (omega (arith, c num, count-same num (numbers q.after))) w));
+          frees = rw q.rows_are (frees-after (λ i none. none) (frees-wider own (λ i none. omega (arith, c i)) r.frees) (frees-puts own (omega (arith, c num, count-same num (numbers q.after))) w));
         }
 
     -- removing the entry where the next one is in the same parent
@@ -80,7 +80,7 @@ module _ {K V : Type 0} where
 
       -- the key that the code read is that of the removed entry
       moved_key : (key : K) → slice_get (drop 1 (entry_keys (d.q.l ++ x ∷ d.q.r))) (get_or indices up 0 - 1) ≡ Some key → key ≡ x.0
-      moved_key key is = some_same key x.0 (cc (old_is, last_key ℕ o.z o.zs x (get_or indices up 0) index_is))
+      moved_key key is = some_same key x.0 (cc (old_is, last_key ℕ _ _ x _ index_is))
 
       -- removing the entry where the next one is in the next parent, whose key was written first
       take_over : {v : Table K V} (u : Table K V) → Rebuilt t v path indices path indices (suc up) size d.q.rest
@@ -174,4 +174,4 @@ module _ {K V : Type 0} where
                 let num_is = here.num_is in
                 let k_is = moved_key d o key (reads (drop 1 (entry_keys ds)) (entry_items ds) here.slot_is) in
                 let u_is = removes (drop 1 (entry_keys ds)) (entry_items ds) (cc (slot_then)) in
-                take_over d o {v = v} u (rw (high_is, k_is) at rebuilt) slot_then (rw num_is at u_is)
+                take_over d o u (rw (high_is, k_is) at rebuilt) slot_then (rw num_is at u_is)

@@ -1,10 +1,10 @@
 -- Updating the key of a node, or of the next, in the rows above a level: the answers of `update_separator`
 -- and `update_next_separator`.
-use Rattle.std.proofs.Common.{◌≡◌, ℕ, suc, ◌+◌, ◌-◌, ◌≤◌, ◌<◌, [], ◌∷◌, ◌++◌, map, length, drop, set, get_or, refl, sym, ap, ◌∙◌, append_assoc, length-append, arith, add-one}
-use Rattle.bforest_core.proofs.Words.{Heads, Row, Inner, Table, with_node, node, flat, heads, head_of, sizes, numbers, FitRow, RowIn, inner_content, entry_keys}
-use Rattle.bforest_core.proofs.{Words.{entry_items, Above, OneAbove, TwoAbove, Rebuilt, nil_from_length}, rows.LevelRows.{heads-append, least-pos}}
-use Rattle.bforest_core.proofs.{table.Tables.{row-split, row-join}, rows.Zipper.{Spot, above_two}, removal.Asked.{Counts, Writes, Rekeys, Seen, seen}}
-use Rattle.bforest_core.proofs.removal.Lifted.{above_top, rebuilt_same, rows_above, lifted_above, renamed}
+use Rattle.bforest_core.proofs.Words.{◌≡◌, ℕ, suc, ◌+◌, ◌-◌, ◌≤◌, ◌<◌, [], ◌∷◌, ◌++◌, map, length, drop, set, get_or, refl, sym, ap, ◌∙◌, append_assoc}
+use Rattle.bforest_core.proofs.Words.{length-append, arith, add-one, Heads, Row, Inner, Table, with_node, node, flat, heads, head_of, sizes, numbers, FitRow}
+use Rattle.bforest_core.proofs.Words.{RowIn, inner_content, entry_keys, entry_items, Above, OneAbove, TwoAbove, Rebuilt, nil_from_length}
+use Rattle.bforest_core.proofs.{rows.LevelRows.{heads-append, least-pos}, rows.Zipper.{Spot, above_two}, table.Tables.{row-split, row-join}}
+use Rattle.bforest_core.proofs.{removal.Asked.{Counts, Writes, Rekeys, Seen, seen}, removal.Lifted.{above_top, rebuilt_same, rows_above, lifted_above, renamed}}
 
 -- the next node has the same parent
 pub next_in : {K : Type 0} (l : Heads K) (x : K × ℕ) (r : Heads K) (e : ℕ) (y : K × ℕ) (b more : Heads K) → y ∷ b ≡ r ++ more → length l ≡ e → e + 1 < length (l ++ x ∷ r) → (ys : Heads K) × (r ≡ y ∷ ys) × (b ≡ ys ++ more)
@@ -37,12 +37,12 @@ module _ {K V : Type 0} where
     -- the first key of the next parent is in no slot of its row
     pub across_in : (key : K) → RowIn inner_content t.nodes (d.q.before ++ node (get_or path up 0) (d.q.l ++ x ∷ d.q.r) ∷ node o.q ((key, y.1) ∷ o.ys) ∷ o.rest)
     across_in key =
-        let s = row-split _ _ _ (node (get_or path up 0) (d.q.l ++ x ∷ d.q.r) ∷ d.q.after) d.f.inside in
+        let s = row-split _ _ _ _ d.f.inside in
         row-join _ _ _ (node (get_or path up 0) (d.q.l ++ x ∷ d.q.r) ∷ node o.q ((key, y.1) ∷ o.ys) ∷ o.rest) s.0 (s.1.0, rw o.after_is at s.1.1)
 
     -- the rows one level up, where the two parents are neighbours
     pub across_above : Above t path indices (suc up) size d.q.rest (heads d.q.before ++ (o.z.0, get_or path up 0) ∷ (y.0, o.q) ∷ heads o.rest) (length (heads d.q.before))
-    across_above = rw (heads-append d.q.before (node (get_or path up 0) (d.q.l ++ x ∷ d.q.r) ∷ d.q.after), o.l_is, o.after_is) at (rows_above d)
+    across_above = rw (heads-append _ _, o.l_is, o.after_is) at (rows_above d)
 
   -- without a row above there is no key to update
   pub rekey_top : {t : Table K V} {path indices up size : _} (w : OneAbove t path indices up size) (key : K) → size ≤ up →
@@ -51,12 +51,10 @@ module _ {K V : Type 0} where
 
   module _ {t : _} (u : Table K V) {path indices up size rows a x b : _} (key : K) (d : Spot t path indices up size rows a x b) where
     -- updating the key where it is a separator in the path's parent
-    pub rekey_parent : 0 < get_or indices up 0
-        → u ≡ with_node t (get_or path up 0)
+    pub rekey_parent : 0 < get_or indices up 0 → u ≡ with_node t (get_or path up 0)
         (Inner (set (drop 1 (entry_keys (d.q.l ++ x ∷ d.q.r))) (get_or indices up 0 - 1) key) (entry_items (d.q.l ++ x ∷ d.q.r)))
         → Rebuilt t u path indices path indices up size rows (a ++ (key, x.1) ∷ b) (length a) (map sizes rows) []
-    rekey_parent some u_is =
-        renamed d u _ x _ _ _ ((key, x.1) ∷ b) refl (omega arith) u_is (cc (append_assoc d.q.l ((key, x.1) ∷ d.q.r) (flat d.q.after)))
+    rekey_parent some u_is = renamed d u _ x _ _ _ _ refl (omega arith) u_is (cc (append_assoc _ _ _))
 
     -- updating the key where it is the parent's first, in the rows above
     pub rekey_first : get_or indices up 0 ≤ 0
@@ -67,25 +65,23 @@ module _ {K V : Type 0} where
         let q = d.q in
         let num = get_or path up 0 in
         let l_is = nil_from_length q.l (omega (arith, q.entry_is)) in
-        let s = row-split _ _ _ (node num (q.l ++ x ∷ q.r) ∷ q.after) d.f.inside in
+        let s = row-split _ _ _ _ d.f.inside in
         lifted_above d ((key, x.1) ∷ q.r) q.after ((key, x.1) ∷ b) (ap (λ z. length (z ++ x ∷ q.r)) (sym l_is)) refl refl (cc (q.b_is, l_is))
         (sym (heads-append q.before (node num ((key, x.1) ∷ q.r) ∷ q.after))) (rw l_is at d.f.fit) (row-join inner_content t.nodes q.before (node num ((key, x.1) ∷ q.r) ∷ q.after) s.0 (rw l_is at s.1)) r
 
   module _ {t : Table K V} (u : Table K V) {path indices up size rows a x y b : _} (key : K) (d : Spot t path indices up size rows a x (y ∷ b)) where
     -- updating the neighbour's key where both have the same parent
-    rekey_same : get_or indices up 0 + 1 < length (d.q.l ++ x ∷ d.q.r)
-        → u ≡ with_node t (get_or path up 0)
+    rekey_same : get_or indices up 0 + 1 < length (d.q.l ++ x ∷ d.q.r) → u ≡ with_node t (get_or path up 0)
         (Inner (set (drop 1 (entry_keys (d.q.l ++ x ∷ d.q.r))) (get_or indices up 0) key) (entry_items (d.q.l ++ x ∷ d.q.r)))
         → Rebuilt t u path indices path indices up size rows (a ++ x ∷ (key, y.1) ∷ b) (length a) (map sizes rows) []
     rekey_same more u_is =
         let q = d.q in
         let w = next_in _ x _ _ y b _ q.b_is q.entry_is more in
         let es_is = ap (λ z. q.l ++ x ∷ z) w.1 ∙ sym (append_assoc q.l (x ∷ []) (y ∷ w.0)) in
-        renamed d u _ y _ _ _ (x ∷ (key, y.1) ∷ b) es_is (omega (arith, length-append q.l (x ∷ []), q.entry_is)) u_is (simp append_assoc (ap (λ z. q.l ++ x ∷ (key, y.1) ∷ z) (sym w.2)))
+        renamed d u _ y _ _ _ _ es_is (omega (arith, length-append q.l (x ∷ []), q.entry_is)) u_is (simp append_assoc (ap (λ z. q.l ++ x ∷ (key, y.1) ∷ z) (sym w.2)))
 
     -- updating the neighbour's key where it is the next parent's, whose key was updated above
-    rekey_over : (o : Across d.q.l d.q.r d.q.after y b)
-        → Rebuilt t u path indices path indices (suc up) size d.q.rest
+    rekey_over : (o : Across d.q.l d.q.r d.q.after y b) → Rebuilt t u path indices path indices (suc up) size d.q.rest
         (heads d.q.before ++ (o.z.0, get_or path up 0) ∷ (key, o.q) ∷ heads o.rest) (length (heads d.q.before)) (map sizes d.q.rest) []
         → Rebuilt t u path indices path indices up size rows (a ++ x ∷ (key, y.1) ∷ b) (length a) (map sizes rows) []
     rekey_over o r =
@@ -130,5 +126,4 @@ module _ {K V : Type 0} where
         above_asks = record { rows = here.d.q.rest; before = heads here.d.q.before; x = (o.z.0, get_or path up 0); y = (y.0, o.q); after = heads o.rest; above = above_next }
 
         pub next_parent : (u : Table K V) (key : K) → Rekeys t u path indices (up + 1) size key → Rebuilt t u path indices path indices up size rows (a ++ x ∷ (key, y.1) ∷ b) (length a) (map sizes rows) []
-        next_parent u key rekeys =
-            rekey_over u key here.d o (rw add-one at (rekeys above_asks))
+        next_parent u key rekeys = rekey_over u key here.d o (rw add-one at (rekeys above_asks))

@@ -1,11 +1,11 @@
 -- Removing the entry where a path stands from its leaf, which has others: the answers of `remove`,
 -- `take_entry` and `renew_first`.
-use Rattle.std.proofs.Common.{◌≡◌, ℕ, ◌≤◌, ◌<◌, Some, List, [], ◌∷◌, ◌++◌, map, length, get_or, slice_get, refl, sym, ap, ◌∙◌, length-append, arith, ◌≢◌}
-use Rattle.bforest_core.proofs.Words.{Content, Leaf, without_entry, Table, node, heads, sizes, leaf_content, entry_keys, Above, OneAbove, Rebuilt, StandsIn}
-use Rattle.bforest_core.proofs.Words.{HasOthers, IsSingle, LeafLoss, nil_from_length, entry_count, IsUsed, with_node, head_of, entry_items}
-use Rattle.bforest_core.proofs.{rows.LevelRows.heads-append, table.Tables.{Puts, is_used, puts}, table.Stored.{read_same, some_same}, removal.Asked.NodeAt}
-use Rattle.bforest_core.proofs.{removal.Lifted.{above_top, above_written, rebuilt_same}, removal.LeafAt.{LeafAt, as_many_heads, leaf_at, leaf_count, leaf_keys}}
-use Rattle.bforest_core.proofs.removal.LeafAt.{leaf_loss, some_first, without_entry_is}
+use Rattle.bforest_core.proofs.Words.{◌≡◌, ℕ, ◌≤◌, ◌<◌, Some, List, [], ◌∷◌, ◌++◌, map, length, get_or, slice_get, refl, sym, ap, ◌∙◌, length-append, arith}
+use Rattle.bforest_core.proofs.Words.{◌≢◌, Content, Leaf, without_entry, Table, node, heads, sizes, leaf_content, entry_keys, Above, OneAbove, Rebuilt}
+use Rattle.bforest_core.proofs.Words.{StandsIn, HasOthers, IsSingle, LeafLoss, nil_from_length, entry_count, IsUsed, with_node, head_of, entry_items}
+use Rattle.bforest_core.proofs.{removal.Lifted.{above_top, above_written, rebuilt_same}, rows.LevelRows.heads-append, table.Stored.{read_same, some_same}}
+use Rattle.bforest_core.proofs.{removal.Asked.NodeAt, table.Tables.{Puts, is_used, puts}}
+use Rattle.bforest_core.proofs.removal.LeafAt.{LeafAt, as_many_heads, leaf_at, leaf_count, leaf_keys, leaf_loss, some_first, without_entry_is}
 
 module _ {K V : Type 0} where
   -- a leaf with a key of this index
@@ -62,13 +62,7 @@ module _ {K V : Type 0} where
         ((keys : List K) (vals : List V) → slice_get t.nodes read ≡ Some (Leaf keys vals) → u ≡ with_node t read (without_entry (Leaf keys vals) (get_or indices 0 0))) → HasOthers t u path indices
     has_others u has takes =
         let all = has.0 ∷ has.1 ∷ has.2 in
-        record {
-          x = has.0;
-          y = has.1;
-          more = has.2;
-          slot_was = has.3;
-          new_is = cc (takes (entry_keys all) (entry_items all) (simp (num_is, has.3)));
-        }
+        record { x = has.0; y = has.1; more = has.2; slot_was = has.3; new_is = cc (takes (entry_keys all) (entry_items all) (simp (num_is, has.3))) }
 
     module _ {u : Table K V} (h : HasOthers t u path indices) where
       abbrev all : List (K × V)
@@ -110,8 +104,7 @@ module _ {K V : Type 0} where
         next = some_first _ more
 
         pub above : Above u path indices 1 size tree.above (heads d.before ++ (d.x.0, get_or path 0 0) ∷ heads d.after) (length (heads d.before))
-        above =
-            above_then d.x.0 (λ rs. ap (λ z. head_of (get_or path 0 0) (z ++ d.x ∷ rs)) (nil_from_length d.l (omega (arith, first, d.index_is))))
+        above = above_then d.x.0 (λ rs. ap (λ z. head_of (get_or path 0 0) (z ++ d.x ∷ rs)) (nil_from_length d.l (omega (arith, first, d.index_is))))
 
         slot_then : slice_get u.nodes read ≡ Some (leaf_content (next.0 ∷ next.1))
         slot_then = cc (w.here, next.2)

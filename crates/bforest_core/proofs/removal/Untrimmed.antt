@@ -1,9 +1,9 @@
 -- A tree after a removal: before and after roots with a single child are discarded.
-use Rattle.std.proofs.Common.{◌≡◌, zero, suc, ◌+◌, ◌≤◌, List, ◌∷◌, ◌++◌, map, length, refl, sym, ap, ◌∙◌, length-append, arith, ℕ, []}
-use Rattle.bforest_core.proofs.Words.{Row, Rows, flat_map, remove, flat_map-append, Table, node, flat, heads, sizes, numbers, FitRow, Stacked, Tree, half_of}
-use Rattle.bforest_core.proofs.Words.{RowIn, RowsIn, leaf_content, count, root_above, root_of, numbers_of, Stands, IsPathAt, nodes_up, Frees, UpTo, Trimmed}
-use Rattle.bforest_core.proofs.{Words.{StandsIn, Removed, sizes_of}, walks.RowNodes.fit_full, table.Tables.{count-append, row-same, rows-same}}
-use Rattle.bforest_core.proofs.{rows.Tops.root-stands, removal.Frees.frees-then, removal.Losses.lost, removal.Collapse.{length-sizes, trimmed-is, rows-parts}}
+use Rattle.bforest_core.proofs.Words.{◌≡◌, zero, suc, ◌+◌, ◌≤◌, List, ◌∷◌, ◌++◌, map, length, refl, sym, ap, ◌∙◌, length-append, arith, ℕ, [], Row, Rows}
+use Rattle.bforest_core.proofs.Words.{flat_map, remove, flat_map-append, Table, node, flat, heads, sizes, numbers, FitRow, Stacked, Tree, half_of, RowIn}
+use Rattle.bforest_core.proofs.Words.{RowsIn, leaf_content, count, root_above, root_of, numbers_of, Stands, IsPathAt, nodes_up, Frees, UpTo, Trimmed, StandsIn}
+use Rattle.bforest_core.proofs.{Words.{Removed, sizes_of}, removal.Frees.frees-then, walks.RowNodes.fit_full, rows.Tops.root-stands}
+use Rattle.bforest_core.proofs.{table.Tables.{count-append, row-same, rows-same}, removal.Collapse.{length-sizes, trimmed-is, rows-parts}, removal.Losses.lost}
 
 -- a row has one number per node
 pub length-numbers : {K X : Type 0} (row : Row K X) → length (numbers row) ≡ length row
@@ -13,8 +13,7 @@ length-numbers (node n es ∷ row) = ap suc (length-numbers row)
 module _ {K V : Type 0} where
   -- two trees in which one path stands have the same root
   pub stands_root : {most : ℕ} {t t1 : Table K V} {path indices size tree tree1 place place1 : _} (root : ℕ) → StandsIn most t path indices size tree place → StandsIn most t1 path indices size tree1 place1 → root_of tree1 ≡ root → root_of tree ≡ root
-  stands_root {most} {path} {indices} {size} {tree} {tree1} {place} {place1} root s s1 is =
-      root-stands s.fit s.stands ∙ sym (root-stands s1.fit s1.stands) ∙ is
+  stands_root root s s1 is = root-stands s.fit s.stands ∙ sym (root-stands s1.fit s1.stands) ∙ is
 
   -- a path that stands in a tree is at an entry
   pub path-at : {path indices : _} (size : ℕ) {tree : Tree K V} {place : ℕ} → Stands path indices size tree place → IsPathAt path indices size tree place
@@ -60,7 +59,7 @@ module _ {K V : Type 0} where
   -- the rows of the tree meet what discarding roots requires
   pub up_to : {most old new path indices size : _} (size1 : ℕ) {tree place : _} (root : ℕ) {leaves rows freed : _} → StandsIn most old path indices size tree place →
       Untrimmed most old new tree place leaves rows freed → size1 ≡ size → root_of tree ≡ root → UpTo new size1 rows (heads leaves) root
-  up_to {old} {new} size1 {tree} root {leaves} {rows} {freed} s u size_is root_is = record {
+  up_to size1 root s u size_is root_is = record {
     stacked = u.stacked;
     inside = u.rows_in;
     height = omega arith;
@@ -72,7 +71,7 @@ module _ {K V : Type 0} where
   pub trimmed_removed : {most old mid new path indices size tree place root leaves rows : _} (up : ℕ) {size1 size2 root' gone : _} (Now : Tree K V → Type 0) →
       StandsIn most old path indices size tree place → Untrimmed most old mid tree place leaves rows (nodes_up path 0 up) → root_of tree ≡ root → (t : Trimmed mid new size1 size2 rows (heads leaves) root root' gone) → size1 ≡ size →
       Now (record { leaves = leaves; above = t.rows' }) → Removed most old new path Now tree place root'
-  trimmed_removed {most} {old} {mid} {new} {path} {tree} {leaves} {rows} up {size1} {size2} {gone} Now s u root_is t size_is at =
+  trimmed_removed {most} {old} {mid} {new} {path} {tree} {leaves} {rows} up {gone} Now s u root_is t size_is at =
       let freed = nodes_up path 0 up in
       let parts = λ (m : ℕ). ap (λ z. count m z) (ap (flat_map numbers) t.rows_are ∙ flat_map-append numbers t.rows' t.discarded) ∙ count-append m (flat_map numbers t.rows') (flat_map numbers t.discarded) in
       let c0 = λ (m : ℕ). count-append m (numbers leaves) (flat_map numbers rows) in

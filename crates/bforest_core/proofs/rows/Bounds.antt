@@ -1,20 +1,17 @@
 -- Bounds on leaves, on levels and on nodes.
-use Rattle.std.proofs.Common.{◌≡◌, ℕ, suc, ◌+◌, ◌*◌, ◌^◌, ◌≤◌, ◌<◌, ◌-◌, nat_lt, true, false, Some, None, List, [], ◌∷◌, ◌++◌, map, length, refl, sym, ap, ◌∙◌, inl, inr, length-append, arith, nat_le}
-use Rattle.bforest_core.proofs.Words.{Heads, Row, Rows, cases_lt, length-map, node, flat, heads, sizes, FitRow, Stacked, Topped, inner_gain, gain_above}
-use Rattle.bforest_core.proofs.walks.RowNodes.{fit_full}
-use Rattle.std.proofs.Math.Nat.{mul-le-mul_left, pow-succ'}
+use Rattle.bforest_core.proofs.Words.{mul-le-mul_left, pow-succ', ◌≡◌, ℕ, suc, ◌+◌, ◌*◌, ◌^◌, ◌≤◌, ◌<◌, ◌-◌, nat_lt, true, false, Some, None, List, [], ◌∷◌}
+use Rattle.bforest_core.proofs.Words.{◌++◌, map, length, refl, sym, ap, ◌∙◌, inl, inr, length-append, arith, nat_le, Heads, Row, Rows, cases_lt, length-map}
+use Rattle.bforest_core.proofs.{Words.{node, flat, heads, sizes, FitRow, Stacked, Topped, inner_gain, gain_above}, walks.RowNodes.fit_full}
 
 -- a row has more entries than half full nodes, one fewer than its nodes, would have
 pub entries-many : {K X : Type 0} (half most : ℕ) → 1 ≤ half → (m : ℕ) (es : List (K × X)) (ns : _) → FitRow half most (node m es ∷ ns) → half * length ns < length (flat (node m es ∷ ns))
-entries-many {K} {X} half most one m es [] f = let z : half * 0 ≡ 0 = omega arith in omega (arith, length-append es (flat {K = K} {X = X} []))
-entries-many half most one m es (node n fs ∷ ns) f =
-    omega (arith, entries-many half most one n fs ns f.2, length-append es (fs ++ flat ns))
+entries-many {K} {X} half most one m es [] f = let z : half * 0 ≡ 0 = omega arith in omega (arith, length-append es (flat []))
+entries-many half most one m es (node n fs ∷ ns) f = omega (arith, entries-many half most one n fs ns f.2, length-append es (fs ++ flat ns))
 
 -- a row has at most as many nodes as half full ones would be, rounded up
 pub leaves-few : {K V : Type 0} (half most : ℕ) (leaves : Row K V) → 1 ≤ half → FitRow half most leaves → half * length leaves ≤ length (flat leaves) + (half - 1)
 leaves-few half most [] one f = let z : half * 0 ≡ 0 = omega arith in omega arith
-leaves-few half most (node m es ∷ ns) one f =
-    omega (arith, entries-many half most one m es ns f)
+leaves-few half most (node m es ∷ ns) one f = omega (arith, entries-many _ _ one m _ _ f)
 
 -- a level with `n` levels above it, `n` not 0, has more than `4 ^ (n - 1)` nodes
 pub levels-few : {K : Type 0} (hs : Heads K) (row : Row K ℕ) (rows : Rows K) → Stacked hs (row ∷ rows) → Topped hs (row ∷ rows) → 4 ^ length rows < length hs
@@ -30,7 +27,7 @@ depth half most one [] (row ∷ rows) f s t two = absurd (omega arith)
 depth half most one (node m es ∷ ns) (row ∷ rows) f s t two =
     let e : length (row ∷ rows) - 1 ≡ length rows = omega arith in
     let p : half * 4 ^ length rows ≤ half * length ns = mul-le-mul_left half (omega (arith, levels-few (heads (node m es ∷ ns)) row rows s t, fit_full half most one (node m es ∷ ns) f)) in
-    rw e (omega (arith, p, entries-many half most one m es ns f))
+    rw e (omega (arith, p, entries-many _ _ one m _ _ f))
 
 -- an insertion adds at most one level
 pub gain-most : (k levels : _) → length (gain_above k levels) ≤ suc (length levels)
@@ -65,11 +62,10 @@ none_small p s room =
 
 root_full : {K : Type 0} (p : ℕ) {q : ℕ} (row : Row K ℕ) → length (heads row) ≡ 1 → FitRow 4 8 row → (inner_gain p (sizes row)).0 ≡ Some q → 8 ≤ length (flat row)
 root_full p [] one f e = absurd (omega arith)
-root_full {K} p (node m es ∷ []) one f e =
+root_full p (node m es ∷ []) one f e =
     let len : length (flat (node m es ∷ [])) ≡ length es = length-append es [] ∙ omega arith in
     elim (cases_lt (length es) 8) [ inl lt ↦ absurd (let z = none_small p _ lt in cc) | inr ge ↦ omega arith ]
-root_full p (node m es ∷ n ∷ ns) one f e =
-    absurd (omega (arith, fit_full 4 8 (omega arith) (node m es ∷ n ∷ ns) f))
+root_full p (node m es ∷ n ∷ ns) one f e = absurd (omega (arith, fit_full 4 8 (omega arith) (node m es ∷ n ∷ ns) f))
 
 -- a tree that gets a new root has many nodes
 risen : {K : Type 0} (p : ℕ) (hs : Heads K) (row : Row K ℕ) (rows : Rows K) → Stacked hs (row ∷ rows) → Topped hs (row ∷ rows) → length (gain_above (Some p) (map sizes (row ∷ rows))) ≡ suc (suc (length rows)) → 7 * 4 ^ length rows < length hs

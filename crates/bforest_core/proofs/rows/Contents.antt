@@ -1,7 +1,7 @@
 -- What an inner node holds after the removal of a child.
-use Rattle.std.proofs.Common.{◌≡◌, ℕ, zero, suc, ◌-◌, ◌≤◌, List, [], ◌∷◌, ◌++◌, length, drop, set, slice_get, Some, refl, sym, ◌∙◌, inl, inr, append_assoc, length-append, arith}
-use Rattle.bforest_core.proofs.Words.{Heads, remove, append-nil, length-map, map-append, set_at, eqb_tells, Inner, without_child, inner_content, entry_keys}
-use Rattle.bforest_core.proofs.{Words.entry_items, table.Stored.{slice_get_at, some_same}}
+use Rattle.bforest_core.proofs.Words.{◌≡◌, ℕ, zero, suc, ◌-◌, ◌≤◌, List, [], ◌∷◌, ◌++◌, length, drop, set, slice_get, Some, refl, sym, ◌∙◌, inl, inr}
+use Rattle.bforest_core.proofs.Words.{append_assoc, length-append, arith, Heads, remove, append-nil, length-map, map-append, set_at, eqb_tells, Inner}
+use Rattle.bforest_core.proofs.{Words.{without_child, inner_content, entry_keys, entry_items}, table.Stored.{slice_get_at, some_same}}
 
 -- removing the element between two lists
 pub remove_at : {A : Type 0} → (p : List A) (y : A) (ys : List A) (n : ℕ) → length p ≡ n → remove (p ++ y ∷ ys) n ≡ p ++ ys
@@ -38,13 +38,13 @@ module _ {K : Type 0} (V : Type 0) where
   pub removed_last : (z : K × ℕ) (l : Heads K) (x : K × ℕ) (e : ℕ) → suc (length l) ≡ e → without_child {V = V} (inner_content ((z ∷ l) ++ x ∷ [])) e ≡ inner_content (z ∷ l)
   removed_last z l x zero e = absurd (omega arith)
   removed_last z l x (suc n) e =
-      let kl : length (entry_keys l) ≡ n = length-map l (λ (w : K × ℕ). w.0) ∙ omega arith in
-      let il : length (entry_items l) ≡ n = length-map l (λ (w : K × ℕ). w.1) ∙ omega arith in
+      let kl : length (entry_keys l) ≡ n = length-map l (λ w. w.0) ∙ omega arith in
+      let il : length (entry_items l) ≡ n = length-map l (λ w. w.1) ∙ omega arith in
       let less : suc n - 1 ≡ n = omega arith in
-      let two : 2 ≤ length (entry_items ((z ∷ l) ++ x ∷ [])) = omega (arith, length-map ((z ∷ l) ++ x ∷ []) (λ (w : K × ℕ). w.1), length-append l (x ∷ [])) in
+      let two : 2 ≤ length (entry_items ((z ∷ l) ++ x ∷ [])) = omega (arith, length-map ((z ∷ l) ++ x ∷ []) (λ w. w.1), length-append l (x ∷ [])) in
       without_some (entry_keys (l ++ x ∷ [])) (entry_items ((z ∷ l) ++ x ∷ [])) (suc n) two
-      ∙ rw (less, map-append (λ (w : K × ℕ). w.0) l (x ∷ []), map-append (λ (w : K × ℕ). w.1) l (x ∷ []), remove_at (entry_keys l) x.0 [] n kl, remove_at (entry_items l) x.1 [] n il, append-nil (entry_keys l), append-nil (entry_items l)) refl
+      ∙ rw (less, map-append (λ w. w.0) l _, map-append (λ w. w.1) l _, remove_at _ _ _ n kl, remove_at _ _ _ n il, append-nil (entry_keys l), append-nil (entry_items l)) refl
 
   -- the key before the last child
   pub last_key : (z : K × ℕ) (l : Heads K) (x : K × ℕ) (e : ℕ) → suc (length l) ≡ e → slice_get (drop 1 (entry_keys ((z ∷ l) ++ x ∷ []))) (e - 1) ≡ Some x.0
-  last_key z l x e h = cc (map-append (λ (w : K × ℕ). w.0) l (x ∷ []), slice_get_at (entry_keys l) x.0 [] (e - 1) (length-map l (λ (w : K × ℕ). w.0) ∙ omega arith))
+  last_key z l x e h = cc (map-append (λ w. w.0) l (x ∷ []), slice_get_at (entry_keys l) x.0 [] (e - 1) (length-map l (λ w. w.0) ∙ omega arith))

@@ -1,8 +1,8 @@
 -- Counting numbers: lists with the same counts, and the numbers that the slots of a table name.
-use Rattle.std.proofs.Common.{◌≡◌, ℕ, zero, suc, ◌+◌, ◌≤◌, ◌<◌, ◌↔◌, IsTrue, nat_eq, nat_lt, if◌then◌else◌, true, false, List, [], ◌∷◌, ◌++◌, length, take, drop, slice_get, Some, None, refl, sym, ap, ◌∙◌, inl, inr, length-append, arith}
-use Rattle.bforest_core.proofs.Words.{flat_map, list_any, sum_by, sum_by-cons, sum_by-append, take_all, flat_map-append, cases_lt, eqb_tells, slice_get-get_or}
-use Rattle.bforest_core.proofs.{Words.{Content, Free, children_of, count, slot}, table.Tables.{count-append, count-same, count-other}}
-use Rattle.bforest_nodes.proofs.Seams.{around, last_taken}
+use Rattle.bforest_core.proofs.Words.{around, last_taken, ◌≡◌, ℕ, zero, suc, ◌+◌, ◌≤◌, ◌<◌, ◌↔◌, IsTrue, nat_eq, nat_lt, if◌then◌else◌, true, false, List, []}
+use Rattle.bforest_core.proofs.Words.{◌∷◌, ◌++◌, length, take, drop, slice_get, Some, None, refl, sym, ap, ◌∙◌, inl, inr, length-append, arith, flat_map}
+use Rattle.bforest_core.proofs.Words.{list_any, sum_by, sum_by-cons, sum_by-append, take_all, flat_map-append, cases_lt, eqb_tells, slice_get-get_or, Content}
+use Rattle.bforest_core.proofs.{Words.{Free, children_of, count, slot}, table.Tables.{count-append, count-same, count-other}}
 
 -- how often a number occurs among those below another
 abbrev pub once_below : ℕ → ℕ → ℕ
@@ -48,12 +48,12 @@ sum-same f (x ∷ xs) ys same =
     omega (arith, sum-same f xs (s.0 ++ s.1) less, ap (λ z. sum_by f z) s.2, sum_by-cons f x xs, sum_by-append f s.0 (x ∷ s.1), sum_by-append f s.0 s.1, sum_by-cons f x s.1)
 
 -- how often a number is named by the numbers of a list
-count-named : (f : ℕ → List ℕ) (m xs : _) → count m (flat_map f xs) ≡ sum_by (λ (x : ℕ). count m (f x)) xs
+count-named : (f : ℕ → List ℕ) (m xs : _) → count m (flat_map f xs) ≡ sum_by (λ x. count m (f x)) xs
 count-named f m [] = refl
-count-named f m (x ∷ xs) = omega (arith, count-append m (f x) (flat_map f xs), count-named f m xs, sum_by-cons (λ (x : ℕ). count m (f x)) x xs)
+count-named f m (x ∷ xs) = omega (arith, count-append m (f x) (flat_map f xs), count-named f m xs, sum_by-cons (λ x. count m (f x)) x xs)
 
 pub named-same : (f : ℕ → List ℕ) (xs ys : _) → ((n : ℕ) → count n xs ≡ count n ys) → (m : ℕ) → count m (flat_map f xs) ≡ count m (flat_map f ys)
-named-same f xs ys same m = omega (arith, count-named f m xs, count-named f m ys, sum-same (λ (x : ℕ). count m (f x)) xs ys same)
+named-same f xs ys same m = omega (arith, count-named f m xs, count-named f m ys, sum-same (λ x. count m (f x)) xs ys same)
 
 -- the numbers below n
 abbrev pub upto : ℕ → List ℕ
@@ -70,7 +70,7 @@ count-upto m (suc n) =
       | inl w ↦ (let e = ap (λ z. count z (n ∷ [])) w.1 in omega (arith, count-same n [], past-none m n (omega (arith, w.1)), below-one m (suc n) (omega (arith, w.1))))
       | inr w ↦ elim (cases_lt m n) [
         | inl low ↦ omega (arith, count-other m n [] w.1, below-one m n low, below-one m (suc n) (omega (arith, low)))
-        | inr past ↦ omega (arith, count-other m n [] w.1, past-none m n past, past-none m (suc n) (elim (eqb_tells n m) [ inl v ↦ absurd (w.1 v.1) | inr v ↦ (let f : (n ≡ m) → ⊥ = w.1 in grind (arith, f)) ]))
+        | inr past ↦ omega (arith, count-other m n [] w.1, past-none m n past, past-none m (suc n) (elim (eqb_tells n m) [ inl v ↦ absurd (w.1 v.1) | inr v ↦ (let f = w.1 in grind (arith, f)) ]))
       ]
     ]
 

@@ -1,10 +1,10 @@
 -- How many nodes an insertion needs, counted from the leaf upwards.
-use Rattle.std.proofs.Common.{◌≡◌, ℕ, suc, ◌+◌, ◌≤◌, ◌<◌, ◌≢◌, IsTrue, true, false, Bool, add-one, ◌↔◌, ◌∷◌, ◌++◌, map, length, get_or, slice_get, Some, refl, sym, ap, ◌∙◌, arith}
-use Rattle.bforest_core.proofs.Words.{flat_map, false≢true, get_or_default, slice_get_within, Content, IsFree, entry_count, entry_capacity, Table, node, heads}
-use Rattle.bforest_core.proofs.Words.{sizes, sizes_of, numbers, leaf_gain, need, need_above, count, inner_content, leaf_content, Above, Placed}
-use Rattle.bforest_core.proofs.{rows.LevelRows.sizes-append, table.Tables.count-append, insertion.Grow.{gain_full, gain_room}, table.Stored.some_same}
-use Rattle.bforest_core.proofs.{table.Stored.item_count, insertion.LeafSpot.{LeafSpot, keys_count, leaf_spot, room_gain}, insertion.LeafParted.full_gain}
-use Rattle.bforest_core.proofs.walks.Steps.{Spot, spot}
+use Rattle.bforest_core.proofs.Words.{◌≡◌, ℕ, suc, ◌+◌, ◌≤◌, ◌<◌, ◌≢◌, IsTrue, true, false, Bool, add-one, ◌↔◌, ◌∷◌, ◌++◌, map, length, get_or, slice_get, Some}
+use Rattle.bforest_core.proofs.Words.{refl, sym, ap, ◌∙◌, arith, flat_map, false≢true, get_or_default, slice_get_within, Content, IsFree, entry_count}
+use Rattle.bforest_core.proofs.Words.{entry_capacity, Table, node, heads, sizes, sizes_of, numbers, leaf_gain, need, need_above, count, inner_content}
+use Rattle.bforest_core.proofs.{Words.{leaf_content, Above, Placed}, table.Stored.{some_same, item_count}, insertion.LeafParted.full_gain}
+use Rattle.bforest_core.proofs.{insertion.Grow.{gain_full, gain_room}, insertion.LeafSpot.{LeafSpot, keys_count, leaf_spot, room_gain}}
+use Rattle.bforest_core.proofs.{rows.LevelRows.sizes-append, table.Tables.count-append, walks.Steps.{Spot, spot}}
 
 -- a test that answers false disproves its condition
 not_so : {A : Type 0} {full : Bool} → full ≡ false → (IsTrue full ↔ A) → ¬ A
@@ -13,18 +13,16 @@ not_so none h = λ a. false≢true (sym none ∙ h.1 a)
 module _ {K V : Type 0} where
   -- the need at a full node, and at one with room
   spot_full : (t : Table K V) {ms js up size rows list p : _} → (f : Spot t.nodes ms js up size rows list p) → length f.entries ≡ 8 → need_above (Some p) (map sizes rows) ≡ suc (need_above (Some (length f.before)) (map sizes f.rest))
-  spot_full t {ms} {js} {up} f eight =
-      rw (f.rows_are, f.row_is, f.place_is, sizes-append f.before (node (get_or ms up 0) f.entries ∷ f.after), gain_full f.before (length f.entries) (get_or js up 0) (sizes f.after) f.within eight) refl
+  spot_full t f eight = rw (f.rows_are, f.row_is, f.place_is, sizes-append _ _, gain_full _ _ _ _ f.within eight) refl
 
   spot_room : (t : Table K V) {ms js up size rows list p : _} → (f : Spot t.nodes ms js up size rows list p) → length f.entries < 8 → need_above (Some p) (map sizes rows) ≡ 1
-  spot_room t {ms} {js} {up} f room =
-      rw (f.rows_are, f.row_is, f.place_is, sizes-append f.before (node (get_or ms up 0) f.entries ∷ f.after), gain_room f.before (length f.entries) (get_or js up 0) (sizes f.after) f.within room) refl
+  spot_room t f room = rw (f.rows_are, f.row_is, f.place_is, sizes-append _ _, gain_room _ _ _ _ f.within room) refl
 
   -- the need of a full leaf
   pub leaf_need_full : {most : ℕ} {t : Table K V} {ms js tree place : _} → (d : LeafSpot most t ms js tree place)
       → length (d.l ++ d.r) ≡ most → need_above (leaf_gain most place (sizes tree.leaves)).0 (map sizes tree.above) ≡ need_above
       (Some (length d.before)) (map sizes tree.above)
-  leaf_need_full {most} {t} {ms} {js} {tree} {place} d full = cc (full_gain d full)
+  leaf_need_full d full = cc (full_gain d full)
 
   -- a level above the leaves, and the test whether the path's node there is full
   module _ {t : Table K V} {ms js up size rows list p : _} (ab : Above t ms js up size rows list p) (other : up ≢ size) (wide : size ≤ length ms) (r : ℕ) where
@@ -36,7 +34,7 @@ module _ {K V : Type 0} where
 
     -- the slot of the path's node is within the table
     pub level_within : get_or ms up r < length t.nodes
-    level_within = slice_get_within t.nodes (get_or ms up r) (inner_content level.entries) level_slot
+    level_within = slice_get_within _ _ _ level_slot
 
     -- the rows above the level
     pub level_above : (rows : _) × (list : _) × (at : ℕ) × Above t ms js (up + 1) size rows list at
@@ -96,7 +94,7 @@ module _ {K V : Type 0} where
 
       -- the slot of the leaf is within the table
       pub leaf_within : get_or ms 0 r < length t.nodes
-      leaf_within = slice_get_within t.nodes (get_or ms 0 r) (leaf_content (leaf.l ++ leaf.r)) leaf_slot
+      leaf_within = slice_get_within _ _ _ leaf_slot
 
       module _ (content : Content K V) (read : slice_get t.nodes (get_or ms 0 r) ≡ Some content) where
         leaf_content_is : content ≡ leaf_content (leaf.l ++ leaf.r)

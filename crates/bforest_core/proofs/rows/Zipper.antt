@@ -1,8 +1,8 @@
 -- The parent of a level's entry on the path: the rows above the level, cut there.
-use Rattle.std.proofs.Common.{◌≡◌, ℕ, zero, suc, ◌+◌, ◌≤◌, ◌<◌, List, [], ◌∷◌, ◌++◌, length, get_or, slice_get, Some, refl, sym, ap, ◌∙◌, append_assoc, length-append, arith}
-use Rattle.bforest_core.proofs.Words.{Heads, Row, Rows, flat_map, Table, node, flat, heads, numbers, FitRow, Solid, RowIn, inner_content, count, Distinct}
-use Rattle.bforest_core.proofs.{Words.{StandsAbove, Above}, rows.LevelRows.{flat-append, FitRow-split, Solid-full}, table.Tables.{count-append, count-same}}
-use Rattle.bforest_core.proofs.table.Tables.{count-row, row-split}
+use Rattle.bforest_core.proofs.Words.{◌≡◌, ℕ, zero, suc, ◌+◌, ◌≤◌, ◌<◌, List, [], ◌∷◌, ◌++◌, length, get_or, slice_get, Some, refl, sym, ap, ◌∙◌, append_assoc}
+use Rattle.bforest_core.proofs.Words.{length-append, arith, Heads, Row, Rows, flat_map, Table, node, flat, heads, numbers, FitRow, Solid, RowIn, inner_content}
+use Rattle.bforest_core.proofs.Words.{count, Distinct, StandsAbove, Above}
+use Rattle.bforest_core.proofs.{rows.LevelRows.{flat-append, FitRow-split, Solid-full}, table.Tables.{count-append, count-same, count-row, row-split}}
 
 -- two ways to cut one list at one place are the same
 pub cut_same : {A : Type 0} (p q : List A) (x y : A) (s t : List A) → p ++ x ∷ s ≡ q ++ y ∷ t → length p ≡ length q → (p ≡ q) × (x ≡ y) × (s ≡ t)
@@ -133,7 +133,7 @@ module _ {K V : Type 0} where
     pub most_is : length (q.l ++ x ∷ q.r) ≤ 8
 
   pub spot : {t : Table K V} {ms js up size rows : _} (a x b : _) → Above t ms js up size rows (a ++ x ∷ b) (length a) → up < size → Spot t ms js up size rows a x b
-  spot {t} {ms} {js} {up} {size} {rows} a x b p low =
+  spot {t} {rows} a x b p low =
       let q = parent rows a x b p low in
       let w = cut_above p q in
       let f = facts t _ _ _ _ _ _ _ x _ _ _ w in

@@ -1,5 +1,5 @@
 -- Taking a free node and reserving nodes, over plain values.
-use Rattle.std.proofs.Common.{◌≡◌, ◌↔◌, ℕ, ◌-◌, ◌≤◌, ◌<◌, List, length, length-set, append-nil, Some, Result, Err, IsErrAnd, sym, ap, arith, ◌+◌, refl}
+use Rattle.bforest_core.proofs.Words.{◌≡◌, ◌↔◌, ℕ, ◌-◌, ◌≤◌, ◌<◌, List, length, length-set, append-nil, Some, Result, Err, IsErrAnd, sym, ap, arith, ◌+◌, refl}
 use Rattle.bforest_core.proofs.Words.{err_from_is_err_and, Content, Table, IsUsed, NeedsGrowth, room, reserved, front_of, with_node, with_front, without_front}
 use Rattle.bforest_core.proofs.{Words.{free_count, length-append, down_from, slot_count}, table.Pools.with_front-is, table.Chains.length-down_from}
 
@@ -14,7 +14,7 @@ err_iff r e f is = (λ same. (let s : e ≡ f = cc in ap Err s), λ same. (let s
 module _ {K V : Type 0} where
   -- writing the node taken from the front of the chain
   pub taken_is : (t : Table K V) {u : Table K V} {node c d : _} → front_of t.chain ≡ Some node → u ≡ without_front t t.chain → c ≡ d → with_node u node c ≡ with_front t t.chain d
-  taken_is t {node = node} {c = c} {d = d} front u_is c_is = cc (with_front-is t t.chain d front)
+  taken_is t {d = d} front u_is c_is = cc (with_front-is t _ d front)
 
   -- a used node stays used when it is written
   pub used_written : (t : Table K V) (node c : _) → IsUsed t node → IsUsed (with_node t node c) node

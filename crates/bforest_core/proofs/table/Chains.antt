@@ -1,15 +1,15 @@
 -- Chains of free nodes: how each change of the slots keeps them.
-use Rattle.std.proofs.Common.{◌≡◌, inl, inr, ℕ, ◌+◌, ◌<◌, ◌≤◌, zero, suc, true, false, List, [], ◌∷◌, ◌++◌, length, set, nat_eq, Some, refl, sym, ap, ◌∙◌, subst, arith, append_assoc, append-nil}
-use Rattle.bforest_core.proofs.Words.{list_any, IsDistinct, AllByRecursion, length-append, length_push, slice_get_within, or_parts, eqb_tells, IsDistinct-cons}
-use Rattle.bforest_core.proofs.Words.{Content, Free, chain_from, IsChain, IsFreeAt, front_of, down_from, front_of_new, fresh_nodes, false_from_ne_true}
+use Rattle.bforest_core.proofs.Words.{eqb-false, ◌≡◌, inl, inr, ℕ, ◌+◌, ◌<◌, ◌≤◌, zero, suc, true, false, List, [], ◌∷◌, ◌++◌, length, set, nat_eq, Some, refl}
+use Rattle.bforest_core.proofs.Words.{sym, ap, ◌∙◌, subst, arith, append_assoc, append-nil, list_any, IsDistinct, AllByRecursion, length-append, length_push}
+use Rattle.bforest_core.proofs.Words.{slice_get_within, or_parts, eqb_tells, IsDistinct-cons, Content, Free, chain_from, IsChain, IsFreeAt, front_of, down_from}
+use Rattle.bforest_core.proofs.Words.{front_of_new, fresh_nodes, false_from_ne_true}
 use Rattle.bforest_core.proofs.{table.Lists.{slice_get-append_left, slice_get-set_apart, slice_get-set_same}, table.Stored.slice_get_at}
-use Rattle.std.proofs.lemmas.Bool.{eqb-false}
 
 -- a number that is not in a list differs from each of its numbers
 all_apart : (x ys : _) → list_any (nat_eq x) ys ≡ false → AllByRecursion (λ y. nat_eq x y ≡ false) ys
 all_apart x [] off = tt
 all_apart x (y ∷ ys) off =
-    let parts = or_parts (nat_eq x y) (list_any (nat_eq x) ys) off in
+    let parts = or_parts _ _ off in
     (parts.0, all_apart x ys parts.1)
 
 -- a number that differs from each number of a list is not in it
@@ -36,8 +36,7 @@ module _ {K V : Type 0} where
   -- the chain read from its first node is the chain
   pub chain_from-is : (nodes : List (Content K V)) (chain first : _) → IsChain nodes chain first → chain_from nodes (length chain) first ≡ chain
   chain_from-is nodes [] first linked = refl
-  chain_from-is nodes (node ∷ rest) first linked =
-      rw (linked.1, linked.2) (ap (λ ns. node ∷ ns) (chain_from-is _ _ _ linked.3))
+  chain_from-is nodes (node ∷ rest) first linked = rw (linked.1, linked.2) (ap (λ ns. node ∷ ns) (chain_from-is _ _ _ linked.3))
 
   -- the front of the chain is its first node
   pub front_of-is : (nodes : List (Content K V)) (chain first : _) → IsChain nodes chain first → front_of chain ≡ first
@@ -48,7 +47,7 @@ module _ {K V : Type 0} where
   pub IsChain-set : (nodes : List (Content K V)) (chain first at content : _) → list_any (nat_eq at) chain ≡ false → IsChain nodes chain first → IsChain (set nodes at content) chain first
   IsChain-set nodes [] first at content off linked = linked
   IsChain-set nodes (node ∷ rest) first at content off linked =
-      let parts = or_parts (nat_eq at node) (list_any (nat_eq at) rest) off in
+      let parts = or_parts _ _ off in
       (linked.0, linked.1, slice_get-set_apart nodes at node content (λ same. eqb-false at node parts.0 (sym same)) ∙ linked.2, IsChain-set nodes rest linked.0 at content parts.1 linked.3)
 
   -- appending slots keeps the chain
@@ -99,4 +98,4 @@ module _ {K V : Type 0} where
   IsDistinct-fresh nodes chain first (suc count) linked distinct =
       let before = nodes ++ fresh_nodes (length nodes) count first in
       let size : length before ≡ length nodes + count = omega (arith, length-append nodes (fresh_nodes (length nodes) count first), length-fresh_nodes K V (length nodes) count first) in
-      IsDistinct-front (length nodes + count) _ (off_chain before _ _ (length nodes + count) (IsChain-fresh nodes chain first count linked) (omega arith)) (IsDistinct-fresh nodes chain first count linked distinct)
+      IsDistinct-front (length nodes + count) _ (off_chain _ _ _ _ (IsChain-fresh nodes chain first count linked) (omega arith)) (IsDistinct-fresh nodes chain first count linked distinct)

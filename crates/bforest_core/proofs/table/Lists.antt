@@ -1,6 +1,7 @@
 -- Lists that are read, written and cut; nothing here is about nodes.
-use Rattle.std.proofs.Common.{◌≡◌, ◌≢◌, ℕ, ◌+◌, ◌-◌, ◌<◌, ◌≤◌, List, [], ◌∷◌, ◌++◌, zero, suc, length, set, take, drop, remove, slice_get, slice_set, get_or, None, Some, refl, ap, ◌∙◌, arith, length-set}
-use Rattle.bforest_core.proofs.Words.{get_or-set_same, set-append_left, set-append_right, drop_all, take_all, append-nil, slice_get-get_or, slice_get_read}
+use Rattle.bforest_core.proofs.Words.{◌≡◌, ◌≢◌, ℕ, ◌+◌, ◌-◌, ◌<◌, ◌≤◌, List, [], ◌∷◌, ◌++◌, zero, suc, length, set, take, drop, remove, slice_get, slice_set}
+use Rattle.bforest_core.proofs.Words.{get_or, None, Some, refl, ap, ◌∙◌, arith, length-set, get_or-set_same, set-append_left, set-append_right, drop_all}
+use Rattle.bforest_core.proofs.Words.{take_all, append-nil, slice_get-get_or, slice_get_read}
 pub use Rattle.bforest_nodes.proofs.Seams.{slice_get-append-add}
 
 module _ {X : Type 0} where
@@ -16,7 +17,7 @@ module _ {X : Type 0} where
   slice_get-set_apart (y ∷ xs) zero zero x ne = absurd (ne refl)
   slice_get-set_apart (y ∷ xs) zero (suc j) x ne = refl
   slice_get-set_apart (y ∷ xs) (suc i) zero x ne = refl
-  slice_get-set_apart (y ∷ xs) (suc i) (suc j) x ne = slice_get-set_apart xs i j x (λ (e : j ≡ i). ne (ap suc e))
+  slice_get-set_apart (y ∷ xs) (suc i) (suc j) x ne = slice_get-set_apart xs i j x (λ e. ne (ap suc e))
 
   -- writing what an index holds changes nothing
   pub set-kept : (xs : List X) (at e : _) → slice_get xs at ≡ Some e → set xs at e ≡ xs
@@ -26,8 +27,7 @@ module _ {X : Type 0} where
 
   -- a write gives the element that was written
   pub slice_get-set_same : (xs : List X) (at e : _) → at < length xs → slice_get (set xs at e) at ≡ Some e
-  slice_get-set_same xs at e within =
-      slice_get-get_or (set xs at e) at e (omega (arith, length-set xs at e)) ∙ ap Some (get_or-set_same xs at e e within)
+  slice_get-set_same xs at e within = slice_get-get_or (set xs at e) at e (omega (arith, length-set xs at e)) ∙ ap Some (get_or-set_same xs at e e within)
 
   -- a write before a cut, then one right after it
   pub set-front-back : {xs : List X} (front back : List X) (low high x y : _) → xs ≡ front ++ back → length front ≡ high → low < high → set front low x ++ set back 0 y ≡ set (set xs low x) high y
@@ -44,8 +44,7 @@ module _ {X : Type 0} where
 
   -- an element that is read before a cut
   pub in_front : {xs : List X} (front back : List X) (low x : _) → xs ≡ front ++ back → low < length front → x ≡ get_or front low x → slice_get xs low ≡ Some x
-  in_front front back low x is within read =
-      cc (slice_get-append_left front back low x (slice_get_read front (length front) low x refl within read))
+  in_front front back low x is within read = cc (slice_get-append_left front back low x (slice_get_read front (length front) low x refl within read))
 
   -- the element that is read right after a cut
   pub behind : {xs : List X} (front back : List X) (high x : _) → xs ≡ front ++ back → length front ≡ high → 0 < length back → x ≡ get_or back 0 x → slice_get xs high ≡ Some x
@@ -57,7 +56,7 @@ module _ {X : Type 0} where
   pub refilled_two : (xs : List X) (i j x y n : _) → n ≡ length xs → take n (slice_set (slice_set xs i x) j y ++ drop (length (slice_set (slice_set xs i x) j y)) xs) ≡ slice_set (slice_set xs i x) j y
   refilled_two xs i j x y n size =
       let ys = slice_set (slice_set xs i x) j y in
-      let same = length-set (slice_set xs i x) j y ∙ length-set xs i x in
+      let same = length-set _ j y ∙ length-set xs i x in
       rw (drop_all (length ys) xs (omega arith), append-nil ys) (take_all n ys (omega arith))
 
   -- the rest of a list from an element on starts with it

@@ -1,10 +1,10 @@
 -- The invariant that a `NodePool` keeps of its slots, and how each change keeps it.
-use Rattle.std.proofs.Common.{◌≡◌, ℕ, ◌+◌, ◌-◌, ◌<◌, ◌≤◌, zero, suc, false, List, [], ◌∷◌, ◌++◌, length, set, slice_get, nat_eq, Some, None, refl, ap, ◌∙◌, arith, length-set, sym}
-use Rattle.bforest_core.proofs.Words.{list_any, IsDistinct, IsSome, length-append, IsDistinct-tail, IsDistinct-head, length-le_from_distinct_below, Content}
-use Rattle.bforest_core.proofs.Words.{Free, IsLeafCapacity, next_of, chain_from, IsChain, IsPool, Table, IsUsed, down_from, front_of, front_of_new, fresh_nodes}
-use Rattle.bforest_core.proofs.{Words.{or_parts, with_node, without_front, with_front}, table.Chains.{none_apart, IsDistinct-front, length-fresh_nodes}}
-use Rattle.bforest_core.proofs.table.Chains.{length-down_from, chain_from-is, IsChain-set, IsChain-below, IsChain-fresh, IsChain-freed, IsDistinct-fresh}
-use Rattle.std.proofs.lemmas.Bool.{eqb-false}
+use Rattle.bforest_core.proofs.Words.{eqb-false, ◌≡◌, ℕ, ◌+◌, ◌-◌, ◌<◌, ◌≤◌, zero, suc, false, List, [], ◌∷◌, ◌++◌, length, set, slice_get, nat_eq, Some, None}
+use Rattle.bforest_core.proofs.Words.{refl, ap, ◌∙◌, arith, length-set, sym, list_any, IsDistinct, IsSome, length-append, IsDistinct-tail, IsDistinct-head}
+use Rattle.bforest_core.proofs.Words.{length-le_from_distinct_below, Content, Free, IsLeafCapacity, next_of, chain_from, IsChain, IsPool, Table, IsUsed}
+use Rattle.bforest_core.proofs.table.Chains.{none_apart, IsDistinct-front, length-fresh_nodes, length-down_from, chain_from-is, IsChain-set, IsChain-below}
+use Rattle.bforest_core.proofs.Words.{down_from, front_of, front_of_new, fresh_nodes, or_parts, with_node, without_front, with_front}
+use Rattle.bforest_core.proofs.table.Chains.{IsChain-fresh, IsChain-freed, IsDistinct-fresh}
 
 module _ {K V : Type 0} where
   -- a chain of `free` different free nodes makes a pool, which reads back that chain
@@ -22,13 +22,13 @@ module _ {K V : Type 0} where
   -- a write to a slot that is not on the chain keeps the chain
   pub IsPool-set : {n : ℕ} {nodes : List (Content K V)} {first free limit : _} (at : ℕ) (content : Content K V) → list_any (nat_eq at) (chain_from nodes free first) ≡ false → IsPool n nodes first free limit →
       IsPool n (set nodes at content) first free limit × (chain_from (set nodes at content) free first ≡ chain_from nodes free first)
-  IsPool-set {n = n} {nodes = nodes} {first = first} {free = free} {limit = limit} at content off pool =
+  IsPool-set {nodes = nodes} {first = first} {free = free} {limit = limit} at content off pool =
       IsPool-made (set nodes at content) (chain_from nodes free first) first free limit pool.capacity (IsChain-set nodes _ first at content off pool.linked) pool.counted pool.distinct (omega (arith, length-set nodes at content)) pool.limit_within
 
   -- writes to two slots that are not on the chain keep the chain
   pub IsPool-set_two : {n : ℕ} (nodes : List (Content K V)) (first free limit : _) {left right : ℕ} (l r : Content K V) {t : Table K V} {a b : ℕ} → record { nodes = nodes; chain = chain_from nodes free first; limit = limit } ≡ t → left ≡ a → right ≡ b →
       list_any (nat_eq a) t.chain ≡ false → list_any (nat_eq b) t.chain ≡ false → IsPool n nodes first free limit → IsPool n (set (set nodes left l) right r) first free limit × (chain_from (set (set nodes left l) right r) free first ≡ chain_from nodes free first)
-  IsPool-set_two {n = n} nodes first free limit {left = left} {right = right} l r {t = t} {a = a} {b = b} view left_is right_is off_a off_b pool =
+  IsPool-set_two nodes first free limit {left = left} {right = right} l r view left_is right_is off_a off_b pool =
       let once = IsPool-set left l (rw (← view, ← left_is) at off_a) pool in
       let twice = IsPool-set right r (cc) once.0 in
       (twice.0, cc)
@@ -40,7 +40,7 @@ module _ {K V : Type 0} where
   -- at most as many nodes are free as there are slots
   pub free_within : {n : _} (nodes : List (Content K V)) (first free : _) {limit : _} → IsPool n nodes first free limit → free ≤ length nodes
   free_within nodes first free pool =
-      let most = length-le_from_distinct_below (chain_from nodes free first) (length nodes) pool.distinct (IsChain-below nodes _ first pool.linked) in
+      let most = length-le_from_distinct_below _ _ pool.distinct (IsChain-below nodes _ first pool.linked) in
       omega arith
 
   -- a used slot is freed and put in front of the chain
@@ -91,7 +91,7 @@ module _ {K V : Type 0} where
       let distinct : IsDistinct nat_eq (node ∷ tail) = rw after at pool.distinct in
       let counted : length tail ≡ count = omega (arith, rw after at pool.counted) in
       let made = IsPool-made nodes tail next count limit pool.capacity (rw (after, same) at pool.linked.3) counted (IsDistinct-tail nat_eq node tail distinct) pool.slots_within pool.limit_within in
-      rw (less, after) (made.0, refl, none_apart node tail (IsDistinct-head nat_eq node tail distinct))
+      rw (less, after) (made.0, refl, none_apart _ _ (IsDistinct-head nat_eq node tail distinct))
 
   -- taking the front off the chain keeps the slots
   pub nodes-without_front : (table : Table K V) (chain : _) → (without_front table chain).nodes ≡ table.nodes
@@ -101,7 +101,7 @@ module _ {K V : Type 0} where
   -- a number that is not on the chain is not on the chain without its front
   pub off-without_front : (table : Table K V) (chain node : _) → table.chain ≡ chain → list_any (nat_eq node) chain ≡ false → list_any (nat_eq node) (without_front table chain).chain ≡ false
   off-without_front table [] node is off = rw is off
-  off-without_front table (front ∷ rest) node is off = (or_parts (nat_eq node front) (list_any (nat_eq node) rest) off).1
+  off-without_front table (front ∷ rest) node is off = (or_parts _ _ off).1
 
   -- writing the taken front of the chain
   pub with_front-is : (table : Table K V) (chain : _) {node : ℕ} (content : Content K V) → front_of chain ≡ Some node → with_front table chain content ≡ with_node (without_front table chain) node content
@@ -117,4 +117,4 @@ pub apart_front : (chain : _) {node front : ℕ} → front_of chain ≡ Some fro
 apart_front [] is off e = cc
 apart_front (first ∷ rest) {node = node} {front = front} is off e =
     let same : first ≡ front = cc in
-    eqb-false node first (or_parts (nat_eq node first) (list_any (nat_eq node) rest) off).0 (sym (same ∙ e))
+    eqb-false node first (or_parts _ _ off).0 (sym (same ∙ e))

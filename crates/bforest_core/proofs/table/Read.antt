@@ -1,9 +1,8 @@
 -- A tree in a table equals the tree that is computed from the table at its root.
-use Rattle.std.proofs.Common.{◌≡◌, ℕ, suc, ◌+◌, ◌-◌, ◌≤◌, List, [], ◌∷◌, ◌++◌, map, length, slice_get, Some, None, refl, sym, ap, ◌∙◌, arith}
-use Rattle.bforest_core.proofs.Words.{Row, flat_map, zip, length-map, map-append, take_at, drop_at, get_or_from_slice_get, Content, Free, children_of, node}
-use Rattle.bforest_core.proofs.Words.{flat, heads, numbers, FitRow, Stacked, Tree, IsFit, half_of, RowIn, RowsIn, IsIn, leaf_content, inner_content, entry_keys}
-use Rattle.bforest_core.proofs.Words.{entry_items, root_above, root_of, slot, entries_of, levels_below, leaf_row, inner_row, inner_rows, tree_of}
-use Rattle.bforest_core.proofs.rows.LevelRows.{least-pos}
+use Rattle.bforest_core.proofs.Words.{◌≡◌, ℕ, suc, ◌+◌, ◌-◌, ◌≤◌, List, [], ◌∷◌, ◌++◌, map, length, slice_get, Some, refl, sym, ap, ◌∙◌, arith, Row, flat_map}
+use Rattle.bforest_core.proofs.Words.{zip, length-map, map-append, take_at, drop_at, get_or_from_slice_get, Content, children_of, node, flat, heads, numbers}
+use Rattle.bforest_core.proofs.Words.{FitRow, Stacked, Tree, IsFit, half_of, RowIn, RowsIn, IsIn, leaf_content, inner_content, entry_keys, entry_items}
+use Rattle.bforest_core.proofs.{Words.{root_above, root_of, slot, entries_of, levels_below, leaf_row, inner_row, inner_rows, tree_of}, rows.LevelRows.least-pos}
 
 -- the heads of a row have its numbers
 pub items-heads : {K X : Type 0} (half most : ℕ) → 1 ≤ half → (row : Row K X) → FitRow half most row → entry_items (heads row) ≡ numbers row
@@ -35,18 +34,18 @@ zip-back (e ∷ es) = cc (zip-back es)
 module _ {K V : Type 0} where
   -- the content of a slot that is read
   pub slot-is : (slots : List (Content K V)) (m content : _) → slice_get slots m ≡ Some content → slot slots m ≡ content
-  slot-is slots m content found = get_or_from_slice_get slots m content (Free None) found
+  slot-is slots m content found = get_or_from_slice_get _ m _ _ found
 
   -- the children of a row are the items of its entries
   pub children-row : (slots : List (Content K V)) (row : _) → RowIn inner_content slots row → flat_map (λ m. children_of (slot slots m)) (numbers row) ≡ entry_items (flat row)
   children-row slots [] i = refl
   children-row slots (node m es ∷ ns) i =
-      rw (slot-is slots m (inner_content es) i.0, map-append (λ (e : K × ℕ). e.1) es (flat ns)) (ap (λ z. entry_items es ++ z) (children-row slots ns i.1))
+      rw (slot-is _ m _ i.0, map-append (λ (e : K × ℕ). e.1) _ _) (ap (λ z. entry_items es ++ z) (children-row slots ns i.1))
 
   -- leaves have no children
   pub children-leaves : (slots : List (Content K V)) (row : _) → RowIn leaf_content slots row → flat_map (λ m. children_of (slot slots m)) (numbers row) ≡ []
   children-leaves slots [] i = refl
-  children-leaves slots (node m es ∷ ns) i = rw (slot-is slots m (leaf_content es) i.0) (children-leaves slots ns i.1)
+  children-leaves slots (node m es ∷ ns) i = rw (slot-is _ m _ i.0) (children-leaves slots ns i.1)
 
   -- one level down, from the nodes of a level to their children
   down-row : (slots : List (Content K V)) (f ms cs up : _) → flat_map (λ m. children_of (slot slots m)) ms ≡ cs → 1 ≤ length cs → levels_below slots (suc f) ms up ≡ levels_below slots f cs (ms ∷ up)
@@ -67,8 +66,7 @@ module _ {K V : Type 0} where
   -- the row of the leaves is read back
   leaves-back : (slots : List (Content K V)) (row : _) → RowIn leaf_content slots row → leaf_row slots (numbers row) ≡ row
   leaves-back slots [] l = refl
-  leaves-back slots (node m es ∷ ns) l =
-      rw ((ap entries_of (slot-is _ m _ l.0) ∙ zip-back es), leaves-back slots ns l.1) refl
+  leaves-back slots (node m es ∷ ns) l = rw ((ap entries_of (slot-is _ m _ l.0) ∙ zip-back es), leaves-back slots ns l.1) refl
 
   inners-back : (slots : List (Content K V)) (row : _) → RowIn inner_content slots row → inner_row slots (flat row) (numbers row) ≡ row
   inners-back slots [] i = refl
@@ -79,7 +77,7 @@ module _ {K V : Type 0} where
   rows-back : (slots : List (Content K V)) (hs rows : _) → Stacked hs rows → RowsIn slots rows → inner_rows slots hs (map numbers rows) ≡ rows
   rows-back slots hs [] s i = refl
   rows-back slots hs (row ∷ rows) s i =
-      rw ((ap (λ z. inner_row slots z (numbers row)) (sym s.0) ∙ inners-back slots row i.0), rows-back slots (heads row) rows s.2 i.1) refl
+      rw ((ap (λ z. inner_row slots z (numbers row)) (sym s.0) ∙ inners-back _ _ i.0), rows-back slots (heads row) rows s.2 i.1) refl
 
   -- a fit tree with an entry, at most 17 levels high, is computed from any table that it is in
   pub read-back : (most : _) {slots : _} (tree : Tree K V) → IsFit most tree → IsIn slots tree → 1 ≤ length (flat tree.leaves) → length tree.above ≤ 16 → tree_of slots (root_of tree) ≡ tree
@@ -91,4 +89,4 @@ module _ {K V : Type 0} where
       let d = down-all _ _ _ _ fit.stacked inside.rows_in (heads-some tree.leaves some) in
       let a : levels_below slots 17 (root_of tree ∷ []) [] ≡ numbers tree.leaves ∷ map numbers tree.above =
       ap (λ z. levels_below slots z (root_of tree ∷ []) []) ef ∙ d ∙ ap (λ z. levels_below slots (suc g) z (map numbers tree.above)) (items-heads _ _ one _ fit.leaves_fit) ∙ (let e = children-leaves slots tree.leaves inside.leaves_in in rw (e, levels_below) refl) in
-      rw a (let b = leaves-back slots tree.leaves inside.leaves_in in rw (b, rows-back slots (heads tree.leaves) tree.above fit.stacked inside.rows_in) refl)
+      rw a (let b = leaves-back slots tree.leaves inside.leaves_in in rw (b, rows-back _ _ _ fit.stacked inside.rows_in) refl)

@@ -1,7 +1,8 @@
 -- Nodes as stored in their slots: with one more child or entry, and cut.
-use Rattle.std.proofs.Common.{◌≡◌, ℕ, zero, suc, ◌+◌, ◌-◌, ◌≤◌, List, [], ◌∷◌, ◌++◌, map, length, drop, insert, slice_get, Some, refl, sym, ap, ◌∙◌, subst, append_assoc, length-append, arith}
-use Rattle.bforest_core.proofs.Words.{Heads, length-map, map-append, take_at, drop_at, length-drop, Content, Inner, Leaf, Free, IsFree, IsInner, IsCut}
-use Rattle.bforest_core.proofs.Words.{children_of, entry_count, with_child, with_entry, inner_content, leaf_content, entry_keys, entry_items}
+use Rattle.bforest_core.proofs.Words.{◌≡◌, ℕ, zero, suc, ◌+◌, ◌-◌, ◌≤◌, List, [], ◌∷◌, ◌++◌, map, length, drop, insert, slice_get, Some, refl, sym, ap, ◌∙◌}
+use Rattle.bforest_core.proofs.Words.{subst, append_assoc, length-append, arith, Heads, length-map, map-append, take_at, drop_at, length-drop, Content, Inner}
+use Rattle.bforest_core.proofs.Words.{Leaf, Free, IsFree, IsInner, IsCut, children_of, entry_count, with_child, with_entry, inner_content, leaf_content}
+use Rattle.bforest_core.proofs.Words.{entry_keys, entry_items}
 
 pub some_same : {A : Type 0} → (x y : A) → Some x ≡ Some y → x ≡ y
 some_same x y e = cc
@@ -21,7 +22,7 @@ slice_get_at (z ∷ p) y ys zero e = absurd (omega arith)
 slice_get_at (z ∷ p) y ys (suc n) e = slice_get_at p y ys n (omega arith)
 
 drop-behind : {A : Type 0} (p : List A) (y : A) (ys : List A) (n : ℕ) → suc (length p) ≡ n → drop n (p ++ y ∷ ys) ≡ ys
-drop-behind p y ys n e = cc (append_assoc p (y ∷ []) ys, drop_at (p ++ y ∷ []) ys n (length-append p (y ∷ []) ∙ omega arith))
+drop-behind p y ys n e = cc (append_assoc p _ _, drop_at (p ++ y ∷ []) ys n (length-append p _ ∙ omega arith))
 
 -- inserting after an element of a mapped list
 insert_after : {X Y : Type 0} (f : X → Y) (l : List X) (x : X) (r : List X) (y : X) → insert (map f (l ++ x ∷ r)) (suc (length l)) (f y) ≡ map f (l ++ x ∷ y ∷ r)
@@ -39,7 +40,7 @@ insert_at f (z ∷ l) r y = cc (insert_at f l r y)
 
 -- an inner node has one key fewer than entries
 pub key_count : {K : Type 0} → (es : Heads K) → length (drop 1 (entry_keys es)) ≡ length es - 1
-key_count es = cc (length-drop 1 (entry_keys es), length-map es (λ w. w.0))
+key_count es = cc (length-drop 1 _, length-map es (λ w. w.0))
 
 pub item_count : {K X : Type 0} → (es : List (K × X)) → length (entry_items es) ≡ length es
 item_count es = length-map es (λ w. w.1)
@@ -78,11 +79,11 @@ module _ {K : Type 0} (V : Type 0) where
   -- the parts of an inner node after its first `q` children
   pub inner_cuts : (x xs y ys q : _) (left right : Content K V) (key : K) → length (x ∷ xs) ≡ q → IsCut (inner_content ((x ∷ xs) ++ y ∷ ys)) q left key right → Parts inner_content (x ∷ xs) y ys left right key
   inner_cuts x xs y ys q left right key e c =
-      let kl : length (entry_keys xs) ≡ q - 1 = length-map xs (λ (w : K × ℕ). w.0) ∙ omega arith in
-      let kl2 = ap suc (length-map xs (λ (w : K × ℕ). w.0)) ∙ e in
-      let il = length-map (x ∷ xs) (λ (w : K × ℕ). w.1) ∙ e in
-      let k = map-append (λ (w : K × ℕ). w.0) xs (y ∷ ys) in
-      let i = map-append (λ (w : K × ℕ). w.1) (x ∷ xs) (y ∷ ys) in
+      let kl : length (entry_keys xs) ≡ q - 1 = length-map xs (λ w. w.0) ∙ omega arith in
+      let kl2 = ap suc (length-map xs (λ w. w.0)) ∙ e in
+      let il = length-map (x ∷ xs) (λ w. w.1) ∙ e in
+      let k = map-append (λ w. w.0) xs (y ∷ ys) in
+      let i = map-append (λ w. w.1) (x ∷ xs) (y ∷ ys) in
       record {
         left_is = rw (k, i, take_at (entry_keys xs) (y.0 ∷ entry_keys ys) (q - 1) kl, take_at (entry_items (x ∷ xs)) (y.1 ∷ entry_items ys) q il) at c.left_is;
         right_is = rw (k, i, drop-behind (entry_keys xs) y.0 (entry_keys ys) q kl2, drop_at (entry_items (x ∷ xs)) (y.1 ∷ entry_items ys) q il) at c.right_is;
@@ -96,10 +97,10 @@ module _ {K : Type 0} (V : Type 0) where
   -- the parts of a leaf after its first `q` entries
   pub leaf_cuts : (xs : List (K × V)) (y ys q left right key : _) → length xs ≡ q → IsCut (leaf_content (xs ++ y ∷ ys)) q left key right → Parts leaf_content xs y ys left right key
   leaf_cuts xs y ys q left right key e c =
-      let kl = length-map xs (λ (w : K × V). w.0) ∙ e in
-      let il = length-map xs (λ (w : K × V). w.1) ∙ e in
-      let k = map-append (λ (w : K × V). w.0) xs (y ∷ ys) in
-      let i = map-append (λ (w : K × V). w.1) xs (y ∷ ys) in
+      let kl = length-map xs (λ w. w.0) ∙ e in
+      let il = length-map xs (λ w. w.1) ∙ e in
+      let k = map-append (λ w. w.0) xs (y ∷ ys) in
+      let i = map-append (λ w. w.1) xs (y ∷ ys) in
       record {
         left_is = rw (k, i, take_at (entry_keys xs) (y.0 ∷ entry_keys ys) q kl, take_at (entry_items xs) (y.1 ∷ entry_items ys) q il) at c.left_is;
         right_is = rw (k, i, drop_at (entry_keys xs) (y.0 ∷ entry_keys ys) q kl, drop_at (entry_items xs) (y.1 ∷ entry_items ys) q il) at c.right_is;

@@ -1,7 +1,7 @@
 -- Counting numbers, and rows that a change of the table leaves unchanged.
-use Rattle.std.proofs.Common.{◌≡◌, ℕ, zero, suc, ◌+◌, ◌<◌, ◌≢◌, false, nat_eq, List, [], ◌∷◌, ◌++◌, length, set, slice_get, Some, refl, sym, ap, ◌∙◌, inl, inr, length-set, arith}
-use Rattle.bforest_core.proofs.Words.{Row, Rows, flat_map, list_any, eqb_tells, Content, Table, with_node, with_front, front_of, IsUsed, slice_get_within, node}
-use Rattle.bforest_core.proofs.{Words.{numbers, RowIn, RowsIn, count}, rows.LevelRows.numbers-append}
+use Rattle.bforest_core.proofs.Words.{◌≡◌, ℕ, zero, suc, ◌+◌, ◌<◌, ◌≢◌, false, nat_eq, List, [], ◌∷◌, ◌++◌, length, set, slice_get, Some, refl, sym, ap, ◌∙◌}
+use Rattle.bforest_core.proofs.Words.{inl, inr, length-set, arith, Row, Rows, flat_map, list_any, eqb_tells, Content, Table, with_node, with_front, front_of}
+use Rattle.bforest_core.proofs.{Words.{IsUsed, slice_get_within, node, numbers, RowIn, RowsIn, count}, rows.LevelRows.numbers-append}
 pub use Rattle.bforest_core.proofs.table.Lists.{slice_get-set_apart, slice_get-set_same}
 
 pub count-append : (n xs ys : _) → count n (xs ++ ys) ≡ count n xs + count n ys
@@ -15,10 +15,10 @@ pub count-other : (n m ms : _) → m ≢ n → count n (m ∷ ms) ≡ count n ms
 count-other n m ms ne = elim (eqb_tells m n) [ inl w ↦ absurd (ne w.1) | inr w ↦ (let e = w.0 in rw e (omega arith)) ]
 
 pub ne_from_count : (m n ms : _) → 0 < count m ms → count n ms ≡ 0 → m ≢ n
-ne_from_count m n ms some none = λ (e : m ≡ n). let h = ap (λ z. count z ms) e in omega arith
+ne_from_count m n ms some none = λ e. let h = ap (λ z. count z ms) e in omega arith
 
 pub absent_ne : (m x ms : _) → count m (x ∷ ms) ≡ 0 → m ≢ x
-absent_ne m x ms z = λ (e : m ≡ x). let c = count-same x ms in let f = ap (λ w. count w (x ∷ ms)) e in omega arith
+absent_ne m x ms z = λ e. let c = count-same x ms in let f = ap (λ w. count w (x ∷ ms)) e in omega arith
 
 pub count-row : {K X : Type 0} (k : ℕ) (before : Row K X) (n : ℕ) (es : List (K × X)) (after : Row K X) → count k (numbers (before ++ node n es ∷ after)) ≡ count k (numbers before) + count k (n ∷ numbers after)
 count-row k before n es after = ap (λ z. count k z) (numbers-append _ _) ∙ count-append k _ _
@@ -28,8 +28,7 @@ pub counts : {K X : Type 0} (m : ℕ) (before : Row K X) (n : ℕ) (es : List (K
     (count m (numbers (before ++ node n es ∷ after)) ≡ count m (numbers before) + count m (n ∷ numbers after))
     × (count m (numbers (before ++ node n es ∷ after) ++ flat_map numbers rest) ≡ count m (numbers (before ++ node n es ∷ after)) + count m (flat_map numbers rest))
     × (count m ((numbers (before ++ node n es ∷ after) ++ flat_map numbers rest) ++ chain) ≡ count m (numbers (before ++ node n es ∷ after) ++ flat_map numbers rest) + count m chain)
-counts m before n es after rest chain =
-    (count-row m before n es after, count-append m _ _, count-append m _ _)
+counts m before n es after rest chain = (count-row m _ n _ _, count-append m _ _, count-append m _ _)
 
 -- a number that does not occur on the chain is not found there
 pub off_chain : (n ms : _) → count n ms ≡ 0 → list_any (nat_eq n) ms ≡ false
@@ -45,7 +44,7 @@ set_here (y ∷ xs) (suc i) x e = cc (set_here xs i x e)
 
 module _ {K V : Type 0} where
   pub is_used : (t : Table K V) (n c : _) → slice_get t.nodes n ≡ Some c → count n t.chain ≡ 0 → IsUsed t n
-  is_used t n c found none = record { within = slice_get_within t.nodes n c found; off_chain = off_chain n t.chain none }
+  is_used t n c found none = record { within = slice_get_within _ n c found; off_chain = off_chain n _ none }
 
   module _ {X : Type 0} (content : List (K × X) → Content K V) where
     -- a row in a table is in any other table that agrees on its slots
@@ -71,7 +70,7 @@ module _ {K V : Type 0} where
         let s = row-split t _ _ i in
         let kept = λ (m : ℕ) (ms : List ℕ) (some : 0 < count m ms) (a : count n ms ≡ 0) (b : count q ms ≡ 0). same m (ne_from_count m n ms some a) (ne_from_count m q ms some b) in
         row-join u _ _ (row-same t u before (λ m some. kept m (numbers before) some (omega arith) (omega arith)) s.0)
-        (row-join u new after here (row-same t u after (λ m some. kept m (numbers after) some (omega arith) (omega arith)) (row-split t old after s.1).1))
+        (row-join u _ _ here (row-same t u after (λ m some. kept m (numbers after) some (omega arith) (omega arith)) (row-split t _ _ s.1).1))
 
     -- one node of a row is written
     pub row-put : (t u before n es fs after : _) → RowIn content t (before ++ node n es ∷ after) →
@@ -111,21 +110,15 @@ module _ {K V : Type 0} where
   pub puts : (t u : Table K V) (n c old : _) → slice_get t.nodes n ≡ Some old → u ≡ with_node t n c → Puts t u n c
   puts t u n c old found is =
       record {
-        here = cc (slice_get-set_same t.nodes n c (slice_get_within t.nodes n old found));
-        same = λ m ne. cc (slice_get-set_apart t.nodes n m c ne);
+        here = cc (slice_get-set_same _ n c (slice_get_within _ n _ found));
+        same = λ m ne. cc (slice_get-set_apart _ n m c ne);
         chain_is = cc;
-        slots_are = cc (length-set t.nodes n c);
+        slots_are = cc (length-set _ n c);
         limit_is = cc;
       }
 
   pub puts-then : {t u v n c d : _} → Puts t u n c → Puts u v n d → Puts t v n d
-  puts-then p q = record {
-    here = q.here;
-    same = λ m ne. q.same m ne ∙ p.same m ne;
-    chain_is = cc;
-    slots_are = cc;
-    limit_is = cc;
-  }
+  puts-then p q = record { here = q.here; same = λ m ne. q.same m ne ∙ p.same m ne; chain_is = cc; slots_are = cc; limit_is = cc }
 
   -- the front of the chain was written, and taken off it
   pub record Takes (t u : Table K V) (n : ℕ) (c : Content K V) : Type 0 where
@@ -141,17 +134,17 @@ module _ {K V : Type 0} where
       let same : m ≡ n = cc in
       let after2 = after ∙ ap (λ z. with_front t (z ∷ rest) c) same in
       record {
-        here = cc (slice_get-set_same t.nodes n c low);
-        same = λ k ne. cc (slice_get-set_apart t.nodes n k c ne);
+        here = cc (slice_get-set_same _ n c low);
+        same = λ k ne. cc (slice_get-set_apart _ n k c ne);
         chain_is = cc (same);
-        slots_are = cc (length-set t.nodes n c);
+        slots_are = cc (length-set _ n c);
         limit_is = cc;
       }
 
   pub takes : (t u : Table K V) (n c : _) → front_of t.chain ≡ Some n → u ≡ with_front t t.chain c → n < length t.nodes → Takes t u n c
-  takes t u n c front after low = takes_at t u n c t.chain refl front after low
+  takes t u n c front after low = takes_at t u n c _ refl front after low
 
   -- writing the front of the chain keeps the number of slots
   pub length-with_front : (t : Table K V) (chain c : _) → length (with_front t chain c).nodes ≡ length t.nodes
   length-with_front t [] c = refl
-  length-with_front t (n ∷ chain) c = length-set t.nodes n c
+  length-with_front t (n ∷ chain) c = length-set _ n c

@@ -1,14 +1,15 @@
 -- The free nodes and the nodes of all trees add up to the slots.
-use Rattle.std.proofs.Common.{◌≡◌, ℕ, zero, suc, ◌+◌, ◌<◌, ◌≢◌, if◌then◌else◌, nat_eq, Bool, true, false, List, [], ◌∷◌, ◌++◌, map, length, refl, sym, ap, ◌∙◌, subst, inl, inr, length-append, append_assoc, arith}
-use Rattle.bforest_core.proofs.Words.{Row, Rows, flat_map, sum_by, and_parts, cases_lt, false≢true, eqb_tells, sum_by-cons, Content, children_of, Table, node}
-use Rattle.bforest_core.proofs.Words.{sizes, numbers, sizes_of, Tree, count, root_of, numbers_of, is_used, tree_of, is_root, IsForest, IsUnion}
-use Rattle.bforest_core.proofs.{table.Tables.count-other, rows.Counts.{once_below, below-one, sum-same, upto, count-upto}, union.Forests.root-counts}
-use Rattle.bforest_core.proofs.union.Forests.{roots-once, tree-back, used_within}
+use Rattle.bforest_core.proofs.Words.{◌≡◌, ℕ, zero, suc, ◌+◌, ◌<◌, ◌≢◌, if◌then◌else◌, nat_eq, Bool, true, false, List, [], ◌∷◌, ◌++◌, map, length, refl, sym}
+use Rattle.bforest_core.proofs.Words.{ap, ◌∙◌, subst, inl, inr, length-append, append_assoc, arith, Row, Rows, flat_map, sum_by, and_parts, cases_lt}
+use Rattle.bforest_core.proofs.Words.{false≢true, eqb_tells, sum_by-cons, Content, children_of, Table, node, sizes, numbers, sizes_of, Tree, count, root_of}
+use Rattle.bforest_core.proofs.{Words.{numbers_of, is_used, tree_of, is_root, IsForest, IsUnion}, table.Tables.count-other}
+use Rattle.bforest_core.proofs.rows.Counts.{once_below, below-one, sum-same, upto, count-upto}
+use Rattle.bforest_core.proofs.union.Forests.{root-counts, roots-once, tree-back, used_within}
 
 -- the length of a list is a sum of ones
 length-sum : (xs : _) → length xs ≡ sum_by (λ (n : ℕ). 1) xs
 length-sum [] = refl
-length-sum (x ∷ xs) = omega (arith, length-sum xs, sum_by-cons (λ (n : ℕ). 1) x xs)
+length-sum (x ∷ xs) = omega (arith, length-sum xs, sum_by-cons (λ n. 1) x xs)
 
 pub length-same : (xs ys : _) → ((n : ℕ) → count n xs ≡ count n ys) → length xs ≡ length ys
 length-same xs ys same = omega (arith, length-sum xs, length-sum ys, sum-same (λ n. 1) xs ys same)
@@ -45,7 +46,7 @@ count-kept p m (x ∷ xs) =
     here false e ih = let k = ap (λ z. if z then count m xs else 0) e in rw e (omega arith)
 
     there : (b : Bool) → p x ≡ b → x ≢ m → count m (kept p xs) ≡ (if p m then count m xs else 0) → count m (kept p (x ∷ xs)) ≡ (if p m then count m (x ∷ xs) else 0)
-    there true e ne ih = rw e (cc (count-other m x (kept p xs) ne, count-other m x xs ne))
+    there true e ne ih = rw e (cc (count-other m x _ ne, count-other m x xs ne))
     there false e ne ih = rw e (cc (count-other m x xs ne))
 
 module _ {K V : Type 0} where
@@ -68,10 +69,10 @@ module _ {K V : Type 0} where
   -- the roots are the numbers of slots that pass the test
   roots-kept : {most : _} (table : Table K V) (trees : _) → IsForest most table trees → (m : ℕ) → count m (map root_of trees) ≡ count m (kept (is_root table.nodes) (upto (length table.nodes)))
   roots-kept table trees f m =
-      cc (by (is_root table.nodes m) refl, count-kept (is_root table.nodes) m (upto (length table.nodes)), count-upto m (length table.nodes))
+      cc (by _ refl, count-kept _ m _, count-upto m _)
     where
       by : (b : Bool) → is_root table.nodes m ≡ b → count m (map root_of trees) ≡ (if is_root table.nodes m then once_below m (length table.nodes) else 0)
-      by true e = let k = ap (λ z. if z then once_below m (length table.nodes) else 0) e in omega (arith, roots-once table f m, (root-counts f m).0 e, below-one m (length table.nodes) (root-within _ m e))
+      by true e = let k = ap (λ z. if z then once_below m (length table.nodes) else 0) e in omega (arith, roots-once table f m, (root-counts f m).0 e, below-one m _ (root-within _ m e))
       by false e =
           let k = ap (λ z. if z then once_below m (length table.nodes) else 0) e in
           elim (cases_lt 0 (count m (map root_of trees))) [ inl some ↦ absurd (false≢true (sym e ∙ (root-counts f m).1 some)) | inr past ↦ omega arith ]
@@ -91,10 +92,10 @@ row-count : {K X : Type 0} (row : Row K X) → length (numbers row) ≡ length (
 row-count [] = refl
 row-count (node m es ∷ row) = ap suc (row-count row)
 
-rows-count : {K : Type 0} (rows : Rows K) → length (flat_map numbers rows) ≡ sum_by (λ (s : List ℕ). length s) (map sizes rows)
+rows-count : {K : Type 0} (rows : Rows K) → length (flat_map numbers rows) ≡ sum_by (λ s. length s) (map sizes rows)
 rows-count [] = refl
-rows-count (row ∷ rows) = omega (arith, length-append (numbers row) (flat_map numbers rows), row-count row, rows-count rows, sum_by-cons (λ (s : List ℕ). length s) (sizes row) (map sizes rows))
+rows-count (row ∷ rows) = omega (arith, length-append (numbers row) (flat_map numbers rows), row-count row, rows-count rows, sum_by-cons (λ s. length s) (sizes row) (map sizes rows))
 
 -- a tree has as many nodes as all its levels together
-pub nodes-count : {K V : Type 0} (tree : Tree K V) → length (numbers_of tree) ≡ sum_by (λ (s : List ℕ). length s) (sizes_of tree)
-nodes-count tree = omega (arith, length-append (numbers tree.leaves) (flat_map numbers tree.above), row-count tree.leaves, rows-count tree.above, sum_by-cons (λ (s : List ℕ). length s) (sizes tree.leaves) (map sizes tree.above))
+pub nodes-count : {K V : Type 0} (tree : Tree K V) → length (numbers_of tree) ≡ sum_by (λ s. length s) (sizes_of tree)
+nodes-count tree = omega (arith, length-append (numbers tree.leaves) (flat_map numbers tree.above), row-count tree.leaves, rows-count tree.above, sum_by-cons (λ s. length s) (sizes tree.leaves) (map sizes tree.above))

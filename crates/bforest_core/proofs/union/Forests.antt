@@ -1,11 +1,11 @@
 -- The trees of a table as a witness and as computed: the roots are the roots of the trees.
-use Rattle.std.proofs.Common.{◌≡◌, ℕ, ◌+◌, ◌≤◌, ◌<◌, ◌↔◌, nat_eq, IsTrue, true, false, List, [], ◌∷◌, ◌++◌, map, length, None, refl, sym, ap, ◌∙◌, inl, inr, arith}
-use Rattle.bforest_core.proofs.Words.{IsLeafCapacity, nil_from_length, flat_map, map-append, get_or_past, flat_map-append, and_parts, cases_lt, eqb_tells}
-use Rattle.bforest_core.proofs.Words.{Content, Inner, Leaf, Free, IsFree, children_of, Table, flat, heads, numbers, Stacked, Tree, IsFit, half_of, IsRooted}
-use Rattle.bforest_core.proofs.Words.{RowsIn, IsIn, entry_items, count, root_above, root_of, numbers_of, slot, is_used, tree_of, is_root, Every, IsForest}
-use Rattle.bforest_core.proofs.{table.Tables.{count-append, count-same, count-other}, table.Read.{items-heads, half-some, slot-is, children-row}}
-use Rattle.bforest_core.proofs.{table.Read.{children-leaves, read-back}, table.Stored.{childless, inner_used}, union.FreeSlots.free-at, rows.Counts.below-one}
-use Rattle.bforest_core.proofs.{rows.Counts.{past-none, at-most-one, named_by, all-named}, walks.TopNode.node_under, walks.Whole.whole_under}
+use Rattle.bforest_core.proofs.Words.{◌≡◌, ℕ, ◌+◌, ◌≤◌, ◌<◌, ◌↔◌, nat_eq, IsTrue, true, false, List, [], ◌∷◌, ◌++◌, map, length, None, refl, sym, ap, ◌∙◌, inl}
+use Rattle.bforest_core.proofs.Words.{inr, arith, IsLeafCapacity, nil_from_length, flat_map, map-append, get_or_past, flat_map-append, and_parts, cases_lt}
+use Rattle.bforest_core.proofs.Words.{eqb_tells, Content, Inner, Leaf, Free, IsFree, children_of, Table, flat, heads, numbers, Stacked, Tree, IsFit, half_of}
+use Rattle.bforest_core.proofs.Words.{IsRooted, RowsIn, IsIn, entry_items, count, root_above, root_of, numbers_of, slot, is_used, tree_of, is_root, Every}
+use Rattle.bforest_core.proofs.{Words.IsForest, union.FreeSlots.free-at, walks.TopNode.node_under, walks.Whole.whole_under}
+use Rattle.bforest_core.proofs.{rows.Counts.{below-one, past-none, at-most-one, named_by, all-named}, table.Tables.{count-append, count-same, count-other}}
+use Rattle.bforest_core.proofs.{table.Read.{items-heads, half-some, slot-is, children-row, children-leaves, read-back}, table.Stored.{childless, inner_used}}
 
 -- what holds of every element of a list holds of each of its parts
 pub every-append : {X : Type 0} (P : X → Type 0) (xs ys : List X) → Every P (xs ++ ys) → Every P xs × Every P ys
@@ -26,7 +26,7 @@ module _ {K V : Type 0} where
   named_rows slots (x ∷ y ∷ hs) [] s i m = absurd (omega arith)
   named_rows slots hs (row ∷ rows) s i m =
       let ih = named_rows slots (heads row) rows s.2 i.1 m in
-      let a = ap (λ z. count m z) (flat_map-append (λ k. children_of (slot slots k)) (numbers row) (flat_map numbers rows)) ∙ count-append m (named_by slots (numbers row)) (named_by slots (flat_map numbers rows)) in
+      let a = ap (λ z. count m z) (flat_map-append (λ k. children_of (slot slots k)) _ _) ∙ count-append m (named_by slots (numbers row)) (named_by slots (flat_map numbers rows)) in
       let b = ap (λ z. count m z) (children-row slots row i.0 ∙ ap entry_items s.0) in
       let c = ap (λ z. count m z) (items-heads 4 8 (omega arith) row s.1) in
       omega (arith, count-append m (numbers row) (flat_map numbers rows))
@@ -36,7 +36,7 @@ module _ {K V : Type 0} where
       count m (named_by slots (numbers_of tree)) + count m (root_of tree ∷ []) ≡ count m (numbers_of tree)
   named_tree {most = most} {slots = slots} {tree = tree} f i some m =
       let r = named_rows _ _ _ f.stacked i.rows_in m in
-      let a = ap (λ z. count m z) (flat_map-append (λ k. children_of (slot slots k)) (numbers tree.leaves) (flat_map numbers tree.above)) ∙ count-append m (named_by slots (numbers tree.leaves)) (named_by slots (flat_map numbers tree.above)) in
+      let a = ap (λ z. count m z) (flat_map-append (λ k. children_of (slot slots k)) _ _) ∙ count-append m (named_by slots (numbers tree.leaves)) (named_by slots (flat_map numbers tree.above)) in
       let b = ap (λ z. count m z) (children-leaves slots tree.leaves i.leaves_in) in
       let c = ap (λ z. count m z) (items-heads (half_of most) most (half-some most tree.leaves f.leaves_fit some) tree.leaves f.leaves_fit) in
       omega (arith, count-append m (numbers tree.leaves) (flat_map numbers tree.above))
@@ -46,18 +46,18 @@ module _ {K V : Type 0} where
   root-among most slots tree f i some = omega (arith, named_tree f i some (root_of tree), count-same (root_of tree) [])
 
   -- each number of some trees but their roots is named by one of their nodes, and no other number is
-  named_trees : (most : ℕ) (slots : List (Content K V)) (trees : List (Tree K V)) → Every (IsFit most) trees → Every (IsIn slots) trees → Every (λ (tree : Tree K V). 1 ≤ length (flat tree.leaves)) trees → (m : ℕ) →
+  named_trees : (most : ℕ) (slots : List (Content K V)) (trees : List (Tree K V)) → Every (IsFit most) trees → Every (IsIn slots) trees → Every (λ tree. 1 ≤ length (flat tree.leaves)) trees → (m : ℕ) →
       count m (named_by slots (flat_map numbers_of trees)) + count m (map root_of trees) ≡ count m (flat_map numbers_of trees)
   named_trees most slots [] f i some m = omega arith
   named_trees most slots (tree ∷ trees) f i some m =
       let one = named_tree f.0 i.0 some.0 m in
       let ih = named_trees most slots trees f.1 i.1 some.1 m in
-      let a = ap (λ z. count m z) (flat_map-append (λ k. children_of (slot slots k)) (numbers_of tree) (flat_map numbers_of trees)) ∙ count-append m (named_by slots (numbers_of tree)) (named_by slots (flat_map numbers_of trees)) in
+      let a = ap (λ z. count m z) (flat_map-append (λ k. children_of (slot slots k)) _ _) ∙ count-append m (named_by slots (numbers_of tree)) (named_by slots (flat_map numbers_of trees)) in
       omega (arith, count-append m (numbers_of tree) (flat_map numbers_of trees))
 
   -- a free slot names no node
   no_children : (content : Content K V) → IsFree content → children_of content ≡ []
-  no_children content f = nil_from_length (children_of content) (sym (childless content (λ inner. (inner_used content inner).0 f)))
+  no_children content f = nil_from_length _ (sym (childless _ (λ inner. (inner_used _ inner).0 f)))
 
   -- a free slot is no node
   pub free-unused : (content : Content K V) → IsFree content → is_used content ≡ false
@@ -66,7 +66,7 @@ module _ {K V : Type 0} where
   free-unused (Free next) f = refl
 
   -- free slots name no nodes
-  named_free : (slots : List (Content K V)) (ms : _) → Every (λ (m : ℕ). IsFree (slot slots m)) ms → named_by slots ms ≡ []
+  named_free : (slots : List (Content K V)) (ms : _) → Every (λ m. IsFree (slot slots m)) ms → named_by slots ms ≡ []
   named_free slots [] f = refl
   named_free slots (m ∷ ms) f = let e = no_children _ f.0 in rw e (named_free slots ms f.1)
 
@@ -78,11 +78,11 @@ module _ {K V : Type 0} where
 
   -- the slots of a table name each number of its trees except the roots
   named_all : {most : _} {table : Table K V} {trees : _} → IsForest most table trees → (m : ℕ) → count m (flat_map children_of table.nodes) + count m (map root_of trees) ≡ count m (flat_map numbers_of trees)
-  named_all {most = most} {table = table} {trees = trees} f m =
+  named_all {table = table} {trees = trees} f m =
       let a = all-named _ _ f.account m in
-      let b = ap (λ z. count m z) (flat_map-append (λ k. children_of (slot table.nodes k)) (flat_map numbers_of trees) table.chain) ∙ count-append m (named_by table.nodes (flat_map numbers_of trees)) (named_by table.nodes table.chain) in
+      let b = ap (λ z. count m z) (flat_map-append (λ k. children_of (slot table.nodes k)) _ _) ∙ count-append m (named_by table.nodes (flat_map numbers_of trees)) (named_by table.nodes table.chain) in
       let c = ap (λ z. count m z) (named_free table.nodes table.chain f.free) in
-      omega (arith, named_trees most table.nodes trees f.fit f.inside f.some m)
+      omega (arith, named_trees _ _ _ f.fit f.inside f.some m)
 
   -- a number occurs in the trees or on the chain at most once
   pub once : {most : _} {table : Table K V} {trees : _} → IsForest most table trees → (m : ℕ) → count m (flat_map numbers_of trees) + count m table.chain ≤ 1
@@ -91,11 +91,11 @@ module _ {K V : Type 0} where
   -- a number in the trees or on the chain is that of a slot
   pub within-slots : {most : _} {table : Table K V} {trees : _} → IsForest most table trees → (m : ℕ) → 0 < count m (flat_map numbers_of trees) + count m table.chain → m < length table.nodes
   within-slots {table = table} {trees = trees} f m some =
-      elim (cases_lt m (length table.nodes)) [ inl low ↦ low | inr past ↦ absurd (omega (arith, f.account m, past-none m (length table.nodes) past, count-append m (flat_map numbers_of trees) table.chain)) ]
+      elim (cases_lt m (length table.nodes)) [ inl low ↦ low | inr past ↦ absurd (omega (arith, f.account m, past-none m _ past, count-append m (flat_map numbers_of trees) table.chain)) ]
 
   -- no two trees have the same root
   pub roots-once : {most : _} (table : Table K V) {trees : _} → IsForest most table trees → (m : ℕ) → count m (map root_of trees) ≤ 1
-  roots-once {most = most} table {trees = trees} f m = omega (arith, named_all f m, once f m)
+  roots-once table f m = omega (arith, named_all f m, once f m)
 
   -- a node is within the slots
   pub used_within : (slots : List (Content K V)) (m : ℕ) → is_used (slot slots m) ≡ true → m < length slots
@@ -119,8 +119,8 @@ module _ {K V : Type 0} where
       let f = rw split at given in
       let fit = (every-append (IsFit most) before (tree ∷ after) f.fit).1.0 in
       let inside = (every-append (IsIn table.nodes) before (tree ∷ after) f.inside).1.0 in
-      let some = (every-append (λ (tree : Tree K V). 1 ≤ length (flat tree.leaves)) before (tree ∷ after) f.some).1.0 in
-      let low = (every-append (λ (tree : Tree K V). length tree.above ≤ 16) before (tree ∷ after) f.low).1.0 in
+      let some = (every-append (λ tree. 1 ≤ length (flat tree.leaves)) before (tree ∷ after) f.some).1.0 in
+      let low = (every-append (λ tree. length tree.above ≤ 16) before (tree ∷ after) f.low).1.0 in
       let m = root_of tree in
       let here = ap (λ z. count m z) (map-append root_of before (tree ∷ after)) ∙ count-append m (map root_of before) (m ∷ map root_of after) in
       let none : count m (flat_map children_of table.nodes) ≡ 0 = omega (arith, count-same m (map root_of after), named_all f m, once f m) in
@@ -130,13 +130,13 @@ module _ {K V : Type 0} where
   -- a number is a root exactly if it is the root of one of the trees
   pub root-counts : {most : _} {table : Table K V} {trees : _} → IsForest most table trees → (m : ℕ) → IsTrue (is_root table.nodes m) ↔ (0 < count m (map root_of trees))
   unfolding is_root
-  root-counts {most = most} {table = table} {trees = trees} f m = (
+  root-counts {table = table} {trees = trees} f m = (
     λ root. (
         let parts = and_parts (is_used _) (nat_eq (count m (flat_map children_of table.nodes)) 0) root in
         let none : count m (flat_map children_of table.nodes) ≡ 0 = elim (eqb_tells (count m (flat_map children_of table.nodes)) 0) [ inl w ↦ w.1 | inr w ↦ absurd (let e = w.0 in let d = parts.1 in cc) ] in
-        let low = used_within table.nodes m parts.0 in
-        let off : count m table.chain ≡ 0 = elim (cases_lt 0 (count m table.chain)) [ inl on ↦ absurd (let e = free-unused (slot table.nodes m) (free-at _ _ f.free m on) in let d = parts.0 in cc) | inr off ↦ omega arith ] in
-        omega (arith, f.account m, below-one m (length table.nodes) low, count-append m (flat_map numbers_of trees) table.chain, named_all f m)
+        let low = used_within _ m parts.0 in
+        let off : count m table.chain ≡ 0 = elim (cases_lt 0 (count m table.chain)) [ inl on ↦ absurd (let e = free-unused _ (free-at _ _ f.free m on) in let d = parts.0 in cc) | inr off ↦ omega arith ] in
+        omega (arith, f.account m, below-one m _ low, count-append m (flat_map numbers_of trees) table.chain, named_all f m)
         ),
     λ some. (let r = tree-with trees m some in (tree-back r.0 r.1 r.2 m f r.3 r.4).1),
   )

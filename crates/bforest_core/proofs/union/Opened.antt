@@ -1,14 +1,13 @@
 -- A node on top of the rows below it, opened: its content, and what is below its children.
-use Rattle.std.proofs.Common.{◌≡◌, ℕ, suc, ◌+◌, ◌≤◌, ◌<◌, List, [], ◌∷◌, length, reverse, slice_get, Some, append-nil, refl, sym, ap, subst, inl, inr, arith}
-use Rattle.bforest_core.proofs.Words.{Heads, Row, Rows, flat_map, flat_map-append, Content, Inner, Leaf, Free, IsInner, children_of, entry_count, node, numbers}
-use Rattle.bforest_core.proofs.Words.{leaf_content, inner_content, entry_items, count, Under, numbers_down, numbers_under, nil_from_length, IsLeafCapacity}
-use Rattle.bforest_core.proofs.{walks.Downward.Seen, walks.TopNode.{LeafUnder, InnerUnder, node_under}, walks.RowNodes.no_heads, table.Read.slot-is}
-use Rattle.bforest_core.proofs.{table.Tables.count-append, rows.LevelRows.some_leaf}
+use Rattle.bforest_core.proofs.Words.{◌≡◌, ℕ, suc, ◌+◌, ◌≤◌, ◌<◌, List, [], ◌∷◌, length, reverse, slice_get, Some, append-nil, refl, sym, ap, subst, inl, inr}
+use Rattle.bforest_core.proofs.Words.{arith, Heads, Row, Rows, flat_map, flat_map-append, Content, Inner, Leaf, Free, IsInner, children_of, entry_count, node}
+use Rattle.bforest_core.proofs.Words.{numbers, leaf_content, inner_content, entry_items, count, Under, numbers_down, numbers_under, nil_from_length}
+use Rattle.bforest_core.proofs.{Words.IsLeafCapacity, walks.Downward.Seen, table.Read.slot-is}
+use Rattle.bforest_core.proofs.{walks.TopNode.{LeafUnder, InnerUnder, node_under}, walks.RowNodes.no_heads, table.Tables.count-append, rows.LevelRows.some_leaf}
 
 -- a row with one head has one node
 one_node : {K X : Type 0} {half : ℕ} (most : ℕ) → 1 ≤ half → {row : Row K X} {first number : _} (at : Seen half most row [] first number []) → row ≡ node number (at.e ∷ at.es) ∷ []
-one_node {half = half} most one {number = number} at =
-    cc (nil_from_length at.before at.before_is, no_heads half most one at.after at.after_fit at.after_is)
+one_node most one at = cc (nil_from_length _ at.before_is, no_heads _ _ one _ at.after_fit at.after_is)
 
 module _ {K V : Type 0} where
   -- only inner nodes have children, which are their entries
@@ -61,8 +60,8 @@ module _ {K V : Type 0} where
           under = subst (λ z. Under most slots leaves s.rows z) (cc (append-nil es)) s.under;
           counted = λ m. omega (arith, ap (λ z. count m (flat_map numbers z)) s.lower_is, ap (λ z. count m z) (flat_map-append numbers s.rows (s.row ∷ [])), ap (λ z. count m z) (append-nil (numbers s.row)), ap (λ z. count m (numbers z)) row, count-append);
           height = λ some. sym s.count_is;
-          down = cc (slot-is slots number (inner_content es) s.slot_is);
+          down = cc (slot-is _ _ _ s.slot_is);
         }
 
     pub under-open : {lower : _} {first number : _} → Under most slots leaves lower ((first, number) ∷ []) → Opened most slots leaves lower number
-    under-open {lower = lower} {first = first} {number = number} u = elim (node_under capacity lower [] first number [] u) [ inl s ↦ open_leaf _ _ s | inr s ↦ open_inner lower number s ]
+    under-open {lower = lower} {number = number} u = elim (node_under capacity _ _ _ _ _ u) [ inl s ↦ open_leaf _ _ s | inr s ↦ open_inner lower number s ]

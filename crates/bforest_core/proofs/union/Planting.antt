@@ -1,10 +1,10 @@
 -- A table without trees, the first entry of a tree, and the properties of the tree under a root.
-use Rattle.std.proofs.Common.{◌≡◌, ℕ, ◌-◌, IsTrue, Some, [], ◌∷◌, length, refl, sym, ap, ◌∙◌, subst, length-append, arith}
-use Rattle.bforest_core.proofs.Words.{IsLeafCapacity, Leaf, Table, front_of, free_count, slot_count, fresh_nodes, down_from, with_front, reserved, node, Tree}
-use Rattle.bforest_core.proofs.{Words.{count, numbers_of, is_root, IsUnion, Plants}, table.Tables.{count-same, absent_ne, takes}}
-use Rattle.bforest_core.proofs.{table.Chains.{length-fresh_nodes, length-down_from}, rows.Counts.past-none, union.Exchange.{IsPlanted, Traded, exchange-trees}}
-use Rattle.bforest_core.proofs.{union.Exchange.{others-keep, roots-gone, traded}, union.Forests.{once, tree-back, within-slots}, union.Roots.not-root}
-use Rattle.bforest_core.proofs.{union.Roots.{one_root, one_tree}, union.Reserved.{reserved-union, reserved-then, reserved-roots}}
+use Rattle.bforest_core.proofs.Words.{◌≡◌, ℕ, ◌-◌, IsTrue, Some, [], ◌∷◌, length, refl, sym, ap, ◌∙◌, subst, length-append, arith, IsLeafCapacity, Leaf, Table}
+use Rattle.bforest_core.proofs.Words.{front_of, free_count, slot_count, fresh_nodes, down_from, with_front, reserved, node, Tree, count, numbers_of, is_root}
+use Rattle.bforest_core.proofs.{Words.{IsUnion, Plants}, table.Tables.{count-same, absent_ne, takes}, union.Forests.{once, tree-back, within-slots}}
+use Rattle.bforest_core.proofs.{table.Chains.{length-fresh_nodes, length-down_from}, union.Reserved.{reserved-union, reserved-then, reserved-roots}}
+use Rattle.bforest_core.proofs.rows.Counts.{past-none}
+use Rattle.bforest_core.proofs.{union.Roots.{not-root, one_root, one_tree}, union.Exchange.{IsPlanted, Traded, exchange-trees, others-keep, roots-gone, traded}}
 
 -- a chain with a front is not empty
 front_rest : {m : ℕ} (chain : _) → front_of chain ≡ Some m → (rest : _) × (chain ≡ m ∷ rest)
@@ -40,7 +40,7 @@ module _ {K V : Type 0} where
       let g = exchange-trees [] [] (tree ∷ []) u.0 u.1 (p, tt) (subst (λ z. Traded mid new [] z) (one_tree tree) moved) in
       let back = tree-back [] tree u.0 number g refl refl in
       let made = length-fresh_nodes K V (slot_count old) (1 - free_count old) (front_of old.chain) in
-      let slots = length-append old.nodes (fresh_nodes {K = K} {V = V} (slot_count old) (1 - free_count old) (front_of old.chain)) in
+      let slots = length-append old.nodes (fresh_nodes (slot_count old) (1 - free_count old) (front_of old.chain)) in
       let chains = length-append (down_from (slot_count old) (1 - free_count old)) old.chain in
       let downs = length-down_from (slot_count old) (1 - free_count old) in
       record {
@@ -55,9 +55,5 @@ module _ {K V : Type 0} where
           limit_is = t.limit_is;
         };
         fresh = λ there. roots-gone [] (tree ∷ []) [] u.0 g u.1 number (one_root number) refl ((reserved-roots most old 1 union number).0 ∙ there);
-        takes = record {
-          slots = omega arith;
-          free = omega (arith, ap length t.chain_is);
-          chain_is = cc;
-        };
+        takes = record { slots = omega arith; free = omega (arith, ap length t.chain_is); chain_is = cc };
       }

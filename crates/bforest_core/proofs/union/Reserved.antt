@@ -1,11 +1,10 @@
 -- New slots in front of the chain leave the trees of a table unchanged.
-use Rattle.std.proofs.Common.{◌≡◌, ℕ, zero, suc, ◌+◌, ◌-◌, ◌≤◌, ◌<◌, IsTrue, None, List, [], ◌∷◌, ◌++◌, length, slice_get, refl, sym, ap, ◌∙◌, subst, length-append, arith}
-use Rattle.bforest_core.proofs.Words.{flat_map, get_or-append_right, slice_get-get_or, Content, Free, IsFree, Table, down_from, fresh_nodes, front_of}
-use Rattle.bforest_core.proofs.Words.{free_count, slot_count, with_slots, reserved, KeepsTrees, count, numbers_of, slot, tree_of, is_root, Every, IsForest}
-use Rattle.bforest_core.proofs.{Words.{IsUnion, OthersKeep}, table.Tables.count-append, table.Lists.slice_get-append_left, table.Chains.length-down_from}
-use Rattle.bforest_core.proofs.{table.Chains.length-fresh_nodes, rows.Counts.{once_below, upto, count-upto}, union.FreeSlots.free-same}
-use Rattle.bforest_core.proofs.{union.Forests.{every-join, within-slots}, union.Exchange.{trees-same, others-keep}}
-use Rattle.std.proofs.lemmas.Bool.Decides.{same_from_decides}
+use Rattle.bforest_core.proofs.Words.{same_from_decides, ◌≡◌, ℕ, zero, suc, ◌+◌, ◌-◌, ◌≤◌, ◌<◌, IsTrue, None, List, [], ◌∷◌, ◌++◌, length, slice_get, refl, sym}
+use Rattle.bforest_core.proofs.Words.{ap, ◌∙◌, subst, length-append, arith, flat_map, get_or-append_right, slice_get-get_or, Content, Free, IsFree, Table}
+use Rattle.bforest_core.proofs.Words.{down_from, fresh_nodes, front_of, free_count, slot_count, with_slots, reserved, KeepsTrees, count, numbers_of, slot}
+use Rattle.bforest_core.proofs.{Words.{tree_of, is_root, Every, IsForest, IsUnion, OthersKeep}, table.Chains.{length-down_from, length-fresh_nodes}}
+use Rattle.bforest_core.proofs.{table.Tables.count-append, table.Lists.slice_get-append_left, union.FreeSlots.free-same}
+use Rattle.bforest_core.proofs.{union.Forests.{every-join, within-slots}, union.Exchange.{trees-same, others-keep}, rows.Counts.{once_below, upto, count-upto}}
 
 -- each of `n` new numbers is at least the first
 every-down : (P : ℕ → Type 0) (first : ℕ) → ((m : ℕ) → first ≤ m → P m) → (n : ℕ) → Every P (down_from first n)
@@ -31,7 +30,7 @@ module _ {K V : Type 0} where
 -- new slots are free
 fresh_free : (K V : Type 0) (first n next m : _) → IsFree (slot (fresh_nodes {K = K} {V = V} first n next) m)
 fresh_free K V first zero next m = tt
-fresh_free K V first (suc n) next m = free_more _ _ (fresh_free K V first n next) m
+fresh_free K V first (suc n) next m = free_more _ _ (fresh_free K V _ n _) m
 
 module _ {K V : Type 0} where
   -- each slot from the new ones on is free
@@ -46,7 +45,7 @@ module _ {K V : Type 0} where
 
   -- a table with `n` new slots has the same trees
   with-slots-forest : {most : _} {table : Table K V} (n : _) {trees : _} → IsForest most table trees → IsForest most (with_slots table n) trees
-  with-slots-forest {most = most} {table = table} n {trees = trees} f =
+  with-slots-forest {table = table} n {trees = trees} f =
       let more = fresh_nodes (slot_count table) n (front_of table.chain) in
       let c = λ (m : ℕ). count-append m (flat_map numbers_of trees) table.chain in
       let low = within-slots f in
@@ -57,8 +56,7 @@ module _ {K V : Type 0} where
         inside = trees-same table.nodes (table.nodes ++ more) trees (λ m some. slots_same table.nodes more m (low m (omega arith))) f.inside;
         some = f.some;
         low = f.low;
-        free = every-join _ _ _
-            (every-down _ _ (past_free table.nodes more (fresh_free K V (slot_count table) n (front_of table.chain))) n)
+        free = every-join _ _ _ (every-down _ _ (past_free table.nodes more (fresh_free K V (slot_count table) n (front_of table.chain))) n)
             (free-same table.nodes (table.nodes ++ more) table.chain (λ m some. slots_same table.nodes more m (low m (omega arith))) f.free);
         account = λ m. omega (arith, c m, f.account m, count-down m (slot_count table) n, count-append) ∙ ap (λ z. once_below m z) (sym slots);
       }
@@ -82,12 +80,10 @@ module _ {K V : Type 0} where
 
   -- an equal table, or one with reserved nodes, is a union of trees and keeps them
   pub same-keeps : {most : ℕ} {old : Table K V} (new : Table K V) → new ≡ old → IsUnion most old → IsUnion most new × KeepsTrees old.nodes new.nodes
-  same-keeps {most = most} {old = old} new is union =
-      rw is (union, λ n. (refl, λ there. refl))
+  same-keeps new is union = rw is (union, λ n. (refl, λ there. refl))
 
   pub reserved-keeps : (most : ℕ) {old : Table K V} (new : Table K V) (n : ℕ) → new ≡ reserved old n → IsUnion most old → IsUnion most new × KeepsTrees old.nodes new.nodes
-  reserved-keeps most {old = old} new n is union =
-      rw is (reserved-union most old n union, reserved-roots most old n union)
+  reserved-keeps most {old = old} new n is union = rw is (reserved-union most old n union, reserved-roots most old n union)
 
   -- at least `n` nodes are free after a reservation of `n`
   pub reserved-frees : (old : Table K V) {new : Table K V} (n : ℕ) → new ≡ reserved old n → n ≤ free_count new

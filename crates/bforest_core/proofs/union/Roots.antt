@@ -1,8 +1,8 @@
 -- A change of the tree under a root, stated without a witness: by roots and the trees computed from them.
-use Rattle.std.proofs.Common.{◌≡◌, ℕ, ◌+◌, ◌<◌, ◌≢◌, IsTrue, [], ◌∷◌, ◌++◌, length, slice_get, refl, sym, subst, append-nil, arith}
-use Rattle.bforest_core.proofs.Words.{Changes, flat, sizes_of, flat_map, Table, Tree, count, root_of, numbers_of, tree_of, is_root, IsUnion, OthersKeep, Frees}
-use Rattle.bforest_core.proofs.{table.Tables.{count-same, count-other}, union.Forests.tree-back, union.Exchange.{IsPlanted, Traded, traded, exchange-trees}}
-use Rattle.bforest_core.proofs.{union.Exchange.{others-keep, roots-gone}, union.Unions.rooted}
+use Rattle.bforest_core.proofs.Words.{◌≡◌, ℕ, ◌+◌, ◌<◌, ◌≢◌, IsTrue, [], ◌∷◌, ◌++◌, length, slice_get, refl, sym, subst, append-nil, arith, Changes, flat}
+use Rattle.bforest_core.proofs.Words.{sizes_of, flat_map, Table, Tree, count, root_of, numbers_of, tree_of, is_root, IsUnion, OthersKeep, Frees}
+use Rattle.bforest_core.proofs.{table.Tables.{count-same, count-other}, union.Exchange.{IsPlanted, Traded, traded, exchange-trees, others-keep, roots-gone}}
+use Rattle.bforest_core.proofs.{union.Forests.tree-back, union.Unions.rooted}
 
 -- a root occurs in the list of itself
 pub one_root : (root : ℕ) → 0 < count root (root ∷ [])
@@ -10,7 +10,7 @@ one_root root = omega (arith, count-same root [])
 
 -- a number other than the root does not occur in the list of the root
 pub not-root : (other root : ℕ) → other ≢ root → count other (root ∷ []) ≡ 0
-not-root other root ne = count-other other root [] (λ (e : root ≡ other). ne (sym e))
+not-root other root ne = count-other other root [] (λ e. ne (sym e))
 
 module _ {K V : Type 0} where
   -- the tree under a root was replaced by another, perhaps under another root
@@ -39,7 +39,7 @@ module _ {K V : Type 0} where
         tree_is = back.0;
         others = λ other ne ne'. others-keep r.before (tree ∷ []) (tree' ∷ []) r.after r.forest g other (not-root other (root_of tree) ne) (not-root other (root_of tree') ne');
         old_gone = λ ne. roots-gone r.before (tree ∷ []) (tree' ∷ []) r.after r.forest g (root_of tree) (one_root (root_of tree)) (not-root (root_of tree) (root_of tree') ne);
-        new_came = λ ne. roots-gone r.before (tree' ∷ []) (tree ∷ []) r.after g r.forest (root_of tree') (one_root (root_of tree')) (not-root (root_of tree') (root_of tree) (λ (e : root_of tree' ≡ root_of tree). ne (sym e)));
+        new_came = λ ne. roots-gone r.before (tree' ∷ []) (tree ∷ []) r.after g r.forest (root_of tree') (one_root (root_of tree')) (not-root (root_of tree') (root_of tree) (λ e. ne (sym e)));
       })
 
   -- the tree after an insertion under a root
@@ -62,7 +62,7 @@ module _ {K V : Type 0} where
 
   -- a replaced tree as a change of the table
   pub exchanged-changes : {most old new root root' tree' : _} → Exchanged most old new root tree' → root_of tree' ≡ root' → new.limit ≡ old.limit → Changes most old new root root' (flat tree'.leaves) (sizes_of tree')
-  exchanged-changes {most} {old} {new} {root} {root'} {tree'} e is limit_is = rw (← is) (record {
+  exchanged-changes e is limit_is = rw (← is) (record {
     union = e.union;
     root_is = e.root_is;
     list_is = cc;

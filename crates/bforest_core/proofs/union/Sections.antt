@@ -1,7 +1,7 @@
 -- A stack of rows, cut in two between two nodes of its top level.
-use Rattle.std.proofs.Common.{◌≡◌, ℕ, ◌+◌, ◌≤◌, List, [], ◌∷◌, ◌++◌, length, refl, ap, arith}
-use Rattle.bforest_core.proofs.Words.{Heads, Row, Rows, flat_map, Content, node, flat, heads, numbers, FitRow, half_of, RowsIn, leaf_content, count, StackedTo}
-use Rattle.bforest_core.proofs.{Words.{Under, numbers_under}, rows.LevelRows.{flat-append, numbers-append, least-pos}, table.Tables.{count-append, row-split}}
+use Rattle.bforest_core.proofs.Words.{◌≡◌, ℕ, ◌+◌, ◌≤◌, List, [], ◌∷◌, ◌++◌, length, refl, ap, arith, Heads, Row, Rows, flat_map, Content, node, flat, heads}
+use Rattle.bforest_core.proofs.Words.{numbers, FitRow, half_of, RowsIn, leaf_content, count, StackedTo, Under, numbers_under}
+use Rattle.bforest_core.proofs.{rows.LevelRows.{flat-append, numbers-append, least-pos}, table.Tables.{count-append, row-split}}
 
 module _ {K X : Type 0} where
   -- a row, cut between two of its heads
@@ -18,13 +18,7 @@ module _ {K X : Type 0} where
   row-cut half most one (node m [] ∷ ns) (x ∷ a) b f h = absurd (omega (arith, least-pos half one ns))
   row-cut half most one (node m (e ∷ es) ∷ ns) (x ∷ a) b f h =
       let r = row-cut half most one ns a b f.2 (cc) in
-      record {
-        left = node m (e ∷ es) ∷ r.left;
-        right = r.right;
-        row_is = cc;
-        left_is = cc;
-        right_is = r.right_is;
-      }
+      record { left = node m (e ∷ es) ∷ r.left; right = r.right; row_is = cc; left_is = cc; right_is = r.right_is }
 
   -- both parts of a fit row fit
   fit_cut : (half most : ℕ) → 1 ≤ half → (xs ys : Row K X) → FitRow half most (xs ++ ys) → FitRow half most xs × FitRow half most ys
@@ -62,7 +56,7 @@ module _ {K V : Type 0} where
         list_right = flat c.right;
         left = c.left ∷ r.left;
         right = c.right ∷ r.right;
-        list_is = cc (flat-append c.left c.right);
+        list_is = cc (flat-append _ _);
         left_stacked = (refl, fits.0, rw c.left_is r.left_stacked);
         right_stacked = (refl, fits.1, rw c.right_is r.right_stacked);
         left_in = (ins.0, r.left_in);

@@ -1,12 +1,11 @@
 -- Freeing everything below a node, child by child.
-use Rattle.std.proofs.Common.{◌≡◌, ℕ, zero, suc, ◌+◌, ◌≤◌, ◌<◌, List, [], ◌∷◌, ◌++◌, length, drop, take, reverse, slice_get, Some, refl, sym, ap, subst, ◌∙◌, inl, inr, arith}
-use Rattle.bforest_core.proofs.Words.{Heads, Row, Rows, flat_map, cases_lt, Content, IsInner, children_of, Table, with_freed, heads, numbers, entry_items}
-use Rattle.bforest_core.proofs.Words.{count, Distinct, StackedTo, Under, numbers_down, slot, Frees, GivesAll, numbers_under, drop_all, length-map}
-use Rattle.bforest_core.proofs.{Words.{reverse-append, take_all, slice_get_within, IsLeafCapacity}, union.Exchange.tree-same, union.FreeSlots.slot_same}
-use Rattle.bforest_core.proofs.{removal.Frees.{frees-one, frees-refl, frees-then, frees-wider, only_here}, table.Stored.{childless, some_same}}
-use Rattle.bforest_core.proofs.{walks.LeafSearch.items-read, walks.Steps.read, walks.RowNodes.no_heads, table.Lists.drop-read, union.Sections.UnderCut}
-use Rattle.bforest_core.proofs.{union.Sections.under-cut, table.Tables.{count-append, count-same}, union.Opened.Opened, rows.LevelRows.some_leaf}
-use Rattle.bforest_nodes.proofs.Seams.{last_taken}
+use Rattle.bforest_core.proofs.Words.{last_taken, ◌≡◌, ℕ, zero, suc, ◌+◌, ◌≤◌, ◌<◌, List, [], ◌∷◌, ◌++◌, length, drop, take, reverse, slice_get, Some, refl}
+use Rattle.bforest_core.proofs.Words.{sym, ap, subst, ◌∙◌, inl, inr, arith, Heads, Row, Rows, flat_map, cases_lt, Content, IsInner, children_of, Table}
+use Rattle.bforest_core.proofs.Words.{with_freed, heads, numbers, entry_items, count, Distinct, StackedTo, Under, numbers_down, slot, Frees, GivesAll}
+use Rattle.bforest_core.proofs.{Words.{numbers_under, drop_all, length-map, reverse-append, take_all, slice_get_within, IsLeafCapacity}, table.Lists.drop-read}
+use Rattle.bforest_core.proofs.{removal.Frees.{frees-one, frees-refl, frees-then, frees-wider, only_here}, table.Tables.{count-append, count-same}}
+use Rattle.bforest_core.proofs.{walks.LeafSearch.items-read, walks.RowNodes.no_heads, table.Stored.{childless, some_same}, union.Sections.{UnderCut, under-cut}}
+use Rattle.bforest_core.proofs.{walks.Steps.read, rows.LevelRows.some_leaf, union.Exchange.tree-same, union.Opened.Opened, union.FreeSlots.slot_same}
 
 -- rows below no nodes have no nodes
 rows_none : {K : Type 0} (list : Heads K) (rows : Rows K) → StackedTo list rows [] → (list ≡ []) × ((m : ℕ) → count m (flat_map numbers rows) ≡ 0)
@@ -20,7 +19,7 @@ module _ {K V : Type 0} where
   -- the rows under some nodes are in any slots that agree on their numbers
   under-same : {most : _} {old : List (Content K V)} (new : List (Content K V)) {leaves : Row K V} {lower : _} {top : _} → ((m : ℕ) → 0 < count m (numbers_under leaves lower) → slice_get new m ≡ slice_get old m)
       → Under most old leaves lower top → Under most new leaves lower top
-  under-same {old = old} new {leaves = leaves} {lower = lower} same u =
+  under-same new {leaves = leaves} {lower = lower} same u =
       let i = tree-same new {tree = record { leaves = leaves; above = lower }} same (record { leaves_in = u.leaves_in; rows_in = u.rows_in }) in
       record { leaves_fit = u.leaves_fit; leaves_in = i.leaves_in; stacked = u.stacked; rows_in = i.rows_in }
 
@@ -89,7 +88,7 @@ module _ {K V : Type 0} where
     pub sweep-next : {now new index : _} (x : _) → Distinct (numbers_under leaves rows ++ old.chain)
         → (t : Turn now index x) → GivesAll now new (numbers_under t.cut.leaves_left t.cut.lower_left)
         (numbers_down now.nodes (length t.cut.lower_left) x.1) → Swept most old new leaves rows top (suc index)
-    sweep-next {now = now} {new = new} {index = index} x apart t g =
+    sweep-next {now = now} {index = index} x apart t g =
         let own = numbers_under t.cut.leaves_left t.cut.lower_left in
         let n = λ (m : ℕ). count-append m t.swept.own own in
         record {
@@ -99,8 +98,7 @@ module _ {K V : Type 0} where
           given = numbers_down now.nodes (length t.cut.lower_left) x.1 ++ t.swept.given;
           under = t.cut.right;
           height = cc;
-          frees = frees-then
-              (λ m z. omega (arith, n m))
+          frees = frees-then (λ m z. omega (arith, n m))
               (λ m some. omega (arith, apart m, t.swept.counted m, count-append m (numbers_under leaves rows) old.chain, t.swept.split m, t.cut.counted m))
               (frees-wider _ (λ m z. omega (arith, n m)) t.swept.frees) g.frees;
           order =
@@ -111,9 +109,9 @@ module _ {K V : Type 0} where
 
     -- at last everything below the top is freed
     pub sweep-last : {now : Table K V} {index : ℕ} → length top ≤ index → Swept most old now leaves rows top index → GivesAll old now (numbers_under leaves rows) (flat_map (numbers_down old.nodes (length rows)) (reverse (entry_items top)))
-    sweep-last {now = now} {index = index} past s =
-        let left = under_none most capacity (subst (λ z. Under most old.nodes s.left_leaves s.left_rows z) (drop_all index top past) s.under) in
-        let whole = s.order ∙ ap (λ z. flat_map (numbers_down old.nodes (length rows)) (reverse z)) (take_all index _ (omega (arith, length-map top (λ (e : K × ℕ). e.1)))) in
+    sweep-last {index = index} past s =
+        let left = under_none most capacity (subst (λ z. Under most old.nodes s.left_leaves s.left_rows z) (drop_all _ _ past) s.under) in
+        let whole = s.order ∙ ap (λ z. flat_map (numbers_down old.nodes (length rows)) (reverse z)) (take_all index _ (omega (arith, length-map top (λ e. e.1)))) in
         rw (← whole) (record {
           frees = frees-wider _ (λ m zero. omega (arith, zero, s.split m)) s.frees;
           counted = λ m. omega (arith, s.counted m, s.split m, left m);
@@ -123,7 +121,7 @@ module _ {K V : Type 0} where
 item_at : {K : Type 0} (top : Heads K) (index child : ℕ) → slice_get (entry_items top) index ≡ Some child → (x : K × ℕ) × (slice_get top index ≡ Some x) × (x.1 ≡ child)
 item_at top index child found =
     let r = read top index (omega (arith, slice_get_within (entry_items top) index child found, length-map top (λ w. w.1))) in
-    (r.0, r.1, some_same _ _ (cc (items-read top index, found)))
+    (r.0, r.1, some_same _ _ (cc (items-read _ _, found)))
 
 module _ {K V : Type 0} where
   -- the progress of freeing a node's children, and the node itself
@@ -153,14 +151,13 @@ module _ {K V : Type 0} where
   -- the node is freed after its children
   pub gives-down : {most : _} {old now : _} {leaves lower number index : _} → (s : Sweeping most old now leaves lower number index) →
       GivesAll old now (numbers_under s.opened.low s.opened.rows) (flat_map (numbers_down old.nodes (length s.opened.rows)) (reverse (entry_items s.opened.top))) → GivesAll old (with_freed now number) (numbers_under leaves lower) (numbers_down old.nodes (length lower) number)
-  gives-down {old = old} {now = now} {leaves = leaves} {lower = lower} {number = number} s all =
+  gives-down {old = old} {now = now} {number = number} s all =
       let own = numbers_under s.opened.low s.opened.rows in
       let below = flat_map (numbers_down old.nodes (length s.opened.rows)) (reverse (entry_items s.opened.top)) in
       let apart : (m : ℕ) → 0 < count m below → count m (number ∷ []) ≡ 0 =
-      λ m some. elim (cases_lt 0 (count m (number ∷ []))) [ inl here ↦ absurd (omega (arith, all.counted m, only_here m number own here s.alone)) | inr past ↦ omega arith ] in
+      λ m some. elim (cases_lt 0 (count m (number ∷ []))) [ inl here ↦ absurd (omega (arith, all.counted m, only_here m _ _ here s.alone)) | inr past ↦ omega arith ] in
       rw s.opened.down (record {
-        frees = frees-then
-            (λ m zero. omega (arith, zero, s.opened.counted m)) apart
+        frees = frees-then (λ m zero. omega (arith, zero, s.opened.counted m)) apart
             (frees-wider _ (λ m zero. omega (arith, zero, s.opened.counted m)) all.frees)
             (frees-one now (with_freed now number) number s.opened.content (number ∷ []) s.slot_is refl (omega (arith, count-same number [])));
         counted = λ m. omega (arith, s.opened.counted m, all.counted m);
@@ -168,19 +165,18 @@ module _ {K V : Type 0} where
 
   -- a leaf has nothing below it and is freed alone
   pub gives-leaf : {most : ℕ} (capacity : IsLeafCapacity most) (old : Table K V) {leaves : Row K V}
-      {lower number : _} → Distinct (numbers_under leaves lower ++ old.chain)
-      → (o : Opened most old.nodes leaves lower number) → (IsInner o.content → ⊥)
+      {lower number : _} → Distinct (numbers_under leaves lower ++ old.chain) → (o : Opened most old.nodes leaves lower number) → (IsInner o.content → ⊥)
       → GivesAll old (with_freed old number) (numbers_under leaves lower) (numbers_down old.nodes (length lower) number)
   unfolding sweeping
-  gives-leaf capacity old {number = number} apart o other =
+  gives-leaf capacity old apart o other =
       let first = sweep-first capacity old o.low o.rows o.top o.under in
-      let all = sweep-last capacity old o.low o.rows o.top (omega (arith, childless o.content other, ap length o.children_are, length-map o.top (λ (e : K × ℕ). e.1))) first in
+      let all = sweep-last capacity old o.low o.rows o.top (omega (arith, childless _ other, ap length o.children_are, length-map o.top (λ e. e.1))) first in
       gives-down (sweeping apart o first) all
 
   -- the child at the index, and everything below it
   pub child_turn : {most : ℕ} (capacity : IsLeafCapacity most) {old now : _} {leaves lower number index : _} {child : ℕ} → (s : Sweeping most old now leaves lower number index)
       → slice_get (children_of s.opened.content) index ≡ Some child → (x : K × ℕ) × (x.1 ≡ child) × (index < length s.opened.top)
       × Turn capacity old s.opened.low s.opened.rows s.opened.top now index x
-  child_turn {most = most} capacity {old = old} {now = now} {index = index} {child = child} s found =
+  child_turn capacity {now = now} {index = index} {child = child} s found =
       let i = item_at s.opened.top index child (cc (found)) in
-      (i.0, i.2, slice_get_within s.opened.top index i.0 i.1, sweep-turn _ _ _ s.opened.rows s.opened.top now index i.0 s.apart s.swept i.1)
+      (i.0, i.2, slice_get_within _ _ _ i.1, sweep-turn _ _ _ s.opened.rows s.opened.top now index i.0 s.apart s.swept i.1)

@@ -1,8 +1,7 @@
 -- The tree under a root, as one of a union of trees.
-use Rattle.std.proofs.Common.{◌≡◌, ℕ, ◌≤◌, ◌<◌, IsTrue, List, ◌∷◌, ◌++◌, length, refl, ap, subst, arith}
-use Rattle.bforest_core.proofs.Words.{flat_map, flat_map-append, Table, flat, Tree, IsFit, IsIn, count, Distinct, root_of, numbers_of, IsRooted, tree_of}
-use Rattle.bforest_core.proofs.{Words.{is_root, IsForest, IsUnion}, table.Tables.count-append, union.Forests.{every-append, once, root-counts, tree-back}}
-use Rattle.bforest_core.proofs.union.Forests.{tree-with, within-slots}
+use Rattle.bforest_core.proofs.Words.{◌≡◌, ℕ, ◌≤◌, ◌<◌, IsTrue, List, ◌∷◌, ◌++◌, length, refl, ap, subst, arith, flat_map, flat_map-append, Table, flat, Tree}
+use Rattle.bforest_core.proofs.Words.{IsFit, IsIn, count, Distinct, root_of, numbers_of, IsRooted, tree_of, is_root, IsForest, IsUnion}
+use Rattle.bforest_core.proofs.{table.Tables.count-append, union.Forests.{every-append, once, root-counts, tree-back, tree-with, within-slots}}
 
 module _ {K V : Type 0} where
   -- a tree of a table and its root, among the other trees
@@ -31,8 +30,8 @@ module _ {K V : Type 0} where
     forest = f;
     fit = (every-append (IsFit most) before (tree ∷ after) f.fit).1.0;
     inside = (every-append (IsIn table.nodes) before (tree ∷ after) f.inside).1.0;
-    some = (every-append (λ (tree : Tree K V). 1 ≤ length (flat tree.leaves)) before (tree ∷ after) f.some).1.0;
-    low = (every-append (λ (tree : Tree K V). length tree.above ≤ 16) before (tree ∷ after) f.low).1.0;
+    some = (every-append (λ tree. 1 ≤ length (flat tree.leaves)) before (tree ∷ after) f.some).1.0;
+    low = (every-append (λ tree. length tree.above ≤ 16) before (tree ∷ after) f.low).1.0;
     root_is = is;
     tree_is = (tree-back before tree after root f refl is).0;
     apart = λ m. omega (arith, once f m, numbers_parts m before tree after, count-append m (numbers_of tree) table.chain);
@@ -48,6 +47,6 @@ module _ {K V : Type 0} where
 
   -- the tree computed from a root is in the slots
   pub is-rooted : {most : ℕ} {table : Table K V} (root : ℕ) → IsUnion most table → IsTrue (is_root table.nodes root) → IsRooted most table.nodes root (tree_of table.nodes root)
-  is-rooted {most = most} {table = table} root union is =
+  is-rooted root union is =
       let r = rooted _ _ _ union is in
       record { fit = r.fit; inside = r.inside; root_is = r.root_is; some = r.some; low = r.low }

@@ -1,12 +1,12 @@
 -- Writing the value of an entry of a tree, which keeps its nodes and keys.
-use Rattle.std.proofs.Common.{◌≡◌, ℕ, zero, suc, ◌+◌, ◌<◌, List, [], ◌∷◌, ◌++◌, map, length, get_or, set, slice_get, Some, refl, sym, ap, ◌∙◌, subst, length-set, arith}
-use Rattle.bforest_core.proofs.Words.{flat_map, Table, IsUsed, IsEntryAt, value_at, with_node, with_value_at, value_at_place, node, flat, head_of, heads, sizes}
-use Rattle.bforest_core.proofs.Words.{sizes_of, numbers, Tree, half_of, leaf_content, entry_keys, entry_items, count, IsAt, numbers_of, root_above, tree_of}
-use Rattle.bforest_core.proofs.{Words.{IsUnion, Changes, StandsUnder}, rows.LevelRows.{flat-append, heads-append, sizes-append, numbers-append, FitRow-split}}
-use Rattle.bforest_core.proofs.{rows.LevelRows.FitRow-join, table.Tables.{count-append, count-same, count-row, row-put, rows-same, ne_from_count, is_used}}
-use Rattle.bforest_core.proofs.{table.Tables.puts, walks.LeafSearch.items-read, insertion.LeafSpot.keys_count, rows.Zipper.apart_here, walks.Entered.leaf_here}
-use Rattle.bforest_core.proofs.{walks.Steps.read, walks.RowNodes.entry_at, table.Stored.item_count, table.Read.slot-is, union.Exchange.IsPlanted}
-use Rattle.bforest_core.proofs.{union.Unions.{Rooted, rooted}, union.Roots.{exchanged, exchanged-changes}}
+use Rattle.bforest_core.proofs.Words.{◌≡◌, ℕ, zero, suc, ◌+◌, ◌<◌, List, [], ◌∷◌, ◌++◌, map, length, get_or, set, slice_get, Some, refl, sym, ap, ◌∙◌, subst}
+use Rattle.bforest_core.proofs.Words.{length-set, arith, flat_map, Table, IsUsed, IsEntryAt, value_at, with_node, with_value_at, value_at_place, node, flat}
+use Rattle.bforest_core.proofs.Words.{head_of, heads, sizes, sizes_of, numbers, Tree, half_of, leaf_content, entry_keys, entry_items, count, IsAt, numbers_of}
+use Rattle.bforest_core.proofs.{Words.{root_above, tree_of, IsUnion, Changes, StandsUnder}, union.Roots.{exchanged, exchanged-changes}, walks.Entered.leaf_here}
+use Rattle.bforest_core.proofs.{rows.LevelRows.{flat-append, heads-append, sizes-append, numbers-append, FitRow-split, FitRow-join}, walks.RowNodes.entry_at}
+use Rattle.bforest_core.proofs.{insertion.LeafSpot.keys_count, walks.LeafSearch.items-read, union.Unions.{Rooted, rooted}, table.Stored.item_count}
+use Rattle.bforest_core.proofs.{table.Tables.{count-append, count-same, count-row, row-put, rows-same, ne_from_count, is_used, puts}, union.Exchange.IsPlanted}
+use Rattle.bforest_core.proofs.{rows.Zipper.apart_here, walks.Steps.read, table.Read.slot-is}
 use Rattle.bforest_nodes.specs.Entries.{with_value}
 
 module _ {K X : Type 0} where
@@ -73,8 +73,7 @@ module _ {K V : Type 0} (most : ℕ) (table : Table K V) (root place path indice
       let i = get_or indices 0 0 in
       let tree = tree_of table.nodes root in
       let new = with_value_at table n i v in
-      let w = puts table new n (leaf_content (with_value at.entries i v)) (leaf_content at.entries) leaf_at
-      (ap (λ z. with_node table n z)
+      let w = puts table new n (leaf_content (with_value at.entries i v)) (leaf_content at.entries) leaf_at (ap (λ z. with_node table n z)
       (simp (slot-is table.nodes n (leaf_content at.entries) leaf_at, keys-written at.entries i v, items-written at.entries i v))) in
       let row' = at.before ++ node n (with_value at.entries i v) ∷ at.after in
       let tree' : Tree K V = record { leaves = row'; above = tree.above } in
@@ -102,7 +101,7 @@ module _ {K V : Type 0} (most : ℕ) (table : Table K V) (root place path indice
       let c = ap (λ z. count n (numbers z)) at.row_is ∙ count-row n at.before n at.entries at.after in
       let e = exchanged root [] union s.root_is p (sym w.chain_is) w.slots_are
       (λ m. (let d = ap (λ z. count m (z ++ flat_map numbers tree.above)) ns in omega arith))
-      (λ m zero_is. w.same m (λ (is : m ≡ n). (let d = ap (λ z. count z (numbers_of tree)) is in omega (arith, count-append n (numbers tree.leaves) (flat_map numbers tree.above), count-same n (numbers at.after))))) in
+      (λ m zero_is. w.same m (λ is. (let d = ap (λ z. count z (numbers_of tree)) is in omega (arith, count-append n (numbers tree.leaves) (flat_map numbers tree.above), count-same n (numbers at.after))))) in
       let changes = exchanged-changes e same_root w.limit_is in
       let tree_is = ap (tree_of new.nodes) (sym same_root) ∙ e.tree_is in (
         rw (← ss) (subst (λ z. Changes most table new root root z (sizes_of tree')) fl changes),

@@ -1,9 +1,9 @@
 -- A tree of one leaf: where a search ends there, and a path of one level.
-use Rattle.std.proofs.Common.{◌≡◌, ℕ, suc, ◌+◌, ◌≤◌, IsTrue, List, [], ◌∷◌, ◌++◌, get_or, length, inl, inr, refl, sym, subst, ap, ◌∙◌, arith}
+use Rattle.bforest_core.proofs.Words.{◌≡◌, ℕ, suc, ◌+◌, ◌≤◌, IsTrue, List, [], ◌∷◌, ◌++◌, get_or, length, inl, inr, refl, sym, subst, ap, ◌∙◌, arith, EndsIn}
+use Rattle.bforest_core.proofs.Words.{IsTotalOrder, IsIncreasing, IsLeaf, IsUnion, Content, LevelNode, node, PlacedUnder, StandsAbove, Table, flat, is_root}
+use Rattle.bforest_core.proofs.{Words.{slot, tree_of}, table.Read.slot-is}
+use Rattle.bforest_core.proofs.{walks.Descent.{leaf_step, reached}, walks.Standing.under-root, walks.TopNode.node_under, walks.Whole.{all_through, ends-in}}
 use Rattle.std.specs.declared.cmp.Ordering.{Ordering}
-use Rattle.bforest_core.proofs.Words.{EndsIn, IsTotalOrder, IsIncreasing, IsLeaf, IsUnion, Content, LevelNode, node, PlacedUnder, StandsAbove, Table, flat}
-use Rattle.bforest_core.proofs.{Words.{is_root, slot, tree_of}, table.Read.slot-is, walks.Descent.{leaf_step, reached}, walks.Standing.under-root}
-use Rattle.bforest_core.proofs.{walks.TopNode.node_under, walks.Whole.{all_through, ends-in}}
 
 -- a path's list of numbers whose lowest is this one
 abbrev pub lone : ℕ → List ℕ
@@ -43,7 +43,7 @@ placed-alone slots root path indices path' indices' node_is index_is p =
           leaves_are = q.leaves_are ∙ ap (λ z. q.before ++ node z q.entries ∷ q.after) node_is;
           within = subst (λ z. z ≤ length q.entries) index_is q.within;
           place_is = q.place_is ∙ ap (λ z. length (flat q.before) + z) index_is;
-          above = none-above path indices path' indices' (tree_of slots root).above (length q.before) q.size_is q.above;
+          above = none-above _ _ _ _ _ _ q.size_is q.above;
           size_is = q.size_is;
         };
         first = λ front. p.at.first (index_is ∙ front);

@@ -1,9 +1,9 @@
 -- The last entry up to a key, read in the leaf in which a search for the key ends: the answers of `entry_in_leaf` and `entry_at_most`.
-use Rattle.std.proofs.Common.{◌≡◌, ◌≢◌, ℕ, zero, suc, ◌+◌, ◌-◌, ◌<◌, List, ◌∷◌, ◌++◌, Bool, length, slice_get, if◌then◌else◌, Option, Some, None, true, false, refl, sym, ap, ◌∙◌, arith}
-use Rattle.bforest_core.proofs.Words.{Row, IsTotalOrder, Narrows, entry_before, entry_for, entry_up_to, flat, is_present, is_some, node, option_map, place}
-use Rattle.bforest_core.proofs.{Words.value_for, walks.Backward.before_is, walks.Rising.place-le, walks.Steps.read, walks.RowNodes.entry_at}
+use Rattle.bforest_core.proofs.Words.{place-present, ◌≡◌, ◌≢◌, ℕ, zero, suc, ◌+◌, ◌-◌, ◌<◌, List, ◌∷◌, ◌++◌, Bool, length, slice_get, if◌then◌else◌, Option}
+use Rattle.bforest_core.proofs.Words.{Some, None, true, false, refl, sym, ap, ◌∙◌, arith, Row, IsTotalOrder, Narrows, entry_before, entry_up_to, flat}
+use Rattle.bforest_core.proofs.{Words.{is_present, is_some, node, option_map, place, value_for}, walks.Backward.before_is, walks.RowNodes.entry_at}
+use Rattle.bforest_core.proofs.{walks.Rising.place-le, walks.Steps.read}
 use Rattle.std.specs.declared.cmp.Ordering.{Ordering}
-use Rattle.bforest_nodes.proofs.Found.{place-present}
 
 -- a mapped answer is there exactly if the answer is
 some-mapped : {A B : Type 0} (f : A → B) (o : Option A) → is_some (option_map f o) ≡ is_some o
@@ -20,7 +20,7 @@ module _ {K V : Type 0} (cmp : K → K → Ordering) (es : List (K × V)) (key :
   -- by what a search among the entries answers
   module _ {value : Option V} (value_is : value ≡ value_for cmp es key) {index : ℕ} (index_is : index ≡ place cmp es key) where
     present-is : is_present cmp es key ≡ is_some value
-    present-is = cc (some-mapped (λ (e : K × V). e.1) (entry_for cmp es key))
+    present-is = cc (some-mapped (λ (e : K × V). e.1) _)
 
     -- the key's own entry
     pub own-entry : is_some value ≡ true → {found : Option (K × V)} → found ≡ slice_get es index → found ≡ entry_up_to cmp es key
@@ -37,7 +37,7 @@ module _ {K V : Type 0} (cmp : K → K → Ordering) (es : List (K × V)) (key :
 module _ {K V : Type 0} {cmp : K → K → Ordering} (o : IsTotalOrder cmp) {leaves before : Row K V} (number : ℕ) {entries : List (K × V)} (after : Row K V) {key : K}
     (leaves_are : leaves ≡ before ++ node number entries ∷ after) (t : Narrows cmp leaves key before entries) where
   entry-in : (i : ℕ) → i < length entries → slice_get (flat leaves) (length (flat before) + i) ≡ slice_get entries i
-  entry-in i low = let r = read entries i low in entry_at _ _ _ _ i leaves_are r.1 ∙ sym r.1
+  entry-in i low = let r = read _ i low in entry_at _ _ _ _ i leaves_are r.1 ∙ sym r.1
 
   in-front : (i : ℕ) → place cmp entries key ≡ i → is_present cmp entries key ≡ false → entry_before entries i ≡ entry_before (flat leaves) (place cmp (flat leaves) key)
   in-front zero is gone =
@@ -51,9 +51,8 @@ module _ {K V : Type 0} {cmp : K → K → Ordering} (o : IsTotalOrder cmp) {lea
 
   -- the last entry up to the key is that of the leaf
   pub up-to-narrowed : entry_up_to cmp entries key ≡ entry_up_to cmp (flat leaves) key
-  up-to-narrowed = go (is_present cmp entries key) refl
+  up-to-narrowed = go _ refl
     where
       go : (b : Bool) → is_present cmp entries key ≡ b → entry_up_to cmp entries key ≡ entry_up_to cmp (flat leaves) key
-      go true here =
-          cc (up-to-present cmp entries key here, entry-in (place cmp entries key) (place-present cmp entries key here), up-to-present cmp (flat leaves) key (t.found_is ∙ here))
-      go false gone = sym (up-to-absent cmp entries key gone) ∙ in-front (place cmp entries key) refl gone ∙ up-to-absent cmp (flat leaves) key (cc)
+      go true here = cc (up-to-present cmp entries key here, entry-in _ (place-present _ _ _ here), up-to-present cmp (flat leaves) key (t.found_is ∙ here))
+      go false gone = sym (up-to-absent cmp entries key gone) ∙ in-front _ refl gone ∙ up-to-absent cmp (flat leaves) key (cc)

@@ -1,6 +1,5 @@
 -- A path at an entry or at the end, by its number of nodes, and the entry before a place.
-use Rattle.std.proofs.Common.{◌≡◌, ◌≢◌, ℕ, zero, suc, ◌-◌, ◌<◌, List, length, slice_get, refl, ap, arith}
-use Rattle.bforest_core.proofs.Words.{flat, Tree, Stands, IsPathAt, entry_before}
+use Rattle.bforest_core.proofs.Words.{◌≡◌, ◌≢◌, ℕ, zero, suc, ◌-◌, ◌<◌, List, length, slice_get, refl, ap, arith, flat, Tree, Stands, IsPathAt, entry_before}
 
 -- the entry before a place that is not the first
 pub before_is : {X : Type 0} (list : List X) (place : ℕ) → 0 < place → slice_get list (place - 1) ≡ entry_before list place

@@ -1,10 +1,9 @@
 -- The children of the level at which the way of a code ends: the way's own, those beside it, and the ways there.
-use Rattle.std.proofs.Common.{◌≡◌, ◌≢◌, ℕ, suc, ◌+◌, ◌-◌, ◌*◌, ◌%◌, ◌≤◌, ◌<◌, List, ◌∷◌, drop, length, slice_get, option_map, Some, sym, ap, subst, ◌∙◌, arith}
-use Rattle.bforest_core.proofs.{Words.{Content, entry_items, entry_keys, flat, heads, inner_content}, table.Stored.{item_count, some_same}, walks.Codes.Lowest}
-use Rattle.bforest_core.proofs.{walks.Codes.{digit-put, here, node-here}, walks.LeafSearch.items-read, walks.Reading.{ChildAsked, ChildRead, CountAsked}}
-use Rattle.bforest_core.proofs.{walks.Reading.{CountRead, LastAsked, LastRead}, walks.RowNodes.{NodeIn, entry_at, node-at, none-behind, seam}, walks.Steps.read}
-use Rattle.bforest_core.proofs.walks.TopNode.{none_flat}
-use Rattle.bforest_core.specs.Spots.{Coded, CodedOver, NumberAt}
+use Rattle.bforest_core.proofs.Words.{Coded, CodedOver, NumberAt, ◌≡◌, ◌≢◌, ℕ, suc, ◌+◌, ◌-◌, ◌*◌, ◌%◌, ◌≤◌, ◌<◌, List, ◌∷◌, drop, length, slice_get}
+use Rattle.bforest_core.proofs.Words.{option_map, Some, sym, ap, subst, ◌∙◌, arith, Content, entry_items, entry_keys, flat, heads, inner_content}
+use Rattle.bforest_core.proofs.{walks.Codes.{Lowest, digit-put, here, node-here}, walks.RowNodes.{NodeIn, entry_at, node-at, none-behind, seam}}
+use Rattle.bforest_core.proofs.{table.Stored.{item_count, some_same}, walks.Reading.{ChildAsked, ChildRead, CountAsked, CountRead, LastAsked, LastRead}}
+use Rattle.bforest_core.proofs.{walks.LeafSearch.items-read, walks.Steps.read, walks.TopNode.none_flat}
 
 module _ {K V : Type 0} {slots : List (Content K V)} {root code depth numbers rows list place : _}
     (p : CodedOver slots root code depth numbers rows list place) (some : depth ≢ 0) where
@@ -25,7 +24,7 @@ module _ {K V : Type 0} {slots : List (Content K V)} {root code depth numbers ro
 
   -- what the child is, as it was read
   pub branch-child : {child : ℕ} → ChildRead slots number index child → NumberAt list to child
-  branch-child {child} reads =
+  branch-child reads =
       let w = b.at in
       let e = read w.entries index b.low in
       let item = items-read w.entries index ∙ ap (λ z. option_map (λ x. x.1) z) e.1 in
@@ -37,21 +36,13 @@ module _ {K V : Type 0} {slots : List (Content K V)} {root code depth numbers ro
 
   -- the way to the child, by the way to the node
   pub branch-way : {above others : _} → CodedOver slots root above (depth - 1) others (here p some).rest (heads (here p some).row) b.top → {code1 : ℕ}
-      → code1 ≡ above * 8 + index
-      → CodedOver slots root code1 depth (number ∷ others) rows list to
-  branch-way {above} {others} q {code1} code_is =
+      → code1 ≡ above * 8 + index → CodedOver slots root code1 depth (number ∷ others) rows list to
+  branch-way {above} {others} q code_is =
       record {
         stacked = p.stacked;
         inside = p.inside;
         coded = rw (here p some).rows_are (
-          record {
-            before = b.at.before;
-            entries = b.at.entries;
-            after = b.at.after;
-            row_is = b.at.row_is;
-            within = omega arith;
-            place_is = omega arith;
-          },
+          record { before = b.at.before; entries = b.at.entries; after = b.at.after; row_is = b.at.row_is; within = omega arith; place_is = omega arith },
           subst (λ z. Coded others (here p some).rest z (length b.at.before)) (sym (digit-put _ _ _ branch-low code_is).1)
               (subst (λ z. Coded others (here p some).rest above z) (sym b.at.at) q.coded),
         );
@@ -67,8 +58,8 @@ module _ {K V : Type 0} {slots : List (Content K V)} {root code depth numbers ro
 
   -- what the index of a node's last child asks
   pub last-asks : {number : ℕ} (top : ℕ) → NumberAt (heads h.row) top number → LastAsked slots number
-  last-asks {number} top n =
-      let w = node-at _ _ 8 4 (omega arith) h.row h.fit h.inside number top n in
+  last-asks top n =
+      let w = node-at _ _ 8 4 (omega arith) _ h.fit h.inside _ _ n in
       (inner_content w.entries, w.slot_is, omega (arith, item_count w.entries))
 
   -- the node that was read, and the code's last digit
@@ -87,12 +78,12 @@ module _ {K V : Type 0} {slots : List (Content K V)} {root code depth numbers ro
     module _ (none : index ≤ 0) where
       -- the first child of the first node is the first of its level
       pub none-prev : h.top ≡ 0 → place ≡ 0
-      none-prev first = omega (arith, h.place_is, none_flat h.at.before (h.at.at ∙ first))
+      none-prev first = omega (arith, h.place_is, none_flat _ (h.at.at ∙ first))
 
       -- the last child of the node before
       module _ {top number : ℕ} (before : suc top ≡ h.top) (n : NumberAt (heads h.row) top number) {last : ℕ} (says : LastRead slots number last) where
         abbrev node-before : NodeIn inner_content slots 8 h.row number top
-        node-before = node-at _ _ 8 4 (omega arith) h.row h.fit h.inside number top n
+        node-before = node-at _ _ 8 4 (omega arith) _ h.fit h.inside _ _ n
 
         pub last-is : suc last ≡ length node-before.entries
         last-is = omega (arith, says (inner_content node-before.entries) node-before.slot_is, item_count node-before.entries, node-before.some)
@@ -128,6 +119,6 @@ module _ {K V : Type 0} {slots : List (Content K V)} {root code depth numbers ro
 
         -- the first child of the node behind
         abbrev pub first-of : {top number : ℕ} → top ≡ suc h.top → NumberAt (heads h.row) top number → Branch p some number 0 (suc place)
-        first-of {top} {number} behind n =
-            let w = node-at _ _ 8 4 (omega arith) h.row h.fit h.inside number top n in
+        first-of {top} behind n =
+            let w = node-at _ _ 8 4 (omega arith) _ h.fit h.inside _ _ n in
             record { top = top; at = w; low = w.some; to_is = omega (arith, seam h.at w behind, h.place_is, h.within, past) }

@@ -1,9 +1,9 @@
 -- The way of a code down rows of inner nodes, and a spot as such a way.
-use Rattle.std.proofs.Common.{IsTrue, ◌≡◌, ◌≢◌, ℕ, zero, suc, ◌+◌, ◌-◌, ◌*◌, ◌/◌, ◌%◌, ◌≤◌, ◌<◌, List, [], ◌∷◌, length, drop, get_or, slice_get, Some, refl, sym, ap, ◌∙◌, arith, None}
-use Rattle.bforest_core.proofs.Words.{Heads, Row, Rows, Content, node, flat, heads, FitRow, RowIn, inner_content, IsUnion, Table, half_of, is_root, tree_of}
-use Rattle.bforest_core.proofs.{union.Unions.is-rooted, table.Stored.item_count, rows.LevelRows.some_leaf, walks.Reading.{CountAsked, CountRead}}
-use Rattle.bforest_core.proofs.walks.RowNodes.{NodeIn, fit_full, node-at, node-in, node-same}
-use Rattle.bforest_core.specs.Spots.{Coded, CodedOver, HasNext, IsLeafAt, IsSpotAt, IsWay, IsNextOf, IsPrevOf, Leads, NumberAt, leaf_count}
+use Rattle.bforest_core.proofs.Words.{Coded, CodedOver, HasNext, IsLeafAt, IsSpotAt, IsWay, IsNextOf, IsPrevOf, Leads, NumberAt, leaf_count, IsTrue, ◌≡◌, ◌≢◌}
+use Rattle.bforest_core.proofs.Words.{ℕ, zero, suc, ◌+◌, ◌-◌, ◌*◌, ◌/◌, ◌%◌, ◌≤◌, ◌<◌, List, [], ◌∷◌, length, drop, get_or, slice_get, Some, refl, sym, ap, ◌∙◌}
+use Rattle.bforest_core.proofs.Words.{arith, None, Heads, Row, Rows, Content, node, flat, heads, FitRow, RowIn, inner_content, IsUnion, Table, is_root, tree_of}
+use Rattle.bforest_core.proofs.{walks.Reading.{CountAsked, CountRead}, rows.LevelRows.some_leaf, walks.RowNodes.{NodeIn, fit_full, node-at, node-in, node-same}}
+use Rattle.bforest_core.proofs.{union.Unions.is-rooted, table.Stored.item_count}
 use Rattle.bforest_core.specs.declared.spot.Spot.{Spot}
 
 -- a power of eight
@@ -51,7 +51,7 @@ module _ {K V : Type 0} (slots : List (Content K V)) (root code depth : ℕ) whe
         rows_are = refl;
         number = get_or numbers 0 0;
         top = length at.before;
-        at = node-in inner_content slots 8 4 (omega arith) row p.stacked.1 p.inside.0 (get_or numbers 0 0) (length at.before) at.before at.entries at.after at.row_is refl;
+        at = node-in _ _ 8 4 (omega arith) _ p.stacked.1 p.inside.0 _ _ _ _ _ at.row_is refl;
         within = at.within;
         place_is = at.place_is;
         fit = p.stacked.1;
@@ -65,8 +65,7 @@ module _ {K V : Type 0} (slots : List (Content K V)) (root code depth : ℕ) whe
   pub way-none : {numbers : _} (rows list : _) {place : _} → CodedOver slots root code depth numbers rows list place → depth ≡ 0 → NumberAt list place root × (suc place ≡ length list) × (place ≡ 0)
   way-none [] [] p none = absurd (omega arith)
   way-none [] (x ∷ y ∷ list) p none = absurd (omega arith)
-  way-none [] (x ∷ []) p none =
-      ((x.0, ap (λ z. slice_get (x ∷ []) z) p.coded.1 ∙ ap (λ z. Some (x.0, z)) p.root_is), omega arith, p.coded.1)
+  way-none [] (x ∷ []) p none = ((x.0, ap (λ z. slice_get (x ∷ []) z) p.coded.1 ∙ ap (λ z. Some (x.0, z)) p.root_is), omega arith, p.coded.1)
   way-none (row ∷ rest) list p none = absurd (omega arith)
 
 -- a code, with one digit more
@@ -83,7 +82,7 @@ module _ {K V : Type 0} {slots : List (Content K V)} {root code depth numbers ro
 
   -- the lowest node is the one that was read
   pub read-same : (parent : ℕ) → ((numbers rows list place : _) → CodedOver slots root (code / 8) (depth - 1) numbers rows list place → NumberAt list place parent) → parent ≡ here.number
-  read-same parent says = node-same here.at (node-at inner_content slots 8 4 (omega arith) here.row here.fit here.inside parent here.top (says (drop 1 numbers) here.rest (heads here.row) here.top here.over))
+  read-same parent says = node-same here.at (node-at _ _ 8 4 (omega arith) _ here.fit here.inside _ _ (says (drop 1 numbers) here.rest (heads here.row) here.top here.over))
 
   module _ {parent : ℕ} (same : parent ≡ here.number) where
     abbrev pub node-here : NodeIn inner_content slots 8 here.row parent here.top
@@ -108,15 +107,14 @@ kept-same (row ∷ rest) p some parent is = sym is
 module _ {K V : Type 0} {n : ℕ} {table : Table K V} (union : IsUnion n table) (root : ℕ) (is : IsTrue (is_root table.nodes root)) where
   -- the leaf that is the node at this place of the lowest level
   pub leaf-at : {place number : ℕ} → NumberAt (heads (tree_of table.nodes root).leaves) place number → IsLeafAt table root place number
-  leaf-at {place} {number} m =
+  leaf-at m =
       let w = is-rooted root union is in
-      let a = node-at _ _ n (half_of n) (some_leaf union.1.capacity) (tree_of table.nodes root).leaves w.fit.leaves_fit w.inside.leaves_in number place m in
+      let a = node-at _ _ n _ (some_leaf union.1.capacity) _ w.fit.leaves_fit w.inside.leaves_in _ _ m in
       record { before = a.before; entries = a.entries; after = a.after; leaves_are = a.row_is; at = a.at; slot_is = a.slot_is; some = a.some }
 
   -- the last node of the lowest level is the last leaf
   pub last-leaf : {place : ℕ} → suc place ≡ length (heads (tree_of table.nodes root).leaves) → suc place ≡ leaf_count table root
-  last-leaf {place} last =
-      last ∙ fit_full _ n (some_leaf union.1.capacity) _ (is-rooted root union is).fit.leaves_fit
+  last-leaf last = last ∙ fit_full _ n (some_leaf union.1.capacity) _ (is-rooted root union is).fit.leaves_fit
 
 module _ {K V : Type 0} {n : ℕ} {table : Table K V} (union : IsUnion n table) {root : ℕ} {spot : Spot} {place : ℕ} (s : IsSpotAt table root spot place) where
   -- a spot's code is a way down
@@ -180,11 +178,11 @@ module _ {K V : Type 0} {slots : List (Content K V)} {root : ℕ} (spot : Spot) 
   pub root-leads : spot.code ≡ 0 → Leads slots root spot.code spot.height spot root
   root-leads code numbers rows list place p = (
     way-of p spot refl refl (λ low. absurd (omega (arith, low, height))) (λ low. absurd (omega (arith, low, height))),
-    (way-none slots root spot.code spot.height rows list p height).0,
+    (way-none _ _ spot.code spot.height rows list p height).0,
   )
 
   pub root-last : IsNextOf slots root spot.code spot.height None
-  root-last = record { some = tt; none = λ none numbers rows list place p. (way-none slots root spot.code spot.height rows list p height).1 }
+  root-last = record { some = tt; none = λ none numbers rows list place p. (way-none _ _ spot.code spot.height rows list p height).1 }
 
   pub root-first : IsPrevOf slots root spot.code spot.height None
-  root-first = record { some = tt; none = λ none numbers rows list place p. (way-none slots root spot.code spot.height rows list p height).2 }
+  root-first = record { some = tt; none = λ none numbers rows list place p. (way-none _ _ spot.code spot.height rows list p height).2 }

@@ -1,16 +1,16 @@
 -- The way down to the first leaf below a node, and to the last, as a spot: each answer of `first_below` and `last_below` is one of these.
-use Rattle.std.proofs.Common.{◌≡◌, ℕ, suc, ◌+◌, ◌-◌, ◌*◌, ◌≤◌, ◌<◌, List, [], ◌∷◌, ◌++◌, IsTrue, length, slice_get, Some, refl, sym, ap, subst, ◌∙◌, arith, append_assoc, length-append}
-use Rattle.bforest_core.proofs.Words.{Heads, Row, Rows, Content, IsInner, IsLeafCapacity, IsUnion, flat, heads, node, Under, IsFirst, IsLast, append-nil, Table}
-use Rattle.bforest_core.proofs.{Words.{is_root, tree_of}, table.Stored.{item_count, slice_get_at}, walks.Codes.{code-low, digit-put, leaf-at}}
-use Rattle.bforest_core.proofs.{rows.LevelRows.some_leaf, walks.Leading.{Turns, child_under}, walks.Standing.under-root, walks.RowNodes.no_heads}
-use Rattle.bforest_core.proofs.{walks.TopNode.{InnerUnder, LeafUnder, inner_under, leaf_under, node_held}, walks.Reading.{ChildAsked, ChildRead, LastAsked}}
-use Rattle.bforest_core.specs.Spots.{Coded, HasUnder, IsLeafAt, IsSpotAt, IsWay, NumberAt, OnUnder, leaf_count}
+use Rattle.bforest_core.proofs.Words.{Coded, HasUnder, IsLeafAt, IsSpotAt, IsWay, NumberAt, OnUnder, leaf_count, ◌≡◌, ℕ, suc, ◌+◌, ◌-◌, ◌*◌, ◌≤◌, ◌<◌, List, []}
+use Rattle.bforest_core.proofs.Words.{◌∷◌, ◌++◌, IsTrue, length, slice_get, Some, refl, sym, ap, subst, ◌∙◌, arith, append_assoc, length-append, Heads, Row}
+use Rattle.bforest_core.proofs.Words.{Rows, Content, IsInner, IsLeafCapacity, IsUnion, flat, heads, node, Under, IsFirst, IsLast, append-nil, Table, is_root}
+use Rattle.bforest_core.proofs.{Words.tree_of, rows.LevelRows.some_leaf, walks.RowNodes.no_heads, walks.Standing.under-root}
+use Rattle.bforest_core.proofs.{walks.Reading.{ChildAsked, ChildRead, LastAsked}, walks.TopNode.{InnerUnder, LeafUnder, inner_under, leaf_under, node_held}}
+use Rattle.bforest_core.proofs.{table.Stored.{item_count, slice_get_at}, walks.Leading.{Turns, child_under}, walks.Codes.{code-low, digit-put, leaf-at}}
 use Rattle.bforest_core.specs.declared.spot.Spot.{Spot}
 
 -- the node at a place of the lowest level
 number-here : {K V : Type 0} {most : _} {slots : List (Content K V)} {leaves : _} (lower : _) (a first number b : _) → Under most slots leaves lower (a ++ (first, number) ∷ b) → lower ≡ []
     → NumberAt (heads leaves) (length a) number
-number-here [] a first number b u none = (first, cc (slice_get_at a (first, number) b (length a) refl))
+number-here [] a first number b u none = (first, cc (slice_get_at a _ b _ refl))
 number-here (row ∷ lower) a first number b u none = absurd (omega (arith, ap length none))
 
 module _ {K V : Type 0} {most : _} {slots : List (Content K V)} {leaves lower a first number b : _} (s : InnerUnder most slots leaves lower a first number b) where
@@ -21,7 +21,7 @@ module _ {K V : Type 0} {most : _} {slots : List (Content K V)} {leaves lower a 
   -- the way to a child of an inner node, by the way to the node
   pub child-way : {index : ℕ} → index ≤ length s.at.es → {spot next : Spot} → next.code ≡ spot.code * 8 + index → next.parent ≡ number → next.grand ≡ spot.parent → next.height ≡ suc spot.height
       → {upper numbers : _} → IsWay numbers spot upper (length a) → {place : ℕ} → place ≡ length (flat s.at.before) + index → IsWay (number ∷ numbers) next (s.row ∷ upper) place
-  child-way {index} low {spot} {next} code parent grand height {upper} {numbers} w place_is =
+  child-way low {spot} code parent grand height {upper} {numbers} w place_is =
       record {
         coded = (
           record { before = s.at.before; entries = s.at.e ∷ s.at.es; after = s.at.after; row_is = s.at.row_is; within = omega arith; place_is = omega arith },
@@ -36,10 +36,10 @@ module _ {K V : Type 0} {most : _} {slots : List (Content K V)} (capacity : IsLe
   -- at a leaf the way has ended
   module _ (other : IsInner content → ⊥) where
     ended : LeafUnder most slots leaves lower a first number b
-    ended = leaf_under capacity a first number b u read other
+    ended = leaf_under capacity a _ _ b u read other
 
     way-here : {upper numbers : _} {spot : Spot} {place : ℕ} → IsWay numbers spot upper (length a) → length a ≡ place → (others : _) × IsWay others spot (lower ++ upper) place × NumberAt (heads leaves) place number
-    way-here {upper = upper} {numbers = numbers} {spot = spot} {place = place} w is =
+    way-here {upper = upper} {numbers = numbers} {spot = spot} w is =
         (numbers, rw ended.lower_is (subst (IsWay numbers spot upper) is w), rw (← is) (number-here _ a _ _ b u ended.lower_is))
 
     ends : b ≡ [] → length a ≡ length leaves - 1
@@ -51,7 +51,7 @@ module _ {K V : Type 0} {most : _} {slots : List (Content K V)} (capacity : IsLe
   -- a level down
   module _ (inner : IsInner content) where
     below : InnerUnder most slots leaves lower a first number b
-    below = inner_under capacity a first number b u read inner
+    below = inner_under capacity a _ _ b u read inner
 
     child-at : (index : ℕ) → index ≤ length below.at.es → ChildAsked slots number index
     child-at index low = (_, _, below.slot_is, omega (arith, item_count (below.at.e ∷ below.at.es)))
@@ -97,7 +97,7 @@ module _ {K V : Type 0} {most : ℕ} {slots : List (Content K V)} (capacity : Is
       low-here = turns.within asked.0 asked.1 asked.4 asked.5 asked.6 (below capacity asked.4 asked.5 number asked.6 asked.8 read inner) asked.7
 
       pub down-asks : ChildAsked slots number index
-      down-asks = child-at capacity asked.4 asked.5 number asked.6 asked.8 read _ _ low-here
+      down-asks = child-at _ asked.4 asked.5 number asked.6 asked.8 read _ _ low-here
 
       pub down-low : (spot.code < 35184372088832) × (spot.height < 16) × (index < 8)
       down-low =
@@ -141,13 +141,13 @@ way-root spot code height = record { coded = (code, refl); parent_is = λ low. a
 
 -- the way from the root down, at its end
 pub way-spot : {K V : Type 0} (table : Table K V) (root : ℕ) {spot : Spot} {place numbers : _} → IsTrue (is_root table.nodes root) → IsWay numbers spot ((tree_of table.nodes root).above ++ []) place → IsSpotAt table root spot place
-way-spot {K} table root {spot = spot} {place = place} {numbers = numbers} is w =
+way-spot table root {numbers = numbers} is w =
     let v = rw (append-nil (tree_of table.nodes root).above) at w in
     record { root_is = is; numbers = numbers; coded = v.coded; parent_is = v.parent_is; grand_is = v.grand_is; height_is = v.height_is }
 
 -- a root has entries
 pub root-held : {K V : Type 0} {n : ℕ} {table : Table K V} (union : IsUnion n table) (root : ℕ) (is : IsTrue (is_root table.nodes root)) → LastAsked table.nodes root
-root-held {n = n} {table = table} union root is =
+root-held union root is =
     let u = under-root root union is in
     node_held union.1.capacity [] u.first root [] u.under
 

@@ -1,17 +1,15 @@
 -- The step of a spot to the next leaf and to the one before, and the place of a spot's leaf.
-use Rattle.std.proofs.Common.{◌≡◌, ◌≢◌, ℕ, suc, ◌+◌, ◌-◌, ◌*◌, ◌/◌, ◌%◌, ◌≤◌, ◌<◌, List, [], ◌∷◌}
-use Rattle.std.proofs.Common.{drop, get_or, length, slice_get, take, Some, inl, inr, refl, sym, ap, subst, ◌∙◌, arith}
-use Rattle.bforest_core.proofs.{Words.{Rows, cases_lt, eqb_tells, take_at, IsUnion, Table, heads, inner_content, tree_of}, table.Stored.{some_same, item_count}}
+use Rattle.bforest_core.proofs.Words.{Coded, CodedOver, HasNext, HasPrev, IsLeafAt, IsNextOf, IsPrevOf, IsSpotAt, NumberAt, leaf_count, leaf_place, place_by}
+use Rattle.bforest_core.proofs.Words.{◌≡◌, ◌≢◌, ℕ, suc, ◌+◌, ◌-◌, ◌*◌, ◌/◌, ◌%◌, ◌≤◌, ◌<◌, List, [], ◌∷◌, drop, get_or, length, slice_get, take, Some, inl, inr}
 use Rattle.bforest_core.proofs.walks.Branches.{Branch, branch-asks, branch-child, branch-way, count-asks, first-of, last-asks, last-of, last-some, next-own}
-use Rattle.bforest_core.proofs.{walks.Branches.{none-next, none-prev, prev-own, prev-some}, walks.Codes.{far-spot, here, it, its, kept-same, last-leaf}}
-use Rattle.bforest_core.proofs.{walks.Codes.{leaf-at, other, spot-over, way-none, way-of}, walks.Reading.{ChildAsked, ChildRead, CountAsked, CountRead}}
-use Rattle.bforest_core.proofs.walks.Reading.{LastAsked, LastRead}
-use Rattle.bforest_core.specs.Spots.{Coded, CodedOver, HasNext, HasPrev, IsLeafAt, IsNextOf, IsPrevOf, IsSpotAt, NumberAt, leaf_count, leaf_place, place_by}
+use Rattle.bforest_core.proofs.Words.{refl, sym, ap, subst, ◌∙◌, arith, Rows, cases_lt, eqb_tells, take_at, IsUnion, Table, heads, inner_content, tree_of}
+use Rattle.bforest_core.proofs.walks.Branches.{none-next, none-prev, prev-own, prev-some}
+use Rattle.bforest_core.proofs.{table.Stored.{some_same, item_count}, walks.Reading.{ChildAsked, ChildRead, CountAsked, CountRead, LastAsked, LastRead}}
+use Rattle.bforest_core.proofs.walks.Codes.{far-spot, here, it, its, kept-same, last-leaf, leaf-at, other, spot-over, way-none, way-of}
 use Rattle.bforest_core.specs.declared.spot.Spot.{Spot}
 
 -- a code leads to one place
-pub coded-place : {K : Type 0} (numbers : List ℕ) (rows : Rows K) (code place : ℕ) → Coded numbers rows code place
-    → place_by rows code ≡ place
+pub coded-place : {K : Type 0} (numbers : List ℕ) (rows : Rows K) (code place : ℕ) → Coded numbers rows code place → place_by rows code ≡ place
 coded-place numbers [] code place c = sym c.1
 coded-place numbers (row ∷ rows) code place c =
     let at = c.0 in
@@ -22,7 +20,7 @@ coded-place numbers (row ∷ rows) code place c =
 
 -- the place of a spot's leaf
 pub place-is : {K V : Type 0} {table : Table K V} {root : ℕ} {spot : Spot} {place : ℕ} → IsSpotAt table root spot place → leaf_place table root spot ≡ place
-place-is {table = table} {root = root} {spot = spot} {place = place} s = coded-place _ _ _ _ s.coded
+place-is s = coded-place _ _ _ _ s.coded
 
 -- a leaf on the level of a spot's leaf, as a child of a node above it
 module _ {K V : Type 0} {n : ℕ} {table : Table K V} (union : IsUnion n table) {root : ℕ} {spot : Spot} {place : ℕ} (s : IsSpotAt table root spot place)
@@ -51,8 +49,7 @@ module _ {K V : Type 0} {n : ℕ} {table : Table K V} (union : IsUnion n table) 
   slot = cc (its union s some, (it union s some).at.slot_is)
 
   counts : CountRead table.nodes spot.parent count
-  counts content found =
-      sym (cc (some_same content (inner_content (it union s some).at.entries) (sym found ∙ slot), item_count (it union s some).at.entries))
+  counts content found = sym (cc (some_same _ _ (sym found ∙ slot), item_count (it union s some).at.entries))
 
   -- where no sibling is behind it, the leaf is the last of its parent
   high : (HasNext table spot → ⊥) → count ≤ spot.code % 8 + 1
@@ -69,9 +66,7 @@ module _ {K V : Type 0} {n : ℕ} {table : Table K V} (union : IsUnion n table) 
 module _ {K V : Type 0} {n : ℕ} {table : Table K V} (union : IsUnion n table) {root : ℕ} {spot : Spot} {place : ℕ} (s : IsSpotAt table root spot place) where
   module _ (h : HasNext table spot) where
     abbrev behind : Branch (spot-over union s) (other union s h.some) spot.parent (spot.code % 8 + 1) (suc place)
-    behind =
-        next-own (spot-over union s) (other union s h.some) (its union s h.some) refl
-        (λ content found. sym (cc (some_same content (inner_content h.entries) (sym found ∙ h.parent), item_count h.entries))) h.within
+    behind = next-own _ _ (its union s h.some) refl (λ content found. sym (cc (some_same _ _ (sym found ∙ h.parent), item_count h.entries))) h.within
 
     pub sibling-asks : ChildAsked table.nodes spot.parent (spot.code % 8 + 1)
     sibling-asks = branch-asks behind
@@ -84,7 +79,7 @@ module _ {K V : Type 0} {n : ℕ} {table : Table K V} (union : IsUnion n table) 
 
   module _ (h : HasPrev spot) where
     abbrev before : Branch (spot-over union s) (other union s h.0) spot.parent (spot.code % 8 - 1) (place - 1)
-    before = prev-own (spot-over union s) (other union s h.0) (its union s h.0) refl h.1
+    before = prev-own _ _ (its union s h.0) refl h.1
 
     pub before-asks : ChildAsked table.nodes spot.parent (spot.code % 8 - 1)
     before-asks = branch-asks before
@@ -193,8 +188,7 @@ module _ {K V : Type 0} {n : ℕ} {table : Table K V} (union : IsUnion n table) 
               → next.height ≡ spot.height → ChildRead table.nodes parent last leaf → (0 < place) × IsSpotAt table root next (place - 1)
               × IsLeafAt table root (place - 1) leaf
           cousin-before code parent_is grand height found =
-              let r = there union s some leaf-before (branch-way prev-up (here up more).over {code1 = spot.code / 8 - 1} (omega arith)) code parent_is
-              height (λ low. sym grand) found in
+              let r = there union s some leaf-before (branch-way prev-up (here up more).over (omega arith)) code parent_is height (λ low. sym grand) found in
               (last-some (spot-over union s) (other union s some) (its union s some) refl (nought union s some first) next-to parent-at says, r.0, r.1)
 
 -- what is said of the node behind or before, to which a way from the root leads, of a spot
@@ -209,16 +203,13 @@ module _ {K V : Type 0} {n : ℕ} {table : Table K V} (union : IsUnion n table) 
       × IsSpotAt table root far (place - 1) × IsLeafAt table root (place - 1) leaf
   far-before says place s =
       let r = says.some s.numbers (tree_of table.nodes root).above (heads (tree_of table.nodes root).leaves) place (spot-over union s) in
-      let to : r.0 ≡ place - 1 = omega arith in (
-        omega arith,
-        subst (IsSpotAt table root far) to (far-spot union s r.3),
-        rw (← to) (leaf-at union root s.root_is r.4),
-      )
+      let to : r.0 ≡ place - 1 = omega arith in
+      (omega arith, subst (IsSpotAt table root far) to (far-spot union s r.3), rw (← to) (leaf-at union root s.root_is r.4))
 
 -- a spot is told by its code and its ancestors, since all leaves of a tree have one height
 pub same-spot : {K V : Type 0} {table : Table K V} {root : ℕ} {here far spot : Spot} {place to : ℕ} → IsSpotAt table root here place → IsSpotAt table root far to →
     spot.code ≡ far.code → spot.parent ≡ far.parent → spot.grand ≡ far.grand → spot.height ≡ here.height → IsSpotAt table root spot to
-same-spot {table = table} {root = root} {to = to} h f code parent grand height = record {
+same-spot h f code parent grand height = record {
   root_is = f.root_is;
   numbers = f.numbers;
   coded = rw code f.coded;

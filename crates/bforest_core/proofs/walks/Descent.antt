@@ -1,17 +1,17 @@
 -- The descent of a search: one level of it, and its end in a leaf.
-use Rattle.std.proofs.Common.{◌≡◌, ◌≢◌, ℕ, ◌+◌, ◌≤◌, ◌<◌, ◌⊎◌, inl, inr, List, [], ◌∷◌, ◌++◌, length, get_or, set, slice_get, Option, Some, refl, sym, ap, subst, ◌∙◌, arith, append_assoc, length-append, length-set}
-use Rattle.bforest_core.proofs.Words.{Heads, Row, get_or-set_same, nil_from_length, slice_get_within, IsTotalOrder, IsStrictlySortedBy, AllByRecursion, is_some}
-use Rattle.bforest_core.proofs.Words.{Content, Inner, IsLeafCapacity, IsIncreasing, place, is_present, value_for, node, flat, heads, entry_keys, entry_items}
-use Rattle.bforest_core.proofs.{Words.{StandsTo, child_index, IsFrom, IsUpTo, GoesThrough, Under, Descended, Reached}, walks.LeafSearch.items-read}
-use Rattle.bforest_core.proofs.{rows.LevelRows.{flat-append, some_leaf}, table.Stored.{some_same, slice_get_at}, walks.Rising.{all_split, all_less}}
-use Rattle.bforest_core.proofs.walks.Rising.{increasing_split, increasing_rest, all_before, all_greater, place_between, entry_between, place-le, first_passed}
-use Rattle.bforest_core.proofs.{walks.Rising.sides, walks.Downward.{Seen, last_of, stands_more, heads_increasing, upto_flat, stacked_increasing}}
-use Rattle.bforest_core.proofs.{walks.TopNode.{InnerUnder, LeafUnder, flat_parted, seen_at, set_but}, walks.Reading.ChildRead}
+use Rattle.bforest_core.proofs.Words.{place-present, ◌≡◌, ◌≢◌, ℕ, ◌+◌, ◌≤◌, ◌<◌, ◌⊎◌, inl, inr, List, [], ◌∷◌, ◌++◌, length, get_or, set, slice_get, Option}
+use Rattle.bforest_core.proofs.Words.{Some, refl, sym, ap, subst, ◌∙◌, arith, append_assoc, length-append, length-set, Heads, Row, get_or-set_same}
+use Rattle.bforest_core.proofs.Words.{nil_from_length, slice_get_within, IsTotalOrder, IsStrictlySortedBy, AllByRecursion, is_some, Content, Inner}
+use Rattle.bforest_core.proofs.Words.{IsLeafCapacity, IsIncreasing, place, is_present, value_for, node, flat, entry_keys, entry_items, StandsTo, child_index}
+use Rattle.bforest_core.proofs.walks.Rising.{all_split, all_less, increasing_split, increasing_rest, all_before, all_greater, place_between, entry_between}
+use Rattle.bforest_core.proofs.{Words.{IsFrom, IsUpTo, GoesThrough, Under, Descended, Reached}, rows.LevelRows.{flat-append, some_leaf}}
+use Rattle.bforest_core.proofs.{walks.Rising.{place-le, first_passed, sides}, walks.TopNode.{InnerUnder, LeafUnder, flat_parted, seen_at, set_but}}
+use Rattle.bforest_core.proofs.{walks.LeafSearch.items-read, walks.Downward.{Seen, last_of, stands_more, heads_increasing, upto_flat, stacked_increasing}}
+use Rattle.bforest_core.proofs.{table.Stored.{some_same, slice_get_at}, walks.Reading.ChildRead}
 use Rattle.std.specs.Map.{keys_of}
 use Rattle.std.specs.declared.cmp.Ordering.{Ordering}
 use Rattle.std.specs.declared.cmp.Ordering.TheVariants.{Less, Greater}
 use Rattle.bforest_core.specs.Descent.{IsPlaced}
-use Rattle.bforest_nodes.proofs.Found.{place-present}
 
 -- writing the first of a list twice
 set_twice : (xs : List ℕ) (i j : ℕ) → set (set xs 0 i) 0 j ≡ set xs 0 j
@@ -25,8 +25,8 @@ module _ {K : Type 0} (cmp : K → K → Ordering) where
 
   -- a node's first key is the first of its level, or not greater
   from_at : {X : Type 0} {half most : _} {row : Row K X} (a : _) {first number b : _} {key : K} (at : Seen half most row a first number b) → IsFrom cmp a first key → (at.before ≡ []) ⊎ (cmp at.e.0 key ≢ Greater)
-  from_at [] at f = inl (nil_from_length at.before at.before_is)
-  from_at (x ∷ a) {key = key} at f = inr (rw at.first_is f)
+  from_at [] at f = inl (nil_from_length _ at.before_is)
+  from_at (x ∷ a) at f = inr (rw at.first_is f)
 
   -- the key is less than the next of two parts of a list, the first of which may be empty
   upto_parts : (r after : Heads K) (key : K) → AllByRecursion (λ p. cmp p key ≡ Greater) (keys_of r) → IsUpTo cmp after key → IsUpTo cmp (r ++ after) key
@@ -73,7 +73,7 @@ module _ {K V : Type 0} {cmp : K → K → Ordering} (o : IsTotalOrder cmp) {mos
     pub inner_step : InnerUnder most slots leaves lower a first number b → InnerStep cmp most slots leaves lower a first number b key
     inner_step s = record {
       here = s;
-      increasing = (increasing_about cmp o s.at (stacked_increasing cmp o (heads leaves) s.rows (flat s.row) s.under.stacked (heads_increasing o leaves inc))).1;
+      increasing = (increasing_about cmp o s.at (stacked_increasing _ o _ _ _ s.under.stacked (heads_increasing o leaves inc))).1;
       from = from_at cmp a s.at g.from;
       upto = upto_flat _ 4 8 (omega arith) _ _ s.at.after_fit (rw s.at.after_is g.upto);
     }
@@ -89,7 +89,7 @@ module _ {K V : Type 0} {cmp : K → K → Ordering} (o : IsTotalOrder cmp) {mos
           increasing = parts.1;
           increasing_after = parts.2;
           from = from;
-          low = elim from [ inl none ↦ subst (λ z. AllByRecursion (λ p. cmp p key ≡ Less) (keys_of (flat z))) (sym none) tt | inr ng ↦ all_less o at.e.0 key (keys_of (flat at.before)) (all_before o _ _ (at.es ++ flat at.after) parts.0) ng ];
+          low = elim from [ inl none ↦ subst (λ z. AllByRecursion (λ p. cmp p key ≡ Less) (keys_of (flat z))) (sym none) tt | inr ng ↦ all_less o _ _ _ (all_before o _ _ (at.es ++ flat at.after) parts.0) ng ];
           high = all_greater o _ key parts.2 (λ y c is. subst (λ z. IsUpTo cmp z key) is upto);
         }
 
@@ -109,8 +109,7 @@ module _ {K V : Type 0} {cmp : K → K → Ordering} (o : IsTotalOrder cmp) {mos
     follow_asks = (entry_keys s.here.at.es, entry_items (s.here.at.e ∷ s.here.at.es), s.here.slot_is, increasing_rest o s.here.at.e s.here.at.es s.increasing)
 
     -- following a child gives the search capacity level down
-    pub below : {index child : ℕ}
-        → ((keys : List K) (children : _) → slice_get slots number ≡ Some (Inner keys children) → index ≡ child_index cmp keys key)
+    pub below : {index child : ℕ} → ((keys : List K) (children : _) → slice_get slots number ≡ Some (Inner keys children) → index ≡ child_index cmp keys key)
         → ChildRead slots number index child → Below s index child
     below {index = index} {child = child} says reads =
         let index_is = says (entry_keys s.here.at.es) (entry_items (s.here.at.e ∷ s.here.at.es)) s.here.slot_is in
@@ -158,11 +157,11 @@ module _ {K V : Type 0} {cmp : K → K → Ordering} (o : IsTotalOrder cmp) {mos
 
     -- the key's value in the leaf is its value among all entries
     pub leaf_value : value_for cmp (flat leaves) key ≡ value_for cmp entries key
-    leaf_value = cc (all_are, entry_between o (flat s.here.at.before) entries (flat s.here.at.after) key s.increasing_after s.low s.high)
+    leaf_value = cc (all_are, entry_between o _ _ _ _ s.increasing_after s.low s.high)
 
     -- the key is present in the leaf exactly if it is present among all entries
     pub leaf_found : is_present cmp (flat leaves) key ≡ is_present cmp entries key
-    leaf_found = cc (all_are, entry_between o (flat s.here.at.before) entries (flat s.here.at.after) key s.increasing_after s.low s.high)
+    leaf_found = cc (all_are, entry_between o _ _ _ _ s.increasing_after s.low s.high)
 
     abbrev pub placed : (m j : ℕ) → m ≡ number → j ≡ place cmp entries key → IsPlaced cmp leaves key m j
     placed m j m_is j_is =
@@ -183,10 +182,10 @@ module _ {K V : Type 0} {cmp : K → K → Ordering} (o : IsTotalOrder cmp) {mos
     pub landed : (path indices path' : _) {indices' : _} (answer : Option V) → 0 < length path → 0 < length indices
         → path' ≡ set path 0 number → indices' ≡ set indices 0 (place cmp entries key) → answer ≡ value_for cmp entries key
         → (answer ≡ value_for cmp (flat leaves) key) × Descended cmp leaves lower key (length a) path indices path' indices'
-    landed path indices path' {indices' = indices'} answer wide wide' nodes indices_are answer_is = (
+    landed path indices path' answer wide wide' nodes indices_are answer_is = (
       cc (leaf_value),
       rw s.here.lower_is (record {
-        leaf = placed (get_or path' 0 0) (get_or indices' 0 0) (cc (get_or-set_same path 0 number 0 wide)) (cc (get_or-set_same indices 0 (place cmp entries key) 0 wide'));
+        leaf = placed _ _ (cc (get_or-set_same path 0 number 0 wide)) (cc (get_or-set_same indices 0 (place cmp entries key) 0 wide'));
         stands = s.here.at.before_is;
         nodes_above = λ i low. set_but _ 0 _ nodes i (λ z. omega (arith, low));
         entries_above = λ i low. set_but _ 0 _ indices_are i (λ z. omega (arith, low));
@@ -204,5 +203,5 @@ module _ {K V : Type 0} {cmp : K → K → Ordering} (o : IsTotalOrder cmp) {mos
       found_is = leaf_found;
       nodes_wide = cc (length-set path 0 number);
       indices_wide = cc (length-set indices 0 0);
-      descended = (landed _ _ _ _ wide wide' nodes (cc (set_twice indices 0 (place cmp entries key))) refl).1;
+      descended = (landed _ _ _ _ wide wide' nodes (cc (set_twice _ 0 _)) refl).1;
     }

@@ -1,8 +1,7 @@
 -- Rows from the top: the highest of them, and a node of a row as an entry of the level above.
-use Rattle.std.proofs.Common.{◌≡◌, ℕ, suc, ◌+◌, ◌≤◌, ◌<◌, List, [], ◌∷◌, ◌++◌, length, get_or, refl, sym, ap, subst, ◌∙◌, arith}
-use Rattle.bforest_core.proofs.Words.{Heads, Row, Rows, IsTotalOrder, IsStrictlySortedBy, AllByRecursion, Content, IsIncreasing, node, flat, heads, FitRow}
-use Rattle.bforest_core.proofs.{Words.{RowIn, RowsIn, inner_content, IsAt, StackedTo, StandsTo, IsUpTo}, rows.LevelRows.least-pos, walks.Rising.all_split}
-use Rattle.bforest_core.proofs.walks.Rising.{increasing_split}
+use Rattle.bforest_core.proofs.Words.{◌≡◌, ℕ, suc, ◌+◌, ◌≤◌, ◌<◌, List, [], ◌∷◌, ◌++◌, length, get_or, refl, sym, ap, subst, ◌∙◌, arith, Heads, Row, Rows}
+use Rattle.bforest_core.proofs.Words.{IsTotalOrder, IsStrictlySortedBy, AllByRecursion, Content, IsIncreasing, node, flat, heads, FitRow, RowIn, RowsIn}
+use Rattle.bforest_core.proofs.{Words.{inner_content, IsAt, StackedTo, StandsTo, IsUpTo}, rows.LevelRows.least-pos, walks.Rising.{all_split, increasing_split}}
 use Rattle.std.specs.Map.{keys_of}
 use Rattle.std.specs.declared.cmp.Ordering.{Ordering}
 use Rattle.std.specs.declared.cmp.Ordering.TheVariants.{Less}
@@ -37,7 +36,7 @@ module _ {K : Type 0} where
   stands_more path indices level [] place high s e at =
       let h : high ≡ level = omega (arith, e) in
       (record { before = at.before; entries = at.entries; after = at.after; row_is = rw h at at.row_is; within = rw h at at.within; place_is = s ∙ (rw h at at.place_is) }, refl)
-  stands_more path indices level (r ∷ rows) {row = row} place {q = q} high s e at =
+  stands_more path indices level (r ∷ rows) place high s e at =
       (s.0, stands_more path indices (suc level) rows (length s.0.before) high s.1 (omega (arith, e)) at)
 
 -- the node of a row whose head is between these heads
@@ -74,7 +73,7 @@ module _ {K X : Type 0} where
   pub heads_increasing : {cmp : K → K → Ordering} → IsTotalOrder cmp → (row : Row K X) → IsIncreasing cmp (flat row) → IsIncreasing cmp (heads row)
   unfolding IsStrictlySortedBy
   heads_increasing o [] h = tt
-  heads_increasing {cmp = cmp} o (node m [] ∷ ns) h = heads_increasing o ns h
+  heads_increasing o (node m [] ∷ ns) h = heads_increasing o ns h
   heads_increasing {cmp = cmp} o (node m (e ∷ es) ∷ ns) h = (heads_all (λ k. cmp e.0 k ≡ Less) ns (all_split _ _ _ h.0).1, heads_increasing o ns (increasing_split o es (flat ns) h.1).1)
 
   -- a key that is less than the first head of a row is less than its first entry

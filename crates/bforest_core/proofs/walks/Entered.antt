@@ -1,10 +1,10 @@
 -- A step of a path from one entry of a tree to the next or the previous one.
-use Rattle.std.proofs.Common.{◌≡◌, ℕ, zero, suc, ◌+◌, ◌-◌, ◌≤◌, ◌<◌, List, [], ◌∷◌, ◌++◌, length, get_or, slice_get, Option, None, Some, refl, sym, ap, option_map, ◌∙◌, arith}
-use Rattle.bforest_core.proofs.Words.{Row, length-map, slice_get_within, Content, entry_count, node, flat, heads, Tree, IsFit, half_of, leaf_content, PointsAt}
-use Rattle.bforest_core.proofs.{Words.{StandsAbove, entry_keys, entry_items, Stands, IsIn, Over, Moved, IsLeafCapacity}, rows.Zipper.stands-same}
-use Rattle.bforest_core.proofs.{walks.RowNodes.{entry_at, node-in, none-behind, seam}, walks.Steps.{Within, at_index, last_asks, last_is, there}}
-use Rattle.bforest_core.proofs.{walks.TopNode.{SameBut, none_flat}, walks.Whole.stands-pointed, table.Lists.read_none, table.Stored.some_same}
-use Rattle.bforest_core.proofs.{walks.Reading.{LastAsked, LastRead}, rows.LevelRows.some_leaf}
+use Rattle.bforest_core.proofs.Words.{◌≡◌, ℕ, zero, suc, ◌+◌, ◌-◌, ◌≤◌, ◌<◌, List, [], ◌∷◌, ◌++◌, length, get_or, slice_get, Option, None, Some, refl, sym, ap}
+use Rattle.bforest_core.proofs.Words.{option_map, ◌∙◌, arith, Row, length-map, slice_get_within, Content, entry_count, node, flat, heads, Tree, IsFit, half_of}
+use Rattle.bforest_core.proofs.Words.{leaf_content, PointsAt, StandsAbove, entry_keys, entry_items, Stands, IsIn, Over, Moved, IsLeafCapacity}
+use Rattle.bforest_core.proofs.{walks.Steps.{Within, at_index, last_asks, last_is, there}, walks.RowNodes.{entry_at, node-in, none-behind, seam}}
+use Rattle.bforest_core.proofs.{rows.Zipper.stands-same, table.Lists.read_none, table.Stored.some_same}
+use Rattle.bforest_core.proofs.{walks.Whole.stands-pointed, rows.LevelRows.some_leaf, walks.TopNode.{SameBut, none_flat}, walks.Reading.{LastAsked, LastRead}}
 
 -- an optional entry, from its key and its value
 pub pair_answer : {K X : Type 0} (es : List (K × X)) (i : ℕ) (o : Option (K × X)) → option_map (λ e. e.0) o ≡ slice_get (entry_keys es) i → option_map (λ e. e.1) o ≡ slice_get (entry_items es) i → o ≡ slice_get es i
@@ -16,11 +16,11 @@ pair_answer (y ∷ es) (suc i) o k x = pair_answer es i o k x
 
 -- an entry from its key and its value
 pub pair_read : {K X : Type 0} (es : List (K × X)) (i : ℕ) {k : K} {x : X} → slice_get (entry_keys es) i ≡ Some k → slice_get (entry_items es) i ≡ Some x → slice_get es i ≡ Some (k, x)
-pair_read es i {k = k} {x = x} e f = sym (pair_answer _ i _ (sym e) (sym f))
+pair_read es i e f = sym (pair_answer _ i _ (sym e) (sym f))
 
 -- the content read at a path's leaf is that leaf
 pub leaf_is : {K V : Type 0} (slots : List (Content K V)) (path r : _) {content : Content K V} (es : List (K × V)) → 0 < length path → slice_get slots (get_or path 0 r) ≡ Some content → slice_get slots (get_or path 0 0) ≡ Some (leaf_content es) → content ≡ leaf_content es
-leaf_is slots path r {content = content} es some found slot = some_same _ _ (sym found ∙ at_index slots path r some refl slot)
+leaf_is slots path r es some found slot = some_same _ _ (sym found ∙ at_index _ _ r some refl slot)
 
 -- a leaf has as many entries as keys
 pub key_total : {K V : Type 0} (es : List (K × V)) → entry_count (leaf_content es) ≡ length es
@@ -33,32 +33,32 @@ module _ {K V : Type 0} {most : ℕ} (capacity : IsLeafCapacity most) {slots : _
 
   -- the path is in its leaf at this index
   abbrev pub in_leaf : (path indices : _) (before : Row K V) (entries after : _) → tree.leaves ≡ before ++ node (get_or path 0 0) entries ∷ after → StandsAbove path indices 1 tree.above (length before) → InLeaf path indices (length before)
-  in_leaf path indices before entries after row_is above = record { node = node-in leaf_content slots most (half_of most) (some_leaf capacity) tree.leaves fit.leaves_fit inside.leaves_in (get_or path 0 0) (length before) before entries after row_is refl; stands = above }
+  in_leaf path indices before entries after row_is above = record { node = node-in _ _ _ _ (some_leaf capacity) _ fit.leaves_fit inside.leaves_in _ _ _ _ _ row_is refl; stands = above }
 
   -- a path with the same nodes, and the same indices but in the leaf, points into the same leaf
   abbrev pub points_in : {path indices leaf : _} (w : InLeaf path indices leaf) {size : ℕ} → size ≡ suc (length tree.above)
       → {path' : _} (indices' place : _) → path' ≡ path → SameBut 0 indices indices' → get_or indices' 0 0 ≤ length w.node.entries
       → place ≡ length (flat w.node.before) + get_or indices' 0 0 → PointsAt path' indices' size tree place
-  points_in {path} {indices} {leaf} w size_is {path' = path'} indices' place path_is same low place_is = record {
+  points_in w size_is indices' place path_is same low place_is = record {
     before = w.node.before;
     entries = w.node.entries;
     after = w.node.after;
     leaves_are = cc;
     within = low;
     place_is = place_is;
-    above = rw w.node.at (stands-same path indices path' indices' 1 tree.above leaf (λ i low. ap (λ z. get_or z i 0) path_is) (λ i low. same i (λ e. omega arith)) w.stands);
+    above = rw w.node.at (stands-same _ _ _ _ 1 _ _ (λ i low. ap (λ z. get_or z i 0) path_is) (λ i low. same i (λ e. omega arith)) w.stands);
     size_is = size_is;
   }
 
   stands_in : {path indices leaf : _} (w : InLeaf path indices leaf) {size : ℕ} → size ≡ suc (length tree.above)
       → {path' : _} (indices' place : _) → path' ≡ path → SameBut 0 indices indices' → get_or indices' 0 0 < length w.node.entries
       → place ≡ length (flat w.node.before) + get_or indices' 0 0 → Stands path' indices' size tree place
-  stands_in w {size = size} size_is {path' = path'} indices' place path_is same low place_is = stands-pointed (points_in w size_is _ _ path_is same (omega arith) place_is) low
+  stands_in w size_is indices' place path_is same low place_is = stands-pointed (points_in w size_is _ _ path_is same (omega arith) place_is) low
 
   -- a path that moved to the front of the next leaf stands on the next entry
   pub first_behind : {path indices : List ℕ} {leaf : ℕ} (w : InLeaf path indices leaf) {size : ℕ} → size ≡ suc (length tree.above) → {path1 indices1 : List ℕ} {path' : List ℕ} (indices' : List ℕ) →
       Moved path indices path1 indices1 0 tree.above (heads tree.leaves) (suc leaf) → path' ≡ path1 → get_or indices' 0 0 ≡ 0 → SameBut 0 indices1 indices' → Stands path' indices' size tree (length (flat w.node.before) + length w.node.entries)
-  first_behind w {size = size} size_is {path1 = path1} {indices1 = indices1} {path' = path'} indices' m path_is here above =
+  first_behind w size_is indices' m path_is here above =
       let next = there leaf_content slots most (half_of most) (some_leaf capacity) tree.leaves fit.leaves_fit inside.leaves_in m in
       stands_in next size_is indices' (length (flat w.node.before) + length w.node.entries) path_is above (omega arith) (omega (arith, seam w.node next.node refl))
 
@@ -68,7 +68,7 @@ module _ {K V : Type 0} {most : ℕ} (capacity : IsLeafCapacity most) {slots : _
 
   module _ {path indices size place : _} (s : Stands path indices size tree place) where
     abbrev pub leaf_here : InLeaf path indices (length s.leaf.before)
-    leaf_here = in_leaf path indices s.leaf.before s.leaf.entries s.leaf.after s.leaf.row_is s.above
+    leaf_here = in_leaf _ _ _ _ _ s.leaf.row_is s.above
 
     pub over_leaves : Over slots path indices 1 size tree.above (heads tree.leaves) (length s.leaf.before)
     over_leaves = record { stacked = fit.stacked; inside = inside.rows_in; stands = s.above; height = omega arith }
@@ -79,15 +79,15 @@ module _ {K V : Type 0} {most : ℕ} (capacity : IsLeafCapacity most) {slots : _
 
     -- the entry at the place, as it was read in the leaf
     pub entry_read : {e : K × V} → ((es : List (K × V)) → slice_get slots (get_or path 0 0) ≡ Some (leaf_content es) → slice_get es (get_or indices 0 0) ≡ Some e) → slice_get (flat tree.leaves) place ≡ Some e
-    entry_read {e = e} read_is = entry_is (get_or indices 0 0) e place s.leaf.place_is read_is
+    entry_read {e = e} read_is = entry_is _ e _ s.leaf.place_is read_is
 
     module _ {e : K × V} (read_is : (es : List (K × V)) → slice_get slots (get_or path 0 0) ≡ Some (leaf_content es) → Some e ≡ slice_get es (get_or indices 0 0 + 1)) where
       -- the next entry is in the same leaf
       pub next_read : Some e ≡ slice_get (flat tree.leaves) (suc place)
-      next_read = sym (entry_is (get_or indices 0 0 + 1) e (suc place) (omega arith) (λ es slot. sym (read_is es slot)))
+      next_read = sym (entry_is _ e _ (omega arith) (λ es slot. sym (read_is es slot)))
 
       pub next_within : {path' : _} (indices' : _) → path' ≡ path → get_or indices' 0 0 ≡ get_or indices 0 0 + 1 → SameBut 0 indices indices' → Stands path' indices' size tree (suc place)
-      next_within {path' = path'} indices' path_is here above =
+      next_within indices' path_is here above =
           let low = slice_get_within s.leaf.entries (get_or indices 0 0 + 1) e (sym (read_is s.leaf.entries leaf_here.node.slot_is)) in
           stands_in leaf_here s.size_is indices' (suc place) path_is above (omega arith) (omega arith)
 
@@ -100,7 +100,7 @@ module _ {K V : Type 0} {most : ℕ} (capacity : IsLeafCapacity most) {slots : _
       pub next_over : {path1 indices1 path' : List ℕ} (indices' : List ℕ)
           → ((rows list at : _) → Over slots path indices 1 size rows list at → Moved path indices path1 indices1 0 rows list (suc at)) → path' ≡ path1
           → get_or indices' 0 0 ≡ 0 → SameBut 0 indices1 indices' → Stands path' indices' size tree (suc place)
-      next_over {path' = path'} indices' moved path_is here above =
+      next_over indices' moved path_is here above =
           rw leaf_ends (first_behind leaf_here s.size_is indices' (moved _ (heads tree.leaves) (length s.leaf.before) over_leaves) path_is here above)
 
       -- where no leaf follows, the path stands on the last entry
@@ -109,8 +109,7 @@ module _ {K V : Type 0} {most : ℕ} (capacity : IsLeafCapacity most) {slots : _
 
     -- the previous entry is in the same leaf
     pub back_within : {path' : _} (indices' : _) → path' ≡ path → 0 < get_or indices 0 0 → get_or indices' 0 0 ≡ get_or indices 0 0 - 1 → SameBut 0 indices indices' → (0 < place) × Stands path' indices' size tree (place - 1)
-    back_within {path' = path'} indices' path_is some here above =
-        (omega arith, stands_in leaf_here s.size_is indices' (place - 1) path_is above (omega arith) (omega arith))
+    back_within indices' path_is some here above = (omega arith, stands_in leaf_here s.size_is indices' (place - 1) path_is above (omega arith) (omega arith))
 
     module _ {path1 indices1 : _} (backs : (rows list at : _) → Over slots path indices 1 size rows list at → (0 < at) × Moved path indices path1 indices1 0 rows list (at - 1)) (r : ℕ) (wide : 0 < length path1) where
       went : (0 < length s.leaf.before) × Moved path indices path1 indices1 0 tree.above (heads tree.leaves) (length s.leaf.before - 1)
@@ -125,15 +124,13 @@ module _ {K V : Type 0} {most : ℕ} (capacity : IsLeafCapacity most) {slots : _
       back_asks = last_asks back_leaf key_total r wide
 
       -- the previous entry is the last of the previous leaf
-      pub back_over : {path' : _} (indices' : _) {last : ℕ}
-          → LastRead slots (get_or path1 0 r) last → path' ≡ path1
-          → get_or indices 0 0 ≤ 0 → get_or indices' 0 0 ≡ last → SameBut 0 indices1 indices' → (0 < place)
-          × Stands path' indices' size tree (place - 1)
-      back_over indices' {last = last} says path_is none here above =
+      pub back_over : {path' : _} (indices' : _) {last : ℕ} → LastRead slots (get_or path1 0 r) last → path' ≡ path1
+          → get_or indices 0 0 ≤ 0 → get_or indices' 0 0 ≡ last → SameBut 0 indices1 indices' → (0 < place) × Stands path' indices' size tree (place - 1)
+      back_over indices' says path_is none here above =
           let last_at = last_is back_leaf key_total r wide says in
           let seam_is = seam back_leaf.node leaf_here.node (omega (arith, went.0)) in
           (omega arith, stands_in back_leaf s.size_is indices' (place - 1) path_is above (omega arith) (omega arith))
 
     -- where there is no previous leaf, the path stands on the first entry
     pub back_first : ((rows list at : _) → Over slots path indices 1 size rows list at → at ≡ 0) → get_or indices 0 0 ≤ 0 → place ≡ 0
-    back_first first none = omega (arith, none_flat s.leaf.before (first tree.above (heads tree.leaves) (length s.leaf.before) over_leaves))
+    back_first first none = omega (arith, none_flat _ (first tree.above (heads tree.leaves) (length s.leaf.before) over_leaves))

@@ -1,9 +1,8 @@
 -- The way of a code followed from the root down, digit by digit: the answers of `next_far` and `prev_far`.
-use Rattle.std.proofs.Common.{◌≡◌, ℕ, zero, suc, Some, None, Option, slice_get, inl, inr, IfSome, refl, ◌+◌, ◌-◌, ◌*◌, ◌/◌, ◌%◌, ◌^◌, ◌≤◌, ◌<◌, List, [], ◌∷◌, sym, ap, subst, ◌∙◌, arith}
-use Rattle.std.proofs.lemmas.Nat.{shr-shr}
-use Rattle.bforest_core.proofs.{Words.{Content, eqb_tells}, walks.Codes.{above-asks, IsBelow, root-leads}, walks.OnLevel.leads-on, walks.Reading.ChildRead}
+use Rattle.bforest_core.proofs.Words.{shr-shr, CodedOver, EndsAt, Followed, HasWay, IsBesideOf, IsLower, IsTurn, Leads, ◌≡◌, ℕ, zero, suc, Some, None, Option}
+use Rattle.bforest_core.proofs.Words.{slice_get, inl, inr, IfSome, refl, ◌+◌, ◌-◌, ◌*◌, ◌/◌, ◌%◌, ◌^◌, ◌≤◌, ◌<◌, List, [], ◌∷◌, sym, ap, subst, ◌∙◌, arith}
+use Rattle.bforest_core.proofs.{Words.{Content, eqb_tells}, walks.OnLevel.leads-on, walks.Codes.{above-asks, IsBelow, root-leads}, walks.Reading.ChildRead}
 use Rattle.bforest_core.proofs.table.Stored.{some_same}
-use Rattle.bforest_core.specs.Spots.{CodedOver, EndsAt, Followed, HasWay, IsBesideOf, IsLower, IsTurn, Leads}
 use Rattle.bforest_core.specs.declared.spot.Spot.{Spot}
 
 -- a code without its last digits
@@ -26,7 +25,7 @@ module _ {K V : Type 0} {slots : List (Content K V)} {root code height : ℕ} (o
 -- what is said of a code and its levels holds of a spot that has them, one level further down
 pub moved : (Of : ℕ → ℕ → Type 0) {spot next : Spot} {node index : ℕ} → IsBelow spot node index next →
     Of (spot.code * 8 + index) (suc spot.height) → Of next.code next.height
-moved Of {spot} {next} b says = subst (Of next.code) (sym b.height) (rw b.code says)
+moved Of {next} b says = subst (Of next.code) (sym b.height) (rw b.code says)
 
 -- with no levels, no digits
 code-none : {K V : Type 0} {slots : List (Content K V)} {root code depth numbers : _} (rows : _) {list place : _}
@@ -58,7 +57,7 @@ module _ {K V : Type 0} {slots : List (Content K V)} {root code height left : �
     up : code / 2 ^ (3 * (left - 1)) / 8 ≡ spot.code
     up =
         let back : suc (left - 1) ≡ left = omega (arith, some) in
-        cc (up-code code (left - 1))
+        cc (up-code _ _)
 
     turn-code : spot.code * 8 + digit ≡ code / 2 ^ (3 * (left - 1))
     turn-code = omega (arith, up)
@@ -71,8 +70,7 @@ module _ {K V : Type 0} {slots : List (Content K V)} {root code height left : �
 
     -- the way to the child to which the code goes
     pub turn-way : HasWay slots root code height → HasWay slots root (spot.code * 8 + digit) (suc spot.height)
-    turn-way o =
-        subst (HasWay slots root (spot.code * 8 + digit)) (sym turn-height) (rw turn-code (ways o (left - 1) (omega arith)))
+    turn-way o = subst (HasWay slots root (spot.code * 8 + digit)) (sym turn-height) (rw turn-code (ways o (left - 1) (omega arith)))
 
     pub turned : {next : Spot} {child : ℕ} → IsBelow spot node digit next → ChildRead slots node digit child →
         Followed slots root code height (left - 1) next child
@@ -144,10 +142,7 @@ module _ {K V : Type 0} {slots : List (Content K V)} {root code height : ℕ} {H
           IsBesideOf slots root (here.code * 8 + digit f some) (suc here.height) Beside AtEnd None) → IsBelow here node (digit f some) next →
           Turning slots root code height HasBeside Beside AtEnd (left - 1) next found
       turning-on lower t ends b = elim lower [
-        | inl w ↦ record {
-          some = λ turn is. rw (← some_same w.0 turn (cc)) (turn-here w.2 w.3);
-          none = λ none. absurd (let no = sym w.1 ∙ none in cc);
-        }
+        | inl w ↦ record { some = λ turn is. rw (← some_same w.0 turn (cc)) (turn-here w.2 w.3); none = λ none. absurd (let no = sym w.1 ∙ none in cc) }
         | inr w ↦ record {
           some = λ turn is. turn-above w.1 w.2 (t.some turn (cc));
           none = λ none. moved (λ c d. IsBesideOf slots root c d Beside AtEnd None) b (ends w.0 w.1 w.2 (t.none (sym w.3 ∙ none)));

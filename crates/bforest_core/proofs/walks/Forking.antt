@@ -1,19 +1,15 @@
 -- Two searches that go to the same child of a node: each answer of `goes_along` is one of these.
-use Rattle.std.proofs.Common.{◌≡◌, ℕ, suc, ◌<◌, ◌≤◌, List, [], ◌∷◌, Some, arith, false, length, refl, slice_get, subst, sym, ap, true, ◌∙◌}
-use Rattle.bforest_core.proofs.{Words.{Content, Inner, IsStrictlySortedBy, IsTotalOrder, child_index, slice_get_within}, table.Stored.some_same}
-use Rattle.bforest_core.proofs.walks.Reading.{LastRead}
+use Rattle.bforest_core.proofs.Words.{all_greater_behind, count_up_to-no, count_up_to-none, count_up_to-yes, count_up_to, alike_right, is_gt, is_lt, ◌≡◌, ℕ}
+use Rattle.bforest_core.proofs.Words.{suc, ◌<◌, ◌≤◌, List, [], ◌∷◌, Some, arith, false, length, refl, slice_get, subst, sym, ap, true, ◌∙◌, Content, Inner}
+use Rattle.bforest_core.proofs.{Words.{IsStrictlySortedBy, IsTotalOrder, child_index, slice_get_within}, table.Stored.some_same, walks.Reading.LastRead}
 use Rattle.bforest_nodes.specs.Content.{keys_of}
-use Rattle.bforest_nodes.proofs.Searched.{all_greater_behind, count_up_to-no, count_up_to-none, count_up_to-yes}
-use Rattle.bforest_nodes.specs.Search.{count_up_to}
-use Rattle.std.proofs.lemmas.Cmp.{alike_right}
-use Rattle.std.specs.Ordering.{is_gt, is_lt}
 use Rattle.std.specs.declared.cmp.Ordering.TheVariants.{Equal, Greater, Less}
 use Rattle.std.specs.declared.cmp.Ordering.{Ordering}
 
 module _ {K : Type 0} {cmp : K → K → Ordering} (o : IsTotalOrder cmp) where
   -- what is not greater than a key is not greater than one that is not less
   not-behind : (x from to : K) → is_gt (cmp x from) ≡ false → is_gt (cmp from to) ≡ false → is_gt (cmp x to) ≡ false
-  not-behind x from to low ordered = go (cmp x from) refl (cmp from to) refl
+  not-behind x from to low ordered = go _ refl (cmp from to) refl
     where
       go : (r : Ordering) → cmp x from ≡ r → (s : Ordering) → cmp from to ≡ s → is_gt (cmp x to) ≡ false
       go Less e Less f = ap is_gt (o.trans x from to e f)
@@ -60,7 +56,7 @@ module _ {K : Type 0} {cmp : K → K → Ordering} (o : IsTotalOrder cmp) where
 
   -- a key that is less than a separator is not greater than one that is not less
   not-greater : (from s to : K) → cmp s from ≡ Greater → is_lt (cmp to s) ≡ false → is_gt (cmp from to) ≡ false
-  not-greater from s to greater past = go (cmp to s) refl
+  not-greater from s to greater past = go _ refl
     where
       less : cmp from s ≡ Less
       less = cc (o.antisymm from s)

@@ -1,23 +1,22 @@
 -- The descent to the first entry and to the last, as one on a side: the answers of `descend_first` and `descend_last`.
-use Rattle.std.proofs.Common.{◌≡◌, ◌≢◌, ℕ, zero, suc, ◌+◌, ◌-◌, ◌≤◌, ◌<◌, List, [], ◌∷◌}
-use Rattle.std.proofs.Common.{◌++◌, length, get_or, set, slice_get, Some, refl, sym, ap, subst, ◌∙◌, arith, length-append}
-use Rattle.bforest_core.proofs.Words.{Heads, Row, Rows, length-map, nil_from_length, Content, IsInner, entry_count, children_of, node, flat, leaf_content}
-use Rattle.bforest_core.proofs.Words.{inner_content, entry_items, StandsTo, HasBelow, IsFirst, IsLast, Led, OnBelow, Under, IsLeafCapacity}
-use Rattle.bforest_core.proofs.{rows.LevelRows.{flat-append, some_leaf}, table.Stored.{some_same, item_count}, walks.Downward.{Seen, stands_more}}
-use Rattle.bforest_core.proofs.{walks.RowNodes.no_heads, walks.TopNode.{SameBut, none_flat, flat_parted, seen_at, set_but, LeafUnder, InnerUnder, inner_at}}
-use Rattle.bforest_core.proofs.{walks.TopNode.{inner_under, leaf_at}, walks.Reading.{ChildAsked, ChildRead, LastRead}}
+use Rattle.bforest_core.proofs.Words.{◌≡◌, ◌≢◌, ℕ, zero, suc, ◌+◌, ◌-◌, ◌≤◌, ◌<◌, List, [], ◌∷◌, ◌++◌, length, get_or, set, slice_get, Some, refl, sym, ap}
+use Rattle.bforest_core.proofs.Words.{subst, ◌∙◌, arith, length-append, Heads, Row, Rows, length-map, nil_from_length, Content, IsInner, entry_count}
+use Rattle.bforest_core.proofs.Words.{children_of, node, flat, leaf_content, inner_content, entry_items, StandsTo, HasBelow, IsFirst, IsLast, Led, OnBelow}
+use Rattle.bforest_core.proofs.{Words.{Under, IsLeafCapacity}, walks.Downward.{Seen, stands_more}, walks.RowNodes.no_heads}
+use Rattle.bforest_core.proofs.{table.Stored.{some_same, item_count}, rows.LevelRows.{flat-append, some_leaf}, walks.Reading.{ChildAsked, ChildRead, LastRead}}
+use Rattle.bforest_core.proofs.walks.TopNode.{SameBut, none_flat, flat_parted, seen_at, set_but, LeafUnder, InnerUnder, inner_at, inner_under, leaf_at}
 
 -- a node's entries, cut at the child of an index
 child_cut : {K : Type 0} (es : Heads K) (index child : ℕ) → slice_get (entry_items es) index ≡ Some child → (l : Heads K) × (key : K)
     × (r : Heads K) × (es ≡ l ++ (key, child) ∷ r) × (length l ≡ index)
 child_cut [] index child found = absurd cc
-child_cut (y ∷ es) zero child found = ([], y.0, es, ap (λ z. (y.0, z) ∷ es) (some_same y.1 child found), refl)
+child_cut (y ∷ es) zero child found = ([], y.0, es, ap (λ z. (y.0, z) ∷ es) (some_same _ _ found), refl)
 child_cut (y ∷ es) (suc index) child found = let r = child_cut _ _ _ found in (y ∷ r.0, r.1, r.2, ap (λ z. y ∷ z) r.3, ap suc r.4)
 
 -- a row ends with the last entry of its last node
 pub last_place : {K X : Type 0} {half : ℕ} (most : ℕ) → 1 ≤ half → {row : Row K X} {a first number : _}
     (at : Seen half most row a first number []) → length (flat row) ≡ length (flat at.before) + suc (length at.es)
-last_place {half = half} most one {number = number} at =
+last_place most one {number = number} at =
     let none = ap (λ z. length (flat z)) (no_heads _ _ one _ at.after_fit at.after_is) in
     let parts = ap length (ap flat at.row_is ∙ flat-append at.before (node number (at.e ∷ at.es) ∷ at.after)) in
     omega (arith, length-append (flat at.before) ((at.e ∷ at.es) ++ flat at.after), length-append at.es (flat at.after))
@@ -58,8 +57,7 @@ module _ {K V : Type 0} {most : _} {slots : List (Content K V)} {leaves lower a 
 
   -- the node meets what reading a child requires
   pub child_asks : (index : ℕ) → index ≤ length s.at.es → IsInner content2 × (index < entry_count content2)
-  child_asks index within =
-      (subst IsInner (sym content_is) tt, rw content_is (omega (arith, within, item_count (s.at.e ∷ s.at.es))))
+  child_asks index within = (subst IsInner (sym content_is) tt, rw content_is (omega (arith, within, item_count (s.at.e ∷ s.at.es))))
 
   -- the leaves and rows under a child
   pub child_under : (index : ℕ) {child : ℕ} → slice_get (children_of content2) index ≡ Some child → (front : _) × (key : K)
@@ -75,7 +73,7 @@ module _ {K V : Type 0} {most : _} {slots : List (Content K V)} {leaves lower a 
         c.1,
         back,
         under,
-        cc (length-append (flat s.at.before) c.0),
+        cc (length-append _ _),
         sym
             (cc (length-append front ((c.1, child) ∷ back))),
       )
@@ -94,7 +92,7 @@ module _ {K V : Type 0} {most : ℕ} (capacity : IsLeafCapacity most) {slots : L
   module _ (u : Under most slots leaves lower ((first, number) ∷ b)) {content content2 : Content K V} (read : slice_get slots number ≡ Some content)
       (inner : IsInner content) (read2 : slice_get slots number ≡ Some content2) where
     abbrev pub front_node : InnerUnder most slots leaves lower [] first number b
-    front_node = inner_under capacity [] first number b u read inner
+    front_node = inner_under capacity _ _ _ b u read inner
 
     -- the first node meets what reading its first child requires
     pub front_asks : IsInner content2 × (0 < entry_count content2)
@@ -104,10 +102,9 @@ module _ {K V : Type 0} {most : ℕ} (capacity : IsLeafCapacity most) {slots : L
       pub front_below : FrontBelow most slots leaves lower child
       front_below =
           let c = child_under front_node read2 0 child_read in
-          let none = nil_from_length c.0 (omega (arith, none_flat front_node.at.before front_node.at.before_is)) in
+          let none = nil_from_length c.0 (omega (arith, none_flat _ front_node.at.before_is)) in
           record {
-            rows =
-                front_node.rows;
+            rows = front_node.rows;
             first = c.1;
             rest = c.2;
             under = subst (λ z. Under most slots leaves front_node.rows (z ++ (c.1, child) ∷ c.2)) none c.3;
@@ -135,8 +132,7 @@ module _ {K V : Type 0} {most : ℕ} {slots : List (Content K V)} where
   pub first-turns : {number : ℕ} → Turns most slots IsFirst (λ leaves. 0) number 0
   first-turns = record {
     within = λ leaves lower a first b s side. omega arith;
-    keeps = λ leaves lower a first b s side front back front_is sum_is. nil_from_length front
-        (omega (arith, none_flat s.at.before (cc)));
+    keeps = λ leaves lower a first b s side front back front_is sum_is. nil_from_length front (omega (arith, none_flat s.at.before (cc)));
     low = λ leaves lower a first b s side. omega arith;
     ends = λ leaves lower a first b s side. omega (arith, none_flat s.at.before (cc));
   }
@@ -145,8 +141,7 @@ module _ {K V : Type 0} {most : ℕ} {slots : List (Content K V)} where
       → Turns most slots IsLast (λ leaves. length (flat leaves) - 1) number last
   last-turns {number} {last} capacity says = record {
     within = λ leaves lower a first b s side. omega (arith, index s);
-    keeps = λ leaves lower a first b s side front back front_is sum_is. nil_from_length back
-        (omega (arith, index s, last-end (omega arith) b s.at side));
+    keeps = λ leaves lower a first b s side front back front_is sum_is. nil_from_length back (omega (arith, index s, last-end (omega arith) b s.at side));
     low = λ leaves lower a first b s side. omega (arith, at-leaf s);
     ends = λ leaves lower a first b s side. omega (arith, at-leaf s, last-end (some_leaf capacity) b s.at side);
   }
@@ -162,10 +157,9 @@ module _ {K V : Type 0} {most : ℕ} (capacity : IsLeafCapacity most) {slots : L
     {place : Row K V → ℕ} {number index : ℕ} (turns : Turns most slots Side place number index) {level : ℕ} where
   -- at the leaf
   pub led-ends : level ≡ 0 → {path indices path1 indices1 : _} → (get_or path1 level 0 ≡ number) × (get_or indices1 level 0 ≡ index)
-      → path1 ≡ set path level number
-      → indices1 ≡ set indices level index → OnBelow most slots Side number level
+      → path1 ≡ set path level number → indices1 ≡ set indices level index → OnBelow most slots Side number level
       (λ leaves lower top. Led leaves lower (place leaves) top path indices path1 indices1)
-  led-ends none {path} {indices} {path1} {indices1} here path_is indices_are leaves lower a first b side u level_is =
+  led-ends none {indices1} here path_is indices_are leaves lower a first b side u level_is =
       let s = leaf_at capacity a first number b u (omega arith) in
       leaf_led _ _ s _ indices1 (place leaves) (turns.low leaves lower a first b s side) (turns.ends leaves lower a first b s side)
       (cc) (cc)
@@ -176,24 +170,23 @@ module _ {K V : Type 0} {most : ℕ} (capacity : IsLeafCapacity most) {slots : L
     -- what reading the child requires
     pub led-asks : HasBelow most slots Side number level → ChildAsked slots number index
     led-asks w =
-        let s = inner_at capacity w.2 w.3 number w.4 w.6 (λ z. some (w.7 ∙ z)) in
+        let s = inner_at capacity _ _ _ _ w.6 (λ z. some (w.7 ∙ z)) in
         (_, _, s.slot_is, omega (arith, turns.within w.0 w.1 w.2 w.3 w.4 s w.5, item_count (s.at.e ∷ s.at.es)))
 
     module _ {child : ℕ} (says : ChildRead slots number index child) where
       -- what the call capacity level down requires
       pub led-goes : HasBelow most slots Side number level → HasBelow most slots Side child (level - 1)
       led-goes w =
-          let s = inner_at capacity w.2 w.3 number w.4 w.6 (λ z. some (w.7 ∙ z)) in
+          let s = inner_at capacity _ _ _ _ w.6 (λ z. some (w.7 ∙ z)) in
           let c = child_under s s.slot_is index (says _ _ s.slot_is) in
           (w.0, s.rows, c.0, c.1, c.2, turns.keeps w.0 w.1 w.2 w.3 w.4 s w.5 c.0 c.2 c.4 c.5, c.3, omega arith)
 
       pub led-on : {path indices path1 indices1 path2 indices2 : _} → (get_or path1 level 0 ≡ number) × (get_or indices1 level 0 ≡ index)
-          → path1 ≡ set path level number
-          → indices1 ≡ set indices level index → OnBelow most slots Side child (level - 1)
+          → path1 ≡ set path level number → indices1 ≡ set indices level index → OnBelow most slots Side child (level - 1)
           (λ leaves lower top. Led leaves lower (place leaves) top path1 indices1 path2 indices2)
           → OnBelow most slots Side number level (λ leaves lower top. Led leaves lower (place leaves) top path indices path2 indices2)
-      led-on {path} {indices} {path2 = path2} {indices2 = indices2} here path_is indices_are leads leaves lower a first b side u level_is =
-          let s = inner_at capacity a first number b u (λ z. some (cc)) in
+      led-on {indices2 = indices2} here path_is indices_are leads leaves lower a first b side u level_is =
+          let s = inner_at capacity a _ _ b u (λ z. some (cc)) in
           let c = child_under s s.slot_is index (says _ _ s.slot_is) in
           let d = leads leaves s.rows c.0 c.1 c.2 (turns.keeps leaves lower a first b s side c.0 c.2 c.4 c.5) c.3 (omega arith) in
           inner_led _ _ s _ indices2 level (cc) (turns.within leaves lower a first b s side) c.4 d here.0 here.1

@@ -1,8 +1,8 @@
 -- From a search in a leaf's slot to the leaf's entries.
-use Rattle.std.proofs.Common.{◌≡◌, ℕ, IfSome, List, slice_get, Option, Some, None, Ok, Err, refl, sym, ◌∙◌}
-use Rattle.bforest_core.proofs.Words.{slice_get-map, search_of, IsIncreasing, place, value_for, value_at_place, entry_keys, entry_items}
+use Rattle.bforest_core.proofs.Words.{search_of-keys_of, present_at, absent_at, value_for-present, value_for-absent, ◌≡◌, ℕ, IfSome, List, slice_get, Option}
+use Rattle.bforest_core.proofs.Words.{Some, None, Ok, Err, refl, sym, ◌∙◌, slice_get-map, search_of, IsIncreasing, place, value_for, value_at_place, entry_keys}
+use Rattle.bforest_core.proofs.Words.{entry_items}
 use Rattle.std.specs.declared.cmp.Ordering.{Ordering}
-use Rattle.bforest_nodes.proofs.Found.{search_of-keys_of, present_at, absent_at, value_for-present, value_for-absent}
 
 -- the value at an index, read from the list of values
 pub items-read : {K X : Type 0} (es : List (K × X)) (i : ℕ) → slice_get (entry_items es) i ≡ value_at_place es i

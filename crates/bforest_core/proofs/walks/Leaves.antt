@@ -1,17 +1,17 @@
 -- The leaf in which a path stands, and its entries in the list.
-use Rattle.std.proofs.Common.{◌≡◌, ℕ, ◌+◌, IsTrue, List, [], ◌∷◌, ◌++◌, drop, length, get_or, slice_get, Some, refl, sym, ap, subst, ◌∙◌, arith, append_assoc, length-append}
-use Rattle.bforest_core.proofs.Words.{drop_at, Content, IsInner, IsLeaf, Path, Tree, flat, node, OnLeaf, StandsOn, index_of, Stands, Table, IsUnion, is_root}
-use Rattle.bforest_core.proofs.{Words.slot, rows.LevelRows.flat-append, table.Read.slot-is, union.Unions.is-rooted, walks.Standing.on-leaf-in}
-use Rattle.bforest_core.proofs.{walks.TopNode.leaf_under, walks.Whole.whole_under}
+use Rattle.bforest_core.proofs.Words.{◌≡◌, ℕ, ◌+◌, IsTrue, List, [], ◌∷◌, ◌++◌, drop, length, get_or, slice_get, Some, refl, sym, ap, subst, ◌∙◌, arith}
+use Rattle.bforest_core.proofs.Words.{append_assoc, length-append, drop_at, Content, IsInner, IsLeaf, Path, Tree, flat, node, OnLeaf, StandsOn, index_of}
+use Rattle.bforest_core.proofs.{Words.{Stands, Table, IsUnion, is_root, slot}, rows.LevelRows.flat-append, walks.Standing.on-leaf-in, walks.TopNode.leaf_under}
+use Rattle.bforest_core.proofs.{union.Unions.is-rooted, walks.Whole.whole_under, table.Read.slot-is}
 
 -- the list from the first entry of the path's leaf on is the leaf's entries and the rest
 leaf-rest : {K V : Type 0} {path indices size : _} {tree : Tree K V} {place : _} (s : Stands path indices size tree place) → drop (length (flat s.leaf.before)) (flat tree.leaves) ≡ s.leaf.entries ++ drop (length (flat s.leaf.before) + length s.leaf.entries) (flat tree.leaves)
-leaf-rest {path = path} {tree = tree} s =
+leaf-rest {path = path} s =
     let front = flat s.leaf.before in
     let entries = s.leaf.entries in
     let rest = flat s.leaf.after in
     let whole = ap flat s.leaf.row_is ∙ flat-append s.leaf.before (node (get_or path 0 0) entries ∷ s.leaf.after) in
-    let behind = ap (λ z. drop (length front + length entries) z) (cc (append_assoc front entries rest)) ∙ drop_at (front ++ entries) rest (length front + length entries) (length-append front entries) in
+    let behind = ap (λ z. drop (length front + length entries) z) (cc (append_assoc _ _ _)) ∙ drop_at (front ++ entries) rest (length front + length entries) (length-append _ _) in
     ap (λ z. drop (length front) z) whole ∙ drop_at front (entries ++ rest) (length front) refl ∙ ap (λ z. entries ++ z) (sym behind)
 
 -- a root that is no inner node is a leaf

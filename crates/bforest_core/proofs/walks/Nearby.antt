@@ -1,16 +1,15 @@
 -- A key near the entry where a path stands.
-use Rattle.std.proofs.Common.{◌≡◌, ◌≢◌, ℕ, zero, suc, ◌+◌, ◌-◌, ◌≤◌, ◌<◌, true, false, List, [], ◌∷◌, get_or, length, length-append, drop, slice_get, Option, Some, None, refl, sym, subst, ap, ◌∙◌, arith}
-use Rattle.bforest_core.proofs.Words.{Row, IsTotalOrder, IsStrictlySortedBy, AllByRecursion, is_some, option_map, is_lt, ordering_reverse, drop_all, Path}
-use Rattle.bforest_core.proofs.Words.{IsUpTo, Solid, flat, half_of, node, StandsAt, StandsOn, index_of, leaf_of, list_under, entry_before, leaf_content, Table}
-use Rattle.bforest_core.proofs.{Words.{IsUnion, tree_of, IsIncreasing, entry_for, is_present, place, value_for}, rows.LevelRows.{FitRow-split, some_leaf}}
-use Rattle.bforest_core.proofs.{table.Stored.some_same, walks.Backward.{at_end, at_entry}, walks.Entered.{entry_read, points_in}, walks.Rising.all_greater}
-use Rattle.bforest_core.proofs.{walks.Rising.{entry_between, increasing_rest, less_from, place_between}, walks.Standing.{on-leaf-in, on-tree, on-within}}
-use Rattle.bforest_core.proofs.{walks.Standing.points-stands, walks.Steps.{never, read}}
+use Rattle.bforest_core.proofs.Words.{place-here, place-later, ◌≡◌, ◌≢◌, ℕ, zero, suc, ◌+◌, ◌-◌, ◌≤◌, ◌<◌, true, false, List, [], ◌∷◌, get_or, length}
+use Rattle.bforest_core.proofs.Words.{length-append, drop, slice_get, Option, Some, None, refl, sym, subst, ap, ◌∙◌, arith, Row, IsTotalOrder}
+use Rattle.bforest_core.proofs.Words.{IsStrictlySortedBy, AllByRecursion, is_some, option_map, is_lt, ordering_reverse, drop_all, Path, IsUpTo, Solid, flat}
+use Rattle.bforest_core.proofs.Words.{half_of, node, StandsAt, StandsOn, index_of, leaf_of, list_under, entry_before, leaf_content, Table, IsUnion, tree_of}
+use Rattle.bforest_core.proofs.{Words.{IsIncreasing, entry_for, is_present, place, value_for}, walks.Standing.{on-leaf-in, on-tree, on-within, points-stands}}
+use Rattle.bforest_core.proofs.{rows.LevelRows.{FitRow-split, some_leaf}, walks.Rising.{all_greater, entry_between, increasing_rest, less_from, place_between}}
+use Rattle.bforest_core.proofs.{walks.Backward.{at_end, at_entry}, walks.Steps.{never, read}, table.Stored.some_same, walks.Entered.{entry_read, points_in}}
 use Rattle.std.specs.Map.{keys_of}
 use Rattle.std.specs.declared.cmp.Ordering.{Ordering}
 use Rattle.std.specs.declared.cmp.Ordering.TheVariants.{Less, Equal, Greater}
 use Rattle.bforest_core.specs.Paths.{IsPlaced}
-use Rattle.bforest_nodes.proofs.Ordered.{place-here, place-later}
 
 module _ {K X : Type 0} (cmp : K → K → Ordering) (es : List (K × X)) (key : K) where
   -- what a search finds: the place of the key, and the entry there if the key is present
@@ -21,7 +20,7 @@ module _ {K X : Type 0} (cmp : K → K → Ordering) (es : List (K × X)) (key :
 -- a key without a value is not present
 pub no-value : {K X : Type 0} (cmp : K → K → Ordering) (key : K) (es : List (K × X)) → None ≡ value_for cmp es key → is_present cmp es key ≡ true → ⊥
 no-value {K} {X} cmp key es none here =
-    (elim (entry_for cmp es key) as (λ (o : Option (K × X)). None ≡ option_map (λ e. e.1) o → is_some o ≡ true → ⊥) [ None ↦ λ n h. never h refl | Some e ↦ λ n h. absurd (cc) ]) none here
+    (elim (entry_for cmp es key) as (λ o. None ≡ option_map (λ e. e.1) o → is_some o ≡ true → ⊥) [ None ↦ λ n h. never h refl | Some e ↦ λ n h. absurd (cc) ]) none here
 
 -- where the entry at a place is greater than the key, the key is less than the list from there on
 upto_at : {K X : Type 0} (cmp : K → K → Ordering) (key : K) (es : List (K × X)) (p e : _) → slice_get es p ≡ Some e → cmp e.0 key ≡ Greater → IsUpTo cmp (drop p es) key
@@ -53,7 +52,7 @@ module _ {K X : Type 0} {cmp : K → K → Ordering} (o : IsTotalOrder cmp) (key
       let same = some_same x e here in
       subst (λ z. Finds cmp (x ∷ es) key z found) (omega arith) (subst (λ z. Finds cmp (z ∷ es) key n found) (sym same) (f (subst (λ z. IsIncreasing cmp (z ∷ es)) same h)))
   behind (x ∷ es) (suc p) e here h ng n found f =
-      subst (λ z. Finds cmp (x ∷ es) key z found) (omega arith) (later x (less_from o x.0 e.0 key (all_at _ _ p e h.0 here) ng) (behind es p e here h.1 ng n found f))
+      subst (λ z. Finds cmp (x ∷ es) key z found) (omega arith) (later x (less_from o _ _ _ (all_at _ _ p e h.0 here) ng) (behind es p e here h.1 ng n found f))
 
   -- a search that ends at an entry whose key compares equal
   pub finds_here : (es : List (K × X)) (p e : _) → slice_get es p ≡ Some e → IsIncreasing cmp es → cmp key e.0 ≡ Equal → Finds cmp es key p (Some e)
@@ -88,8 +87,8 @@ module _ {K V : Type 0} {n : ℕ} (table : Table K V) (root : ℕ) (path : Path 
     placed-first on =
         let s = on.stands in
         let solid = (FitRow-split (half_of n) n s.leaf.before (node (leaf_of path) s.leaf.entries) s.leaf.after (rw (← s.leaf.row_is) (on-tree union path on).fit.leaves_fit)).0 in
-        let points = points-stands path.node path.entry (tree_of table.nodes root) 0 s in
-        record { root_is = on.root_is; at = record { points = points; first = λ none. no_nodes (half_of n) n (some_leaf union.1.capacity) s.leaf.before solid (omega arith) } }
+        let points = points-stands _ _ _ 0 s in
+        record { root_is = on.root_is; at = record { points = points; first = λ none. no_nodes _ n (some_leaf union.1.capacity) _ solid (omega arith) } }
 
     -- the index after an entry of a leaf is at most 255
     pub behind-low : (p : ℕ) → StandsOn table root path p → index_of path + 1 ≤ 255
@@ -104,11 +103,7 @@ module _ {K V : Type 0} {n : ℕ} (table : Table K V) (root : ℕ) (path : Path 
 
     -- the search ended on the key's entry, or at its place where the key is absent
     ended : {p found : _} → Finds cmp (list_under table root) key p found → (is_some found ≡ true → StandsOn table root path p) → (is_some found ≡ false → IsPlaced table root path p) → Ended (option_map (λ w. w.1) found)
-    ended f on at = record {
-      value = cc;
-      present = λ yes. rw f.place_is (on (cc));
-      absent = λ none. rw f.place_is (at (cc));
-    }
+    ended f on at = record { value = cc; present = λ yes. rw f.place_is (on (cc)); absent = λ none. rw f.place_is (at (cc)) }
 
 -- a path that moved to the entry before a place
 module _ {K V : Type 0} {n : ℕ} {cmp : K → K → Ordering} (o : IsTotalOrder cmp) (table : Table K V) (root key : _) (increasing : IsIncreasing cmp (list_under table root)) (path : Path K V n) {answer : Option (K × V)} where
@@ -122,7 +117,7 @@ module _ {K V : Type 0} {n : ℕ} {cmp : K → K → Ordering} (o : IsTotalOrder
 
   -- the entry before the place has an equal key
   pub before-equal : (p : ℕ) → answer ≡ entry_before (list_under table root) p → StandsOn table root path (p - 1) → {e : K × V} → answer ≡ Some e → cmp key e.0 ≡ Equal → Ended table root path cmp key (Some e.1)
-  before-equal zero value on {e = e} is t = let bad = sym is ∙ value in absurd (cc)
+  before-equal zero value on is t = let bad = sym is ∙ value in absurd (cc)
   before-equal (suc p) value on {e = e} is t =
       ended table root path cmp key (finds_here o _ _ p e (sym value ∙ is) increasing t) (λ some. subst (λ z. StandsOn table root path z) (omega arith) on) (never refl)
 
@@ -130,10 +125,10 @@ module _ {K V : Type 0} {n : ℕ} {cmp : K → K → Ordering} (o : IsTotalOrder
   pub before-greater : (p : ℕ) → answer ≡ entry_before (list_under table root) p → StandsOn table root path (p - 1) → {e : K × V} → answer ≡ Some e →
       (path' : Path K V n) → IsUnion n table → path'.node ≡ path.node → index_of path' ≡ index_of path + 1 → ((i : ℕ) → i ≢ 0 → get_or path'.entry i 0 ≡ get_or path.entry i 0) → path'.size ≡ path.size →
       IsUpTo cmp (drop p (list_under table root)) key → cmp key e.0 ≡ Greater → Ended table root path' cmp key None
-  before-greater zero value on {e = e} is path' union same index_is above size_is up t = let bad = sym is ∙ value in absurd (cc)
+  before-greater zero value on is path' union same index_is above size_is up t = let bad = sym is ∙ value in absurd (cc)
   before-greater (suc p) value on {e = e} is path' union same index_is above size_is up t =
       ended table root path' cmp key (finds_behind o _ _ p e (sym value ∙ is) increasing t up)
-      (λ some. never some refl) (λ none. placed-behind table root path union path' p
+      (λ some. never some refl) (λ none. placed-behind _ _ path union path' p
       (subst (λ z. StandsOn table root path z) (omega arith) on) same index_is above size_is)
 
 -- a path at a place
@@ -145,7 +140,7 @@ module _ {K V : Type 0} {n : ℕ} (table : Table K V) (root : ℕ) (path : Path 
 
   -- a path that is not at the end is on an entry
   pub some-on : 0 < path.size → StandsOn table root path p
-  some-on some = record { root_is = at.root_is; stands = at_entry _ path.entry (tree_of table.nodes root) p path.size (λ none. omega arith) at.at }
+  some-on some = record { root_is = at.root_is; stands = at_entry _ _ _ p _ (λ none. omega arith) at.at }
 
 -- a path on an entry
 module _ {K V : Type 0} {n : ℕ} {table : Table K V} (root : ℕ) (path : Path K V n) (p : ℕ) (union : IsUnion n table) (on : StandsOn table root path p) where

@@ -1,11 +1,10 @@
 -- The node beside the one at which the way of a code ends, one level further down: each answer of `next_below` and `prev_below` is one of these.
-use Rattle.std.proofs.Common.{◌≡◌, ◌≢◌, ℕ, suc, ◌+◌, ◌-◌, ◌*◌, ◌/◌, ◌%◌, ◌≤◌, ◌<◌, List}
-use Rattle.std.proofs.Common.{◌∷◌, drop, length, Some, None, Option, refl, sym, subst, ◌∙◌, arith}
-use Rattle.bforest_core.proofs.{Words.{Heads, Rows, Content, heads}, walks.Branches.{Branch, branch-asks, branch-child, branch-way, count-asks, first-of}}
-use Rattle.bforest_core.proofs.{walks.Branches.{last-asks, last-of, last-some, next-own, none-next, none-prev, own, prev-own, prev-some}, walks.Codes.IsBelow}
-use Rattle.bforest_core.proofs.{walks.Codes.{code-low, digit-put, first-kept, here, read-same, way-of}, walks.Reading.{ChildAsked, ChildRead, CountAsked}}
-use Rattle.bforest_core.proofs.walks.Reading.{CountRead, LastAsked, LastRead}
-use Rattle.bforest_core.specs.Spots.{CodedOver, HasWay, IsBefore, IsBehind, IsBesideOf, IsNextOf, IsPrevOf, IsWay, Leads, NumberAt, OnWay}
+use Rattle.bforest_core.proofs.Words.{CodedOver, HasWay, IsBefore, IsBehind, IsBesideOf, IsNextOf, IsPrevOf, IsWay, Leads, NumberAt, OnWay, ◌≡◌, ◌≢◌, ℕ, suc}
+use Rattle.bforest_core.proofs.Words.{◌+◌, ◌-◌, ◌*◌, ◌/◌, ◌%◌, ◌≤◌, ◌<◌, List, ◌∷◌, drop, length, Some, None, Option, refl, sym, subst, ◌∙◌, arith, Heads, Rows}
+use Rattle.bforest_core.proofs.walks.Branches.{Branch, branch-asks, branch-child, branch-way, count-asks, first-of, last-asks, last-of, last-some, next-own}
+use Rattle.bforest_core.proofs.{Words.{Content, heads}, walks.Reading.{ChildAsked, ChildRead, CountAsked, CountRead, LastAsked, LastRead}}
+use Rattle.bforest_core.proofs.walks.Branches.{none-next, none-prev, own, prev-own, prev-some}
+use Rattle.bforest_core.proofs.walks.Codes.{IsBelow, code-low, digit-put, first-kept, here, read-same, way-of}
 use Rattle.bforest_core.specs.declared.spot.Spot.{Spot}
 
 -- a level down, to the child at an index of the node at which the way of a spot ends
@@ -34,8 +33,7 @@ module _ {K V : Type 0} {slots : List (Content K V)} {root : ℕ} {spot : Spot} 
   level-is = omega arith
 
   said : OnWay slots root (code / 8) (suc spot.height - 1) (λ numbers rows list place. NumberAt list place node)
-  said numbers rows list place q =
-      (leads numbers rows list place (rw (← level-is) (rw above-is at q))).1
+  said numbers rows list place q = (leads numbers rows list place (rw (← level-is) (rw above-is at q))).1
 
   module _ {numbers rows list place : _} (p : Way numbers rows list place) where
     pub same : node ≡ (here p some).number
@@ -116,8 +114,7 @@ module _ {K V : Type 0} {slots : List (Content K V)} {root : ℕ} {spot : Spot} 
 
   -- nothing is beside it, where nothing is beside the node
   said-none : {Beside AtEnd : ℕ → ℕ → Type 0} → ((numbers rows list place : _) (p : Way numbers rows list place) → AtEnd (top p) (length (parents p))
-      → AtEnd place (length list)) →
-      {up found : Option (Spot × ℕ)} → up ≡ None → found ≡ None → IsBesideOf slots root spot.code spot.height Beside AtEnd up
+      → AtEnd place (length list)) → {up found : Option (Spot × ℕ)} → up ≡ None → found ≡ None → IsBesideOf slots root spot.code spot.height Beside AtEnd up
       → IsBesideOf slots root code (suc spot.height) Beside AtEnd found
   said-none {Beside} {AtEnd} ends nothing is says =
       subst (IsBesideOf slots root code (suc spot.height) Beside AtEnd) (sym is) record {
@@ -161,8 +158,7 @@ module _ {K V : Type 0} {slots : List (Content K V)} {root : ℕ} {spot : Spot} 
     pub prev-at : {numbers rows list place : _} (p : Way numbers rows list place) → Stands p (IsBefore place) spot node (index - 1)
     prev-at {numbers} {place = place} p =
         record {
-          to =
-              place - 1;
+          to = place - 1;
           is = omega (arith, prev-some p some (same p) index-is low);
           branch = prev-own p some (same p) index-is low;
           others = drop 1 numbers;
@@ -192,11 +188,9 @@ module _ {K V : Type 0} {slots : List (Content K V)} {root : ℕ} {spot : Spot} 
         back-at {place = place} p =
             let w = before p in
             record {
-              to =
-                  place - 1;
+              to = place - 1;
               is = omega (arith, last-some p some (same p) index-is none w.1 w.4 says);
-              branch = last-of p some (same p) index-is none w.1 w.4
-                  says;
+              branch = last-of p some (same p) index-is none w.1 w.4 says;
               others = w.2;
               way = w.3;
             }

@@ -1,7 +1,6 @@
 -- The codes of a tree's leaves are in the leaves' order.
-use Rattle.std.proofs.Common.{◌≡◌, ℕ, ◌+◌, ◌/◌, ◌%◌, ◌≤◌, ◌<◌, List, [], ◌∷◌, ◌++◌, drop, length, refl, sym, ap, ◌∙◌, arith, length-append, inl, inr}
-use Rattle.bforest_core.proofs.Words.{IsAt, LevelNode, Table, cases_lt, flat, node, tree_of}
-use Rattle.bforest_core.specs.Spots.{Coded, IsSpotAt}
+use Rattle.bforest_core.proofs.Words.{Coded, IsSpotAt, ◌≡◌, ℕ, ◌+◌, ◌/◌, ◌%◌, ◌≤◌, ◌<◌, List, [], ◌∷◌, ◌++◌, drop, length, refl, sym, ap, ◌∙◌, arith}
+use Rattle.bforest_core.proofs.Words.{length-append, inl, inr, IsAt, LevelNode, Table, cases_lt, flat, node, tree_of}
 use Rattle.bforest_core.specs.declared.spot.Spot.{Spot}
 
 module _ {K X : Type 0} where

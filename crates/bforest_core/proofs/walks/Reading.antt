@@ -1,6 +1,5 @@
 -- What reading a node asks and says: a child of an inner node, how many entries a node has, and the index of its last.
-use Rattle.std.proofs.Common.{◌≡◌, ℕ, ◌-◌, ◌≤◌, ◌<◌, List, length, slice_get, Some}
-use Rattle.bforest_core.proofs.Words.{Content, Inner, IsInner, entry_count}
+use Rattle.bforest_core.proofs.Words.{◌≡◌, ℕ, ◌-◌, ◌≤◌, ◌<◌, List, length, slice_get, Some, Content, Inner, IsInner, entry_count}
 
 module _ {K V : Type 0} (slots : List (Content K V)) (number : ℕ) where
   -- what reading a child of a node asks
@@ -9,8 +8,7 @@ module _ {K V : Type 0} (slots : List (Content K V)) (number : ℕ) where
 
   -- this child was read
   abbrev pub ChildRead : ℕ → ℕ → Type 0
-  ChildRead index child =
-      (keys : List K) (children : _) → slice_get slots number ≡ Some (Inner keys children) → slice_get children index ≡ Some child
+  ChildRead index child = (keys : List K) (children : _) → slice_get slots number ≡ Some (Inner keys children) → slice_get children index ≡ Some child
 
   -- what reading how many children a node has asks
   abbrev pub CountAsked : Type 0

@@ -1,13 +1,12 @@
 -- Increasing lists of entries, cut in parts, and the place of a key in them.
-use Rattle.std.proofs.Common.{◌≡◌, ◌≢◌, ℕ, zero, suc, ◌+◌, ◌≤◌, false, cond, if◌then◌else◌, List, [], ◌∷◌, ◌++◌, length, slice_get, Option, Some, None, refl, sym, ap, ◌∙◌, arith}
-use Rattle.bforest_core.proofs.Words.{sum_by-append, alike_right, IsTotalOrder, IsStrictlySortedBy, AllByRecursion, is_some, option_and_then, is_eq, is_gt}
-use Rattle.bforest_core.proofs.{Words.{is_lt, IsIncreasing, place, entry_for, is_present, child_index}, table.Lists.slice_get-append-add}
-use Rattle.std.proofs.lemmas.List.Sums.{count_by-le-length}
+use Rattle.bforest_core.proofs.Words.{count_by-le-length, all_greater_behind, count_up_to-no, count_up_to-none, count_up_to-yes, place-later, place-here, ◌≡◌}
+use Rattle.bforest_core.proofs.Words.{◌≢◌, ℕ, zero, suc, ◌+◌, ◌≤◌, false, cond, if◌then◌else◌, List, [], ◌∷◌, ◌++◌, length, slice_get, Option, Some, None, refl}
+use Rattle.bforest_core.proofs.Words.{sym, ap, ◌∙◌, arith, sum_by-append, alike_right, IsTotalOrder, IsStrictlySortedBy, AllByRecursion, is_some}
+use Rattle.bforest_core.proofs.Words.{option_and_then, is_eq, is_gt, is_lt, IsIncreasing, place, entry_for, is_present, child_index}
+use Rattle.bforest_core.proofs.table.Lists.{slice_get-append-add}
 use Rattle.std.specs.Map.{keys_of}
 use Rattle.std.specs.declared.cmp.Ordering.{Ordering}
 use Rattle.std.specs.declared.cmp.Ordering.TheVariants.{Less, Equal, Greater}
-use Rattle.bforest_nodes.proofs.Searched.{all_greater_behind, count_up_to-no, count_up_to-none, count_up_to-yes}
-use Rattle.bforest_nodes.proofs.Ordered.{place-later, place-here}
 
 -- a property of all keys of a list holds in each of its two parts
 pub all_split : {K X : Type 0} (P : K → Type 0) (xs ys : List (K × X)) → AllByRecursion P (keys_of (xs ++ ys)) → AllByRecursion P (keys_of xs) × AllByRecursion P (keys_of ys)
@@ -17,7 +16,7 @@ all_split P (x ∷ xs) ys h = let r = all_split P xs ys h.1 in ((h.0, r.0), r.1)
 module _ {K : Type 0} {cmp : K → K → Ordering} (o : IsTotalOrder cmp) where
   -- a key less than one that is not greater than k is less than k
   pub less_from : (p q k : K) → cmp p q ≡ Less → cmp q k ≢ Greater → cmp p k ≡ Less
-  less_from p q k l ng = go (cmp q k) refl
+  less_from p q k l ng = go _ refl
     where
       go : (r : Ordering) → cmp q k ≡ r → cmp p k ≡ Less
       go Less t = o.trans p q k l t
@@ -49,7 +48,7 @@ module _ {K : Type 0} {cmp : K → K → Ordering} (o : IsTotalOrder cmp) where
 
     -- the place of a key in two parts is the sum of its places
     pub place-append : (xs ys : List (K × X)) (k : K) → place cmp (xs ++ ys) k ≡ place cmp xs k + place cmp ys k
-    place-append xs ys k = sum_by-append (λ (y : K × X). cond (is_lt (cmp y.0 k)) 1 0) xs ys
+    place-append xs ys k = sum_by-append (λ y. cond (is_lt (cmp y.0 k)) 1 0) xs ys
 
     -- the place of a key after a list of lesser keys is its end
     pub place_all : (xs : List (K × X)) (k : K) → AllByRecursion (λ p. cmp p k ≡ Less) (keys_of xs) → place cmp xs k ≡ length xs
@@ -82,16 +81,14 @@ module _ {K : Type 0} {cmp : K → K → Ordering} (o : IsTotalOrder cmp) where
     -- a list in three parts: the keys of the first are less, and those of the last greater
     module _ (xs es ys : List (K × X)) (k : K) (increasing : IsIncreasing cmp ys) (low : AllByRecursion (λ p. cmp p k ≡ Less) (keys_of xs)) (high : AllByRecursion (λ p. cmp p k ≡ Greater) (keys_of ys)) where
       pub place_between : place cmp (xs ++ (es ++ ys)) k ≡ length xs + place cmp es k
-      place_between =
-          omega (arith, place-append xs (es ++ ys) k, place-append es ys k, place_all xs k low, place_none ys k increasing high)
+      place_between = omega (arith, place-append xs (es ++ ys) k, place-append es ys k, place_all xs k low, place_none ys k increasing high)
 
       pub entry_between : entry_for cmp (xs ++ (es ++ ys)) k ≡ entry_for cmp es k
-      entry_between =
-          cc (place_between, slice_get-append-add xs (es ++ ys) (place cmp es k), test_front es ys k (place cmp es k) (place-le es k) high)
+      entry_between = cc (place_between, slice_get-append-add xs (es ++ ys) (place cmp es k), test_front es ys k (place cmp es k) (place-le es k) high)
 
     -- where the first key is not greater, the place of an absent key is not 0
     pub first_passed : (e : K × X) (es k : _) → IsIncreasing cmp (e ∷ es) → cmp e.0 k ≢ Greater → is_present cmp (e ∷ es) k ≡ false → place cmp (e ∷ es) k ≢ 0
-    first_passed e es k i ng absent = go (cmp e.0 k) refl
+    first_passed e es k i ng absent = go _ refl
       where
         go : (r : Ordering) → cmp e.0 k ≡ r → place cmp (e ∷ es) k ≢ 0
         go Less t = λ z. omega (arith, place-later cmp o e es k t)
@@ -103,7 +100,7 @@ module _ {K : Type 0} {cmp : K → K → Ordering} (o : IsTotalOrder cmp) where
   pub all_greater : {X : Type 0} (ys : List (K × X)) (k : K) → IsIncreasing cmp ys → ((y : K × X) (c : _) → ys ≡ y ∷ c → cmp y.0 k ≡ Greater) → AllByRecursion (λ p. cmp p k ≡ Greater) (keys_of ys)
   unfolding IsStrictlySortedBy
   all_greater [] k i h = tt
-  all_greater (y ∷ ys) k i h = (h y ys refl, all_greater_behind cmp k o y.0 (keys_of ys) i.0 (ap is_lt (h y ys refl)))
+  all_greater (y ∷ ys) k i h = (h y ys refl, all_greater_behind _ k o _ _ i.0 (ap is_lt (h y ys refl)))
 
   -- where a search among separators divides the entries
   pub record Sides {X : Type 0} (es : List (K × X)) (k : K) (i : ℕ) : Type 0 where
@@ -117,7 +114,7 @@ module _ {K : Type 0} {cmp : K → K → Ordering} (o : IsTotalOrder cmp) where
   pub sides : {X : Type 0} (es : List (K × X)) (k : K) → IsIncreasing cmp es → Sides es k (child_index cmp (keys_of es) k)
   unfolding IsStrictlySortedBy
   sides [] k h = record { l = []; r = []; es_is = refl; i_is = refl; low = tt; high = tt }
-  sides {X} (e ∷ es) k h = go (cmp e.0 k) refl (sides es k h.1)
+  sides (e ∷ es) k h = go _ refl (sides es k h.1)
     where
       ks : List K
       ks = keys_of es

@@ -1,10 +1,8 @@
 -- A node at a place of a row, and the nodes beside it.
-use Rattle.std.proofs.Common.{◌≡◌, ℕ, suc, ◌+◌, ◌≤◌, List, [], ◌∷◌, ◌++◌, length}
-use Rattle.std.proofs.Common.{take, slice_get, Some, refl, sym, ap, subst, ◌∙◌, arith, append_assoc, length-append}
-use Rattle.bforest_core.proofs.{Words.{Row, nil_from_length, take_at, slice_get_within, Content, node, flat, heads, FitRow, RowIn}, rows.LevelRows.flat-append}
-use Rattle.bforest_core.proofs.{rows.LevelRows.{least-pos, FitRow-split}, rows.Zipper.cut, table.Lists.{slice_get-append-add, slice_get-append_left}}
-use Rattle.bforest_core.proofs.{table.Stored.{some_same, slice_get_at}, table.Tables.row-split, walks.Downward.seen}
-use Rattle.bforest_core.specs.Spots.{NumberAt}
+use Rattle.bforest_core.proofs.Words.{NumberAt, ◌≡◌, ℕ, suc, ◌+◌, ◌≤◌, List, [], ◌∷◌, ◌++◌, length, take, slice_get, Some, refl, sym, ap, subst, ◌∙◌, arith}
+use Rattle.bforest_core.proofs.Words.{append_assoc, length-append, Row, nil_from_length, take_at, slice_get_within, Content, node, flat, heads, FitRow, RowIn}
+use Rattle.bforest_core.proofs.{table.Tables.row-split, table.Stored.{some_same, slice_get_at}, rows.Zipper.cut, walks.Downward.seen}
+use Rattle.bforest_core.proofs.{rows.LevelRows.{flat-append, least-pos, FitRow-split}, table.Lists.{slice_get-append-add, slice_get-append_left}}
 
 -- a fit row has as many heads as nodes
 pub fit_full : {K X : Type 0} (half most : ℕ) → 1 ≤ half → (row : Row K X) → FitRow half most row → length (heads row) ≡ length row
@@ -14,7 +12,7 @@ fit_full half most one (node m (e ∷ es) ∷ ns) f = ap suc (fit_full half most
 
 -- a fit row without heads has no nodes
 pub no_heads : {K X : Type 0} (half most : ℕ) → 1 ≤ half → (row : Row K X) → FitRow half most row → heads row ≡ [] → row ≡ []
-no_heads half most one row f none = nil_from_length row (cc (fit_full half most one row f))
+no_heads half most one row f none = nil_from_length row (cc (fit_full _ _ one _ f))
 
 -- an entry of a node is an entry of the row
 pub entry_at : {K X : Type 0} {row : Row K X} (before : Row K X) (n es after i : _)
@@ -71,8 +69,7 @@ module _ {K V X : Type 0} (content : List (K × X) → Content K V) (slots : Lis
 module _ {K V X : Type 0} {content : List (K × X) → Content K V} {slots most row number place : _} (a : NodeIn content slots most row number place) where
   -- no other node is at that place
   pub node-same : {number1 : ℕ} (b : NodeIn content slots most row number1 place) → number1 ≡ number
-  node-same {number1} b =
-      node-number ((same-cut b.before (node number1 b.entries) b.after a.before (node number a.entries) a.after (cc) (cc)).1)
+  node-same {number1} b = node-number ((same-cut b.before (node number1 b.entries) b.after a.before (node number a.entries) a.after (cc) (cc)).1)
 
   -- the entries of the node are those in front of the next node's
   pub seam : {number1 place1 : ℕ} (b : NodeIn content slots most row number1 place1) → place1 ≡ suc place
@@ -80,8 +77,7 @@ module _ {K V X : Type 0} {content : List (K × X) → Content K V} {slots most 
   seam {number1} b next =
       let k = length b.before in
       let x = node number a.entries in
-      let two = sym (take_at b.before (node number1 b.entries ∷ b.after) k refl)
-      ∙ ap (λ z. take k z) (cc (append_assoc a.before (x ∷ []) a.after))
+      let two = sym (take_at b.before (node number1 b.entries ∷ b.after) k refl) ∙ ap (λ z. take k z) (cc (append_assoc _ _ _))
       ∙ take_at (a.before ++ x ∷ []) a.after k (omega (arith, length-append a.before (x ∷ []))) in
       omega (
         arith,

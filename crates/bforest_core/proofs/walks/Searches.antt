@@ -1,15 +1,12 @@
 -- The way down to the leaf in which a search ends: each answer of `value_below`, `entry_below` and, as a spot, `find_below` is one of these.
-use Rattle.std.proofs.Common.{◌≡◌, ℕ, suc, ◌+◌, ◌*◌, ◌≤◌, ◌<◌, List, [], ◌∷◌, ◌++◌, IsTrue, length, slice_get, Some, refl, sym, subst, arith}
-use Rattle.bforest_core.proofs.Words.{Row, Rows, Content, EndsOn, Inner, IsInner, IsIncreasing, IsTotalOrder, IsStrictlySortedBy, IsUnion, Narrows}
-use Rattle.bforest_core.proofs.Words.{SearchEndsAt, SearchThrough, Table, child_index, flat, is_root, leaf_content, place, tree_of, IsLeafCapacity}
-use Rattle.bforest_core.proofs.{table.Stored.item_count, walks.Rising.increasing_rest, walks.Codes.code-low, walks.CodesDown.{child-way, rows-join, way-root}}
-use Rattle.bforest_core.proofs.{walks.CodesDown.way-spot, walks.Cousins.place-is, walks.Descent.{Below, InnerStep, LeafStep, below, follow_asks, inner_step}}
-use Rattle.bforest_core.proofs.{walks.Descent.{leaf_found, leaf_step, leaf_value, placed}, walks.Standing.under-root, walks.TopNode.{inner_under, leaf_under}}
-use Rattle.bforest_core.proofs.{walks.TopNode.node_within, walks.Whole.all_through, walks.Reading.ChildRead}
-use Rattle.bforest_core.specs.Place.{entry_items, entry_keys}
-use Rattle.bforest_core.specs.Spots.{IsSpotAt, IsWay, leaf_place}
+use Rattle.bforest_core.proofs.Words.{entry_items, entry_keys, IsSpotAt, IsWay, leaf_place, length-map, ◌≡◌, ℕ, suc, ◌+◌, ◌*◌, ◌≤◌, ◌<◌, List, [], ◌∷◌, ◌++◌}
+use Rattle.bforest_core.proofs.Words.{IsTrue, length, slice_get, Some, refl, sym, subst, arith, Row, Rows, Content, EndsOn, Inner, IsInner, IsIncreasing}
+use Rattle.bforest_core.proofs.Words.{IsTotalOrder, IsStrictlySortedBy, IsUnion, Narrows, SearchEndsAt, SearchThrough, Table, child_index, flat, is_root}
+use Rattle.bforest_core.proofs.{Words.{leaf_content, place, tree_of, IsLeafCapacity}, walks.CodesDown.{child-way, rows-join, way-root, way-spot}}
+use Rattle.bforest_core.proofs.{walks.Codes.code-low, table.Stored.item_count, walks.Cousins.place-is, walks.Whole.all_through, walks.Reading.ChildRead}
+use Rattle.bforest_core.proofs.{walks.Standing.under-root, walks.TopNode.{inner_under, leaf_under, node_within}, walks.Rising.increasing_rest}
+use Rattle.bforest_core.proofs.walks.Descent.{Below, InnerStep, LeafStep, below, follow_asks, inner_step, leaf_found, leaf_step, leaf_value, placed}
 use Rattle.bforest_core.specs.declared.spot.Spot.{Spot}
-use Rattle.std.proofs.lemmas.List.{length-map}
 use Rattle.std.specs.declared.cmp.Ordering.{Ordering}
 
 -- the search one level down, with the way there, below these rows
@@ -23,13 +20,13 @@ pub record WayBelow {K V : Type 0} (cmp : K → K → Ordering) (most : ℕ) (sl
 module _ {K V : Type 0} {cmp : K → K → Ordering} (o : IsTotalOrder cmp) {most : ℕ} (capacity : IsLeafCapacity most) {slots : List (Content K V)} {leaves key number depth : _} (t : SearchThrough cmp most slots leaves key number depth) where
   -- the node is in the slots
   pub within : number < length slots
-  within = node_within capacity t.before t.first number t.after t.under
+  within = node_within capacity _ _ _ _ t.under
 
   module _ {content : Content K V} (found : slice_get slots number ≡ Some content) where
     -- at the leaf
     module _ (other : IsInner content → ⊥) where
       pub step-leaf : LeafStep cmp most slots leaves t.lower t.before t.first number t.after key
-      step-leaf = leaf_step o capacity t.increasing t.through (leaf_under capacity t.before t.first number t.after t.under found other)
+      step-leaf = leaf_step o capacity t.increasing t.through (leaf_under capacity _ _ _ _ t.under found other)
 
       -- what a search in the leaf asks
       pub leaf-asks : (entries : List (K × V)) × (slice_get slots number ≡ Some (leaf_content entries)) × IsIncreasing cmp entries
@@ -61,7 +58,7 @@ module _ {K V : Type 0} {cmp : K → K → Ordering} (o : IsTotalOrder cmp) {mos
     -- at an inner node
     module _ (inner : IsInner content) where
       pub step : InnerStep cmp most slots leaves t.lower t.before t.first number t.after key
-      step = inner_step o capacity t.increasing t.through (inner_under capacity t.before t.first number t.after t.under found inner)
+      step = inner_step o capacity t.increasing t.through (inner_under capacity _ _ _ _ t.under found inner)
 
       -- what following a child asks
       pub asks : (keys : List K) × (children : _) × (slice_get slots number ≡ Some (Inner keys children)) × IsStrictlySortedBy cmp keys
@@ -117,18 +114,18 @@ GoesOn {K} {V} cmp most slots key spot number next child =
 abbrev pub search-root : {K V : Type 0} {cmp : K → K → Ordering} {most : ℕ} {table : Table K V} {root key : _}
     (union : IsUnion most table) (is : IsTrue (is_root table.nodes root)) → IsIncreasing cmp (flat (tree_of table.nodes root).leaves)
     → (depth : ℕ) → depth ≡ 0 → SearchThrough cmp most table.nodes (tree_of table.nodes root).leaves key root depth
-search-root {cmp = cmp} {most = most} {table = table} {root = root} {key = key} union is increasing depth none =
+search-root {table = table} {root = root} union is increasing depth none =
     let u = under-root root union is in
     record { lower = (tree_of table.nodes root).above; before = []; first = u.first; after = []; under = u.under; increasing = increasing; through = all_through _ _ _; low = omega arith }
 
 -- a search from the root on has come to this node, and its spot
 abbrev pub CameTo : {K V : Type 0} → (K → K → Ordering) → ℕ → Table K V → ℕ → K → Spot → ℕ → Type 0
-CameTo {K} {V} cmp most table root key spot number = WayBelow cmp most table.nodes (tree_of table.nodes root).leaves (tree_of table.nodes root).above [] key spot number
+CameTo cmp most table root key spot number = WayBelow cmp most table.nodes (tree_of table.nodes root).leaves (tree_of table.nodes root).above [] key spot number
 
 module _ {K V : Type 0} {cmp : K → K → Ordering} {most : ℕ} (table : Table K V) (root key : _) where
   -- at the root
   pub came-first : (union : IsUnion most table) (is : IsTrue (is_root table.nodes root)) → IsIncreasing cmp (flat (tree_of table.nodes root).leaves) → (spot : Spot) → spot.code ≡ 0 → spot.height ≡ 0 → CameTo cmp most table root key spot root
-  came-first union is increasing spot code height = record { above = []; numbers = []; on = search-root union is increasing spot.height height; way = way-root spot code height; join = refl }
+  came-first union is increasing spot code height = record { above = []; numbers = []; on = search-root union is increasing _ height; way = way-root spot code height; join = refl }
 
   module _ {spot : Spot} {number : ℕ} (w : CameTo cmp most table root key spot number) where
     -- further down
@@ -137,12 +134,12 @@ module _ {K V : Type 0} {cmp : K → K → Ordering} {most : ℕ} (table : Table
 
     -- where it ends from there
     pub came-end : {end : Spot} {leaf : ℕ} → EndsOn cmp table.nodes (tree_of table.nodes root).leaves (w.on.lower ++ w.above) key end leaf → EndsOn cmp table.nodes (tree_of table.nodes root).leaves ((tree_of table.nodes root).above ++ []) key end leaf
-    came-end {end} {leaf} e = rw (← w.join) e
+    came-end e = rw (← w.join) e
 
 -- from the root down: the leaf in which a search ends, and its spot
 module _ {K V : Type 0} {cmp : K → K → Ordering} {table : Table K V} {root : ℕ} (is : IsTrue (is_root table.nodes root)) {key : K} {spot : Spot} {number : ℕ} (e : EndsOn cmp table.nodes (tree_of table.nodes root).leaves ((tree_of table.nodes root).above ++ []) key spot number) where
   on-spot : IsSpotAt table root spot (length e.before)
-  on-spot = way-spot table root is e.way
+  on-spot = way-spot _ _ is e.way
 
   pub spot-found : IsSpotAt table root spot (leaf_place table root spot)
   spot-found = rw (place-is on-spot) on-spot

@@ -1,12 +1,13 @@
 -- A path at a place of the list under a root.
-use Rattle.std.proofs.Common.{◌≡◌, ◌≢◌, ℕ, zero, suc, ◌+◌, ◌-◌, ◌==◌, ◌≤◌, ◌<◌, ◌↔◌, Bool, IsTrue, true, false, Some, slice_get, if◌then◌else◌, List, [], ◌∷◌, ◌++◌, get_or, length, length-append, inl, inr, refl, sym, subst, ap, ◌∙◌, arith}
-use Rattle.bforest_core.proofs.Words.{Heads, Row, flat_map, false≢true, eqb_tells, Path, PointsTo, StandsAt, StandsOn, index_of, leaf_of, list_under, path_root}
-use Rattle.bforest_core.proofs.Words.{place_in, spot, IsLeaf, AtUnder, StandsUnder, IsRooted, Under, Tree, flat, HasBelow, Led, OnBelow, heads, length-map}
-use Rattle.bforest_core.proofs.Words.{node, numbers, sizes, sizes_of, IsFit, IsIn, IsPathAt, PointsAt, Stands, count, leaf_content, numbers_of, Moved, Over}
-use Rattle.bforest_core.proofs.{Words.{Table, IsUnion, is_root, slot, tree_of}, walks.Leading.leaf_led, walks.TopNode.{SameBut, node_under, none_flat}}
-use Rattle.bforest_core.proofs.{table.Read.slot-is, rows.LevelRows.flat-append, rows.Tops.root-points, table.Tables.{absent_ne, count-append, count-row}}
-use Rattle.bforest_core.proofs.{table.Tables.count-same, walks.Backward.{at_end, at_entry}, walks.Entered.{InLeaf, first_behind, in_leaf, leaf_here, leaf_last}}
-use Rattle.bforest_core.proofs.{walks.Steps.not_less, union.Unions.{is-rooted, rooted}, walks.Whole.{led_stands, stands-pointed, whole_under}}
+use Rattle.bforest_core.proofs.Words.{◌≡◌, ◌≢◌, ℕ, zero, suc, ◌+◌, ◌-◌, ◌==◌, ◌≤◌, ◌<◌, ◌↔◌, Bool, IsTrue, true, false, Some, slice_get, if◌then◌else◌, List}
+use Rattle.bforest_core.proofs.Words.{[], ◌∷◌, ◌++◌, get_or, length, length-append, inl, inr, refl, sym, subst, ap, ◌∙◌, arith, Heads, Row, flat_map}
+use Rattle.bforest_core.proofs.Words.{false≢true, eqb_tells, Path, PointsTo, StandsAt, StandsOn, index_of, leaf_of, list_under, path_root, place_in, spot}
+use Rattle.bforest_core.proofs.Words.{IsLeaf, AtUnder, StandsUnder, IsRooted, Under, Tree, flat, HasBelow, Led, OnBelow, heads, length-map, node, numbers}
+use Rattle.bforest_core.proofs.Words.{sizes, sizes_of, IsFit, IsIn, IsPathAt, PointsAt, Stands, count, leaf_content, numbers_of, Moved, Over, Table, IsUnion}
+use Rattle.bforest_core.proofs.{Words.{is_root, slot, tree_of}, walks.Backward.{at_end, at_entry}, rows.LevelRows.flat-append, union.Unions.{is-rooted, rooted}}
+use Rattle.bforest_core.proofs.{walks.Whole.{led_stands, stands-pointed, whole_under}, walks.Entered.{InLeaf, first_behind, in_leaf, leaf_here, leaf_last}}
+use Rattle.bforest_core.proofs.{walks.Leading.leaf_led, table.Read.slot-is, rows.Tops.root-points, walks.Steps.not_less}
+use Rattle.bforest_core.proofs.{walks.TopNode.{SameBut, node_under, none_flat}, table.Tables.{absent_ne, count-append, count-row, count-same}}
 use Rattle.bforest_core.specs.Paths.{IsPlaced}
 
 module _ {K V : Type 0} (path indices : _) (tree : Tree K V) (place : ℕ) where
@@ -40,7 +41,7 @@ pub record UnderRoot {K V : Type 0} (most : ℕ) (table : Table K V) (root : ℕ
   pub low : length (tree_of table.nodes root).above ≤ 16
 
 pub under-root : {K V : Type 0} {most : ℕ} {table : Table K V} (root : ℕ) → IsUnion most table → IsTrue (is_root table.nodes root) → UnderRoot most table root
-under-root {most = most} {table = table} root union is =
+under-root root union is =
     let w = is-rooted root union is in
     let u = whole_under w in
     record { first = u.0; under = u.1; low = w.low }
@@ -61,18 +62,18 @@ module _ {K V : Type 0} {most : ℕ} {table : Table K V} (root : ℕ) (union : I
       ((tree_of table.nodes root).leaves, (tree_of table.nodes root).above, [], u.first, [], side, u.under, root-level (tree_of table.nodes root) levels_is)
 
   pub led-root : (place : Row K V → ℕ) {size path indices path' indices' : _} → size ≡ levels → OnBelow most table.nodes Side root (levels - 1) (λ leaves lower top. Led leaves lower (place leaves) top path indices path' indices') → StandsUnder table.nodes root path' indices' size (place (tree_of table.nodes root).leaves)
-  led-root place {size} size_is leads =
+  led-root place size_is leads =
       let tree = tree_of table.nodes root in
       let u = under-root root union is in
       let d = leads tree.leaves tree.above [] u.first [] side u.under (root-level tree levels_is) in
-      record { root_is = is; stands = led_stands tree size d (path-levels tree levels_is size_is) }
+      record { root_is = is; stands = led_stands _ _ d (path-levels tree levels_is size_is) }
 
 -- a path of one level at the front of a root that is a leaf is on the first entry
 pub on-leaf : {K V : Type 0} {most : ℕ} (table : Table K V) (root : ℕ) (path indices : List ℕ) → IsUnion most table → IsTrue (is_root table.nodes root) → IsLeaf (slot table.nodes root) → get_or path 0 0 ≡ root → get_or indices 0 0 ≡ 0 → StandsUnder table.nodes root path indices 1 0
 on-leaf table root path indices union is leaf node_is index_is =
     let u = under-root root union is in
     elim (node_under union.1.capacity _ [] u.first root [] u.under) [
-      | inl s ↦ (let d = leaf_led _ _ s _ indices 0 (omega arith) (omega (arith, none_flat s.at.before s.at.before_is)) node_is index_is (λ i ne. refl) (λ i ne. refl) in record { root_is = is; stands = led_stands _ 1 d (sym (ap (λ z. suc (length z)) s.lower_is)) })
+      | inl s ↦ (let d = leaf_led _ _ s _ indices 0 (omega arith) (omega (arith, none_flat _ s.at.before_is)) node_is index_is (λ i ne. refl) (λ i ne. refl) in record { root_is = is; stands = led_stands _ 1 d (sym (ap (λ z. suc (length z)) s.lower_is)) })
       | inr s ↦ absurd (subst IsLeaf (slot-is table.nodes root _ s.slot_is) leaf)
     ]
 
@@ -102,8 +103,8 @@ module _ {K V : Type 0} {n : ℕ} (table : Table K V) (root : ℕ) (path : Path 
   -- a path at a place before the end is on the entry there
   pub at-on : StandsAt table root path place → place < length (list_under table root) → StandsOn table root path place
   at-on s low =
-      let some : path.size ≢ 0 = λ none. omega (arith, low, at_end path.node path.entry (tree_of table.nodes root) place path.size none s.at) in
-      record { root_is = s.root_is; stands = at_entry _ path.entry (tree_of table.nodes root) place path.size some s.at }
+      let some : path.size ≢ 0 = λ none. omega (arith, low, at_end _ _ _ _ _ none s.at) in
+      record { root_is = s.root_is; stands = at_entry _ _ _ _ _ some s.at }
 
   -- a path that stands on an entry points to its place
   pub on-points : StandsOn table root path place → PointsTo table root path place
@@ -174,7 +175,7 @@ module _ {K V : Type 0} {n : ℕ} (most : ℕ) (table : Table K V) (root : ℕ) 
   pub points-root : PointsTo table root path place → path_root path ≡ root
   points-root to =
       let r = rooted _ _ _ union to.root_is in
-      cc (root-points most (tree_of table.nodes root) path.node path.entry path.size place (omega arith) r.fit to.points)
+      cc (root-points _ _ _ _ _ _ (omega arith) r.fit to.points)
 
   -- a path points to one place only, which is computed from its leaf and its index there
   pub points-spot : PointsTo table root path place → spot table root path ≡ place
@@ -192,10 +193,8 @@ module _ {K V : Type 0} {n : ℕ} (most : ℕ) (table : Table K V) (root : ℕ) 
         count-same m (numbers at.after),
       ) in
       let some : (path.size == 0) ≡ false = elim (eqb_tells path.size 0) [ inl w ↦ absurd (omega arith) | inr w ↦ w.0 ] in
-      (λ j. if some j then length (list_under table root) else place_in tree.leaves m (index_of path))
-      ∙ ap (λ z. place_in z m (index_of path)) at.leaves_are
-      ∙ place_by _ m _ _ _ none
-      ∙ sym at.place_is
+      (λ j. if some j then length (list_under table root) else place_in tree.leaves m (index_of path)) ∙ ap (λ z. place_in z m (index_of path)) at.leaves_are
+      ∙ place_by _ m _ _ _ none ∙ sym at.place_is
 
   -- a path that stands on an entry has its place computed
   pub on-spot : StandsOn table root path place → spot table root path ≡ place

@@ -1,8 +1,8 @@
 -- A step of a path on one row.
-use Rattle.std.proofs.Common.{◌≡◌, ◌≢◌, ℕ, suc, ◌+◌, ◌≤◌, ◌<◌, List, [], ◌∷◌, ◌++◌, length, get_or, slice_get, Some, Bool, true, false, refl, arith}
+use Rattle.bforest_core.proofs.Words.{◌≡◌, ◌≢◌, ℕ, suc, ◌+◌, ◌≤◌, ◌<◌, List, [], ◌∷◌, ◌++◌, length, get_or, slice_get, Some, Bool, true, false, refl, arith}
 use Rattle.bforest_core.proofs.Words.{Heads, Row, Rows, false≢true, entry_count, get_or_default, Content, node, flat, heads, FitRow, RowIn, inner_content}
-use Rattle.bforest_core.proofs.{Words.{StandsAbove, Over, Moved}, rows.LevelRows.FitRow-split, table.Stored.slice_get_at, table.Tables.row-split}
-use Rattle.bforest_core.proofs.{rows.Zipper.cut, walks.Reading.{LastAsked, LastRead}, walks.RowNodes.{NodeIn, node-at}}
+use Rattle.bforest_core.proofs.{Words.{StandsAbove, Over, Moved}, walks.Reading.{LastAsked, LastRead}, walks.RowNodes.{NodeIn, node-at}, table.Tables.row-split}
+use Rattle.bforest_core.proofs.{rows.LevelRows.FitRow-split, table.Stored.slice_get_at, rows.Zipper.cut}
 
 -- an index within a list has an element
 pub read : {A : Type 0} (xs : List A) (i : ℕ) → i < length xs → (x : A) × (slice_get xs i ≡ Some x)
@@ -10,7 +10,7 @@ read xs i low = let c = cut xs i low in (c.x, cc (slice_get_at c.l c.x c.r i c.p
 
 -- the slot of a path's node, by the number that was read from the path
 pub at_index : {A : Type 0} (slots : List A) (path : _) {up level : ℕ} (r : ℕ) {x : A} → level < length path → level ≡ up → slice_get slots (get_or path up 0) ≡ Some x → slice_get slots (get_or path level r) ≡ Some x
-at_index slots path {level = level} r low same found = cc (get_or_default path level r 0 low)
+at_index slots path r low same found = cc (get_or_default _ _ r 0 low)
 
 pub not_less : (m n : ℕ) → (m < n → ⊥) → n ≤ m
 not_less m n past = omega arith
@@ -27,13 +27,12 @@ module _ {K V X : Type 0} (content : List (K × X) → Content K V) (slots : Lis
 
   -- a path that moved to a place is in the node there
   pub there : (half : ℕ) → 1 ≤ half → (row : Row K X) → FitRow half most row → RowIn content slots row → {path indices path1 indices1 up rest place : _} → Moved path indices path1 indices1 up rest (heads row) place → Within path1 indices1 up row rest place
-  there half one row fit inside {path1 = path1} {up = up} {place = place} m =
-      record { node = node-at _ _ most half one row fit inside (get_or path1 up 0) place (m.head.0, simp (m.head_is, m.node_is)); stands = m.stands }
+  there half one row fit inside m = record { node = node-at _ _ _ _ one _ fit inside _ _ (m.head.0, simp (m.head_is, m.node_is)); stands = m.stands }
 
 module _ {K V X : Type 0} {content : List (K × X) → Content K V} {slots most path indices up row rest place : _} (a : Within content slots most path indices up row rest place) (counts : (es : List (K × X)) → entry_count (content es) ≡ length es) (r : ℕ) (wide : up < length path) where
   -- the node meets what reading its last index requires
   abbrev pub last_asks : LastAsked slots (get_or path up r)
-  last_asks = (content a.node.entries, at_index slots path r wide refl a.node.slot_is, omega arith)
+  last_asks = (content a.node.entries, at_index _ _ r wide refl a.node.slot_is, omega arith)
 
   pub last_is : {last : ℕ} → LastRead slots (get_or path up r) last → suc last ≡ length a.node.entries
   last_is says = omega (arith, says (content a.node.entries) last_asks.1, counts a.node.entries)

@@ -1,9 +1,9 @@
 -- A node on top of some rows: a leaf where there are no inner rows, else a node of the highest of them.
-use Rattle.std.proofs.Common.{◌≡◌, ◌≢◌, ℕ, suc, ◌+◌, ◌≤◌, ◌<◌, ◌⊎◌, inl, inr, List, [], ◌∷◌, ◌++◌, length, get_or, set, slice_get, Some, refl, sym, ap, subst, ◌∙◌, arith, append_assoc, length-append}
-use Rattle.bforest_core.proofs.Words.{Heads, Row, Rows, get_or-set_other, nil_from_length, slice_get_within, Content, IsInner, node, flat, half_of, FitRow}
-use Rattle.bforest_core.proofs.{Words.{RowIn, leaf_content, inner_content, IsAt, Under, IsLeafCapacity}, rows.LevelRows.{FitRow-split, flat-append, some_leaf}}
-use Rattle.bforest_core.proofs.{table.Stored.some_same, table.Tables.row-split, walks.Downward.{Seen, at_node, seen, last_of, stacked_last, in_last}}
-use Rattle.bforest_core.proofs.walks.Reading.{LastAsked}
+use Rattle.bforest_core.proofs.Words.{◌≡◌, ◌≢◌, ℕ, suc, ◌+◌, ◌≤◌, ◌<◌, ◌⊎◌, inl, inr, List, [], ◌∷◌, ◌++◌, length, get_or, set, slice_get, Some, refl, sym, ap}
+use Rattle.bforest_core.proofs.Words.{subst, ◌∙◌, arith, append_assoc, length-append, Heads, Row, Rows, get_or-set_other, nil_from_length, slice_get_within}
+use Rattle.bforest_core.proofs.Words.{Content, IsInner, node, flat, half_of, FitRow, RowIn, leaf_content, inner_content, IsAt, Under, IsLeafCapacity}
+use Rattle.bforest_core.proofs.{rows.LevelRows.{FitRow-split, flat-append, some_leaf}, walks.Downward.{Seen, at_node, seen, last_of, stacked_last, in_last}}
+use Rattle.bforest_core.proofs.{table.Stored.some_same, table.Tables.row-split, walks.Reading.LastAsked}
 
 -- the list is unchanged except at this level
 abbrev pub SameBut : ℕ → List ℕ → List ℕ → Type 0
@@ -24,7 +24,7 @@ flat_parted before n {es = es} l x r after is =
 -- a path's place at the node
 abbrev pub seen_at : {K X : Type 0} {half most : _} {row : Row K X} {a first number b : _} (at : Seen half most row a first number b) {n j index place : ℕ} → n ≡ number → j ≡ index → index ≤ length at.es
     → place ≡ length (flat at.before) + index → IsAt row n j place
-seen_at {row = row} {number = number} at n_is j_is within place_is = at_node _ _ _ at.row_is n_is j_is (omega arith) place_is
+seen_at at n_is j_is within place_is = at_node _ _ _ at.row_is n_is j_is (omega arith) place_is
 
 pub record LeafUnder {K V : Type 0} (most : ℕ) (slots : List (Content K V)) (leaves : Row K V) (lower : Rows K) (a : Heads K) (first : K) (number : ℕ) (b : Heads K) : Type 0 where
   pub lower_is : lower ≡ []
@@ -42,7 +42,7 @@ pub record InnerUnder {K V : Type 0} (most : ℕ) (slots : List (Content K V)) (
   pub slot_is : slice_get slots number ≡ Some (inner_content (at.e ∷ at.es))
 
 seen_slot : {K V X : Type 0} (content : List (K × X) → Content K V) (slots : List (Content K V)) {half most : _} {row : Row K X} {a first number b : _} (at : Seen half most row a first number b) → RowIn content slots row → slice_get slots number ≡ Some (content (at.e ∷ at.es))
-seen_slot {K} {V} {X} content slots {number = number} at i = (row-split content slots at.before (node number (at.e ∷ at.es) ∷ at.after) (rw (← at.row_is) i)).1.0
+seen_slot content slots {number = number} at i = (row-split content slots at.before (node number (at.e ∷ at.es) ∷ at.after) (rw (← at.row_is) i)).1.0
 
 module _ {K V : Type 0} {most : ℕ} (capacity : IsLeafCapacity most) {slots : List (Content K V)} {leaves : _} where
   pub node_under : (lower : _) (a first number b : _) → Under most slots leaves lower (a ++ (first, number) ∷ b) → LeafUnder most slots leaves lower a first number b ⊎ InnerUnder most slots leaves lower a first number b
@@ -71,17 +71,17 @@ module _ {K V : Type 0} {most : ℕ} (capacity : IsLeafCapacity most) {slots : L
     node_held = elim (node_under _ a _ _ b u) [ inl s ↦ (leaf_content (s.at.e ∷ s.at.es), s.slot_is, omega arith) | inr s ↦ (inner_content (s.at.e ∷ s.at.es), s.slot_is, omega arith) ]
 
     pub node_within : number < length slots
-    node_within = slice_get_within slots number node_held.0 node_held.1
+    node_within = slice_get_within _ _ _ node_held.1
 
     same_inner : {c d : Content K V} → slice_get slots number ≡ Some c → slice_get slots number ≡ Some d → IsInner d → IsInner c
     same_inner {c = c} {d = d} e f i = subst IsInner (some_same d c (sym f ∙ e)) i
 
     -- the node is a leaf if its content is not an inner node
     pub leaf_under : {content : Content K V} → slice_get slots number ≡ Some content → (IsInner content → ⊥) → LeafUnder most slots leaves lower a first number b
-    leaf_under {content = content} found other = elim (node_under _ a _ _ b u) [ inl s ↦ s | inr s ↦ absurd (other (same_inner found s.slot_is tt)) ]
+    leaf_under found other = elim (node_under _ a _ _ b u) [ inl s ↦ s | inr s ↦ absurd (other (same_inner found s.slot_is tt)) ]
 
     pub inner_under : {content : Content K V} → slice_get slots number ≡ Some content → IsInner content → InnerUnder most slots leaves lower a first number b
-    inner_under {content = content} found inner = elim (node_under _ a _ _ b u) [ inl s ↦ absurd (same_inner s.slot_is found inner) | inr s ↦ s ]
+    inner_under found inner = elim (node_under _ a _ _ b u) [ inl s ↦ absurd (same_inner s.slot_is found inner) | inr s ↦ s ]
 
     -- the node is a leaf if there are no rows below it
     pub leaf_at : length lower ≡ 0 → LeafUnder most slots leaves lower a first number b

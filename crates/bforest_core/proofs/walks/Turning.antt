@@ -1,15 +1,13 @@
 -- A path's node goes to the next one, or to the previous one, by its turn: the lowest level above it where the path can go on.
-use Rattle.std.proofs.Common.{◌≡◌, ◌≢◌, ℕ, zero, suc, ◌+◌, ◌-◌, ◌≤◌, ◌<◌, List, length, get_or}
-use Rattle.std.proofs.Common.{slice_get, Some, Bool, false, IsTrue, ◌↔◌, inl, inr, refl, sym, subst, ◌∙◌, arith}
-use Rattle.bforest_core.proofs.Words.{cases_lt, false≢true, Content, HasOver, LastAt, MoreAt, OnLevels, OnOver, heads, inner_content, Over}
-use Rattle.bforest_core.proofs.{walks.Steps.{not_less, only, spot}, walks.Turns.{ChildAt, Went, back_asks, before_turn, first_moves, first_turn, last_moves}}
-use Rattle.bforest_core.proofs.{walks.Turns.{last_turn, next_turn, turn_asks, turn_moves}, walks.Reading.{LastAsked, LastRead}}
-use Rattle.bforest_core.specs.Steps.{AreFirst, AreLast, Turned, TurnedBack, TurnedBy}
+use Rattle.bforest_core.proofs.Words.{AreFirst, AreLast, Turned, TurnedBack, TurnedBy, ◌≡◌, ◌≢◌, ℕ, zero, suc, ◌+◌, ◌-◌, ◌≤◌, ◌<◌, List, length, get_or}
+use Rattle.bforest_core.proofs.Words.{slice_get, Some, Bool, false, IsTrue, ◌↔◌, inl, inr, refl, sym, subst, ◌∙◌, arith, cases_lt, false≢true, Content, HasOver}
+use Rattle.bforest_core.proofs.walks.Turns.{ChildAt, Went, back_asks, before_turn, first_moves, first_turn, last_moves, last_turn, next_turn, turn_asks}
+use Rattle.bforest_core.proofs.{Words.{LastAt, MoreAt, OnLevels, OnOver, heads, inner_content, Over}, walks.Reading.{LastAsked, LastRead}}
+use Rattle.bforest_core.proofs.{walks.Steps.{not_less, only, spot}, walks.Turns.turn_moves}
 
 -- two runs of levels, one above the other
 pub both : {Holds : ℕ → Type 0} (low between high : ℕ) → OnLevels Holds low between → OnLevels Holds between high → OnLevels Holds low high
-both low between high below above i from to =
-    elim (cases_lt i between) [ inl less ↦ below i from less | inr more ↦ above i more to ]
+both low between high below above i from to = elim (cases_lt i between) [ inl less ↦ below i from less | inr more ↦ above i more to ]
 
 -- a level lower
 down : {AtEnd Moves Moves' : ℕ → Type 0} {level from size : ℕ} → TurnedBy AtEnd Moves level from size → level < from → (AtEnd from → Moves' (from - 1))
@@ -31,8 +29,7 @@ module _ {K V : Type 0} (slots : List (Content K V)) (path indices : _) where
       over-up steps to (spot slots path indices level size _ _ _ p (λ e. omega arith)).over (omega arith) low
 
   -- the node on a level meets what the test for a child requires
-  pub turn-asks : {level size rows list place : _}
-      → Over slots path indices level size rows list place → level ≢ size → size ≤ 17 → (level ≤ 16)
+  pub turn-asks : {level size rows list place : _} → Over slots path indices level size rows list place → level ≢ size → size ≤ 17 → (level ≤ 16)
       × ((entries : _) × (slice_get slots (get_or path level 0) ≡ Some (inner_content entries)))
   turn-asks {level} {size} p other height =
       let s = spot slots path indices level size _ _ _ p other in
@@ -49,7 +46,7 @@ module _ {K V : Type 0} (slots : List (Content K V)) (path indices : _) where
   pub here-last : {low high level : _} → low ≡ level → high ≡ suc level → {has : Bool}
       → ((entries : _) → slice_get slots (get_or path level 0) ≡ Some (inner_content entries)
       → IsTrue has ↔ (get_or indices level 0 + 1 < length entries)) → has ≡ false → AreLast slots path indices low high
-  here-last {level = level} low_is high_is test is i low high =
+  here-last low_is high_is test is i low high =
       subst (LastAt slots path indices) (omega arith)
       (λ entries slot. not_less _ _ (λ more. false≢true (sym is ∙ (test entries slot).1 more)))
 
@@ -57,7 +54,7 @@ module _ {K V : Type 0} (slots : List (Content K V)) (path indices : _) where
   pub all-last : (steps : ℕ) {level : ℕ} {size rows list place : _} → Over slots path indices (suc level) size rows list place → size ≡ suc level + steps
       → size ≤ 17 → AreLast slots path indices (suc level) size → suc place ≡ length list
   all-last zero p is height last = (only p (omega arith)).1
-  all-last (suc steps) {level} {size} p is height last =
+  all-last (suc steps) {level} p is height last =
       last_moves p refl (λ e. omega arith) height (last (suc level) (omega arith) (omega arith))
       (λ rows list place o. all-last steps o (omega arith) height (λ i from to. last i (omega arith) to))
 
@@ -65,7 +62,7 @@ module _ {K V : Type 0} (slots : List (Content K V)) (path indices : _) where
   pub all-first : (steps : ℕ) {level : ℕ} {size rows list place : _} → Over slots path indices (suc level) size rows list place → size ≡ suc level + steps
       → size ≤ 17 → AreFirst indices (suc level) size → place ≡ 0
   all-first zero p is height first = (only p (omega arith)).0
-  all-first (suc steps) {level} {size} p is height first =
+  all-first (suc steps) p is height first =
       first_moves p refl (λ e. omega arith) height
       (λ rows list place o. all-first steps o (omega arith) height (λ i from to. first i (omega arith) to))
       (omega arith)
@@ -77,31 +74,28 @@ module _ {K V : Type 0} (slots : List (Content K V)) (path indices : _) where
       pub down-asks : HasOver slots path indices (suc level) size → ChildAt slots path1 (from - 1) 0
       down-asks w =
           let o = over-up (from - suc level) (suc (from - 1)) w.3 (omega arith) (omega arith) in
-          turn_asks {up =
-          from} o.3 (omega arith) (λ e. omega arith) t.height (first_turn o.3 (omega arith) (λ e. omega arith)
+          turn_asks {up = from} o.3 (omega arith) (λ e. omega arith) t.height (first_turn o.3 (omega arith) (λ e. omega arith)
           t.height (t.ends from (omega arith) (omega arith)) t.moved)
 
       -- the path went there, and that child is the next node of its level
       pub down-turned : {path2 indices2 : _} → Went slots path1 indices1 (from - 1) 0 path2 indices2
           → Turned slots path indices path2 indices2 level (from - 1) size
       down-turned g = down t low (λ last rows list place p.
-          turn_moves {up =
-          from} p (omega arith) (λ e. omega arith) t.height (first_turn p (omega arith) (λ e. omega arith)
-          t.height last t.moved) g)
+          turn_moves {up = from} p (omega arith) (λ e. omega arith) t.height (first_turn p (omega arith) (λ e. omega arith) t.height last t.moved) g)
 
     module _ {path1 indices1 size : _} (t : TurnedBack slots path indices path1 indices1 level from size) (r : ℕ) (wide : 17 ≤ length path1) where
       -- the node meets what reading its last index requires
       pub last-held : HasOver slots path indices (suc level) size → LastAsked slots (get_or path1 from r)
       last-held w =
           let o = over-up (from - suc level) (suc (from - 1)) w.3 (omega arith) (omega arith) in
-          back_asks {up = from} o.3 (omega arith) (λ e. omega arith) t.height t.moved r wide
+          back_asks o.3 (omega arith) (λ e. omega arith) t.height t.moved r wide
 
       module _ {last : ℕ} (says : LastRead slots (get_or path1 from r) last) where
         -- the node meets what going to its last child requires
         pub last-goes : HasOver slots path indices (suc level) size → ChildAt slots path1 (from - 1) last
         last-goes w =
             let o = over-up (from - suc level) (suc (from - 1)) w.3 (omega arith) (omega arith) in
-            turn_asks {up = from} o.3 (omega arith) (λ e. omega arith) t.height
+            turn_asks o.3 (omega arith) (λ e. omega arith) t.height
             (last_turn o.3 (omega arith) (λ e. omega arith) t.height t.moved r wide
             (omega arith) says).1
 
@@ -109,22 +103,21 @@ module _ {K V : Type 0} (slots : List (Content K V)) (path indices : _) where
         pub back-turned : {path2 indices2 : _} → Went slots path1 indices1 (from - 1) last path2 indices2
             → TurnedBack slots path indices path2 indices2 level (from - 1) size
         back-turned g = down t low (λ first rows list place p.
-            let w = last_turn {up = from} p (omega arith) (λ e. omega arith) t.height t.moved r wide (omega arith) says in
-            (w.0, turn_moves {up = from} p (omega arith) (λ e. omega arith) t.height w.1 g))
+            let w = last_turn p (omega arith) (λ e. omega arith) t.height t.moved r wide (omega arith) says in
+            (w.0, turn_moves p (omega arith) (λ e. omega arith) t.height w.1 g))
 
   -- the turn, where the path goes to the next child
   module _ {level turn size : ℕ} (height : size ≤ 17) (within : (level + 2 ≤ turn) × (turn ≤ size)) (here : AreLast slots path indices (suc level) (level + 2))
       (last : AreLast slots path indices (level + 2) turn) where
     -- where no level has a further child, the node is the last
     pub far-last : turn ≡ size → OnOver slots path indices (suc level) size (λ rows list place. suc place ≡ length list)
-    far-last end rows list place p =
-        all-last (size - suc level) p (omega arith) height (rw (← end) (both _ _ _ here last))
+    far-last end rows list place p = all-last (size - suc level) p (omega arith) height (rw (← end) (both _ _ _ here last))
 
     module _ (other : turn ≢ size) (more : MoreAt slots path indices turn) where
       pub turn-goes : HasOver slots path indices (suc level) size → ChildAt slots path (turn - 1) (get_or indices turn 0 + 1)
       turn-goes w =
           let o = over-up (turn - suc level - 1 + 1) (suc (turn - 1)) w.3 (omega arith) (omega arith) in
-          turn_asks {up = turn} o.3 (omega arith) other height (next_turn o.3 (omega arith) other height more)
+          turn_asks o.3 (omega arith) other height (next_turn o.3 (omega arith) other height more)
 
       pub turned : {path1 indices1 : _} → Went slots path indices (turn - 1) (get_or indices turn 0 + 1) path1 indices1
           → Turned slots path indices path1 indices1 level (turn - 1) size
@@ -132,21 +125,20 @@ module _ {K V : Type 0} (slots : List (Content K V)) (path indices : _) where
         height = height;
         within = omega arith;
         ends = λ i above below. both _ _ _ here last i above (omega arith);
-        moved = λ rows list place p. turn_moves {up = turn} p (omega arith) other height (next_turn p (omega arith) other height more) g;
+        moved = λ rows list place p. turn_moves p (omega arith) other height (next_turn p (omega arith) other height more) g;
       }
 
   -- the turn, where the path goes to the previous child
   module _ {level turn size : ℕ} (height : size ≤ 17) (within : (level + 1 ≤ turn) × (turn ≤ size)) (first : AreFirst indices (level + 1) turn) where
     -- where no level has a child before, the node is the first
     pub far-first : turn ≡ size → OnOver slots path indices (suc level) size (λ rows list place. place ≡ 0)
-    far-first end rows list place p =
-        all-first (size - suc level) p (omega arith) height (λ i above below. first i (omega arith) (omega arith))
+    far-first end rows list place p = all-first (size - suc level) p (omega arith) height (λ i above below. first i (omega arith) (omega arith))
 
     module _ (other : turn ≢ size) (some : 0 < get_or indices turn 0) where
       pub before-goes : HasOver slots path indices (suc level) size → ChildAt slots path (turn - 1) (get_or indices turn 0 - 1)
       before-goes w =
           let o = over-up (turn - suc level) (suc (turn - 1)) w.3 (omega arith) (omega arith) in
-          turn_asks {up = turn} o.3 (omega arith) other height (before_turn o.3 (omega arith) other height some).1
+          turn_asks o.3 (omega arith) other height (before_turn o.3 (omega arith) other height some).1
 
       pub turned-back : {path1 indices1 : _} → Went slots path indices (turn - 1) (get_or indices turn 0 - 1) path1 indices1
           → TurnedBack slots path indices path1 indices1 level (turn - 1) size
@@ -155,6 +147,6 @@ module _ {K V : Type 0} (slots : List (Content K V)) (path indices : _) where
         within = omega arith;
         ends = λ i above below. first i (omega arith) (omega arith);
         moved = λ rows list place p.
-            let w = before_turn {up = turn} p (omega arith) other height some in
-            (w.0, turn_moves {up = turn} p (omega arith) other height w.1 g);
+            let w = before_turn p (omega arith) other height some in
+            (w.0, turn_moves p (omega arith) other height w.1 g);
       }

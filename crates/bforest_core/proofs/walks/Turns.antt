@@ -1,16 +1,15 @@
 -- Moving a path's node to the next or the previous one of its level, once the node above it is there.
-use Rattle.std.proofs.Common.{◌≡◌, ◌≢◌, ℕ, suc, ◌+◌, ◌-◌, ◌≤◌, ◌<◌, List, ◌∷◌, length, get_or, slice_get, Some, refl, sym, ap, subst, ◌∙◌, arith}
+use Rattle.bforest_core.proofs.Words.{◌≡◌, ◌≢◌, ℕ, suc, ◌+◌, ◌-◌, ◌≤◌, ◌<◌, List, ◌∷◌, length, get_or, slice_get, Some, refl, sym, ap, subst, ◌∙◌, arith}
 use Rattle.bforest_core.proofs.Words.{Content, flat, heads, inner_content, entry_items, SameBelow, StandsAbove, Advances, LastAt, MoreAt, OnOver, Over, Moved}
-use Rattle.bforest_core.proofs.{Words.Retreats, rows.Zipper.stands-same, table.Stored.{some_same, item_count}, walks.LeafSearch.items-read}
-use Rattle.bforest_core.proofs.{walks.Downward.at_node, walks.RowNodes.{entry_at, node-in, none-behind, seam}, walks.Steps.{Spot, Within, last_asks, last_is}}
-use Rattle.bforest_core.proofs.{walks.Steps.{read, spot, there}, walks.TopNode.{SameBut, none_flat}, walks.Reading.{LastAsked, LastRead}}
+use Rattle.bforest_core.proofs.{Words.Retreats, table.Stored.{some_same, item_count}, walks.TopNode.{SameBut, none_flat}, walks.Reading.{LastAsked, LastRead}}
+use Rattle.bforest_core.proofs.{walks.LeafSearch.items-read, rows.Zipper.stands-same, walks.Downward.at_node}
+use Rattle.bforest_core.proofs.{walks.RowNodes.{entry_at, node-in, none-behind, seam}, walks.Steps.{Spot, Within, last_asks, last_is, read, spot, there}}
 
 module _ {K V : Type 0} where
   -- what going to a child requires
   abbrev pub ChildAt : List (Content K V) → List ℕ → ℕ → ℕ → Type 0
   ChildAt slots path level index =
-      (level ≤ 15) × ((index ≤ 255) × ((entries : _) × (slice_get slots (get_or path (suc level) 0) ≡ Some (inner_content entries))
-      × (index < length entries)))
+      (level ≤ 15) × ((index ≤ 255) × ((entries : _) × (slice_get slots (get_or path (suc level) 0) ≡ Some (inner_content entries)) × (index < length entries)))
 
   -- the child to which the path goes is the entry's
   abbrev pub Reads : List (Content K V) → List ℕ → List ℕ → ℕ → ℕ → Type 0
@@ -36,11 +35,7 @@ module _ {K V : Type 0} where
     here = spot slots path indices up size rows list place (rw up_is p) other
 
     abbrev stay : Within inner_content slots 8 path indices up here.row here.rest (length here.before)
-    stay = record {
-      node = node-in inner_content slots 8 4 (omega arith) here.row here.fit here.inside (get_or path up 0) (length
-          here.before) here.before here.entries here.after here.row_is refl;
-      stands = here.over.stands;
-    }
+    stay = record { node = node-in _ _ 8 4 (omega arith) _ here.fit here.inside _ _ _ _ _ here.row_is refl; stands = here.over.stands }
 
     -- the node meets what the test for a child requires
     pub has_asks : (up ≤ 16) × ((entries : _) × (slice_get slots (get_or path up 0) ≡ Some (inner_content entries)))
@@ -72,10 +67,8 @@ module _ {K V : Type 0} where
       turn_moves {path'} {indices'} g =
           let w = t.on in
           let e = read _ _ t.low in
-          let above = stands-same _ _ _ _ _ _ _ (λ i high. g.nodes i (λ e. omega arith))
-          (λ i high. g.entries i (λ e. omega arith)) w.stands in
-          let at = at_node _ _ _ w.node.row_is (g.nodes up (λ e. omega arith))
-          (cc) t.low t.to_is in
+          let above = stands-same _ _ _ _ _ _ _ (λ i high. g.nodes i (λ e. omega arith)) (λ i high. g.entries i (λ e. omega arith)) w.stands in
+          let at = at_node _ _ _ w.node.row_is (g.nodes up (λ e. omega arith)) (cc) t.low t.to_is in
           let stands : StandsAbove path' indices' up (here.row ∷ here.rest) to = (
             at,
             rw w.node.at above,
@@ -83,7 +76,7 @@ module _ {K V : Type 0} where
           record {
             head = e.0;
             head_is = cc (here.flat_is, entry_at w.node.before (get_or path1 up 0) w.node.entries w.node.after index w.node.row_is e.1);
-            node_is = some_same _ _ (cc (g.child w.node.entries slot_below, items-read w.node.entries index));
+            node_is = some_same _ _ (cc (g.child w.node.entries slot_below, items-read _ _));
             stands = rw (← up_is) (subst (λ z. StandsAbove path' indices' up z to) (sym here.rows_are) stands);
             nodes_below = λ i low. g.nodes i (λ e. omega (arith, low)) ∙ t.nodes_below i (omega (arith, low));
             entries_below = λ i low. g.entries i (λ e. omega (arith, low)) ∙ t.entries_below i (omega (arith, low));
@@ -94,14 +87,12 @@ module _ {K V : Type 0} where
     before_turn some = (
       omega (arith, here.place_is),
       record {
-        at =
-            length here.before;
+        at = length here.before;
         on = stay;
         nodes_below = λ i low. refl;
         entries_below = λ i low. refl;
         low = omega (arith, here.within);
-        to_is = omega
-            (arith, some, here.place_is);
+        to_is = omega (arith, some, here.place_is);
       },
     )
 
@@ -109,19 +100,17 @@ module _ {K V : Type 0} where
     pub next_turn : MoreAt slots path indices up → Turn path indices (get_or indices up 0 + 1) (suc place)
     next_turn more =
         record {
-          at =
-              length here.before;
+          at = length here.before;
           on = stay;
           nodes_below = λ i low. refl;
           entries_below = λ i low. refl;
           low = more here.entries here.slot_is;
-          to_is = omega
-              (arith, here.place_is);
+          to_is = omega (arith, here.place_is);
         }
 
     -- the first child of the first node is the first of the level
     pub first_moves : OnOver slots path indices (suc up) size (λ rows list place. place ≡ 0) → get_or indices up 0 ≤ 0 → place ≡ 0
-    first_moves first none = omega (arith, here.place_is, none_flat here.before (first here.rest (heads here.row) (length here.before) here.over))
+    first_moves first none = omega (arith, here.place_is, none_flat _ (first here.rest (heads here.row) (length here.before) here.over))
 
     -- the last child of the last node is the last of the level
     pub last_moves : LastAt slots path indices up → OnOver slots path indices (suc up) size (λ rows list place. suc place ≡ length list)

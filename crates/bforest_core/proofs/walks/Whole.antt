@@ -1,7 +1,8 @@
 -- A whole tree as the leaves and rows under its root, and a path that descended from there.
-use Rattle.std.proofs.Common.{◌≡◌, ℕ, suc, true, false, IsTrue, ◌<◌, List, [], ◌∷◌, length, get_or, ap, arith}
+use Rattle.bforest_core.proofs.Words.{◌≡◌, ℕ, suc, true, false, IsTrue, ◌<◌, List, [], ◌∷◌, length, get_or, ap, arith, Rows, Content, EndsIn, Reached, Table}
+use Rattle.bforest_core.proofs.Words.{place, is_present, flat, heads, Stacked, Tree, StandsAbove, Stands, root_above, StackedTo, StandsTo, Under, GoesThrough}
+use Rattle.bforest_core.proofs.Words.{Descended, Led, IsRooted, PlacedUnder, PointsAt, StandsUnder, is_root, tree_of}
 use Rattle.std.specs.declared.cmp.Ordering.{Ordering}
-use Rattle.bforest_core.proofs.Words.{Rows, Content, EndsIn, Reached, Table, place, is_present, flat, heads, Stacked, Tree, StandsAbove, Stands, root_above, StackedTo, StandsTo, Under, GoesThrough, Descended, Led, IsRooted, PlacedUnder, PointsAt, StandsUnder, is_root, tree_of}
 
 module _ {K : Type 0} where
   -- the root alone is the top level
@@ -9,7 +10,7 @@ module _ {K : Type 0} where
   top [] [] s e = absurd (omega arith)
   top (x ∷ y ∷ list) [] s e = absurd (omega arith)
   top (x ∷ []) [] s e = (x.0, ap (λ z. (x.0, z) ∷ []) e)
-  top list (row ∷ rows) {root = root} s e = let t = top (heads row) rows s.2 e in (t.0, (s.0, s.1, t.1))
+  top list (row ∷ rows) s e = let t = top (heads row) rows s.2 e in (t.0, (s.0, s.1, t.1))
 
   -- a path that reaches the root stands on all rows
   pub stands_above : (path indices : List ℕ) (level : ℕ) (rows : Rows K) (place : ℕ) → StandsTo path indices level rows place 0 → StandsAbove path indices level rows place
@@ -17,12 +18,12 @@ module _ {K : Type 0} where
   stands_above path indices level (row ∷ rows) place s = (s.0, stands_above path indices (suc level) rows (length s.0.before) s.1)
 
 pub led_stands : {K V : Type 0} (tree : Tree K V) {place path indices path' indices' : _} (size : ℕ) → Led tree.leaves tree.above place 0 path indices path' indices' → size ≡ suc (length tree.above) → Stands path' indices' size tree place
-led_stands tree {path' = path'} {indices' = indices'} size d e = record { leaf = d.leaf; above = stands_above _ _ 1 _ _ d.stands; size_is = e }
+led_stands tree size d e = record { leaf = d.leaf; above = stands_above _ _ 1 _ _ d.stands; size_is = e }
 
 module _ {K V : Type 0} {most : ℕ} {slots : List (Content K V)} {root tree : _} (r : IsRooted most slots root tree) where
   -- the leaves and rows under the root are the whole tree
   pub whole_under : (first : K) × Under most slots tree.leaves tree.above ((first, root) ∷ [])
-  whole_under = let t = top (heads tree.leaves) tree.above r.fit.stacked r.root_is in (t.0, record { leaves_fit = r.fit.leaves_fit; leaves_in = r.inside.leaves_in; stacked = t.1; rows_in = r.inside.rows_in })
+  whole_under = let t = top _ _ r.fit.stacked r.root_is in (t.0, record { leaves_fit = r.fit.leaves_fit; leaves_in = r.inside.leaves_in; stacked = t.1; rows_in = r.inside.rows_in })
 
 pub all_through : {K : Type 0} (cmp : K → K → Ordering) (first key : K) → GoesThrough cmp [] first [] key
 all_through cmp first key = record { from = tt; upto = tt }
@@ -45,7 +46,7 @@ module _ {K V : Type 0} {cmp : K → K → Ordering} (slots : List (Content K V)
 -- the leaf that a search reached under a root is the one in which it ends
 pub ends-in : {K V : Type 0} {cmp : K → K → Ordering} (table : Table K V) (root : ℕ) → IsTrue (is_root table.nodes root) → {key path indices path' indices' size leaf : _} →
     Reached cmp table.nodes (tree_of table.nodes root).leaves (tree_of table.nodes root).above key 0 path indices path' indices' leaf → size ≡ suc (length (tree_of table.nodes root).above) → length path' ≡ 17 → length indices' ≡ 17 → EndsIn cmp table root key leaf path' indices' size
-ends-in {cmp = cmp} table root is r size_is wide indexed = record {
+ends-in table root is r size_is wide indexed = record {
   root_is = is;
   leaf_is = r.leaf_is;
   entries = r.entries;

@@ -1,5 +1,4 @@
-use Rattle.std.proofs.Common.{rules, ◌≡◌, Some, slice_get, ◌<◌}
-use Rattle.bforest_core.proofs.{Words.{slice_get_within, Inner, IsInner, children_of, entry_count}, table.Stored.read_as}
+use Rattle.bforest_core.proofs.{Words.{rules, ◌≡◌, Some, slice_get, ◌<◌, slice_get_within, Inner, IsInner, children_of, entry_count}, table.Stored.read_as}
 use Rattle.bforest_core.proofs.access.child.Goals as goal
 
 pub node-requires : goal.node-requires

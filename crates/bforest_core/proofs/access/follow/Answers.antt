@@ -1,5 +1,5 @@
-use Rattle.std.proofs.Common.{rules, ◌≡◌}
-use Rattle.bforest_core.proofs.{Words.{slice_get_within, IsStrictlySortedBy, Some, slice_get, Inner, IsInner, children_of, count_up_to}, table.Stored.read_as}
+use Rattle.bforest_core.proofs.Words.{rules, ◌≡◌, slice_get_within, IsStrictlySortedBy, Some, slice_get, Inner, IsInner, children_of, count_up_to}
+use Rattle.bforest_core.proofs.table.Stored.{read_as}
 use Rattle.bforest_nodes.specs.Content.{keys_of}
 use Rattle.bforest_core.proofs.access.follow.Goals as goal
 

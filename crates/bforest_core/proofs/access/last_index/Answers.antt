@@ -1,5 +1,4 @@
-use Rattle.std.proofs.Common.{rules, ap, ◌-◌, ◌∙◌, arith}
-use Rattle.bforest_core.proofs.{Words.{slice_get_within, IsFree, entry_count}, table.Stored.{read_as, read_same, not_free}}
+use Rattle.bforest_core.proofs.{Words.{rules, ap, ◌-◌, ◌∙◌, arith, slice_get_within, IsFree, entry_count}, table.Stored.{read_as, read_same, not_free}}
 use Rattle.bforest_core.proofs.access.last_index.Goals as goal
 
 pub node-requires : goal.node-requires

@@ -1,5 +1,5 @@
-use Rattle.std.proofs.Common.{rules, ap, slice_get, subst, sym, ◌∙◌}
-use Rattle.bforest_core.proofs.{Words.{slice_get_within, IsLeaf, leaf_content, vals_of}, table.Stored.some_same, walks.Entered.pair_answer}
+use Rattle.bforest_core.proofs.{Words.{rules, ap, slice_get, subst, sym, ◌∙◌, slice_get_within, IsLeaf, leaf_content, vals_of}, walks.Entered.pair_answer}
+use Rattle.bforest_core.proofs.table.Stored.{some_same}
 use Rattle.bforest_nodes.specs.Content.{keys_of}
 use Rattle.bforest_core.proofs.access.leaf_entry.Goals as goal
 

@@ -1,5 +1,4 @@
-use Rattle.std.proofs.Common.{rules, ◌≡◌, Some, slice_get, ◌<◌}
-use Rattle.bforest_core.proofs.{Words.{slice_get_within, Leaf, IsLeaf, entry_count}, table.Stored.read_as}
+use Rattle.bforest_core.proofs.{Words.{rules, ◌≡◌, Some, slice_get, ◌<◌, slice_get_within, Leaf, IsLeaf, entry_count}, table.Stored.read_as}
 use Rattle.bforest_nodes.specs.Content.{keys_of}
 use Rattle.bforest_core.proofs.access.leaf_key.Goals as goal
 

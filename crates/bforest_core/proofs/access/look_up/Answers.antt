@@ -1,7 +1,6 @@
-use Rattle.std.proofs.Common.{rules, ◌≡◌}
-use Rattle.bforest_core.proofs.Words.{slice_get_within, IsStrictlySortedBy, Err, IfSome, List, None, Ok, Some, slice_get, IsLeaf, vals_of, IsIncreasing, place}
-use Rattle.bforest_core.proofs.{Words.{value_for, search_of, leaf_content}, table.Stored.read_as, walks.LeafSearch.looked, access.look_up.Given.Over}
-use Rattle.bforest_core.proofs.access.look_up.Goals.{After-look_up}
+use Rattle.bforest_core.proofs.Words.{rules, ◌≡◌, slice_get_within, IsStrictlySortedBy, Err, IfSome, List, None, Ok, Some, slice_get, IsLeaf, vals_of}
+use Rattle.bforest_core.proofs.{Words.{IsIncreasing, place, value_for, search_of, leaf_content}, access.look_up.Given.Over, access.look_up.Goals.After-look_up}
+use Rattle.bforest_core.proofs.{walks.LeafSearch.looked, table.Stored.read_as}
 use Rattle.bforest_nodes.specs.Content.{keys_of}
 use Rattle.bforest_core.proofs.access.look_up.Goals as goal
 

@@ -1,6 +1,6 @@
-use Rattle.std.proofs.Common.{rules, ap, ◌≡◌, ◌∙◌}
-use Rattle.bforest_core.proofs.{Words.{IsLeaf, IsStrictlySortedBy, search_of, with_node}, table.Stored.{read_as, read_same}}
-use Rattle.bforest_nodes.specs.Content.{keys_of, put_answer, with_put}
+use Rattle.bforest_core.proofs.Words.{put_answer, with_put, rules, ap, ◌≡◌, ◌∙◌, IsLeaf, IsStrictlySortedBy, search_of, with_node}
+use Rattle.bforest_core.proofs.table.Stored.{read_as, read_same}
+use Rattle.bforest_nodes.specs.Content.{keys_of}
 use Rattle.bforest_core.proofs.access.put.Goals as goal
 
 pub node_mut-requires : goal.node_mut-requires

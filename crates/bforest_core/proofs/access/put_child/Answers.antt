@@ -1,5 +1,5 @@
-use Rattle.std.proofs.Common.{rules, length, if◌then◌else◌, IsTrue, ap, ◌↔◌, ◌<◌, ◌≤◌, ◌∙◌}
-use Rattle.bforest_core.proofs.{Words.{IsInner, entry_count, with_child, with_node}, table.Stored.{read_as, read_same}}
+use Rattle.bforest_core.proofs.Words.{rules, length, if◌then◌else◌, IsTrue, ap, ◌↔◌, ◌<◌, ◌≤◌, ◌∙◌, IsInner, entry_count, with_child, with_node}
+use Rattle.bforest_core.proofs.table.Stored.{read_as, read_same}
 use Rattle.bforest_nodes.specs.Content.{keys_of}
 use Rattle.bforest_core.proofs.access.put_child.Goals as goal
 

@@ -1,5 +1,5 @@
-use Rattle.std.proofs.Common.{rules, if◌then◌else◌, IsTrue, ap, ◌↔◌, ◌<◌, ◌≤◌, ◌∙◌}
-use Rattle.bforest_core.proofs.{Words.{IsLeaf, entry_count, with_entry, with_node}, table.Stored.{read_as, read_same}}
+use Rattle.bforest_core.proofs.Words.{rules, if◌then◌else◌, IsTrue, ap, ◌↔◌, ◌<◌, ◌≤◌, ◌∙◌, IsLeaf, entry_count, with_entry, with_node}
+use Rattle.bforest_core.proofs.table.Stored.{read_as, read_same}
 use Rattle.bforest_core.proofs.access.put_entry.Goals as goal
 
 pub node_mut-requires : goal.node_mut-requires

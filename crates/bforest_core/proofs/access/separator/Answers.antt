@@ -1,5 +1,4 @@
-use Rattle.std.proofs.Common.{rules, ◌≡◌, length, Some, slice_get, ◌<◌}
-use Rattle.bforest_core.proofs.{Words.{slice_get_within, Inner, IsInner}, table.Stored.read_as}
+use Rattle.bforest_core.proofs.{Words.{rules, ◌≡◌, length, Some, slice_get, ◌<◌, slice_get_within, Inner, IsInner}, table.Stored.read_as}
 use Rattle.bforest_nodes.specs.Content.{keys_of}
 use Rattle.bforest_core.proofs.access.separator.Goals as goal
 

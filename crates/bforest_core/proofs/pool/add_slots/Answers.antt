@@ -1,5 +1,4 @@
-use Rattle.std.proofs.Common.{◌≡◌, ◌+◌, Some, vec_len, arith, ap, ◌∙◌, append_assoc, add-one, rules}
-use Rattle.bforest_core.proofs.table.Allocating.{err_is}
+use Rattle.bforest_core.proofs.{Words.{◌≡◌, ◌+◌, Some, vec_len, arith, ap, ◌∙◌, append_assoc, add-one, rules}, table.Allocating.err_is}
 use Rattle.bforest_core.proofs.pool.add_slots.Goals as goal
 
 pub loop-added-preserved : goal.loop-added-preserved

@@ -1,5 +1,4 @@
-use Rattle.std.proofs.Common.{◌≡◌, ◌+◌, ◌≤◌, ◌++◌, vec_len, vec_capacity}
-use Rattle.bforest_core.specs.Table.{fresh_nodes, front_of_new}
+use Rattle.bforest_core.proofs.Words.{fresh_nodes, front_of_new, ◌≡◌, ◌+◌, ◌≤◌, ◌++◌, vec_len, vec_capacity}
 use Rattle.bforest_core.proofs.pool.add_slots.Given as goal
 
 abbrev pub invariant-loop-added : goal.invariant-loop-added

@@ -1,5 +1,4 @@
-use Rattle.std.proofs.Common.{refl, arith, ◌<◌}
-use Rattle.bforest_core.proofs.table.Lists.{set-front-back, set-back-front, in_front, behind}
+use Rattle.bforest_core.proofs.{Words.{refl, arith, ◌<◌}, table.Lists.{set-front-back, set-back-front, in_front, behind}}
 use Rattle.bforest_core.proofs.pool.two_nodes.Goals as goal
 
 pub returns-then-left-right : goal.returns-then-left-right

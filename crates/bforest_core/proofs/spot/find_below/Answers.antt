@@ -1,5 +1,5 @@
-use Rattle.std.proofs.Common.{rules, refl, subst, sym, ◌∙◌, arith}
-use Rattle.bforest_core.proofs.{Words.{EndsOn, false≢true}, walks.Searches.{asks, code-low-here, deeper-low, digit-low, down, ends-on, within}}
+use Rattle.bforest_core.proofs.Words.{rules, refl, sym, ◌∙◌, arith, false≢true}
+use Rattle.bforest_core.proofs.walks.Searches.{asks, code-low-here, deeper-low, digit-low, down, ends-on, within}
 use Rattle.bforest_core.proofs.spot.find_below.Goals as goal
 
 pub loop-key-init : goal.loop-key-init
@@ -15,32 +15,27 @@ follow-index-requires g c =
     let w = c.requires.under in
     (search rules, asks (g.met.C.Comparator.total c.args.comp.now) c.requires.capacity (c.loop-key.invariant w.0 w.1 w.2 w.3 w.4).on c.node.ensures.value (c.is_inner.ensures.inner.0 c.loop-key-test.true))
 
-pub below-here-requires-clause-code : goal.below-here-requires-clause-code
-below-here-requires-clause-code g c =
-    let w = c.requires.under in
-    let at = c.loop-key.invariant w.0 w.1 w.2 w.3 w.4 in
-    code-low-here (g.met.C.Comparator.total c.args.comp.now) c.requires.capacity at.on c.node.ensures.value
-    (c.is_inner.ensures.inner.0 c.loop-key-test.true) c.follow-index.result.0 c.follow-index.ensures.index
-    c.follow-index.ensures.child refl at.way
-
-pub below-here-requires-clause-height : goal.below-here-requires-clause-height
-below-here-requires-clause-height g c =
-    let w = c.requires.under in
-    deeper-low (g.met.C.Comparator.total c.args.comp.now) c.requires.capacity (c.loop-key.invariant w.0 w.1 w.2 w.3 w.4).on c.node.ensures.value (c.is_inner.ensures.inner.0 c.loop-key-test.true)
-
-pub below-here-requires-clause-index : goal.below-here-requires-clause-index
-below-here-requires-clause-index g c =
-    let w = c.requires.under in
-    digit-low (g.met.C.Comparator.total c.args.comp.now) c.requires.capacity
-    (c.loop-key.invariant w.0 w.1 w.2 w.3 w.4).on c.node.ensures.value
-    (c.is_inner.ensures.inner.0 c.loop-key-test.true) c.follow-index.result.0 c.follow-index.ensures.index
-    c.follow-index.ensures.child
+pub below-here-requires : goal.below-here-requires
+below-here-requires g c = record {
+  code = (let w = c.requires.under in
+      let at = c.loop-key.invariant w.0 w.1 w.2 w.3 w.4 in
+      code-low-here (g.met.C.Comparator.total c.args.comp.now) c.requires.capacity at.on c.node.ensures.value
+      (c.is_inner.ensures.inner.0 c.loop-key-test.true) c.follow-index.result.0 c.follow-index.ensures.index
+      c.follow-index.ensures.child refl at.way);
+  height = (let w = c.requires.under in
+      deeper-low (g.met.C.Comparator.total c.args.comp.now) c.requires.capacity (c.loop-key.invariant w.0 w.1 w.2 w.3 w.4).on c.node.ensures.value (c.is_inner.ensures.inner.0 c.loop-key-test.true));
+  index = (let w = c.requires.under in
+      digit-low (g.met.C.Comparator.total c.args.comp.now) c.requires.capacity
+      (c.loop-key.invariant w.0 w.1 w.2 w.3 w.4).on c.node.ensures.value
+      (c.is_inner.ensures.inner.0 c.loop-key-test.true) _ c.follow-index.ensures.index
+      c.follow-index.ensures.child);
+}
 
 pub loop-key-smaller : goal.loop-key-smaller
 loop-key-smaller g c =
     let w = c.requires.under in
     let low = deeper-low (g.met.C.Comparator.total c.args.comp.now) c.requires.capacity (c.loop-key.invariant w.0 w.1 w.2 w.3 w.4).on c.node.ensures.value (c.is_inner.ensures.inner.0 c.loop-key-test.true) in
-    omega (arith, c.below-here.ensures.height, low)
+    omega arith
 
 pub loop-key-preserved : goal.loop-key-preserved
 loop-key-preserved g c = λ leaves upper numbers on w.
@@ -55,6 +50,5 @@ pub returns : goal.returns
 returns g c = record {
   found = λ leaves upper numbers on w.
       let at = c.loop-key.invariant leaves upper numbers on w in
-      subst (λ rows. EndsOn (g.C.Comparator.order c.args.comp.now) c.args.pool.now.nodes leaves rows c.args.key c.loop-key.here c.loop-key.lower) at.join
-      (ends-on (g.met.C.Comparator.total c.args.comp.now) c.requires.capacity at.on c.node.ensures.value (λ i. false≢true (sym c.loop-key-test.false ∙ c.is_inner.ensures.inner.1 i)) at.way);
+      rw (← at.join) (ends-on (g.met.C.Comparator.total c.args.comp.now) c.requires.capacity at.on c.node.ensures.value (λ i. false≢true (sym c.loop-key-test.false ∙ c.is_inner.ensures.inner.1 i)) at.way);
 }

@@ -1,5 +1,4 @@
-use Rattle.std.proofs.Common.{◌-◌}
-use Rattle.bforest_core.proofs.walks.Searches.{GoesOn}
+use Rattle.bforest_core.proofs.{Words.◌-◌, walks.Searches.GoesOn}
 use Rattle.bforest_core.proofs.spot.find_below.Given as goal
 
 abbrev pub invariant-loop-key : goal.invariant-loop-key

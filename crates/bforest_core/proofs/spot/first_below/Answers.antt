@@ -1,6 +1,5 @@
-use Rattle.std.proofs.Common.{arith, rules, sym, ◌∙◌}
-use Rattle.bforest_core.proofs.{Words.false≢true, walks.CodesDown.{FirstSaid, down-ask, down-asks, down-low, down-on, first-here}, walks.Leading.first-turns}
-use Rattle.bforest_core.proofs.walks.TopNode.{node_within}
+use Rattle.bforest_core.proofs.{Words.{arith, rules, sym, ◌∙◌, false≢true}, walks.CodesDown.{FirstSaid, down-ask, down-asks, down-low, down-on, first-here}}
+use Rattle.bforest_core.proofs.{walks.Leading.first-turns, walks.TopNode.node_within}
 use Rattle.bforest_core.proofs.spot.first_below.Goals as goal
 
 pub loop-here-init : goal.loop-here-init

@@ -1,6 +1,4 @@
-use Rattle.std.proofs.Common.{◌-◌}
-use Rattle.bforest_core.proofs.walks.CodesDown.{FirstSaid, GoesDown}
-use Rattle.bforest_core.specs.Descent.{IsFirst}
+use Rattle.bforest_core.proofs.{Words.{IsFirst, ◌-◌}, walks.CodesDown.{FirstSaid, GoesDown}}
 use Rattle.bforest_core.proofs.spot.first_below.Given as goal
 
 abbrev pub invariant-loop-here : goal.invariant-loop-here

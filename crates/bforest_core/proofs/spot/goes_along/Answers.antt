@@ -1,7 +1,5 @@
-use Rattle.std.proofs.Common.{ap, rules, sym, ◌∙◌}
-use Rattle.std.proofs.lemmas.Bool.{eq-eqb}
-use Rattle.std.specs.Ordering.{is_lt}
-use Rattle.bforest_core.proofs.{Words.false≢true, walks.Forking.{along-below, along-last, less-tested, not-along, separator-there}}
+use Rattle.bforest_core.proofs.Words.{eq-eqb, is_lt, ap, rules, sym, ◌∙◌, false≢true}
+use Rattle.bforest_core.proofs.walks.Forking.{along-below, along-last, less-tested, not-along, separator-there}
 use Rattle.bforest_core.proofs.spot.goes_along.Goals as goal
 
 pub separator-requires : goal.separator-requires

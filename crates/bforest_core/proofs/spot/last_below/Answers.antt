@@ -1,29 +1,22 @@
-use Rattle.std.proofs.Common.{arith, rules, sym, ◌∙◌}
-use Rattle.bforest_core.proofs.{Words.false≢true, walks.CodesDown.{LastSaid, down-ask, down-asks, down-low, down-on, last-here}, walks.Leading.last-turns}
-use Rattle.bforest_core.proofs.walks.TopNode.{node_held, node_within}
+use Rattle.bforest_core.proofs.{Words.{arith, rules, sym, ◌∙◌, false≢true}, walks.CodesDown.{LastSaid, down-ask, down-asks, down-low, down-on, last-here}}
+use Rattle.bforest_core.proofs.{walks.Leading.last-turns, walks.TopNode.{node_held, node_within}}
 use Rattle.bforest_core.proofs.spot.last_below.Goals as goal
 
 pub loop-index-init : goal.loop-index-init
 loop-index-init g c = record { under = c.requires.under; ends = λ end leaf on. on }
 
 pub node-requires : goal.node-requires
-node-requires g c =
-    let u = c.loop-index.invariant.under in
-    (search rules, (search rules, node_within c.requires.capacity u.4 u.5 _ u.6 u.8))
+node-requires g c = (search rules, (search rules, node_within c.requires.capacity _ _ _ _ c.loop-index.invariant.under.8))
 
 pub last_index-index-requires : goal.last_index-index-requires
-last_index-index-requires g c =
-    let u = c.loop-index.invariant.under in
-    (search rules, node_held c.requires.capacity u.4 u.5 _ u.6 u.8)
+last_index-index-requires g c = (search rules, node_held c.requires.capacity _ _ _ _ c.loop-index.invariant.under.8)
 
-pub below-here-requires-clause-index : goal.below-here-requires-clause-index
-below-here-requires-clause-index g c = (down-low c.requires.capacity c.node.ensures.value (c.is_inner.ensures.inner.0 c.loop-index-test.true) (last-turns c.requires.capacity c.last_index-index.ensures.last) c.loop-index.invariant.under).2
-
-pub below-here-requires-clause-code : goal.below-here-requires-clause-code
-below-here-requires-clause-code g c = (down-low c.requires.capacity c.node.ensures.value (c.is_inner.ensures.inner.0 c.loop-index-test.true) (last-turns c.requires.capacity c.last_index-index.ensures.last) c.loop-index.invariant.under).0
-
-pub below-here-requires-clause-height : goal.below-here-requires-clause-height
-below-here-requires-clause-height g c = (down-low c.requires.capacity c.node.ensures.value (c.is_inner.ensures.inner.0 c.loop-index-test.true) (last-turns c.requires.capacity c.last_index-index.ensures.last) c.loop-index.invariant.under).1
+pub below-here-requires : goal.below-here-requires
+below-here-requires g c = record {
+  index = (down-low c.requires.capacity c.node.ensures.value (c.is_inner.ensures.inner.0 c.loop-index-test.true) (last-turns c.requires.capacity c.last_index-index.ensures.last) c.loop-index.invariant.under).2;
+  code = (down-low c.requires.capacity c.node.ensures.value (c.is_inner.ensures.inner.0 c.loop-index-test.true) (last-turns c.requires.capacity c.last_index-index.ensures.last) c.loop-index.invariant.under).0;
+  height = (down-low c.requires.capacity c.node.ensures.value (c.is_inner.ensures.inner.0 c.loop-index-test.true) (last-turns c.requires.capacity c.last_index-index.ensures.last) c.loop-index.invariant.under).1;
+}
 
 pub child-last-requires : goal.child-last-requires
 child-last-requires g c = (search rules, down-asks c.requires.capacity c.node.ensures.value (c.is_inner.ensures.inner.0 c.loop-index-test.true) (last-turns c.requires.capacity c.last_index-index.ensures.last) c.loop-index.invariant.under)
@@ -43,5 +36,5 @@ loop-index-preserved g c =
 pub returns : goal.returns
 returns g c = record {
   last = c.loop-index.invariant.ends c.loop-index.here c.loop-index.last
-      (last-here c.requires.capacity c.node.ensures.value (λ i. false≢true (sym c.loop-index-test.false ∙ c.is_inner.ensures.inner.1 i)) c.loop-index.here);
+      (last-here c.requires.capacity c.node.ensures.value (λ i. false≢true (sym c.loop-index-test.false ∙ c.is_inner.ensures.inner.1 i)) _);
 }

@@ -1,6 +1,4 @@
-use Rattle.std.proofs.Common.{◌-◌}
-use Rattle.bforest_core.proofs.walks.CodesDown.{LastSaid, GoesDown}
-use Rattle.bforest_core.specs.Descent.{IsLast}
+use Rattle.bforest_core.proofs.{Words.{IsLast, ◌-◌}, walks.CodesDown.{LastSaid, GoesDown}}
 use Rattle.bforest_core.proofs.spot.last_below.Given as goal
 
 abbrev pub invariant-loop-index : goal.invariant-loop-index

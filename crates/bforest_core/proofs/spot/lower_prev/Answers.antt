@@ -1,5 +1,5 @@
-use Rattle.std.proofs.Common.{rules, arith, refl, inl, inr}
-use Rattle.bforest_core.proofs.{walks.Codes.is-below, walks.Branches.branch-asks, walks.OnLevel.{code-low-here, count-asked, prev-at, prev-said}}
+use Rattle.bforest_core.proofs.{Words.{rules, arith, refl, inl, inr}, walks.OnLevel.{code-low-here, count-asked, prev-at, prev-said}, walks.Codes.is-below}
+use Rattle.bforest_core.proofs.walks.Branches.{branch-asks}
 use Rattle.bforest_core.proofs.spot.lower_prev.Goals as goal
 
 pub below-requires-clause-code : goal.below-requires-clause-code

@@ -1,7 +1,6 @@
-use Rattle.std.proofs.Common.{rules, arith, refl, sym, ap, ◌∙◌}
-use Rattle.bforest_core.proofs.{Words.entry_count, table.Stored.some_same, walks.Branches.branch-asks, walks.Codes.is-below, walks.Following.turn-beside}
-use Rattle.bforest_core.proofs.{walks.Following.{turn-done, turn-down, turn-end, turn-high, turn-more, turn-way}, walks.OnLevel.{stands-low, turn-at}}
-use Rattle.bforest_core.proofs.walks.OnLevel.{turn-said}
+use Rattle.bforest_core.proofs.{Words.{rules, arith, refl, sym, ap, ◌∙◌, entry_count}, table.Stored.some_same, walks.OnLevel.{stands-low, turn-at, turn-said}}
+use Rattle.bforest_core.proofs.{walks.Branches.branch-asks, walks.Following.{turn-beside, turn-done, turn-down, turn-end, turn-high, turn-more, turn-way}}
+use Rattle.bforest_core.proofs.walks.Codes.{is-below}
 use Rattle.bforest_core.proofs.spot.next_far.Goals as goal
 
 pub loop-here-init : goal.loop-here-init
@@ -14,7 +13,7 @@ below-here-requires-clause-code g c =
     let e = turn-end t some in
     let way = turn-way e.way some c.requires.over in
     (stands-low (omega arith) e.way.leads way.4
-    (turn-at (omega arith) e.way.leads (λ other found. ap entry_count (some_same e.content other (sym e.slot_is ∙ found))) (omega (arith, e.none)) refl (turn-beside t some) way.4)
+    (turn-at (omega arith) e.way.leads (λ other found. ap entry_count (some_same _ _ (sym e.slot_is ∙ found))) (omega arith) refl (turn-beside t some) way.4)
     (turn-high e.way some c.requires.low)).0
 
 pub child-next-requires : goal.child-next-requires
@@ -24,8 +23,8 @@ child-next-requires g c =
     let e = turn-end t some in
     let way = turn-way e.way some c.requires.over in (
       search rules,
-      branch-asks (turn-at (omega arith) e.way.leads (λ other found. ap entry_count (some_same e.content other (sym e.slot_is ∙ found)))
-          (omega (arith, e.none)) refl (turn-beside t some) way.4).branch,
+      branch-asks (turn-at (omega arith) e.way.leads (λ other found. ap entry_count (some_same _ _ (sym e.slot_is ∙ found)))
+          (omega arith) refl (turn-beside t some) way.4).branch,
     )
 
 pub loop-here-preserved : goal.loop-here-preserved
@@ -35,7 +34,7 @@ loop-here-preserved g c =
     let e = turn-end t some in
     let b = is-below c.below-here.ensures.code c.below-here.ensures.parent c.below-here.ensures.grand c.below-here.ensures.height in
     turn-down t some
-    (turn-said (omega arith) e.way.leads (λ other found. ap entry_count (some_same e.content other (sym e.slot_is ∙ found))) (omega (arith, e.none)) refl (turn-beside t some) b c.child-next.ensures)
+    (turn-said (omega arith) e.way.leads (λ other found. ap entry_count (some_same _ _ (sym e.slot_is ∙ found))) (omega arith) refl (turn-beside t some) b c.child-next.ensures)
     c.below-here.ensures.height
 
 pub returns : goal.returns

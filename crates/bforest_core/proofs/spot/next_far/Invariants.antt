@@ -1,5 +1,4 @@
-use Rattle.std.proofs.Common.{◌-◌}
-use Rattle.bforest_core.specs.Spots.{HasNextChild, IsBehind, IsLastPlace, IsTurn}
+use Rattle.bforest_core.proofs.Words.{HasNextChild, IsBehind, IsLastPlace, IsTurn, ◌-◌}
 use Rattle.bforest_core.proofs.spot.next_far.Given as goal
 
 abbrev pub invariant-loop-here : goal.invariant-loop-here

@@ -1,6 +1,5 @@
-use Rattle.std.proofs.Common.{rules, arith, refl, ◌<◌}
-use Rattle.bforest_core.proofs.{walks.Branches.{branch-asks, branch-low}, walks.Codes.is-below, walks.Following.{turn-beside, turn-done, turn-down, turn-end}}
-use Rattle.bforest_core.proofs.{walks.Following.{turn-high, turn-more, turn-way}, walks.OnLevel.{back-at, back-count, back-said, stands-low}}
+use Rattle.bforest_core.proofs.{Words.{rules, arith, refl, ◌<◌}, walks.Following.{turn-beside, turn-done, turn-down, turn-end, turn-high, turn-more, turn-way}}
+use Rattle.bforest_core.proofs.{walks.Codes.is-below, walks.OnLevel.{back-at, back-count, back-said, stands-low}, walks.Branches.{branch-asks, branch-low}}
 use Rattle.bforest_core.proofs.spot.prev_far.Goals as goal
 
 pub loop-here-init : goal.loop-here-init
@@ -11,7 +10,7 @@ last_index-last-requires g c =
     let t = c.loop-here.invariant in
     let some = turn-more t c.loop-here-test.true in
     let e = turn-end t some in
-    (search rules, back-count (omega arith) e.way.leads (omega (arith, e.none)) refl (turn-beside t some) (turn-way e.way some c.requires.over))
+    (search rules, back-count (omega arith) e.way.leads (omega arith) refl (turn-beside t some) (turn-way e.way some c.requires.over))
 
 pub below-here-requires-clause-code : goal.below-here-requires-clause-code
 below-here-requires-clause-code g c =
@@ -19,7 +18,7 @@ below-here-requires-clause-code g c =
     let some = turn-more t c.loop-here-test.true in
     let e = turn-end t some in
     let way = turn-way e.way some c.requires.over in
-    let at = back-at (omega arith) e.way.leads (omega (arith, e.none)) refl (turn-beside t some) c.last_index-last.ensures.last way.4 in
+    let at = back-at (omega arith) e.way.leads (omega arith) refl (turn-beside t some) c.last_index-last.ensures.last way.4 in
     (stands-low (omega arith) e.way.leads way.4 at (turn-high e.way some c.requires.low)).0
 
 pub below-here-requires-clause-index : goal.below-here-requires-clause-index
@@ -29,8 +28,8 @@ below-here-requires-clause-index g c =
     let e = turn-end t some in
     let way = turn-way e.way some c.requires.over in
     let low : c.last_index-last.result < 8 =
-    branch-low (back-at (omega arith) e.way.leads (omega (arith, e.none)) refl (turn-beside t some) c.last_index-last.ensures.last way.4).branch in
-    omega (arith, low)
+    branch-low (back-at (omega arith) e.way.leads (omega arith) refl (turn-beside t some) c.last_index-last.ensures.last way.4).branch in
+    omega arith
 
 pub child-before-requires : goal.child-before-requires
 child-before-requires g c =
@@ -38,7 +37,7 @@ child-before-requires g c =
     let some = turn-more t c.loop-here-test.true in
     let e = turn-end t some in
     let way = turn-way e.way some c.requires.over in
-    (search rules, branch-asks (back-at (omega arith) e.way.leads (omega (arith, e.none)) refl (turn-beside t some) c.last_index-last.ensures.last way.4).branch)
+    (search rules, branch-asks (back-at (omega arith) e.way.leads (omega arith) refl (turn-beside t some) c.last_index-last.ensures.last way.4).branch)
 
 pub loop-here-preserved : goal.loop-here-preserved
 loop-here-preserved g c =
@@ -47,7 +46,7 @@ loop-here-preserved g c =
     let e = turn-end t some in
     let b = is-below c.below-here.ensures.code c.below-here.ensures.parent c.below-here.ensures.grand c.below-here.ensures.height in
     turn-down t some
-    (back-said (omega arith) e.way.leads (omega (arith, e.none)) refl (turn-beside t some) c.last_index-last.ensures.last b c.child-before.ensures)
+    (back-said (omega arith) e.way.leads (omega arith) refl (turn-beside t some) c.last_index-last.ensures.last b c.child-before.ensures)
     c.below-here.ensures.height
 
 pub returns : goal.returns

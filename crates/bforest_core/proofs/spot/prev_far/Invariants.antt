@@ -1,5 +1,4 @@
-use Rattle.std.proofs.Common.{◌-◌}
-use Rattle.bforest_core.specs.Spots.{HasPrevChild, IsBefore, IsFirstPlace, IsTurn}
+use Rattle.bforest_core.proofs.Words.{HasPrevChild, IsBefore, IsFirstPlace, IsTurn, ◌-◌}
 use Rattle.bforest_core.proofs.spot.prev_far.Given as goal
 
 abbrev pub invariant-loop-here : goal.invariant-loop-here

@@ -1,6 +1,5 @@
-use Rattle.std.proofs.Common.{rules, arith, refl}
-use Rattle.bforest_core.proofs.{walks.Codes.{is-below, root-first}, walks.Following.{begun, turn-high, turn-way, turned, turning-ends, turning-none}}
-use Rattle.bforest_core.proofs.{walks.Following.turning-on, walks.OnLevel.{code-low-here, first-said, index-asked}}
+use Rattle.bforest_core.proofs.{Words.{rules, arith, refl}, walks.Following.{begun, turn-high, turn-way, turned, turning-ends, turning-none, turning-on}}
+use Rattle.bforest_core.proofs.{walks.OnLevel.{code-low-here, first-said, index-asked}, walks.Codes.{is-below, root-first}}
 use Rattle.bforest_core.proofs.spot.turn_back.Goals as goal
 
 pub loop-left-init : goal.loop-left-init

@@ -1,5 +1,4 @@
-use Rattle.bforest_core.specs.Spots.{Followed, HasPrevChild, IsBefore, IsFirstPlace}
-use Rattle.bforest_core.proofs.walks.Following.{Turning}
+use Rattle.bforest_core.proofs.{Words.{Followed, HasPrevChild, IsBefore, IsFirstPlace}, walks.Following.Turning}
 use Rattle.bforest_core.proofs.spot.turn_back.Given as goal
 
 abbrev pub invariant-loop-left : goal.invariant-loop-left

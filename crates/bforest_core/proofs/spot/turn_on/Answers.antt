@@ -1,6 +1,6 @@
-use Rattle.std.proofs.Common.{rules, arith, refl, sym, ap, ◌∙◌}
-use Rattle.bforest_core.proofs.{Words.entry_count, table.Stored.some_same, walks.Codes.{is-below, root-last}, walks.Following.{begun, turn-high, turn-way}}
-use Rattle.bforest_core.proofs.{walks.Following.{turned, turning-ends, turning-none, turning-on}, walks.OnLevel.{code-low-here, index-asked, last-said}}
+use Rattle.bforest_core.proofs.{Words.{rules, arith, refl, sym, ap, ◌∙◌, entry_count}, walks.OnLevel.{code-low-here, index-asked, last-said}}
+use Rattle.bforest_core.proofs.{walks.Following.{begun, turn-high, turn-way, turned, turning-ends, turning-none, turning-on}, walks.Codes.{is-below, root-last}}
+use Rattle.bforest_core.proofs.table.Stored.{some_same}
 use Rattle.bforest_core.proofs.spot.turn_on.Goals as goal
 
 pub loop-left-init : goal.loop-left-init
@@ -31,11 +31,11 @@ loop-left-preserved g c =
       turned i.0 c.loop-left-test.true b c.child-node.ensures,
       turning-on i.0 c.loop-left-test.true (c.lower_next-next.ensures.lower c.args.root i.0.leads) i.1
           (λ content slot_is none end. last-said (omega arith) i.0.leads (λ other found. ap entry_count (some_same content other (sym slot_is ∙ found)))
-          (omega (arith, none)) refl refl end) b,
+          (omega arith) refl refl end) b,
     )
 
-pub returns-clause-some : goal.returns-clause-some
-returns-clause-some g c = (turning-ends c.loop-left.invariant.0 c.loop-left.invariant.1 c.loop-left-test.false).0
-
-pub returns-clause-none : goal.returns-clause-none
-returns-clause-none g c = (turning-ends c.loop-left.invariant.0 c.loop-left.invariant.1 c.loop-left-test.false).1
+pub returns : goal.returns
+returns g c = record {
+  some = (turning-ends c.loop-left.invariant.0 c.loop-left.invariant.1 c.loop-left-test.false).0;
+  none = (turning-ends c.loop-left.invariant.0 c.loop-left.invariant.1 c.loop-left-test.false).1;
+}

@@ -1,5 +1,4 @@
-use Rattle.bforest_core.specs.Spots.{Followed, HasNextChild, IsBehind, IsLastPlace}
-use Rattle.bforest_core.proofs.walks.Following.{Turning}
+use Rattle.bforest_core.proofs.{Words.{Followed, HasNextChild, IsBehind, IsLastPlace}, walks.Following.Turning}
 use Rattle.bforest_core.proofs.spot.turn_on.Given as goal
 
 abbrev pub invariant-loop-left : goal.invariant-loop-left

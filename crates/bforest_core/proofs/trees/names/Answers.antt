@@ -1,5 +1,4 @@
-use Rattle.std.proofs.Common.{ℕ, ◌<◌, List, sym, ap, subst, ◌∙◌}
-use Rattle.bforest_core.proofs.{Words.{children_of, count}, rows.Counts.found-counts}
+use Rattle.bforest_core.proofs.{Words.{ℕ, ◌<◌, List, sym, ap, subst, ◌∙◌, children_of, count}, rows.Counts.found-counts}
 use Rattle.bforest_core.proofs.trees.names.Goals as goal
 
 pub returns-then-is_inner : goal.returns-then-is_inner

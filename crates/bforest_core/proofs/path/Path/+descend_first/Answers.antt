@@ -1,5 +1,4 @@
-use Rattle.std.proofs.Common.{rules, arith}
-use Rattle.bforest_core.proofs.walks.Leading.{first-turns, led-asks, led-ends, led-goes, led-on}
+use Rattle.bforest_core.proofs.{Words.{rules, arith}, walks.Leading.{first-turns, led-asks, led-ends, led-goes, led-on}}
 use Rattle.bforest_core.proofs.path.Path.+descend_first.Goals as goal
 
 pub returns-then-level-eq0-clause-led : goal.returns-then-level-eq0-clause-led

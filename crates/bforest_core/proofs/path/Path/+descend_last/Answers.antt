@@ -1,5 +1,4 @@
-use Rattle.std.proofs.Common.{rules, arith}
-use Rattle.bforest_core.proofs.{walks.Leading.{last-turns, led-asks, led-ends, led-goes, led-on}, walks.TopNode.node_held}
+use Rattle.bforest_core.proofs.{Words.{rules, arith}, walks.Leading.{last-turns, led-asks, led-ends, led-goes, led-on}, walks.TopNode.node_held}
 use Rattle.bforest_core.proofs.path.Path.+descend_last.Goals as goal
 
 pub last_index-last-requires : goal.last_index-last-requires

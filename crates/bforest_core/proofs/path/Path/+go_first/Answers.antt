@@ -1,6 +1,4 @@
-use Rattle.std.proofs.Common.{rules, subst, arith}
-use Rattle.bforest_core.specs.Steps.{Advances}
-use Rattle.bforest_core.proofs.{walks.Turning.{down-asks, down-turned}, walks.Turns.went}
+use Rattle.bforest_core.proofs.{Words.{Advances, rules, subst, arith}, walks.Turning.{down-asks, down-turned}, walks.Turns.went}
 use Rattle.bforest_core.proofs.path.Path.+go_first.Goals as goal
 
 pub returns-then-from-level-clause-moved : goal.returns-then-from-level-clause-moved

@@ -1,6 +1,4 @@
-use Rattle.std.proofs.Common.{rules, subst, arith}
-use Rattle.bforest_core.specs.Steps.{Retreats}
-use Rattle.bforest_core.proofs.{walks.Turning.{back-turned, last-goes, last-held}, walks.Turns.went}
+use Rattle.bforest_core.proofs.{Words.{Retreats, rules, subst, arith}, walks.Turning.{back-turned, last-goes, last-held}, walks.Turns.went}
 use Rattle.bforest_core.proofs.path.Path.+go_last.Goals as goal
 
 pub returns-then-from-level-clause-moved : goal.returns-then-from-level-clause-moved

@@ -1,4 +1,4 @@
-use Rattle.std.proofs.Common.{◌-◌}
+use Rattle.bforest_core.proofs.Words.{◌-◌}
 use Rattle.bforest_core.proofs.path.Path.+insert_above.Given as goal
 
 abbrev pub decreases-insert_above : goal.decreases-insert_above

@@ -1,4 +1,4 @@
-use Rattle.std.proofs.Common.{◌-◌}
+use Rattle.bforest_core.proofs.Words.{◌-◌}
 use Rattle.bforest_core.proofs.path.Path.+merge_above.Given as goal
 
 abbrev pub decreases-merge_above : goal.decreases-merge_above

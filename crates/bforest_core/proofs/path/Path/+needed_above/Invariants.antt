@@ -1,4 +1,4 @@
-use Rattle.std.proofs.Common.{◌-◌}
+use Rattle.bforest_core.proofs.Words.{◌-◌}
 use Rattle.bforest_core.proofs.path.Path.+needed_above.Given as goal
 
 abbrev pub decreases-needed_above : goal.decreases-needed_above

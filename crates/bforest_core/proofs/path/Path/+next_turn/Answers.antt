@@ -1,5 +1,4 @@
-use Rattle.std.proofs.Common.{rules, ◌+◌, refl, arith, add-one}
-use Rattle.bforest_core.proofs.walks.Turning.{both, here-last, turn-above, turn-asks}
+use Rattle.bforest_core.proofs.{Words.{rules, ◌+◌, refl, arith, add-one}, walks.Turning.{both, here-last, turn-above, turn-asks}}
 use Rattle.bforest_core.proofs.path.Path.+next_turn.Goals as goal
 
 pub has_child-requires : goal.has_child-requires

@@ -1,4 +1,4 @@
-use Rattle.std.proofs.Common.{◌-◌}
+use Rattle.bforest_core.proofs.Words.{◌-◌}
 use Rattle.bforest_core.proofs.path.Path.+remove_emptied.Given as goal
 
 abbrev pub decreases-remove_emptied : goal.decreases-remove_emptied

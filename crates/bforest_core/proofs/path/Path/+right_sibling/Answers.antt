@@ -1,16 +1,12 @@
-use Rattle.std.proofs.Common.{rules, arith}
+use Rattle.bforest_core.proofs.Words.{rules, arith}
 use Rattle.bforest_core.proofs.removal.Neighbours.{here, above_asks, above_fewer, first_asks, item_asks, same_parent, none_right, next_parent}
 use Rattle.bforest_core.proofs.path.Path.+right_sibling.Goals as goal
 
 pub overflow_add-index : goal.overflow_add-index
-overflow_add-index g t c =
-    let w = c.requires.pending in
-    omega (arith, (here w c.if-up-self.false c.index-self-up.result (omega arith) c.requires.height).small)
+overflow_add-index g t c = omega (arith, (here c.requires.pending c.if-up-self.false c.index-self-up.result (omega arith) c.requires.height).small)
 
 pub entries-requires : goal.entries-requires
-entries-requires g t c =
-    let w = c.requires.pending in
-    (search rules, (here w c.if-up-self.false c.index-self-up.result (omega arith) c.requires.height).node_asks)
+entries-requires g t c = (search rules, (here c.requires.pending c.if-up-self.false c.index-self-up.result (omega arith) c.requires.height).node_asks)
 
 pub separator-requires : goal.separator-requires
 separator-requires g t c =
@@ -19,8 +15,7 @@ separator-requires g t c =
 
 pub child-requires : goal.child-requires
 child-requires g t c =
-    let w = c.requires.pending in
-    (search rules, item_asks w c.if-up-self.false c.index-self-up.result (omega arith) c.requires.height c.entries.result c.entries.ensures.value c.if-index-entries.true)
+    (search rules, item_asks c.requires.pending c.if-up-self.false _ (omega arith) c.requires.height _ c.entries.ensures.value c.if-index-entries.true)
 
 pub right_sibling-requires : goal.right_sibling-requires
 right_sibling-requires g t c κs within =
@@ -40,23 +35,23 @@ returns-then-index-entries g t c = λ w.
 
 pub returns-in-None : goal.returns-in-None
 returns-in-None g t c = λ w.
-    none_right w c.if-up-self.false c.index-self-up.result (omega arith) c.requires.height c.entries.result c.entries.ensures.value c.if-index-entries.false _ c.in-None.is c.right_sibling.ensures
+    none_right w c.if-up-self.false _ (omega arith) c.requires.height _ c.entries.ensures.value c.if-index-entries.false _ c.in-None.is c.right_sibling.ensures
 
 pub returns-in-Some : goal.returns-in-Some
 returns-in-Some g t c = λ w.
     next_parent w c.if-up-self.false c.index-self-up.result (omega arith) c.requires.height c.entries.result c.entries.ensures.value c.if-index-entries.false _ c.in-Some.next c.in-Some.is c.right_sibling.ensures c.child-in-Some.result c.child-in-Some.ensures
 
 pub bounds-self-up : goal.bounds-self-up
-bounds-self-up g t c = omega (arith, c.requires.pending.above.height, c.requires.height, c.if-up-self.false)
+bounds-self-up g t c = omega arith
 
 pub bounds-self-up-2 : goal.bounds-self-up-2
-bounds-self-up-2 g t c = omega (arith, c.requires.pending.above.height, c.requires.height, c.if-up-self.false)
+bounds-self-up-2 g t c = omega arith
 
 pub listed : goal.listed
-listed g t c = omega (arith, c.requires.pending.above.height, c.requires.height, c.if-up-self.false)
+listed g t c = omega arith
 
 pub offset_bounds-self-up : goal.offset_bounds-self-up
-offset_bounds-self-up g t c = omega (arith, c.requires.pending.above.height, c.requires.height, c.if-up-self.false)
+offset_bounds-self-up g t c = omega arith
 
 pub overflow_add-up : goal.overflow_add-up
-overflow_add-up g t c = omega (arith, c.requires.pending.above.height, c.requires.height, c.if-up-self.false)
+overflow_add-up g t c = omega arith

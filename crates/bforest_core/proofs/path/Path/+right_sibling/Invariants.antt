@@ -1,4 +1,4 @@
-use Rattle.std.proofs.Common.{◌-◌}
+use Rattle.bforest_core.proofs.Words.{◌-◌}
 use Rattle.bforest_core.proofs.path.Path.+right_sibling.Given as goal
 
 abbrev pub decreases-right_sibling : goal.decreases-right_sibling

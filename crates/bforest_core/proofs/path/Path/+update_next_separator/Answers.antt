@@ -1,5 +1,4 @@
-use Rattle.std.proofs.Common.{rules, arith}
-use Rattle.bforest_core.proofs.{removal.Asked.two_low, removal.Separating.{here, above_fewer, same_parent, above_asks, next_parent}}
+use Rattle.bforest_core.proofs.{Words.{rules, arith}, removal.Asked.two_low, removal.Separating.{here, above_fewer, same_parent, above_asks, next_parent}}
 use Rattle.bforest_core.proofs.path.Path.+update_next_separator.Goals as goal
 
 pub overflow_add-index : goal.overflow_add-index

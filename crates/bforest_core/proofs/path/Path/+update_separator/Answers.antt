@@ -1,6 +1,5 @@
-use Rattle.std.proofs.Common.{rules, ◌+◌, ◌-◌, ◌<◌, ◌∷◌, ◌++◌, get_or, drop, arith, add-one}
-use Rattle.bforest_core.proofs.{Words.{heads, entry_keys, entry_items}, rows.Zipper.spot, removal.Asked.seen, removal.Neighbours.up_above}
-use Rattle.bforest_core.proofs.removal.Separating.{rekey_top, rekey_parent, rekey_first}
+use Rattle.bforest_core.proofs.{Words.{rules, ◌+◌, ◌-◌, ◌<◌, ◌∷◌, ◌++◌, get_or, drop, arith, add-one, heads, entry_keys, entry_items}, removal.Asked.seen}
+use Rattle.bforest_core.proofs.{removal.Neighbours.up_above, rows.Zipper.spot, removal.Separating.{rekey_top, rekey_parent, rekey_first}}
 use Rattle.bforest_core.proofs.path.Path.+update_separator.Goals as goal
 
 pub set_separator-requires : goal.set_separator-requires

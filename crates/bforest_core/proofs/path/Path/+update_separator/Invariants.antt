@@ -1,4 +1,4 @@
-use Rattle.std.proofs.Common.{◌-◌}
+use Rattle.bforest_core.proofs.Words.{◌-◌}
 use Rattle.bforest_core.proofs.path.Path.+update_separator.Given as goal
 
 abbrev pub decreases-update_separator : goal.decreases-update_separator

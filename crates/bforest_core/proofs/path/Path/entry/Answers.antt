@@ -1,19 +1,16 @@
-use Rattle.std.proofs.Common.{rules, refl, sym, arith}
-use Rattle.bforest_core.proofs.{Words.{slice_get_past, list_under, tree_of}, walks.Backward.at_end, walks.Nearby.{here-entry, here-leaf, some-on}}
-use Rattle.bforest_core.specs.Paths.{Standing}
+use Rattle.bforest_core.proofs.{Words.{Standing, rules, refl, sym, arith, slice_get_past, list_under}, walks.Nearby.{here-entry, here-leaf, some-on}}
+use Rattle.bforest_core.proofs.walks.Backward.{at_end}
 use Rattle.bforest_core.proofs.path.Path.entry.Goals as goal
 
 pub entry_here-requires : goal.entry_here-requires
-entry_here-requires g c =
-    let at = c.requires.stands (λ e. omega (arith, e, c.if-self-gt0.true)) in
-    (search rules, (search rules, here-leaf at.root c.args.self.now at.place c.requires.union at.on))
+entry_here-requires g c = (search rules, (search rules, here-leaf _ _ _ c.requires.union (c.requires.stands (λ e. omega (arith, e, c.if-self-gt0.true))).on))
 
 pub returns-else-self-gt0 : goal.returns-else-self-gt0
 returns-else-self-gt0 g c =
-    let past = λ (at : Standing c.args.pool.now c.args.self.now). at_end c.args.self.now.node c.args.self.now.entry (tree_of c.args.pool.now.nodes at.root) at.place c.args.self.now.size (omega (arith, c.if-self-gt0.false)) at.at.at in
+    let past = λ (at : Standing c.args.pool.now c.args.self.now). at_end _ _ _ _ _ (omega arith) at.at.at in
     record { value = λ at. sym (slice_get_past (list_under c.args.pool.now at.root) at.place (omega (arith, past at))); end = λ none. refl }
 
 pub returns-then-self-gt0 : goal.returns-then-self-gt0
 returns-then-self-gt0 g c =
     let on = λ (at : Standing c.args.pool.now c.args.self.now). some-on c.args.pool.now at.root c.args.self.now at.place at.at c.if-self-gt0.true in
-    record { value = λ at. sym (here-entry at.root c.args.self.now at.place c.requires.union (on at) c.entry_here.ensures); end = λ none. absurd (omega (arith, none, c.if-self-gt0.true)) }
+    record { value = λ at. sym (here-entry at.root c.args.self.now at.place c.requires.union (on at) c.entry_here.ensures); end = λ none. absurd (omega arith) }

@@ -1,6 +1,5 @@
-use Rattle.std.proofs.Common.{rules, subst, refl, get_or, slice_get, sym, ap, ◌∙◌, arith}
-use Rattle.bforest_core.proofs.{Words.{slice_get_within, IsLeaf, entry_count, vals_of, leaf_content}, walks.Entered.{key_total, leaf_is, pair_read}}
-use Rattle.bforest_core.proofs.walks.Steps.{at_index}
+use Rattle.bforest_core.proofs.Words.{rules, subst, refl, get_or, slice_get, sym, ap, ◌∙◌, arith, slice_get_within, IsLeaf, entry_count, vals_of, leaf_content}
+use Rattle.bforest_core.proofs.{walks.Entered.{key_total, leaf_is, pair_read}, walks.Steps.at_index}
 use Rattle.bforest_nodes.specs.Content.{keys_of}
 use Rattle.bforest_core.proofs.path.Path.entry_here.Goals as goal
 

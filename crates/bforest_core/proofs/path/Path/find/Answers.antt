@@ -1,4 +1,4 @@
-use Rattle.std.proofs.Common.{rules, ap, set, sym, ◌∙◌}
+use Rattle.bforest_core.proofs.Words.{rules, ap, set, sym, ◌∙◌}
 use Rattle.bforest_core.proofs.path.Path.find.Goals as goal
 
 pub look_up-index-requires : goal.look_up-index-requires

@@ -1,7 +1,6 @@
-use Rattle.std.proofs.Common.{rules, sym, ◌∙◌, arith}
-use Rattle.bforest_core.specs.Paths.{list_under}
 use Rattle.bforest_core.proofs.walks.Nearby.{before-equal, before-greater, before-none, behind-low, here-equal, here-greater, here-leaf, no-value, none-left}
-use Rattle.bforest_core.proofs.{walks.Nearby.some-on, path.Path.find_here.Goals.{then-self-gt0+in-Less, else-self-gt0}}
+use Rattle.bforest_core.proofs.{Words.{list_under, rules, sym, ◌∙◌, arith}, path.Path.find_here.Goals.{then-self-gt0+in-Less, else-self-gt0}}
+use Rattle.bforest_core.proofs.walks.Nearby.{some-on}
 use Rattle.bforest_core.proofs.path.Path.find_here.Goals as goal
 
 pub entry_here-here-requires : goal.entry_here-here-requires
@@ -17,11 +16,7 @@ returns-in-Equal g c =
     record { value = e.value; present = e.present; absent = e.absent }
 
 pub returns-in-Greater : goal.returns-in-Greater
-returns-in-Greater g c = record {
-  value = search rules;
-  present = search rules;
-  absent = search rules;
-}
+returns-in-Greater g c = record { value = search rules; present = search rules; absent = search rules }
 
 pub returns-in_default : goal.returns-in_default
 returns-in_default g c =
@@ -32,19 +27,17 @@ returns-in_default g c =
       | then-self-gt0+in-Less w ↦ here-greater c.args.root c.args.self.now at.place c.requires.union
           (some-on c.args.pool.now c.args.root c.args.self.now at.place at.at w.if-self-gt0.true)
           w.entry_here-here.ensures o c.args.key (sym w.cmp.ensures ∙ w.in-Less.is)
-      | else-self-gt0 w ↦ none-left c.args.pool.now c.args.root c.args.self.now at.place at.at order c.args.key (omega (arith, w.if-self-gt0.false))
+      | else-self-gt0 w ↦ none-left c.args.pool.now c.args.root c.args.self.now at.place at.at order c.args.key (omega arith)
     ]) c.in_default.is in
     record { value = e.value; present = e.present; absent = e.absent }
 
 pub set_entry-requires : goal.set_entry-requires
-set_entry-requires g c =
-    (search rules, behind-low c.args.pool.now c.args.root c.prev.new.self c.requires.union _ (c.prev.ensures.stands c.requires.stands))
+set_entry-requires g c = (search rules, behind-low _ _ _ c.requires.union _ (c.prev.ensures.stands c.requires.stands))
 
 pub returns-in-Equal-cmp : goal.returns-in-Equal-cmp
 returns-in-Equal-cmp g c =
     let at = c.requires.stands in
-    let e = before-equal
-    (g.met.C.Comparator.total c.args.comp.now) c.args.pool.now c.args.root c.args.key c.requires.increasing c.prev.new.self
+    let e = before-equal (g.met.C.Comparator.total c.args.comp.now) c.args.pool.now c.args.root c.args.key c.requires.increasing c.prev.new.self
     at.place (c.prev.ensures.value at) (c.prev.ensures.stands at) c.in-Some.is
     (sym c.cmp-2.ensures ∙ c.in-Equal-cmp.is) in
     record { value = e.value; present = e.present; absent = e.absent }
@@ -61,6 +54,6 @@ returns-in-Greater-cmp g c =
       | then-self-gt0+in-Less w ↦ here-greater c.args.root c.args.self.now at.place c.requires.union
           (some-on c.args.pool.now c.args.root c.args.self.now at.place at.at w.if-self-gt0.true)
           w.entry_here-here.ensures o c.args.key (sym w.cmp.ensures ∙ w.in-Less.is)
-      | else-self-gt0 w ↦ none-left c.args.pool.now c.args.root c.args.self.now at.place at.at order c.args.key (omega (arith, w.if-self-gt0.false))
+      | else-self-gt0 w ↦ none-left c.args.pool.now c.args.root c.args.self.now at.place at.at order c.args.key (omega arith)
     ]) (sym c.cmp-2.ensures ∙ c.in-Greater-cmp.is) in
     record { value = e.value; present = λ here. absurd (no-value order c.args.key (list_under c.args.pool.now c.args.root) e.value here); absent = e.absent }

@@ -1,5 +1,4 @@
-use Rattle.std.proofs.Common.{rules, [], arith}
-use Rattle.bforest_core.proofs.{Words.tree_of, walks.Whole.{all_through, ends-in}, walks.Standing.{path-levels, root-level, under-root}}
+use Rattle.bforest_core.proofs.{Words.{rules, [], arith, tree_of}, walks.Whole.{all_through, ends-in}, walks.Standing.{path-levels, root-level, under-root}}
 use Rattle.bforest_core.proofs.path.Path.find_leaf.Goals as goal
 
 pub overflow_sub-levels : goal.overflow_sub-levels

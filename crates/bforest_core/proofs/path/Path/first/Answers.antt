@@ -1,6 +1,4 @@
-use Rattle.std.proofs.Common.{rules, subst, arith}
-use Rattle.bforest_core.specs.Paths.{StandsOn}
-use Rattle.bforest_core.proofs.walks.Nearby.{here-entry}
+use Rattle.bforest_core.proofs.{Words.{StandsOn, rules, subst, arith}, walks.Nearby.here-entry}
 use Rattle.bforest_core.proofs.path.Path.first.Goals as goal
 
 pub entry_here-requires : goal.entry_here-requires

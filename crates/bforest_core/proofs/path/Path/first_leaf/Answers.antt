@@ -1,29 +1,26 @@
-use Rattle.std.proofs.Common.{rules, [], refl, sym, ◌∙◌, arith}
-use Rattle.bforest_core.proofs.{Words.{false≢true, get_or_default, tree_of}, walks.TopNode.node_within, walks.Leaves.{leaf-front, root-leaf}}
-use Rattle.bforest_core.proofs.walks.Standing.{led-root, root-below, under-root}
+use Rattle.bforest_core.proofs.{Words.{rules, [], refl, sym, ◌∙◌, arith, false≢true, get_or_default}, walks.Standing.{led-root, root-below, under-root}}
+use Rattle.bforest_core.proofs.{walks.TopNode.node_within, walks.Leaves.{leaf-front, root-leaf}}
 use Rattle.bforest_core.proofs.path.Path.first_leaf.Goals as goal
 
 pub node-requires : goal.node-requires
 node-requires g c =
-    let tree = tree_of c.args.pool.now.nodes c.args.root in
     let u = under-root c.args.root c.requires.union c.requires.root in
     (search rules, (search rules, node_within c.requires.union.1.capacity [] u.first c.args.root [] u.under))
 
 pub returns-then-not-is_inner : goal.returns-then-not-is_inner
 returns-then-not-is_inner g c =
-    let on = c.set_root_node.ensures.stands c.args.pool.now c.requires.union c.requires.root (root-leaf c.requires.union c.args.root _ c.requires.root c.node.ensures.value (λ inner. false≢true (sym c.if-not-is_inner.true ∙ c.is_inner.ensures.inner.1 inner))) in
-    record { leaf = sym c.set_root_node.ensures.leaf; index = omega (arith, on.stands.leaf.place_is); stands = leaf-front c.requires.union 0 c.set_root_node.new.self on (omega (arith, on.stands.leaf.place_is)) }
+    let on = c.set_root_node.ensures.stands c.args.pool.now c.requires.union c.requires.root (root-leaf c.requires.union _ _ c.requires.root c.node.ensures.value (λ inner. false≢true (sym c.if-not-is_inner.true ∙ c.is_inner.ensures.inner.1 inner))) in
+    record { leaf = sym c.set_root_node.ensures.leaf; index = omega arith; stands = leaf-front c.requires.union 0 _ on (omega arith) }
 
 pub overflow_sub-levels : goal.overflow_sub-levels
-overflow_sub-levels g c = omega (arith, c.levels-levels.ensures.value)
+overflow_sub-levels g c = omega arith
 
 pub descend_first-requires : goal.descend_first-requires
 descend_first-requires g c =
-    let u = under-root c.args.root c.requires.union c.requires.root in
-    let w = root-below c.args.root c.requires.union c.requires.root c.levels-levels.ensures.value refl in
-    (search rules, (search rules, (c.requires.union.1.capacity, (omega (arith, w.7, u.low), w))))
+    let w = root-below _ c.requires.union c.requires.root c.levels-levels.ensures.value refl in
+    (search rules, (search rules, (c.requires.union.1.capacity, (omega (arith, w.7, (under-root _ c.requires.union c.requires.root).low), w))))
 
 pub returns : goal.returns
 returns g c =
-    let on = led-root c.args.root c.requires.union c.requires.root c.levels-levels.ensures.value refl (λ leaves. 0) c.descend_first.ensures.size c.descend_first.ensures.led in
-    record { leaf = get_or_default c.descend_first.new.self.node 0 _ 0 (omega arith); index = omega (arith, on.stands.leaf.place_is); stands = leaf-front c.requires.union 0 _ on (omega (arith, on.stands.leaf.place_is)) }
+    let on = led-root _ c.requires.union c.requires.root c.levels-levels.ensures.value refl (λ leaves. 0) c.descend_first.ensures.size c.descend_first.ensures.led in
+    record { leaf = get_or_default c.descend_first.new.self.node 0 _ 0 (omega arith); index = omega arith; stands = leaf-front c.requires.union 0 _ on (omega arith) }

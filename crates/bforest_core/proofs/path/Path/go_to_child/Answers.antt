@@ -1,5 +1,5 @@
-use Rattle.std.proofs.Common.{rules, ◌+◌, ◌<◌, drop, get_or, Some, sym, subst, ap, ◌∙◌, arith, add-one, set}
-use Rattle.bforest_core.proofs.{Words.{get_or-set_same, get_or-set_other, entry_items, entry_keys}, table.Stored.item_count, walks.Steps.at_index}
+use Rattle.bforest_core.proofs.Words.{rules, ◌+◌, ◌<◌, drop, get_or, Some, sym, subst, ap, ◌∙◌, arith, add-one, set, get_or-set_same, get_or-set_other}
+use Rattle.bforest_core.proofs.{Words.{entry_items, entry_keys}, table.Stored.item_count, walks.Steps.at_index}
 use Rattle.bforest_core.proofs.path.Path.go_to_child.Goals as goal
 
 pub child-child-requires : goal.child-child-requires

@@ -1,11 +1,9 @@
-use Rattle.std.proofs.Common.{rules, arith}
-use Rattle.bforest_core.proofs.insertion.HalvingLeaf.{full_asks, early_asks, early_halves, late_within, late_asks, late_halves}
+use Rattle.bforest_core.proofs.{Words.{rules, arith}, insertion.HalvingLeaf.{full_asks, early_asks, early_halves, late_within, late_asks, late_halves}}
 use Rattle.bforest_core.proofs.path.Path.halve_leaf.Goals as goal
 
 pub split_node-right-requires : goal.split_node-right-requires
 split_node-right-requires g c =
-    let w = c.requires.placed in
-    (search rules, full_asks w.2 c.index-self-0.result (omega arith) c.args.pool.now c.requires.full c.requires.room)
+    (search rules, full_asks c.requires.placed.2 c.index-self-0.result (omega arith) c.args.pool.now c.requires.full c.requires.room)
 
 pub put_entry-room-requires : goal.put_entry-room-requires
 put_entry-room-requires g c =
@@ -19,9 +17,8 @@ put_entry-room-requires g c =
 
 pub overflow_sub-behind : goal.overflow_sub-behind
 overflow_sub-behind g c =
-    let w = c.requires.placed in
-    late_within w.2 c.index-self-0.result
-    (omega arith) c.split_node-right.new.self c.requires.full c.split_node-right.ensures.capacity
+    late_within c.requires.placed.2 _
+    (omega arith) _ c.requires.full c.split_node-right.ensures.capacity
     c.split_node-right.ensures.node c.split_node-right.ensures.used c.split_node-right.ensures.split
     c.if-index.false
 

@@ -1,5 +1,4 @@
-use Rattle.std.proofs.Common.{rules, refl, ◌∙◌, arith}
-use Rattle.bforest_core.proofs.{Words.{lt-ltb, ltb-true, leaf_content}, walks.Entered.key_total, walks.Steps.at_index}
+use Rattle.bforest_core.proofs.{Words.{rules, refl, ◌∙◌, arith, lt-ltb, ltb-true, leaf_content}, walks.Entered.key_total, walks.Steps.at_index}
 use Rattle.bforest_core.proofs.path.Path.has_entry.Goals as goal
 
 pub entries-requires : goal.entries-requires

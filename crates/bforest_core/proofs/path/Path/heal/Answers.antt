@@ -1,12 +1,9 @@
-use Rattle.std.proofs.Common.{rules, arith}
-use Rattle.bforest_core.proofs.{Words.{get_or_default, tree_of}, removal.Healing.{counted_asks, kept, leaf_used, others, root_was, settled, single, stood_in}}
-use Rattle.bforest_core.proofs.{removal.Healing.unbalanced, removal.Removal.outcome}
+use Rattle.bforest_core.proofs.{Words.{rules, arith, get_or_default, tree_of}, removal.Removal.outcome}
+use Rattle.bforest_core.proofs.removal.Healing.{counted_asks, kept, leaf_used, others, root_was, settled, single, stood_in, unbalanced}
 use Rattle.bforest_core.proofs.path.Path.heal.Goals as goal
 
 pub entries-left-requires : goal.entries-left-requires
-entries-left-requires g c =
-    let w = c.requires.taken in
-    (search rules, counted_asks w.2 _ (get_or_default c.args.self.now.node 0 c.index-self-0.result 0 (omega arith)))
+entries-left-requires g c = (search rules, counted_asks c.requires.taken.2 _ (get_or_default c.args.self.now.node 0 c.index-self-0.result 0 (omega arith)))
 
 pub remove_leaf-requires : goal.remove_leaf-requires
 remove_leaf-requires g c =
@@ -38,11 +35,11 @@ pub rebalance_leaf-requires : goal.rebalance_leaf-requires
 rebalance_leaf-requires g c =
     let w = c.requires.taken in
     let num = get_or_default c.args.self.now.node 0 c.index-self-0.result 0 (omega arith) in
-    (search rules, (search rules, (w.2.union.1.capacity, unbalanced w.2 _ num c.entries-left.result c.entries-left.ensures.value c.if-left-eq0.false c.renew_first.new.pool c.renew_first.ensures c.if-left.false)))
+    (search rules, (search rules, (w.2.union.1.capacity, unbalanced w.2 _ num _ c.entries-left.ensures.value c.if-left-eq0.false _ c.renew_first.ensures c.if-left.false)))
 
 pub returns : goal.returns
 returns g c = record {
   healed = λ old place e.
       let num = get_or_default c.args.self.now.node 0 c.index-self-0.result 0 (omega arith) in
-      settled e (c.rebalance_leaf.ensures (unbalanced e _ num c.entries-left.result c.entries-left.ensures.value c.if-left-eq0.false c.renew_first.new.pool c.renew_first.ensures c.if-left.false));
+      settled e (c.rebalance_leaf.ensures (unbalanced e _ num _ c.entries-left.ensures.value c.if-left-eq0.false _ c.renew_first.ensures c.if-left.false));
 }

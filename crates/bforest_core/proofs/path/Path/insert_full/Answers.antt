@@ -1,8 +1,6 @@
-use Rattle.std.proofs.Common.{rules, ◌≡◌, ℕ, ◌++◌, length, get_or, refl, ap, ◌∙◌, arith}
-use Rattle.bforest_core.proofs.{Words.{sizes_of, need, leaf_content, PlacedUnder, tree_of, reserved}, table.Allocating.{err_iff, err_is, reserved-free}}
-use Rattle.bforest_core.proofs.{insertion.LeafSpot.leaf_spot, insertion.Insertion.{placed-under, under-low, growth-low, placed-mid, full-reserved, Put}}
-use Rattle.bforest_core.proofs.{insertion.Insertion.put-split, path.Path.insert_full.Given.Over}
-use Rattle.bforest_core.specs.Paths.{Placing}
+use Rattle.bforest_core.proofs.Words.{Placing, rules, ◌≡◌, ℕ, ◌++◌, length, get_or, refl, ap, ◌∙◌, arith, sizes_of, need, leaf_content, PlacedUnder, tree_of}
+use Rattle.bforest_core.proofs.{Words.reserved, insertion.Insertion.{placed-under, under-low, growth-low, placed-mid, full-reserved, Put, put-split}}
+use Rattle.bforest_core.proofs.{table.Allocating.{err_iff, err_is, reserved-free}, insertion.LeafSpot.leaf_spot, path.Path.insert_full.Given.Over}
 use Rattle.bforest_core.proofs.path.Path.insert_full.Goals as goal
 
 pub needed_here-requires : goal.needed_here-requires
@@ -14,14 +12,13 @@ pub split_leaf-requires : goal.split_leaf-requires
 split_leaf-requires g c =
     let w = c.requires.placed in
     let t0 = c.args.pool.now in
-    let ms = c.args.self.now.node in
     let union = c.requires.union in
     let tree = tree_of t0.nodes w.root in
     let n = need g.row.N w.place (sizes_of tree) in
     let here = placed-under _ t0 union w.placed in
     let mid_is : c.reserve.new.self ≡ reserved t0 n = c.in_ok-reserve.ensures.ok ∙ ap (λ z. reserved t0 z) (c.needed_here.ensures.value tree w.place here) in
     let d = leaf_spot here in
-    let full = full-reserved g.row.N t0 n (get_or ms 0 0) (leaf_content (d.l ++ d.r)) d.slot_is c.requires.full in
+    let full = full-reserved g.row.N t0 n (get_or c.args.self.now.node 0 0) (leaf_content (d.l ++ d.r)) d.slot_is c.requires.full in
     let placed = placed-mid _ t0 c.reserve.new.self n union w.placed mid_is in
     (search rules, (search rules, ((under-low _ _ union w.placed).1, (rw mid_is full, (tree, w.place, placed, omega (arith, ap (λ z. length z.chain) mid_is, reserved-free t0 n), growth-low _ t0 w.root w.place union w.placed.root_is c.in_ok-reserve.ensures.numbers)))))
 
@@ -29,15 +26,13 @@ split_leaf-requires g c =
 put_at : (g : Over) (c : goal.After-root g) {root place : ℕ} → PlacedUnder c.args.pool.now.nodes root c.args.self.now.node c.args.self.now.entry c.args.self.now.size place →
     Put g.row.N c.args.pool.now c.split_leaf.new.pool root place (c.args.key, c.args.value) c.split_leaf.new.self.node c.split_leaf.new.self.entry c.split_leaf.new.self.size
 put_at g c {root} {place} p =
-    put-split _ c.args.pool.now c.reserve.new.self c.split_leaf.new.pool c.needed_here.result _ _ _ _ c.requires.union p
+    put-split _ _ _ _ _ _ _ _ _ c.requires.union p
     c.in_ok-reserve.ensures.numbers c.needed_here.ensures.value
     (λ short. (let e = c.in_ok-reserve.ensures.full.1 short in absurd cc)) c.in_ok-reserve.ensures.ok c.split_leaf.ensures.inserted
 
 pub root-requires : goal.root-requires
 root-requires g c =
-    let w = c.requires.placed in
-    let put = put-split _ c.args.pool.now c.reserve.new.self c.split_leaf.new.pool c.needed_here.result
-    _ _ _ _ c.requires.union w.placed c.in_ok-reserve.ensures.numbers c.needed_here.ensures.value
+    let put = put-split _ _ _ _ _ _ _ _ _ c.requires.union c.requires.placed.placed c.in_ok-reserve.ensures.numbers c.needed_here.ensures.value
     (λ short. (let e = c.in_ok-reserve.ensures.full.1 short in absurd cc)) c.in_ok-reserve.ensures.ok c.split_leaf.ensures.inserted in
     (search rules, (put.some, put.low))
 
@@ -46,17 +41,17 @@ returns-in_err-reserve g c =
     let t0 = c.args.pool.now in
     let e = err_is _ _ c.from_residual.ensures.1 in
     let said = c.in_err-reserve.ensures in
-    let need_is = λ (at : Placing t0 c.args.self.now). c.needed_here.ensures.value (tree_of t0.nodes at.root) at.place (placed-under g.row.N t0 c.requires.union at.placed) in
+    let need_is = λ (at : Placing t0 c.args.self.now). c.needed_here.ensures.value (tree_of t0.nodes at.root) at.place (placed-under _ _ c.requires.union at.placed) in
     record {
       inserted = λ at. rw e tt;
       account = λ at. rw e tt;
       stands = λ at. rw e tt;
       same_root = λ at. rw e tt;
       full = λ at. (
-        λ is. (rw (need_is at) at (said.full.0 ((err_iff c.from_residual.result c.in_err-reserve.field-0.0 _ e).0 is))),
-        λ short. (err_iff c.from_residual.result c.in_err-reserve.field-0.0 _ e).1 (said.full.1 (rw (need_is at) short)),
+        λ is. (rw (need_is at) at (said.full.0 ((err_iff _ _ _ e).0 is))),
+        λ short. (err_iff _ _ _ e).1 (said.full.1 (rw (need_is at) short)),
       );
-      memory = λ at is. rw (need_is at) at (said.memory ((err_iff c.from_residual.result c.in_err-reserve.field-0.0 _ e).0 is));
+      memory = λ at is. rw (need_is at) at (said.memory ((err_iff _ _ _ e).0 is));
       enough = λ at enough. (let ok = said.enough (rw (need_is at) enough) in absurd cc);
       refused_pool = rw e said.err;
       refused_path = rw e refl;
@@ -68,7 +63,7 @@ returns g c = record {
   account = λ at. (put_at g c at.placed).is.takes;
   stands = λ at. rw c.root.ensures (put_at g c at.placed).is.stands;
   same_root = λ at. rw c.root.ensures (put_at g c at.placed).is.same_root;
-  full = λ at. (λ is. absurd cc, λ short. absurd (omega (arith, short, (put_at g c at.placed).enough)));
+  full = λ at. (λ is. absurd cc, λ short. absurd (omega (arith, (put_at g c at.placed).enough)));
   memory = λ at is. absurd cc;
   enough = λ at enough. refl;
   refused_pool = tt;

@@ -1,5 +1,4 @@
-use Rattle.std.proofs.Common.{rules, arith}
-use Rattle.bforest_core.proofs.removal.PastEnd.{counted_asks, in_leaf, beside_asks, behind_all, one_follows}
+use Rattle.bforest_core.proofs.{Words.{rules, arith}, removal.PastEnd.{counted_asks, in_leaf, beside_asks, behind_all, one_follows}}
 use Rattle.bforest_core.proofs.path.Path.is_past_end.Goals as goal
 
 pub entries-requires : goal.entries-requires

@@ -1,5 +1,5 @@
-use Rattle.std.proofs.Common.{rules, refl, length, ◌-◌, arith}
-use Rattle.bforest_core.proofs.{Words.flat, walks.Nearby.{here-entry, here-leaf}, walks.Standing.{led-root, root-below, under-root}}
+use Rattle.bforest_core.proofs.{Words.{rules, refl, length, ◌-◌, arith, flat}, walks.Standing.{led-root, root-below, under-root}}
+use Rattle.bforest_core.proofs.walks.Nearby.{here-entry, here-leaf}
 use Rattle.bforest_core.proofs.path.Path.last.Goals as goal
 
 pub overflow_sub-height : goal.overflow_sub-height

@@ -1,5 +1,4 @@
-use Rattle.std.proofs.Common.{rules, refl, arith}
-use Rattle.bforest_core.proofs.walks.Steps.{at_index}
+use Rattle.bforest_core.proofs.{Words.{rules, refl, arith}, walks.Steps.at_index}
 use Rattle.bforest_core.proofs.path.Path.leaf_entry.Goals as goal
 
 pub leaf_entry-requires : goal.leaf_entry-requires

@@ -1,5 +1,4 @@
-use Rattle.std.proofs.Common.{refl, arith}
-use Rattle.std.proofs.lemmas.List.{get_or_default}
+use Rattle.bforest_core.proofs.Words.{get_or_default, refl, arith}
 use Rattle.bforest_core.proofs.path.Path.leaf_pos.Goals as goal
 
 pub returns-else-self-eq0-clause-place : goal.returns-else-self-eq0-clause-place

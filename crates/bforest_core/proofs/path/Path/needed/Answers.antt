@@ -1,6 +1,4 @@
-use Rattle.std.proofs.Common.{rules}
-use Rattle.bforest_core.specs.Trees.{tree_of}
-use Rattle.bforest_core.proofs.insertion.Insertion.{placed-under, under-low}
+use Rattle.bforest_core.proofs.{Words.{tree_of, rules}, insertion.Insertion.{placed-under, under-low}}
 use Rattle.bforest_core.proofs.path.Path.needed.Goals as goal
 
 pub needed_here-requires : goal.needed_here-requires

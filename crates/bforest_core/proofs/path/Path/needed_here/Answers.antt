@@ -1,5 +1,4 @@
-use Rattle.std.proofs.Common.{rules, arith}
-use Rattle.bforest_core.proofs.rows.Needs.{leaf_above, leaf_full, leaf_room, leaf_used, leaf_within}
+use Rattle.bforest_core.proofs.{Words.{rules, arith}, rows.Needs.{leaf_above, leaf_full, leaf_room, leaf_used, leaf_within}}
 use Rattle.bforest_core.proofs.path.Path.needed_here.Goals as goal
 
 pub node-requires : goal.node-requires
@@ -20,15 +19,13 @@ needed_above-requires g c =
 pub returns-then-is_full : goal.returns-then-is_full
 returns-then-is_full g c =
     record {
-      value = λ tree place p. leaf_full
-          p (omega arith) c.index-self-0.result c.node.result.now c.node.ensures.value c.is_full.result c.is_full.ensures.full
+      value = λ tree place p. leaf_full p (omega arith) c.index-self-0.result c.node.result.now c.node.ensures.value c.is_full.result c.is_full.ensures.full
           c.if-is_full.true c.needed_above.result c.needed_above.ensures.value;
     }
 
 pub returns-else-is_full : goal.returns-else-is_full
 returns-else-is_full g c =
     record {
-      value = λ tree place p. leaf_room
-          p (omega arith) c.index-self-0.result c.node.result.now c.node.ensures.value c.is_full.result c.is_full.ensures.full
+      value = λ tree place p. leaf_room p (omega arith) c.index-self-0.result c.node.result.now c.node.ensures.value c.is_full.result c.is_full.ensures.full
           c.if-is_full.false;
     }

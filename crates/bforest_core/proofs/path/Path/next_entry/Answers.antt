@@ -1,10 +1,9 @@
-use Rattle.std.proofs.Common.{rules, suc, length, sym, arith}
-use Rattle.bforest_core.proofs.{Words.{slice_get_past, flat, heads}, walks.Entered.{entry_read, leaf_here, next_last, next_over, next_read, next_within}}
-use Rattle.bforest_core.proofs.walks.Entered.{over_leaves}
+use Rattle.bforest_core.proofs.Words.{rules, suc, length, sym, arith, slice_get_past, flat, heads}
+use Rattle.bforest_core.proofs.walks.Entered.{entry_read, leaf_here, next_last, next_over, next_read, next_within, over_leaves}
 use Rattle.bforest_core.proofs.path.Path.next_entry.Goals as goal
 
 pub overflow_add-next : goal.overflow_add-next
-overflow_add-next g c = let s = c.requires.stands.4 in omega (arith, s.leaf.within, (leaf_here c.requires.capacity c.requires.stands.2 c.requires.stands.3 s).node.room, c.requires.capacity.most)
+overflow_add-next g c = let s = c.requires.stands.4 in omega (arith, (leaf_here c.requires.capacity c.requires.stands.2 c.requires.stands.3 s).node.room)
 
 pub leaf_entry-requires : goal.leaf_entry-requires
 leaf_entry-requires g c = (search rules, (search rules, (c.requires.stands.4.leaf.entries, (leaf_here c.requires.capacity c.requires.stands.2 c.requires.stands.3 c.requires.stands.4).node.slot_is)))
@@ -13,7 +12,7 @@ pub returns-in-Some-clause-value : goal.returns-in-Some-clause-value
 returns-in-Some-clause-value g c = λ tree place fit inside s. next_read c.requires.capacity fit inside s c.in-Some.ensures.value
 
 pub returns-in-Some-clause-moved : goal.returns-in-Some-clause-moved
-returns-in-Some-clause-moved g c = λ tree place fit inside s. next_within c.requires.capacity fit inside s c.in-Some.ensures.value c.set_entry.new.self.entry c.set_entry.ensures.nodes c.set_entry.ensures.here c.set_entry.ensures.above
+returns-in-Some-clause-moved g c = λ tree place fit inside s. next_within c.requires.capacity fit inside s c.in-Some.ensures.value _ c.set_entry.ensures.nodes c.set_entry.ensures.here c.set_entry.ensures.above
 
 pub next_node-requires : goal.next_node-requires
 next_node-requires g c =
@@ -32,12 +31,12 @@ returns-then-not-next_node g c = record {
 pub entry_here-requires : goal.entry_here-requires
 entry_here-requires g c =
     let w = c.requires.stands in
-    let s = next_over c.requires.capacity w.2 w.3 w.4 c.in_default.ensures.value c.set_entry-2.new.self.entry (c.next_node.ensures.moved (search rules)) c.set_entry-2.ensures.nodes c.set_entry-2.ensures.here c.set_entry-2.ensures.above in
+    let s = next_over c.requires.capacity w.2 w.3 w.4 c.in_default.ensures.value _ (c.next_node.ensures.moved (search rules)) c.set_entry-2.ensures.nodes c.set_entry-2.ensures.here c.set_entry-2.ensures.above in
     (search rules, (search rules, (s.leaf.entries, (leaf_here c.requires.capacity w.2 w.3 s).node.slot_is, s.leaf.within)))
 
 pub returns-clause-value : goal.returns-clause-value
 returns-clause-value g c = λ tree place fit inside s.
-    let s' = next_over c.requires.capacity fit inside s c.in_default.ensures.value c.set_entry-2.new.self.entry (c.next_node.ensures.moved (search rules)) c.set_entry-2.ensures.nodes c.set_entry-2.ensures.here c.set_entry-2.ensures.above in
+    let s' = next_over c.requires.capacity fit inside s c.in_default.ensures.value _ (c.next_node.ensures.moved (search rules)) c.set_entry-2.ensures.nodes c.set_entry-2.ensures.here c.set_entry-2.ensures.above in
     sym (entry_read c.requires.capacity fit inside s' c.entry_here.ensures)
 
 pub returns-clause-moved : goal.returns-clause-moved

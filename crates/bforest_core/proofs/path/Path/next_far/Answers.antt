@@ -1,5 +1,4 @@
-use Rattle.std.proofs.Common.{rules, ◌+◌, arith}
-use Rattle.bforest_core.proofs.{walks.Turning.{far-last, turn-above, turn-goes, turned}, walks.Turns.went}
+use Rattle.bforest_core.proofs.{Words.{rules, ◌+◌, arith}, walks.Turning.{far-last, turn-above, turn-goes, turned}, walks.Turns.went}
 use Rattle.bforest_core.proofs.path.Path.next_far.Goals as goal
 
 pub next_turn-turn-requires : goal.next_turn-turn-requires
@@ -8,12 +7,12 @@ next_turn-turn-requires g c = (search rules, (search rules, (c.requires.height, 
 pub returns-then-turn-self-clause-last : goal.returns-then-turn-self-clause-last
 returns-then-turn-self-clause-last g c = λ no.
     let said = c.next_turn-turn.ensures in
-    far-last c.args.pool.now.nodes c.args.self.now.node c.args.self.now.entry c.requires.height said.within c.requires.last said.last c.if-turn-self.true
+    far-last _ _ _ c.requires.height said.within c.requires.last said.last c.if-turn-self.true
 
 pub go_to_child-requires : goal.go_to_child-requires
 go_to_child-requires g c =
     let said = c.next_turn-turn.ensures in
-    (search rules, (search rules, turn-goes c.args.pool.now.nodes c.args.self.now.node c.args.self.now.entry c.requires.height said.within c.requires.last said.last c.if-turn-self.false (said.turns c.if-turn-self.false) c.requires.over))
+    (search rules, (search rules, turn-goes _ _ _ c.requires.height said.within c.requires.last said.last c.if-turn-self.false (said.turns c.if-turn-self.false) c.requires.over))
 
 pub go_first-requires : goal.go_first-requires
 go_first-requires g c =
@@ -23,7 +22,7 @@ go_first-requires g c =
       (
         search rules,
         (
-          omega (arith, said.within),
+          omega arith,
           (
             c.args.self.now.node,
             c.args.self.now.entry,

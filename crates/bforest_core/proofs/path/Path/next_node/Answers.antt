@@ -1,5 +1,5 @@
-use Rattle.std.proofs.Common.{rules, refl, sym, ◌∙◌, arith, add-one}
-use Rattle.bforest_core.proofs.{walks.Steps.{never, only}, walks.Turning.here-last, walks.Turns.{has_asks, index_low, next_turn, turn_asks, turn_moves, went}}
+use Rattle.bforest_core.proofs.{Words.{rules, refl, sym, ◌∙◌, arith, add-one}, walks.Turns.{has_asks, index_low, next_turn, turn_asks, turn_moves, went}}
+use Rattle.bforest_core.proofs.{walks.Steps.{never, only}, walks.Turning.here-last}
 use Rattle.bforest_core.proofs.path.Path.next_node.Goals as goal
 
 pub overflow_add-level : goal.overflow_add-level

@@ -1,5 +1,4 @@
-use Rattle.std.proofs.Common.{rules, ◌∙◌, arith}
-use Rattle.bforest_core.proofs.walks.Standing.{pointed-above, pointed-here, pointed-last, pointed-leaf, pointed-next}
+use Rattle.bforest_core.proofs.{Words.{rules, ◌∙◌, arith}, walks.Standing.{pointed-above, pointed-here, pointed-last, pointed-leaf, pointed-next}}
 use Rattle.bforest_core.proofs.path.Path.normalize.Goals as goal
 
 pub has_entry-requires : goal.has_entry-requires

@@ -1,5 +1,4 @@
-use Rattle.std.proofs.Common.{rules, arith}
-use Rattle.bforest_core.proofs.{walks.Turning.{before-goes, far-first, turned-back}, walks.Turns.went}
+use Rattle.bforest_core.proofs.{Words.{rules, arith}, walks.Turning.{before-goes, far-first, turned-back}, walks.Turns.went}
 use Rattle.bforest_core.proofs.path.Path.prev_node.Goals as goal
 
 pub overflow_add-level : goal.overflow_add-level

@@ -1,5 +1,5 @@
-use Rattle.std.proofs.Common.{◌+◌, ◌<◌, [], ◌∷◌, length, set, ap, ◌∙◌, arith}
-use Rattle.bforest_core.proofs.{Words.{get_or-set_same, get_or-set_other, Inner}, table.Tables.{takes, length-with_front}, insertion.Rise.settle_root}
+use Rattle.bforest_core.proofs.{Words.{◌<◌, [], ◌∷◌, length, ap, ◌∙◌, arith, get_or-set_same, get_or-set_other, Inner}, table.Tables.{takes, length-with_front}}
+use Rattle.bforest_core.proofs.insertion.Rise.{settle_root}
 use Rattle.bforest_core.proofs.path.Path.push_root.Goals as goal
 
 pub returns : goal.returns
@@ -10,8 +10,8 @@ returns g c = λ w is.
     let root = c.inner_node-root.result in
     let t = c.args.pool.now in
     let content = Inner (c.args.half.key ∷ []) (c.args.left ∷ c.args.half.node ∷ []) in
-    let low : root < length t.nodes = omega (arith, c.inner_node-root.ensures.used.within, ap (λ z. length z.nodes) c.inner_node-root.ensures.table, length-with_front t t.chain content) in
-    settle_root (set ms size root) (set js size c.index_behind.result) (size + 1) w.x.1 w.rows w.before w.x.0 w.after c.args.half.key c.args.half.node c.args.half.moved w.above
+    let low : root < length t.nodes = omega (arith, ap (λ z. length z.nodes) c.inner_node-root.ensures.table, length-with_front t t.chain content) in
+    settle_root _ _ _ _ _ _ _ _ _ _ _ w.above
     (rw is (takes t c.inner_node-root.new.self root content c.inner_node-root.ensures.node c.inner_node-root.ensures.table low))
     (omega arith)
     (get_or-set_same ms size root 0 (omega arith))

@@ -1,5 +1,4 @@
-use Rattle.std.proofs.Common.{rules, arith}
-use Rattle.bforest_core.proofs.insertion.HalvingLeaf.{put_asks, put_inserts, put_full}
+use Rattle.bforest_core.proofs.{Words.{rules, arith}, insertion.HalvingLeaf.{put_asks, put_inserts, put_full}}
 use Rattle.bforest_core.proofs.path.Path.put_here.Goals as goal
 
 pub put_entry-requires : goal.put_entry-requires
@@ -11,8 +10,7 @@ pub returns : goal.returns
 returns g c =
     let w = c.requires.placed in
     record {
-      inserted = λ done tree place p. put_inserts
-          p c.index-self-0.result (omega arith) c.put_entry.new.pool c.args.key c.args.value c.put_entry.result
+      inserted = λ done tree place p. put_inserts p c.index-self-0.result (omega arith) c.put_entry.new.pool c.args.key c.args.value c.put_entry.result
           c.put_entry.ensures.room c.put_entry.ensures.node done;
       full = λ full. (put_full w.2 c.index-self-0.result (omega arith) c.put_entry.new.pool c.args.key c.args.value c.put_entry.result c.put_entry.ensures.room c.put_entry.ensures.node full).0;
       pool = λ full. (put_full w.2 c.index-self-0.result (omega arith) c.put_entry.new.pool c.args.key c.args.value c.put_entry.result c.put_entry.ensures.room c.put_entry.ensures.node full).1;

@@ -1,26 +1,26 @@
-use Rattle.std.proofs.Common.{rules, arith}
-use Rattle.bforest_core.proofs.removal.Rebalancing.{counted_asks, past_asks, past_heals, stay_heals, beside_asks, last_heals, balance_asks, rekey_asks, rekey_heals, free_asks, free_joins}
+use Rattle.bforest_core.proofs.removal.Rebalancing.{counted_asks, past_asks, past_heals, stay_heals, beside_asks, last_heals, balance_asks, rekey_asks}
+use Rattle.bforest_core.proofs.{Words.{rules, arith}, removal.Rebalancing.{rekey_heals, free_asks, free_joins}}
 use Rattle.bforest_core.proofs.path.Path.rebalance.Goals as goal
 
 pub entries-left-requires : goal.entries-left-requires
 entries-left-requires g c = (search rules, counted_asks c.requires.lost c.index-self-level.result (omega arith) c.requires.height)
 
 pub enter_next-requires : goal.enter_next-requires
-enter_next-requires g c = (search rules, (search rules, (c.requires.height, past_asks c.requires.lost c.index-self-level.result (omega arith) c.requires.height c.entries-left.result c.entries-left.ensures.value c.if-left-least.true c.if-self-level.true)))
+enter_next-requires g c = (search rules, (search rules, (c.requires.height, past_asks c.requires.lost _ (omega arith) c.requires.height _ c.entries-left.ensures.value c.if-left-least.true c.if-self-level.true)))
 
 pub returns-then-self-level-clause-healed : goal.returns-then-self-level-clause-healed
 returns-then-self-level-clause-healed g c = λ same w.
-    past_heals w c.index-self-level.result (omega arith) c.requires.height c.entries-left.result c.entries-left.ensures.value c.if-left-least.true c.if-self-level.true _ _ c.enter_next.ensures.moved c.enter_next.ensures.first
+    past_heals w _ (omega arith) c.requires.height _ c.entries-left.ensures.value c.if-left-least.true c.if-self-level.true _ _ c.enter_next.ensures.moved c.enter_next.ensures.first
     c.enter_next.ensures.nodes_below c.enter_next.ensures.entries_below c.enter_next.ensures.same_top
 
 pub returns-else-self-level-clause-healed : goal.returns-else-self-level-clause-healed
-returns-else-self-level-clause-healed g c = λ same w. stay_heals w c.index-self-level.result (omega arith) c.requires.height c.entries-left.result c.entries-left.ensures.value c.if-left-least.true c.if-self-level.false
+returns-else-self-level-clause-healed g c = λ same w. stay_heals w _ (omega arith) c.requires.height _ c.entries-left.ensures.value c.if-left-least.true c.if-self-level.false
 
 pub right_sibling-requires : goal.right_sibling-requires
 right_sibling-requires g c = (search rules, (search rules, (c.requires.height, beside_asks c.requires.lost c.index-self-level.result (omega arith) c.requires.height)))
 
 pub balance_nodes-requires : goal.balance_nodes-requires
-balance_nodes-requires g c = (search rules, balance_asks c.requires.lost c.index-self-level.result (omega arith) c.requires.height c.entries-left.result c.entries-left.ensures.value c.if-left-least.false c.in-Some.is c.right_sibling.ensures)
+balance_nodes-requires g c = (search rules, balance_asks c.requires.lost _ (omega arith) c.requires.height _ c.entries-left.ensures.value c.if-left-least.false c.in-Some.is c.right_sibling.ensures)
 
 pub update_next_separator-requires : goal.update_next_separator-requires
 update_next_separator-requires g c = (search rules, (search rules, (c.requires.height, rekey_asks c.requires.lost c.index-self-level.result (omega arith) c.requires.height c.entries-left.result c.entries-left.ensures.value c.if-left-least.false c.in-Some.is c.right_sibling.ensures c.balance_nodes.ensures.balanced c.in-Some-balance_nodes.is)))
@@ -33,37 +33,37 @@ returns-in-None-clause-healed g c = λ same w. last_heals w c.index-self-level.r
 
 pub returns-in-Some-balance_nodes-clause-healed : goal.returns-in-Some-balance_nodes-clause-healed
 returns-in-Some-balance_nodes-clause-healed g c = λ same w.
-    rekey_heals w c.index-self-level.result (omega arith) c.requires.height c.entries-left.result c.entries-left.ensures.value c.if-left-least.false c.in-Some.is c.right_sibling.ensures
-    c.balance_nodes.ensures.balanced c.in-Some-balance_nodes.is c.update_next_separator.new.pool c.update_next_separator.ensures
+    rekey_heals w _ (omega arith) c.requires.height _ c.entries-left.ensures.value c.if-left-least.false c.in-Some.is c.right_sibling.ensures
+    c.balance_nodes.ensures.balanced c.in-Some-balance_nodes.is _ c.update_next_separator.ensures
 
 pub returns-in-None-balance_nodes-clause-joined : goal.returns-in-None-balance_nodes-clause-joined
 returns-in-None-balance_nodes-clause-joined g c = λ same w.
-    free_joins w c.index-self-level.result (omega arith) c.requires.height c.entries-left.result c.entries-left.ensures.value c.if-left-least.false c.in-Some.is c.right_sibling.ensures
-    c.balance_nodes.ensures.balanced c.in-None-balance_nodes.is c.free_node.new.self c.free_node.ensures.freed
+    free_joins w _ (omega arith) c.requires.height _ c.entries-left.ensures.value c.if-left-least.false c.in-Some.is c.right_sibling.ensures
+    c.balance_nodes.ensures.balanced c.in-None-balance_nodes.is _ c.free_node.ensures.freed
 
 pub offset_bounds-self-level : goal.offset_bounds-self-level
-offset_bounds-self-level g c = omega (arith, c.requires.lost.on.above.height, c.requires.height)
+offset_bounds-self-level g c = omega arith
 
 pub listed : goal.listed
-listed g c = omega (arith, c.requires.lost.on.above.height, c.requires.height)
+listed g c = omega arith
 
 pub bounds-self-level : goal.bounds-self-level
-bounds-self-level g c = omega (arith, c.requires.lost.on.above.height, c.requires.height)
+bounds-self-level g c = omega arith
 
 pub bounds-self-level-then-left-least : goal.bounds-self-level-then-left-least
-bounds-self-level-then-left-least g c = omega (arith, c.requires.lost.on.above.height, c.requires.height)
+bounds-self-level-then-left-least g c = omega arith
 
 pub overflow_add-level : goal.overflow_add-level
-overflow_add-level g c = omega (arith, c.requires.lost.on.above.height, c.requires.height)
+overflow_add-level g c = omega arith
 
 pub overflow_add-level-in-Some-balance_nodes : goal.overflow_add-level-in-Some-balance_nodes
-overflow_add-level-in-Some-balance_nodes g c = omega (arith, c.requires.lost.on.above.height, c.requires.height)
+overflow_add-level-in-Some-balance_nodes g c = omega arith
 
 pub offset_bounds-self-level-in-None-balance_nodes : goal.offset_bounds-self-level-in-None-balance_nodes
-offset_bounds-self-level-in-None-balance_nodes g c = omega (arith, c.requires.lost.on.above.height, c.requires.height)
+offset_bounds-self-level-in-None-balance_nodes g c = omega arith
 
 pub listed-in-None-balance_nodes : goal.listed-in-None-balance_nodes
-listed-in-None-balance_nodes g c = omega (arith, c.requires.lost.on.above.height, c.requires.height)
+listed-in-None-balance_nodes g c = omega arith
 
 pub bounds-self-level-in-None-balance_nodes : goal.bounds-self-level-in-None-balance_nodes
-bounds-self-level-in-None-balance_nodes g c = omega (arith, c.requires.lost.on.above.height, c.requires.height)
+bounds-self-level-in-None-balance_nodes g c = omega arith

@@ -1,6 +1,5 @@
-use Rattle.std.proofs.Common.{rules, true, ◌≡◌, ℕ, List, ◌-◌, ◌/◌, ◌∙◌, arith}
-use Rattle.bforest_core.proofs.{Words.{IsLeafCapacity, Loses, Table, Unbalanced, half_of}, removal.Removing.{healed_removed, leaf_merge_asks, collapse_asks}}
-use Rattle.bforest_core.proofs.removal.Removing.{joined_removed}
+use Rattle.bforest_core.proofs.Words.{rules, true, ◌≡◌, ℕ, List, ◌-◌, ◌/◌, ◌∙◌, arith, IsLeafCapacity, Loses, Table, Unbalanced, half_of}
+use Rattle.bforest_core.proofs.removal.Removing.{healed_removed, leaf_merge_asks, collapse_asks, joined_removed}
 use Rattle.bforest_core.proofs.path.Path.rebalance_leaf.Goals as goal
 
 half_left : (n : ℕ) → IsLeafCapacity n → n - n / 2 ≡ half_of n

@@ -1,13 +1,12 @@
-use Rattle.std.proofs.Common.{rules, ℕ, Some, sym, ◌∙◌, arith}
-use Rattle.bforest_core.proofs.{Words.{IsPathAt, get_or_default, tree_of, StandsUnder}, rows.Tops.root-stands, removal.Taking.{counted_asks, leaf_used, single}}
-use Rattle.bforest_core.proofs.{removal.Taking.others, removal.Removal.{stands_in, removal, Said, outcome, if_some}, path.Path.remove.Given.Over}
+use Rattle.bforest_core.proofs.{Words.{rules, ℕ, Some, sym, ◌∙◌, arith, IsPathAt, get_or_default, tree_of, StandsUnder}, path.Path.remove.Given.Over}
+use Rattle.bforest_core.proofs.{removal.Taking.{counted_asks, leaf_used, single, others}, removal.Removal.{stands_in, removal, Said, outcome, if_some}}
+use Rattle.bforest_core.proofs.rows.Tops.{root-stands}
 use Rattle.bforest_core.proofs.path.Path.remove.Goals as goal
 
 pub root-root-requires : goal.root-root-requires
 root-root-requires g c =
-    let w = c.requires.stands in
-    let s = stands_in _ _ c.requires.union w.on in
-    (search rules, (omega (arith, s.stands.size_is), omega (arith, s.stands.size_is, s.low)))
+    let s = stands_in _ _ c.requires.union c.requires.stands.on in
+    (search rules, (omega arith, omega arith))
 
 pub entries-requires : goal.entries-requires
 entries-requires g c =

@@ -1,6 +1,5 @@
-use Rattle.std.proofs.Common.{rules, arith}
-use Rattle.bforest_core.proofs.{Words.get_or_default, removal.Untrimmed.stands_root, removal.LeafEmptied.{free_asks, emptied_tree, above_asks, collapse_asks}}
-use Rattle.bforest_core.proofs.removal.LeafEmptied.{drop_removed}
+use Rattle.bforest_core.proofs.{Words.{rules, arith, get_or_default}, removal.LeafEmptied.{free_asks, emptied_tree, above_asks, collapse_asks, drop_removed}}
+use Rattle.bforest_core.proofs.removal.Untrimmed.{stands_root}
 use Rattle.bforest_core.proofs.path.Path.remove_leaf.Goals as goal
 
 pub free_node-requires : goal.free_node-requires
@@ -15,7 +14,7 @@ returns-then-self-eq1-clause-emptied g c = λ none old tree place s alone.
 pub remove_emptied-requires : goal.remove_emptied-requires
 remove_emptied-requires g c =
     let w = c.requires.single in
-    (search rules, (search rules, (omega (arith, w.3.low, w.3.stands.size_is), above_asks c.requires.capacity w.5 _ (get_or_default c.args.self.now.node 0 c.index-self-0.result 0 (omega arith)) w.3 c.free_node.new.self c.free_node.ensures.freed (λ e. c.if-self-eq1.false e))))
+    (search rules, (search rules, (omega arith, above_asks c.requires.capacity w.5 _ (get_or_default c.args.self.now.node 0 c.index-self-0.result 0 (omega arith)) w.3 c.free_node.new.self c.free_node.ensures.freed (λ e. c.if-self-eq1.false e))))
 
 pub collapse_root-top-requires : goal.collapse_root-top-requires
 collapse_root-top-requires g c =
@@ -24,7 +23,7 @@ collapse_root-top-requires g c =
       (
         search rules,
         (
-          omega (arith, w.3.low, w.3.stands.size_is),
+          omega arith,
           collapse_asks c.requires.capacity w.5 _ (get_or_default c.args.self.now.node 0 c.index-self-0.result 0 (omega arith))
               w.3 c.free_node.new.self c.free_node.ensures.freed
               (λ e. c.if-self-eq1.false e) c.remove_emptied.new.pool c.remove_emptied.ensures c.args.root w.4,

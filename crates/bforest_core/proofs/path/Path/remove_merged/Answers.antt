@@ -1,6 +1,5 @@
-use Rattle.std.proofs.Common.{rules, ◌+◌, arith, add-one}
-use Rattle.bforest_core.proofs.{removal.Asked.two_low, removal.RemovingMerged.{here, key_asks, remove_asks, same_parent, index_some, last_key_asks, rekey_asks}}
-use Rattle.bforest_core.proofs.removal.RemovingMerged.{remove_last_asks, next_parent}
+use Rattle.bforest_core.proofs.removal.RemovingMerged.{here, key_asks, remove_asks, same_parent, index_some, last_key_asks, rekey_asks, remove_last_asks}
+use Rattle.bforest_core.proofs.{Words.{rules, ◌+◌, arith, add-one}, removal.RemovingMerged.next_parent, removal.Asked.two_low}
 use Rattle.bforest_core.proofs.path.Path.remove_merged.Goals as goal
 
 pub bounds-self-up : goal.bounds-self-up
@@ -19,40 +18,32 @@ pub overflow_add-up : goal.overflow_add-up
 overflow_add-up g c = omega (arith, two_low c.requires.pending)
 
 pub overflow_add-index : goal.overflow_add-index
-overflow_add-index g c =
-    let w = c.requires.pending in
-    omega (arith, (here w c.index-self-up.result (omega arith) c.requires.height).small)
+overflow_add-index g c = omega (arith, (here c.requires.pending c.index-self-up.result (omega arith) c.requires.height).small)
 
 pub entries-requires : goal.entries-requires
-entries-requires g c =
-    let w = c.requires.pending in
-    (search rules, (here w c.index-self-up.result (omega arith) c.requires.height).node_asks)
+entries-requires g c = (search rules, (here c.requires.pending c.index-self-up.result (omega arith) c.requires.height).node_asks)
 
 pub separator-key-requires : goal.separator-key-requires
 separator-key-requires g c =
     let w = c.requires.pending in
-    (search rules, key_asks w c.index-self-up.result (omega arith) c.requires.height c.entries.result c.entries.ensures.value c.if-index-entries.true c.saturating_sub.result (omega (arith, c.saturating_sub.ensures)))
+    (search rules, key_asks w _ (omega arith) c.requires.height _ c.entries.ensures.value c.if-index-entries.true _ (omega arith))
 
 pub set_separator-requires : goal.set_separator-requires
 set_separator-requires g c =
-    let w = c.requires.pending in
-    let s = here w c.index-self-up.result (omega arith) c.requires.height in
+    let s = here c.requires.pending c.index-self-up.result (omega arith) c.requires.height in
     (search rules, (s.used, s.key_asks _ _ c.entries.ensures.value c.if-index-entries.true))
 
 pub remove_child-answer-requires : goal.remove_child-answer-requires
 remove_child-answer-requires g c =
     let w = c.requires.pending in
-    (search rules, remove_asks w c.index-self-up.result (omega arith) c.requires.height c.entries.result c.entries.ensures.value c.if-index-entries.true c.set_separator.new.pool c.separator-key.result c.set_separator.ensures)
+    (search rules, remove_asks w _ (omega arith) c.requires.height _ c.entries.ensures.value c.if-index-entries.true _ _ c.set_separator.ensures)
 
 pub overflow_sub-index : goal.overflow_sub-index
-overflow_sub-index g c =
-    let w = c.requires.pending in
-    index_some w c.index-self-up.result (omega arith) c.requires.height c.entries.result c.entries.ensures.value c.if-index-entries.false
+overflow_sub-index g c = index_some c.requires.pending _ (omega arith) c.requires.height _ c.entries.ensures.value c.if-index-entries.false
 
 pub separator-key-requires-else-index-entries : goal.separator-key-requires-else-index-entries
 separator-key-requires-else-index-entries g c =
-    let w = c.requires.pending in
-    (search rules, last_key_asks w c.index-self-up.result (omega arith) c.requires.height c.entries.result c.entries.ensures.value c.if-index-entries.false)
+    (search rules, last_key_asks c.requires.pending _ (omega arith) c.requires.height _ c.entries.ensures.value c.if-index-entries.false)
 
 pub update_next_separator-requires : goal.update_next_separator-requires
 update_next_separator-requires g c =
@@ -63,9 +54,9 @@ pub remove_child-answer-requires-else-index-entries : goal.remove_child-answer-r
 remove_child-answer-requires-else-index-entries g c =
     let w = c.requires.pending in (
       search rules,
-      remove_last_asks w c.index-self-up.result
-          (omega arith) c.requires.height c.entries.result c.entries.ensures.value c.if-index-entries.false (c.args.up + 1)
-          (add-one c.args.up) c.update_next_separator.new.pool c.separator-key-else-index-entries.result c.update_next_separator.ensures,
+      remove_last_asks w _
+          (omega arith) c.requires.height _ c.entries.ensures.value c.if-index-entries.false _
+          (add-one c.args.up) _ _ c.update_next_separator.ensures,
     )
 
 pub returns-then-index-entries : goal.returns-then-index-entries

@@ -1,5 +1,4 @@
-use Rattle.std.proofs.Common.{rules, arith}
-use Rattle.bforest_core.proofs.{Words.get_or_default, removal.Taking.{behind, first_asks, above_asks, ahead}}
+use Rattle.bforest_core.proofs.{Words.{rules, arith, get_or_default}, removal.Taking.{behind, first_asks, above_asks, ahead}}
 use Rattle.bforest_core.proofs.path.Path.renew_first.Goals as goal
 
 pub returns-then-self-gt0 : goal.returns-then-self-gt0
@@ -13,7 +12,7 @@ leaf_key-key-requires g c =
 pub update_separator-requires : goal.update_separator-requires
 update_separator-requires g c =
     let w = c.requires.taken in
-    (search rules, (search rules, (omega (arith, w.3.low, w.3.stands.size_is), above_asks w.3 _ (get_or_default c.args.self.now.node 0 c.index-self-0.result 0 (omega arith)) w.4 c.if-self-gt0.false)))
+    (search rules, (search rules, (omega arith, above_asks w.3 _ (get_or_default c.args.self.now.node 0 c.index-self-0.result 0 (omega arith)) w.4 c.if-self-gt0.false)))
 
 pub returns : goal.returns
 returns g c = λ old tree place s h.

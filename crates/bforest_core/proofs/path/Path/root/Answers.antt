@@ -1,5 +1,4 @@
-use Rattle.std.proofs.Common.{◌-◌, arith}
-use Rattle.std.proofs.lemmas.List.{get_or_default}
+use Rattle.bforest_core.proofs.Words.{◌-◌, arith, get_or_default}
 use Rattle.bforest_core.proofs.path.Path.root.Goals as goal
 
 pub returns : goal.returns

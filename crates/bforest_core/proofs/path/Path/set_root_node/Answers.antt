@@ -1,5 +1,4 @@
-use Rattle.std.proofs.Common.{rules}
-use Rattle.bforest_core.proofs.walks.Standing.{on-leaf}
+use Rattle.bforest_core.proofs.{Words.rules, walks.Standing.on-leaf}
 use Rattle.bforest_core.proofs.path.Path.set_root_node.Goals as goal
 
 pub returns-clause-stands : goal.returns-clause-stands

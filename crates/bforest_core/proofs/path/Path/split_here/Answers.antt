@@ -1,11 +1,9 @@
-use Rattle.std.proofs.Common.{rules, arith}
-use Rattle.bforest_core.proofs.insertion.HalvingNode.{full_asks, index_small, early_asks, early_halves, late_asks, late_halves}
+use Rattle.bforest_core.proofs.{Words.{rules, arith}, insertion.HalvingNode.{full_asks, index_small, early_asks, early_halves, late_asks, late_halves}}
 use Rattle.bforest_core.proofs.path.Path.split_here.Goals as goal
 
 pub split_node-right-requires : goal.split_node-right-requires
 split_node-right-requires g c =
-    let w = c.requires.pending in
-    (search rules, full_asks w c.index-self-up.result c.requires.within (omega arith) g.row.N c.args.pool.now c.requires.full c.requires.room)
+    (search rules, full_asks c.requires.pending c.index-self-up.result c.requires.within (omega arith) g.row.N c.args.pool.now c.requires.full c.requires.room)
 
 pub put_child-room-requires : goal.put_child-room-requires
 put_child-room-requires g c =
@@ -28,9 +26,7 @@ put_child-room-requires-else-entry-lt-MIN_CHILDREN g c =
     )
 
 pub index_behind-requires-else-entry-lt-MIN_CHILDREN : goal.index_behind-requires-else-entry-lt-MIN_CHILDREN
-index_behind-requires-else-entry-lt-MIN_CHILDREN g c =
-    let w = c.requires.pending in
-    omega (arith, index_small w c.index-self-up.result c.requires.within (omega arith))
+index_behind-requires-else-entry-lt-MIN_CHILDREN g c = omega (arith, index_small c.requires.pending c.index-self-up.result c.requires.within (omega arith))
 
 pub returns-then-entry-lt-MIN_CHILDREN-clause-halved : goal.returns-then-entry-lt-MIN_CHILDREN-clause-halved
 returns-then-entry-lt-MIN_CHILDREN-clause-halved g c = λ w.

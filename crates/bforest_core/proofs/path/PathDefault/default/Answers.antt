@@ -1,4 +1,4 @@
-use Rattle.std.proofs.Common.{refl}
+use Rattle.bforest_core.proofs.Words.{refl}
 use Rattle.bforest_core.proofs.path.PathDefault.default.Goals as goal
 
 pub returns : goal.returns

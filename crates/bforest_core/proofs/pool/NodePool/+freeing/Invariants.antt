@@ -1,5 +1,4 @@
-use Rattle.std.proofs.Common.{ℕ, ◌+◌, ◌-◌, ◌*◌, List, ◌++◌}
-use Rattle.bforest_core.proofs.{Words.{LevelNode, Distinct, numbers_under}, union.Opened.Opened, union.Sweep.Sweeping}
+use Rattle.bforest_core.proofs.{Words.{ℕ, ◌+◌, ◌-◌, ◌*◌, List, ◌++◌, LevelNode, Distinct, numbers_under}, union.Opened.Opened, union.Sweep.Sweeping}
 use Rattle.bforest_core.proofs.pool.NodePool.+freeing.Given as goal
 
 abbrev pub decreases-free_below : goal.decreases-free_below

@@ -1,6 +1,5 @@
-use Rattle.std.proofs.Common.{rules, [], length, sym, ap, ◌∙◌, arith}
-use Rattle.std.proofs.lemmas.Bool.{false≢true}
-use Rattle.bforest_core.proofs.{walks.Leading.{front_asks, front_below}, walks.TopNode.{node_within, leaf_under}}
+use Rattle.bforest_core.proofs.{Words.{false≢true, rules, [], length, sym, ap, ◌∙◌, arith}, walks.Leading.{front_asks, front_below}}
+use Rattle.bforest_core.proofs.walks.TopNode.{node_within, leaf_under}
 use Rattle.bforest_core.proofs.pool.NodePool.+levels_from.Goals as goal
 
 pub node-requires : goal.node-requires
@@ -21,23 +20,20 @@ child-requires g t c =
 pub levels_from-requires : goal.levels_from-requires
 levels_from-requires g t c κs within =
     let w = c.requires.under in
-    let b = front_below c.requires.capacity w.4
-    c.node.ensures.value
+    let b = front_below c.requires.capacity w.4 c.node.ensures.value
     (c.is_inner.ensures.inner.0 c.if-is_inner.true) c.node-then-is_inner.ensures.value c.child.ensures.child in
     (omega (arith, c.decreases, w.5, b.count_is), (within.0, (within.1, ((λ a m. search rules), (search rules, (c.requires.capacity, (w.0, b.rows, b.first, b.rest, b.under, omega (arith, w.5, b.count_is))))))))
 
 pub overflow_add-result : goal.overflow_add-result
 overflow_add-result g t c =
     let w = c.requires.under in
-    let b = front_below c.requires.capacity w.4
-    c.node.ensures.value
+    let b = front_below c.requires.capacity w.4 c.node.ensures.value
     (c.is_inner.ensures.inner.0 c.if-is_inner.true) c.node-then-is_inner.ensures.value c.child.ensures.child in
     omega (arith, c.levels_from.ensures w.0 b.rows b.first b.rest b.under, b.count_is, w.5)
 
 pub returns-then-is_inner : goal.returns-then-is_inner
 returns-then-is_inner g t c = λ leaves lower first b u.
-    let d = front_below c.requires.capacity u
-    c.node.ensures.value
+    let d = front_below c.requires.capacity u c.node.ensures.value
     (c.is_inner.ensures.inner.0 c.if-is_inner.true) c.node-then-is_inner.ensures.value c.child.ensures.child in
     omega (arith, c.levels_from.ensures leaves d.rows d.first d.rest d.under, d.count_is)
 

@@ -1,5 +1,5 @@
-use Rattle.std.proofs.Common.{rules, ◌∷◌, ◌+◌, sym, ◌∙◌, arith}
-use Rattle.bforest_core.proofs.{Words.false≢true, walks.Searches.{asks, deeper-low, leaf-asks, narrowed, one-down, step-leaf, within}}
+use Rattle.bforest_core.proofs.Words.{rules, ◌∷◌, ◌+◌, sym, ◌∙◌, arith, false≢true}
+use Rattle.bforest_core.proofs.walks.Searches.{asks, deeper-low, leaf-asks, narrowed, one-down, step-leaf, within}
 use Rattle.bforest_core.proofs.pool.NodePool.+value_below.Goals as goal
 
 pub node-requires : goal.node-requires
@@ -20,8 +20,7 @@ pub value_below-requires : goal.value_below-requires
 value_below-requires g t c κs within =
     let on = c.requires.through.1 in
     let low = deeper-low (g.met.C.Comparator.total c.args.comp.now) c.requires.capacity on c.node.ensures.value (c.is_inner.ensures.inner.0 c.if-not-is_inner.false) in
-    let down = one-down (g.met.C.Comparator.total c.args.comp.now)
-    c.requires.capacity on c.node.ensures.value
+    let down = one-down (g.met.C.Comparator.total c.args.comp.now) c.requires.capacity on c.node.ensures.value
     (c.is_inner.ensures.inner.0 c.if-not-is_inner.false) c.follow-child.result.0 c.follow-child.ensures.index
     c.follow-child.ensures.child (c.args.depth + 1) (omega arith) in
     (omega (arith, c.decreases, low), (within.0, (within.1.0, ((λ a m. search rules), (within.1.1, (search rules, (c.requires.capacity, (c.requires.through.0, down))))))))

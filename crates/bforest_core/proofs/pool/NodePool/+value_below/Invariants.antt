@@ -1,4 +1,4 @@
-use Rattle.std.proofs.Common.{◌-◌}
+use Rattle.bforest_core.proofs.Words.{◌-◌}
 use Rattle.bforest_core.proofs.pool.NodePool.+value_below.Given as goal
 
 abbrev pub decreases-value_below : goal.decreases-value_below

@@ -1,6 +1,5 @@
-use Rattle.std.proofs.Common.{rules, [], ◌∷◌, ap, ◌∙◌, length, sym, arith}
-use Rattle.bforest_core.proofs.{Words.{false≢true, Leaf, front_of, with_front}, table.Allocating.{err_iff, err_is, reserved-free, taken_is, used_written}}
-use Rattle.bforest_core.proofs.union.Planting.{planted-alloc}
+use Rattle.bforest_core.proofs.{Words.{rules, [], ◌∷◌, ap, ◌∙◌, length, sym, arith, false≢true, Leaf, front_of, with_front}, union.Planting.planted-alloc}
+use Rattle.bforest_core.proofs.table.Allocating.{err_iff, err_is, reserved-free, taken_is, used_written}
 use Rattle.bforest_core.proofs.pool.NodePool.alloc_node.Goals as goal
 
 pub returns-in_err-reserve : goal.returns-in_err-reserve
@@ -11,8 +10,8 @@ returns-in_err-reserve g c =
       node = rw e tt;
       ok = rw e tt;
       err = rw e said.err;
-      full = (λ is. said.full.0 ((err_iff c.from_residual.result c.in_err-reserve.field-0.0 _ e).0 is), λ short. (err_iff c.from_residual.result c.in_err-reserve.field-0.0 _ e).1 (said.full.1 short));
-      memory = λ is. said.memory ((err_iff c.from_residual.result c.in_err-reserve.field-0.0 _ e).0 is);
+      full = (λ is. said.full.0 ((err_iff _ _ _ e).0 is), λ short. (err_iff _ _ _ e).1 (said.full.1 short));
+      memory = λ is. said.memory ((err_iff _ _ _ e).0 is);
       enough = λ enough. absurd (false≢true (said.enough enough));
       used = rw e tt;
       planted = λ union. rw e tt;
@@ -28,7 +27,7 @@ pub returns-clause-node : goal.returns-clause-node
 returns-clause-node g c = ap (λ z. front_of z.chain) (sym c.in_ok-reserve.ensures.ok) ∙ c.take_slot-node.ensures.node
 
 pub returns-clause-ok : goal.returns-clause-ok
-returns-clause-ok g c = taken_is c.reserve.new.self
+returns-clause-ok g c = taken_is _
     c.take_slot-node.ensures.node c.take_slot-node.ensures.table c.leaf.ensures.node
     ∙ ap (λ z. with_front z z.chain (Leaf (c.args.key ∷ []) (c.args.value ∷ []))) c.in_ok-reserve.ensures.ok
 
@@ -43,4 +42,4 @@ returns-clause-memory g c = λ is. absurd cc
 
 pub returns-clause-planted : goal.returns-clause-planted
 returns-clause-planted g c = λ union.
-    planted-alloc g.row.N _ c.args.key c.args.value union (returns-clause-node g c) (returns-clause-ok g c)
+    planted-alloc _ _ _ _ union (returns-clause-node g c) (returns-clause-ok g c)

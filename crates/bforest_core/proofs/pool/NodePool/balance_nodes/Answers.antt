@@ -1,17 +1,13 @@
-use Rattle.std.proofs.Common.{rules, arith, ◌∙◌, ◌≡◌, Some, sym, slice_get, vec_len}
-use Rattle.bforest_core.proofs.{table.Lists.refilled_two, table.Stored.read_same, table.Pools.IsPool-set_two}
+use Rattle.bforest_core.proofs.{Words.{rules, arith, ◌∙◌, ◌≡◌, Some, sym, slice_get, vec_len}, table.Lists.refilled_two, table.Pools.IsPool-set_two}
+use Rattle.bforest_core.proofs.table.Stored.{read_same}
 use Rattle.bforest_core.proofs.pool.NodePool.balance_nodes.Goals as goal
 
-pub two_nodes-lhs-requires-clause-left_within : goal.two_nodes-lhs-requires-clause-left_within
-two_nodes-lhs-requires-clause-left_within g c =
-    rw (c.as_mut_slice.ensures.value, c.number.ensures.value) (rw (← c.self.view_is) at c.requires.left.within)
-
-pub two_nodes-lhs-requires-clause-right_within : goal.two_nodes-lhs-requires-clause-right_within
-two_nodes-lhs-requires-clause-right_within g c =
-    rw (c.as_mut_slice.ensures.value, c.number-2.ensures.value) (rw (← c.self.view_is) at c.requires.right.within)
-
-pub two_nodes-lhs-requires-clause-apart : goal.two_nodes-lhs-requires-clause-apart
-two_nodes-lhs-requires-clause-apart g c = λ same. c.requires.apart (sym c.number.ensures.value ∙ same ∙ c.number-2.ensures.value)
+pub two_nodes-lhs-requires : goal.two_nodes-lhs-requires
+two_nodes-lhs-requires g c = record {
+  left_within = rw (c.as_mut_slice.ensures.value, c.number.ensures.value) (rw (← c.self.view_is) at c.requires.left.within);
+  right_within = rw (c.as_mut_slice.ensures.value, c.number-2.ensures.value) (rw (← c.self.view_is) at c.requires.right.within);
+  apart = λ same. c.requires.apart (sym c.number.ensures.value ∙ same ∙ c.number-2.ensures.value);
+}
 
 pub balance-requires : goal.balance-requires
 balance-requires g c =

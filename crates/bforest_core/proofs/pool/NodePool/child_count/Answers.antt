@@ -1,9 +1,8 @@
-use Rattle.std.proofs.Common.{rules, length, sym, ap, ◌∙◌}
-use Rattle.bforest_core.proofs.{Words.{false≢true, children_of}, table.Stored.{read_same, inner_used, childless}}
+use Rattle.bforest_core.proofs.{Words.{rules, length, sym, ap, ◌∙◌, false≢true, children_of}, table.Stored.{read_same, inner_used, childless}}
 use Rattle.bforest_core.proofs.pool.NodePool.child_count.Goals as goal
 
 pub entries-requires : goal.entries-requires
-entries-requires g c = (search rules, (inner_used c.node-node.result.now (c.is_inner.ensures.inner.0 c.if-is_inner.true)).0)
+entries-requires g c = (search rules, (inner_used _ (c.is_inner.ensures.inner.0 c.if-is_inner.true)).0)
 
 pub returns-then-is_inner : goal.returns-then-is_inner
 returns-then-is_inner g c = λ content slot.

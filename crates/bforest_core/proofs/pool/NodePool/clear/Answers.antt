@@ -1,5 +1,4 @@
-use Rattle.std.proofs.Common.{refl, ap}
-use Rattle.bforest_core.proofs.table.Pools.{IsPool-empty, empty-is}
+use Rattle.bforest_core.proofs.{Words.{refl, ap}, table.Pools.{IsPool-empty, empty-is}}
 use Rattle.bforest_core.proofs.pool.NodePool.clear.Goals as goal
 
 pub invariant_of-self : goal.invariant_of-self

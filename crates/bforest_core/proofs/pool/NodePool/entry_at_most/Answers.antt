@@ -1,5 +1,4 @@
-use Rattle.std.proofs.Common.{rules, ◌∙◌}
-use Rattle.bforest_core.proofs.walks.AtMost.{up-to-narrowed}
+use Rattle.bforest_core.proofs.{Words.{rules, ◌∙◌}, walks.AtMost.up-to-narrowed}
 use Rattle.bforest_core.proofs.pool.NodePool.entry_at_most.Goals as goal
 
 pub find-leaf-requires : goal.find-leaf-requires

@@ -1,4 +1,4 @@
-use Rattle.std.proofs.Common.{sym}
+use Rattle.bforest_core.proofs.Words.{sym}
 use Rattle.bforest_core.proofs.pool.NodePool.free.Goals as goal
 
 pub returns : goal.returns

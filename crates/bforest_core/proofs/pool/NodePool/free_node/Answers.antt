@@ -1,5 +1,4 @@
-use Rattle.std.proofs.Common.{arith}
-use Rattle.bforest_core.proofs.{table.Pools.{IsPool-freed, free_below, used_inside}, table.Chains.front_of-is}
+use Rattle.bforest_core.proofs.{Words.arith, table.Pools.{IsPool-freed, free_below, used_inside}, table.Chains.front_of-is}
 use Rattle.bforest_core.proofs.pool.NodePool.free_node.Goals as goal
 
 pub overflow_add-self : goal.overflow_add-self

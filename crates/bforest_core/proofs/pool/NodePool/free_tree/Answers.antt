@@ -1,6 +1,5 @@
-use Rattle.std.proofs.Common.{rules, length, arith}
-use Rattle.bforest_core.proofs.{Words.{numbers_of, numbers_down, tree_of}, union.Account.{length-same, nodes-count}, union.Roots.uprooted-union}
-use Rattle.bforest_core.proofs.{union.Unions.rooted, walks.Standing.under-root}
+use Rattle.bforest_core.proofs.{Words.{rules, length, arith, numbers_of, numbers_down, tree_of}, union.Account.{length-same, nodes-count}, union.Unions.rooted}
+use Rattle.bforest_core.proofs.{union.Roots.uprooted-union, walks.Standing.under-root}
 use Rattle.bforest_core.proofs.pool.NodePool.free_tree.Goals as goal
 
 pub free_below-requires : goal.free_below-requires

@@ -1,5 +1,4 @@
-use Rattle.std.proofs.Common.{rules}
-use Rattle.bforest_core.proofs.table.Allocating.{taken_is, used_written}
+use Rattle.bforest_core.proofs.{Words.rules, table.Allocating.{taken_is, used_written}}
 use Rattle.bforest_core.proofs.pool.NodePool.inner_node.Goals as goal
 
 pub node_mut-requires : goal.node_mut-requires

@@ -1,5 +1,5 @@
-use Rattle.std.proofs.Common.{◌≡◌, suc, ◌+◌, take, slice_get, Some, refl, sym, ap, ◌∙◌, inl, inr, arith}
-use Rattle.bforest_core.proofs.{Words.{flat_map, cases_lt, false≢true, children_of, count}, rows.Counts.{named-more, named-slot}}
+use Rattle.bforest_core.proofs.Words.{◌≡◌, suc, ◌+◌, take, slice_get, Some, refl, sym, ap, ◌∙◌, inl, inr, arith, flat_map, cases_lt, false≢true, children_of}
+use Rattle.bforest_core.proofs.{Words.count, rows.Counts.{named-more, named-slot}}
 use Rattle.bforest_core.proofs.pool.NodePool.is_child.Goals as goal
 
 pub returns-then-names : goal.returns-then-names

@@ -1,5 +1,4 @@
-use Rattle.std.proofs.Common.{◌≡◌, take}
-use Rattle.bforest_core.proofs.Words.{flat_map, children_of, count}
+use Rattle.bforest_core.proofs.Words.{◌≡◌, take, flat_map, children_of, count}
 use Rattle.bforest_core.proofs.pool.NodePool.is_child.Given as goal
 
 abbrev pub invariant-loop-number : goal.invariant-loop-number

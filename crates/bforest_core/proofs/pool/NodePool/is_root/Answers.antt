@@ -1,7 +1,7 @@
-use Rattle.std.proofs.Common.{◌≡◌, ℕ, zero, suc, ◌<◌, ◌↔◌, IsTrue, Bool, true, false, not, nat_eq, nat_lt, List, slice_get, Some, None, refl, sym, ap, ◌∙◌, arith}
-use Rattle.bforest_core.proofs.Words.{flat_map, false≢true, false_from_ne_true, not_from_false, not_from_true, get_or_past, Content, Inner, Leaf, Free, IsFree}
-use Rattle.bforest_core.proofs.{Words.{children_of, count, slot, is_used, is_root}, table.Read.slot-is, pool.NodePool.is_root.Goals.then-number-slots}
-use Rattle.bforest_core.proofs.pool.NodePool.is_root.Goals.{else-number-slots}
+use Rattle.bforest_core.proofs.Words.{◌≡◌, ℕ, zero, suc, ◌<◌, ◌↔◌, IsTrue, Bool, true, false, not, nat_eq, nat_lt, List, slice_get, Some, None, refl, sym, ap}
+use Rattle.bforest_core.proofs.Words.{◌∙◌, arith, flat_map, false≢true, false_from_ne_true, not_from_false, not_from_true, get_or_past, Content, Inner, Leaf}
+use Rattle.bforest_core.proofs.Words.{Free, IsFree, children_of, count, slot, is_used, is_root}
+use Rattle.bforest_core.proofs.{table.Read.slot-is, pool.NodePool.is_root.Goals.{then-number-slots, else-number-slots}}
 use Rattle.bforest_core.proofs.pool.NodePool.is_root.Goals as goal
 
 -- whether nothing names the node, as a test
@@ -19,9 +19,8 @@ module _ {K V : Type 0} where
   root_if : (slots : List (Content K V)) (n : ℕ) (content : Content K V) (free child : Bool) → slice_get slots n ≡ Some content → (IsTrue free ↔ IsFree content) → (IsTrue child ↔ (0 < count n (flat_map children_of slots))) → not free ≡ true → not child ≡ is_root slots n
   unfolding is_root
   root_if slots n content free child found f c used =
-      let a : is_used (slot slots n) ≡ true = ap is_used (slot-is slots n content found) ∙ used_of content free f ∙ used in
-      let b = none_named (count n (flat_map children_of slots)) child c in
-      rw (a, b) refl
+      let b = none_named _ _ c in
+      rw ((ap is_used (slot-is _ n _ found) ∙ used_of _ _ f ∙ used), b) refl
 
   -- a free or absent slot is no root
   unused_root : (slots : List (Content K V)) (n : ℕ) → is_used (slot slots n) ≡ false → false ≡ is_root slots n
@@ -40,6 +39,6 @@ pub returns-else-not-is_free : goal.returns-else-not-is_free
 returns-else-not-is_free g c = record {
   value = c.if-not-is_free.false ∙ elim c.if-number-slots.branch [
     | then-number-slots w ↦ unused_root c.args.self.now.nodes c.args.node (ap is_used (slot-is c.args.self.now.nodes c.args.node w.node.result.now w.node.ensures.value) ∙ used_of w.node.result.now w.is_free.result w.is_free.ensures.free ∙ sym w.value-is ∙ c.if-not-is_free.false)
-    | else-number-slots w ↦ unused_root c.args.self.now.nodes c.args.node (ap is_used (get_or_past c.args.self.now.nodes c.args.node (Free None) (omega (arith, w.if-number-slots.false, c.slots.ensures.value, c.number.ensures.value))))
+    | else-number-slots w ↦ unused_root c.args.self.now.nodes c.args.node (ap is_used (get_or_past c.args.self.now.nodes c.args.node (Free None) (omega arith)))
   ];
 }

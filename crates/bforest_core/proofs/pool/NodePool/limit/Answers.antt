@@ -1,4 +1,4 @@
-use Rattle.std.proofs.Common.{ap}
+use Rattle.bforest_core.proofs.Words.{ap}
 use Rattle.bforest_core.proofs.pool.NodePool.limit.Goals as goal
 
 pub returns : goal.returns

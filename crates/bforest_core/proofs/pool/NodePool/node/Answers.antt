@@ -1,5 +1,4 @@
-use Rattle.std.proofs.Common.{length, refl, arith}
-use Rattle.std.proofs.lemmas.Option.{slice_get_read}
+use Rattle.bforest_core.proofs.Words.{slice_get_read, length, refl, arith}
 use Rattle.bforest_core.proofs.pool.NodePool.node.Goals as goal
 
 pub returns : goal.returns

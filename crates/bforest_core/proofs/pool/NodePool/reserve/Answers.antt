@@ -1,6 +1,6 @@
-use Rattle.std.proofs.Common.{◌≡◌, ◌-◌, length, vec_len, arith, refl}
+use Rattle.bforest_core.proofs.{Words.{◌≡◌, ◌-◌, length, vec_len, arith, refl}, union.Reserved.{reserved-frees, reserved-keeps, same-keeps}}
+use Rattle.bforest_core.proofs.{table.Pools.IsPool-grown, table.Chains.front_of-is}
 use Rattle.bforest_core.proofs.table.Allocating.{has_room, lacks_room, finds_room, needs_growth, not_enough, stays_reserved, few_slots}
-use Rattle.bforest_core.proofs.{table.Pools.IsPool-grown, table.Chains.front_of-is, union.Reserved.{reserved-frees, reserved-keeps, same-keeps}}
 use Rattle.bforest_core.proofs.pool.NodePool.reserve.Goals as goal
 
 pub invariant_of-self : goal.invariant_of-self
@@ -17,7 +17,7 @@ returns-in-Ok-clause-ok g c =
 
 pub returns-in-Ok-clause-full : goal.returns-in-Ok-clause-full
 returns-in-Ok-clause-full g c =
-    (λ is. absurd cc, λ short. absurd (finds_room _ _ _ _ c.args.n c.self.view_is c.self.invariant.counted (omega arith) c.if-missing-self.false short))
+    (λ is. absurd cc, λ short. absurd (finds_room _ _ _ _ _ c.self.view_is c.self.invariant.counted (omega arith) c.if-missing-self.false short))
 
 pub returns-in-Ok-clause-memory : goal.returns-in-Ok-clause-memory
 returns-in-Ok-clause-memory g c = λ is. absurd cc
@@ -26,22 +26,22 @@ pub returns-in-Ok-clause-numbers : goal.returns-in-Ok-clause-numbers
 returns-in-Ok-clause-numbers g c = few_slots _ _ _ c.self.view_is c.self.invariant.slots_within c.self.invariant.limit_within
 
 pub returns-in-Ok-clause-free : goal.returns-in-Ok-clause-free
-returns-in-Ok-clause-free g c = reserved-frees c.args.self.now c.args.n (returns-in-Ok-clause-ok g c)
+returns-in-Ok-clause-free g c = reserved-frees _ _ (returns-in-Ok-clause-ok g c)
 
 pub returns-in-Ok-clause-trees : goal.returns-in-Ok-clause-trees
-returns-in-Ok-clause-trees g c = λ union. reserved-keeps g.row.N _ c.args.n (returns-in-Ok-clause-ok g c) union
+returns-in-Ok-clause-trees g c = λ union. reserved-keeps _ _ _ (returns-in-Ok-clause-ok g c) union
 
 pub returns-then-n-self : goal.returns-then-n-self
 returns-then-n-self g c =
-    let ok = stays_reserved _ _ _ _ c.args.n c.self.view_is c.self.invariant.counted refl c.if-n-self.true in
+    let ok = stays_reserved _ _ _ _ _ c.self.view_is c.self.invariant.counted refl c.if-n-self.true in
     record {
       ok = ok;
       err = tt;
-      full = (λ is. absurd cc, λ short. absurd (has_room _ _ _ _ c.args.n c.self.view_is c.self.invariant.counted refl c.if-n-self.true short));
+      full = (λ is. absurd cc, λ short. absurd (has_room _ _ _ _ _ c.self.view_is c.self.invariant.counted refl c.if-n-self.true short));
       memory = λ is. absurd cc;
       enough = λ enough. refl;
       numbers = few_slots _ _ _ c.self.view_is c.self.invariant.slots_within c.self.invariant.limit_within;
-      free = reserved-frees c.args.self.now c.args.n ok;
+      free = reserved-frees _ _ ok;
       trees = λ union. same-keeps _ refl union;
     }
 
@@ -49,9 +49,9 @@ pub returns-then-missing-self : goal.returns-then-missing-self
 returns-then-missing-self g c = record {
   ok = tt;
   err = refl;
-  full = (λ is. lacks_room _ _ _ _ c.args.n c.self.view_is c.self.invariant.counted (omega arith) c.if-n-self.false c.if-missing-self.true, λ short. refl);
+  full = (λ is. lacks_room _ _ _ _ _ c.self.view_is c.self.invariant.counted (omega arith) c.if-n-self.false c.if-missing-self.true, λ short. refl);
   memory = λ is. absurd cc;
-  enough = λ enough. absurd (not_enough _ _ _ _ c.args.n c.self.view_is c.self.invariant.counted refl c.if-n-self.false enough);
+  enough = λ enough. absurd (not_enough _ _ _ _ _ c.self.view_is c.self.invariant.counted refl c.if-n-self.false enough);
   numbers = few_slots _ _ _ c.self.view_is c.self.invariant.slots_within c.self.invariant.limit_within;
   free = tt;
   trees = λ union. same-keeps _ refl union;
@@ -61,9 +61,9 @@ pub returns-in-Err : goal.returns-in-Err
 returns-in-Err g c = record {
   ok = tt;
   err = rw c.in-Err.ensures.err c.self.view_is;
-  full = (λ is. absurd cc, λ short. absurd (finds_room _ _ _ _ c.args.n c.self.view_is c.self.invariant.counted (omega arith) c.if-missing-self.false short));
-  memory = λ is. needs_growth _ _ _ _ c.args.n c.self.view_is c.self.invariant.counted (omega arith) c.if-n-self.false c.if-missing-self.false;
-  enough = λ enough. absurd (not_enough _ _ _ _ c.args.n c.self.view_is c.self.invariant.counted refl c.if-n-self.false enough);
+  full = (λ is. absurd cc, λ short. absurd (finds_room _ _ _ _ _ c.self.view_is c.self.invariant.counted (omega arith) c.if-missing-self.false short));
+  memory = λ is. needs_growth _ _ _ _ _ c.self.view_is c.self.invariant.counted (omega arith) c.if-n-self.false c.if-missing-self.false;
+  enough = λ enough. absurd (not_enough _ _ _ _ _ c.self.view_is c.self.invariant.counted refl c.if-n-self.false enough);
   numbers = few_slots _ _ _ c.self.view_is c.self.invariant.slots_within c.self.invariant.limit_within;
   free = tt;
   trees = λ union. same-keeps _ (rw c.in-Err.ensures.err c.self.view_is) union;

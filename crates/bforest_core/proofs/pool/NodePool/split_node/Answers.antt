@@ -1,4 +1,4 @@
-use Rattle.std.proofs.Common.{rules, slice_get, Some, arith, refl, ◌∙◌, ◌≡◌, length-set, vec_len, sym}
+use Rattle.bforest_core.proofs.Words.{rules, slice_get, Some, arith, refl, ◌∙◌, ◌≡◌, length-set, vec_len, sym}
 use Rattle.bforest_core.proofs.{table.Lists.refilled_two, table.Pools.{IsPool-set_two, nodes-without_front, off-without_front, with_front-is, apart_front}}
 use Rattle.bforest_core.proofs.pool.NodePool.split_node.Goals as goal
 
@@ -26,7 +26,6 @@ returns g c =
     let off_left = rw (← c.take_slot-right.ensures.table) at (off-without_front c.args.self.now c.args.self.now.chain c.args.left refl c.requires.used.off_chain) in
     let pair = IsPool-set_two _ _ _ _ c.split.new.rhs c.split.new.self c.self.view_is c.number.ensures.value c.number-2.ensures.value c.take_slot-right.ensures.used.off_chain off_left c.self.invariant in
     let within = rw (← c.self.view_is) at c.take_slot-right.ensures.used.within in
-    let off = rw (← c.self.view_is) at c.take_slot-right.ensures.used.off_chain in
     record {
       node = c.take_slot-right.ensures.node;
       split = record {
@@ -51,18 +50,14 @@ returns g c =
         );
       };
       used = rw (c.as_mut_slice.ensures.value, refilled_two c.self.inside.nodes.items c.number.result c.number-2.result c.split.new.rhs c.split.new.self (vec_len c.self.inside.nodes) (omega arith))
-          (record { within = rw (length-set, length-set) within; off_chain = rw pair.1 off });
+          (record { within = rw (length-set, length-set) within; off_chain = rw pair.1 (rw (← c.self.view_is) at c.take_slot-right.ensures.used.off_chain) });
       capacity = c.self.invariant.capacity;
     }
 
-pub two_nodes-rhs-requires-clause-apart : goal.two_nodes-rhs-requires-clause-apart
-two_nodes-rhs-requires-clause-apart g c = λ same. apart_front c.args.self.now.chain c.take_slot-right.ensures.node c.requires.used.off_chain (sym c.number.ensures.value ∙ same ∙ c.number-2.ensures.value)
-
-pub two_nodes-rhs-requires-clause-left_within : goal.two_nodes-rhs-requires-clause-left_within
-two_nodes-rhs-requires-clause-left_within g c =
-    rw (c.as_mut_slice.ensures.value, c.number.ensures.value) (rw (← c.self.view_is) at c.take_slot-right.ensures.used.within)
-
-pub two_nodes-rhs-requires-clause-right_within : goal.two_nodes-rhs-requires-clause-right_within
-two_nodes-rhs-requires-clause-right_within g c =
-    let within = rw (← nodes-without_front c.args.self.now c.args.self.now.chain, ← c.take_slot-right.ensures.table, ← c.self.view_is) at c.requires.used.within in
-    rw (c.as_mut_slice.ensures.value, c.number-2.ensures.value) within
+pub two_nodes-rhs-requires : goal.two_nodes-rhs-requires
+two_nodes-rhs-requires g c = record {
+  apart = λ same. apart_front _ c.take_slot-right.ensures.node c.requires.used.off_chain (sym c.number.ensures.value ∙ same ∙ c.number-2.ensures.value);
+  left_within = rw (c.as_mut_slice.ensures.value, c.number.ensures.value) (rw (← c.self.view_is) at c.take_slot-right.ensures.used.within);
+  right_within = (let within = rw (← nodes-without_front c.args.self.now c.args.self.now.chain, ← c.take_slot-right.ensures.table, ← c.self.view_is) at c.requires.used.within in
+      rw (c.as_mut_slice.ensures.value, c.number-2.ensures.value) within);
+}

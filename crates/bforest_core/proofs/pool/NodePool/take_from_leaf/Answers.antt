@@ -1,5 +1,4 @@
-use Rattle.std.proofs.Common.{rules}
-use Rattle.bforest_core.proofs.{insertion.LeafPut.leaf-used, removal.LeafTake.takes-from-leaf}
+use Rattle.bforest_core.proofs.{Words.rules, insertion.LeafPut.leaf-used, removal.LeafTake.takes-from-leaf}
 use Rattle.bforest_core.proofs.pool.NodePool.take_from_leaf.Goals as goal
 
 pub take-requires : goal.take-requires

@@ -1,27 +1,26 @@
-use Rattle.std.proofs.Common.{rules, ◌≡◌, ℕ, ◌-◌, ◌<◌, false, List, ◌∷◌, length, slice_get, nat_eq, Option, Some, refl, sym, ap, ◌∙◌, subst, arith}
-use Rattle.bforest_core.proofs.{Words.{list_any, slice_get_within, Content, Free, IsFree, Table, chain_from, IsPool}, table.Chains.front_of-is}
+use Rattle.bforest_core.proofs.Words.{slice_get_read, rules, ◌≡◌, ℕ, ◌-◌, ◌<◌, false, List, ◌∷◌, length, slice_get, nat_eq, Option, Some, refl, sym, ap, ◌∙◌}
+use Rattle.bforest_core.proofs.{Words.{subst, arith, list_any, slice_get_within, Content, Free, IsFree, Table, chain_from, IsPool}, table.Chains.front_of-is}
 use Rattle.bforest_core.proofs.{table.Pools.{IsPool-taken, first_some, front_is_free}, table.Stored.read_same}
-use Rattle.std.proofs.lemmas.Option.{slice_get_read}
 use Rattle.bforest_core.proofs.pool.NodePool.take_slot.Goals as goal
 
 -- the fields of a pool, and the front of its chain as read
 module _ {K V : Type 0} {n : ℕ} {nodes : List (Content K V)} {first : Option ℕ} {free limit : ℕ} (pool : IsPool n nodes first free limit)
     (t : Table K V) (view : record { nodes = nodes; chain = chain_from nodes free first; limit = limit } ≡ t) (room : 0 < length t.chain) where
   some : 0 < free
-  some = omega (arith, pool.counted, room, ap (λ z. length z.chain) view)
+  some = omega (arith, ap (λ z. length z.chain) view)
 
   module _ (number node : ℕ) (front_is : Option ℕ) (reads_first : front_is ≡ first) (unwraps : front_is ≡ Some node) (number_is : number ≡ node) where
     first_is : first ≡ Some number
     first_is = sym reads_first ∙ unwraps ∙ ap Some (sym number_is)
 
     here : IsPool n nodes (Some number) free limit
-    here = subst (λ z. IsPool n nodes z free limit) first_is pool
+    here = rw (← first_is) pool
 
     front : (next : Option ℕ) × (slice_get nodes number ≡ Some (Free next))
     front = front_is_free free some here
 
     within : number < length nodes
-    within = slice_get_within nodes number (Free front.0) front.1
+    within = slice_get_within _ _ _ front.1
 
     module _ (content : Content K V) (reads : number < length nodes → slice_get nodes number ≡ Some content) where
       is_free : IsFree content
@@ -34,8 +33,7 @@ module _ {K V : Type 0} {n : ℕ} {nodes : List (Content K V)} {first : Option �
             (w.0, ap (λ z. chain_from nodes free z) first_is ∙ w.1, w.2)
 
 pub unwrap-node-requires : goal.unwrap-node-requires
-unwrap-node-requires g c =
-    rw c.expand.ensures.value (first_some _ _ (some c.self.invariant _ c.self.view_is c.requires.room) c.self.invariant)
+unwrap-node-requires g c = rw c.expand.ensures.value (first_some _ _ (some c.self.invariant _ c.self.view_is c.requires.room) c.self.invariant)
 
 pub index-requires : goal.index-requires
 index-requires g c =
@@ -51,25 +49,23 @@ next_free-self-inside-requires g c = (
 )
 
 pub overflow_sub-self : goal.overflow_sub-self
-overflow_sub-self g c =
-    omega (arith, some c.self.invariant _ c.self.view_is c.requires.room)
+overflow_sub-self g c = omega (arith, some c.self.invariant _ c.self.view_is c.requires.room)
 
 pub invariant_of-self : goal.invariant_of-self
 invariant_of-self g c =
     (taken c.self.invariant _ c.self.view_is
-    c.requires.room c.number.result _ _ c.expand.ensures.value c.unwrap-node.ensures c.number.ensures.value c.index.result.now
+    c.requires.room _ _ _ c.expand.ensures.value c.unwrap-node.ensures c.number.ensures.value _
     (λ low. slice_get_read c.self.inside.nodes.items
-    (length c.self.inside.nodes.items) c.number.result c.index.result.now refl low c.index.ensures) c.next_free-self-inside.result
+    (length c.self.inside.nodes.items) c.number.result c.index.result.now refl low c.index.ensures) _
     c.next_free-self-inside.ensures).0
 
 pub returns : goal.returns
 returns g c =
-    let after = taken c.self.invariant
-    _ c.self.view_is c.requires.room c.number.result _ _ c.expand.ensures.value c.unwrap-node.ensures c.number.ensures.value
-    c.index.result.now (λ low. slice_get_read c.self.inside.nodes.items
-    (length c.self.inside.nodes.items) c.number.result c.index.result.now refl low c.index.ensures) c.next_free-self-inside.result
+    let after = taken c.self.invariant _ c.self.view_is c.requires.room _ _ _ c.expand.ensures.value c.unwrap-node.ensures c.number.ensures.value
+    _ (λ low. slice_get_read c.self.inside.nodes.items
+    (length c.self.inside.nodes.items) c.number.result c.index.result.now refl low c.index.ensures) _
     c.next_free-self-inside.ensures in
-    let inside = within c.self.invariant _ c.self.view_is c.requires.room c.number.result _ _ c.expand.ensures.value c.unwrap-node.ensures c.number.ensures.value in
+    let inside = within c.self.invariant _ c.self.view_is c.requires.room _ _ _ c.expand.ensures.value c.unwrap-node.ensures c.number.ensures.value in
     record {
       node = rw (← c.self.view_is) (front_of-is _ _ _ c.self.invariant.linked ∙ sym c.expand.ensures.value ∙ c.unwrap-node.ensures);
       table = rw (← c.self.view_is, after.1) (rw (← c.self.view_is));

@@ -1,5 +1,5 @@
-use Rattle.std.proofs.Common.{rules, refl, sym, ap, ◌≡◌, ◌∙◌, subst, arith}
-use Rattle.bforest_core.proofs.{Words.{IsLeaf, entry_count, with_node}, table.Read.slot-is, table.Stored.some_same}
+use Rattle.bforest_core.proofs.{Words.{rules, refl, sym, ap, ◌≡◌, ◌∙◌, subst, arith, IsLeaf, entry_count, with_node}, table.Stored.some_same}
+use Rattle.bforest_core.proofs.table.Read.{slot-is}
 use Rattle.bforest_nodes.specs.Content.{with_value}
 use Rattle.bforest_core.proofs.pool.NodePool.value_mut.Goals as goal
 

@@ -1,6 +1,4 @@
-use Rattle.std.proofs.Common.{rules, refl}
-use Rattle.bforest_core.specs.Trees.{tree_of}
-use Rattle.bforest_core.proofs.walks.Searches.{search-root}
+use Rattle.bforest_core.proofs.{Words.{tree_of, rules, refl}, walks.Searches.search-root}
 use Rattle.bforest_core.proofs.pool.NodePool.value_of.Goals as goal
 
 pub value_below-requires : goal.value_below-requires

@@ -1,5 +1,4 @@
-use Rattle.std.proofs.Common.{arith, refl}
-use Rattle.bforest_core.proofs.table.Pools.{IsPool-empty, empty-is}
+use Rattle.bforest_core.proofs.{Words.{arith, refl}, table.Pools.{IsPool-empty, empty-is}}
 use Rattle.bforest_core.proofs.pool.NodePool.with_limit.Goals as goal
 
 pub invariant_of-result : goal.invariant_of-result

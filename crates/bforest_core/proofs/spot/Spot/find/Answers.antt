@@ -1,5 +1,4 @@
-use Rattle.std.proofs.Common.{rules, []}
-use Rattle.bforest_core.proofs.{Words.tree_of, walks.CodesDown.way-root, walks.Searches.{search-ends, search-root, spot-found}}
+use Rattle.bforest_core.proofs.{Words.{rules, [], tree_of}, walks.CodesDown.way-root, walks.Searches.{search-ends, search-root, spot-found}}
 use Rattle.bforest_core.proofs.spot.Spot.find.Goals as goal
 
 pub find_below-requires : goal.find_below-requires

@@ -1,12 +1,10 @@
-use Rattle.std.proofs.Common.{ap, arith, refl, rules, sym, ◌∙◌}
-use Rattle.std.specs.Ordering.{is_gt}
-use Rattle.bforest_core.proofs.{Words.{false≢true, tree_of}, walks.Searches.{along-asks, asks, came-end, came-first, came-on, code-low-here, deeper-low}}
-use Rattle.bforest_core.proofs.walks.Searches.{digit-low, down, ends-on, search-ends, spot-found, within}
+use Rattle.bforest_core.proofs.walks.Searches.{along-asks, asks, came-end, came-first, came-on, code-low-here, deeper-low, digit-low, down, ends-on}
+use Rattle.bforest_core.proofs.{Words.{is_gt, ap, arith, refl, rules, sym, ◌∙◌, false≢true, tree_of}, walks.Searches.{search-ends, spot-found, within}}
 use Rattle.bforest_core.proofs.spot.Spot.find_both.Goals as goal
 
 pub loop-index-init : goal.loop-index-init
 loop-index-init g c =
-    let first = came-first c.args.pool.now c.args.root in (
+    let first = came-first _ _ in (
       first c.args.from c.requires.union c.requires.root c.requires.increasing c.root-here.result c.root-here.ensures.code c.root-here.ensures.height,
       λ ordered. first c.args.to c.requires.union c.requires.root c.requires.increasing c.root-here.result c.root-here.ensures.code c.root-here.ensures.height,
     )
@@ -22,37 +20,31 @@ follow-index-requires g c = (
       (c.is_inner.ensures.inner.0 c.loop-index-test.true),
 )
 
-pub below-next-requires-clause-code : goal.below-next-requires-clause-code
-below-next-requires-clause-code g c = code-low-here (g.met.C.Comparator.total c.args.comp.now)
-    c.requires.union.1.capacity c.loop-index.invariant.0.on c.node.ensures.value
-    (c.is_inner.ensures.inner.0 c.loop-index-test.true) c.follow-index.result.0 c.follow-index.ensures.index
-    c.follow-index.ensures.child refl
-    c.loop-index.invariant.0.way
-
-pub below-next-requires-clause-height : goal.below-next-requires-clause-height
-below-next-requires-clause-height g c = deeper-low (g.met.C.Comparator.total c.args.comp.now)
-    c.requires.union.1.capacity c.loop-index.invariant.0.on c.node.ensures.value
-    (c.is_inner.ensures.inner.0 c.loop-index-test.true)
-
-pub below-next-requires-clause-index : goal.below-next-requires-clause-index
-below-next-requires-clause-index g c = digit-low (g.met.C.Comparator.total c.args.comp.now)
-    c.requires.union.1.capacity c.loop-index.invariant.0.on c.node.ensures.value
-    (c.is_inner.ensures.inner.0 c.loop-index-test.true) c.follow-index.result.0 c.follow-index.ensures.index
-    c.follow-index.ensures.child
+pub below-next-requires : goal.below-next-requires
+below-next-requires g c = record {
+  code = code-low-here (g.met.C.Comparator.total c.args.comp.now) c.requires.union.1.capacity c.loop-index.invariant.0.on c.node.ensures.value
+      (c.is_inner.ensures.inner.0 c.loop-index-test.true) c.follow-index.result.0 c.follow-index.ensures.index
+      c.follow-index.ensures.child refl
+      c.loop-index.invariant.0.way;
+  height = deeper-low (g.met.C.Comparator.total c.args.comp.now) c.requires.union.1.capacity c.loop-index.invariant.0.on c.node.ensures.value
+      (c.is_inner.ensures.inner.0 c.loop-index-test.true);
+  index = digit-low (g.met.C.Comparator.total c.args.comp.now) c.requires.union.1.capacity c.loop-index.invariant.0.on c.node.ensures.value
+      (c.is_inner.ensures.inner.0 c.loop-index-test.true) _ c.follow-index.ensures.index
+      c.follow-index.ensures.child;
+}
 
 pub goes_along-requires : goal.goes_along-requires
 goes_along-requires g c = (
   search rules,
   along-asks (g.met.C.Comparator.total c.args.comp.now)
       c.requires.union.1.capacity c.loop-index.invariant.0.on c.node.ensures.value
-      (c.is_inner.ensures.inner.0 c.loop-index-test.true) c.follow-index.result.0 c.follow-index.ensures.index
+      (c.is_inner.ensures.inner.0 c.loop-index-test.true) _ c.follow-index.ensures.index
       c.follow-index.ensures.child,
 )
 
 pub find_below-first-requires : goal.find_below-first-requires
 find_below-first-requires g c =
-    let d = down (g.met.C.Comparator.total c.args.comp.now)
-    c.requires.union.1.capacity c.loop-index.invariant.0.on c.node.ensures.value
+    let d = down (g.met.C.Comparator.total c.args.comp.now) c.requires.union.1.capacity c.loop-index.invariant.0.on c.node.ensures.value
     (c.is_inner.ensures.inner.0 c.loop-index-test.true) c.follow-index.result.0 c.follow-index.ensures.index
     c.follow-index.ensures.child refl
     c.loop-index.invariant.0.way c.below-next.result c.below-next.ensures.code c.below-next.ensures.parent c.below-next.ensures.grand
@@ -61,8 +53,7 @@ find_below-first-requires g c =
 
 pub find_below-requires : goal.find_below-requires
 find_below-requires g c =
-    let a = asks (g.met.C.Comparator.total c.args.comp.now)
-    c.requires.union.1.capacity c.loop-index.invariant.0.on c.node.ensures.value
+    let a = asks (g.met.C.Comparator.total c.args.comp.now) c.requires.union.1.capacity c.loop-index.invariant.0.on c.node.ensures.value
     (c.is_inner.ensures.inner.0 c.loop-index-test.true) in
     let w = c.loop-index.invariant.1
     (c.goes_along.ensures.ordered c.if-not-goes_along.true c.args.from a.0 a.1 a.2 (c.follow-index.ensures.index a.0 a.1 a.2)) in
@@ -72,14 +63,12 @@ pub returns-then-not-goes_along : goal.returns-then-not-goes_along
 returns-then-not-goes_along g c =
     let leaves = (tree_of c.args.pool.now.nodes c.args.root).leaves in
     let w = c.loop-index.invariant.0 in
-    let d = came-on c.args.pool.now c.args.root c.args.from w
-    (down (g.met.C.Comparator.total c.args.comp.now)
+    let d = came-on c.args.pool.now c.args.root c.args.from w (down (g.met.C.Comparator.total c.args.comp.now)
     c.requires.union.1.capacity w.on c.node.ensures.value
     (c.is_inner.ensures.inner.0 c.loop-index-test.true) c.follow-index.result.0 c.follow-index.ensures.index
     c.follow-index.ensures.child refl w.way c.below-next.result c.below-next.ensures.code
     c.below-next.ensures.parent c.below-next.ensures.grand c.below-next.ensures.height) in
-    let a = asks (g.met.C.Comparator.total c.args.comp.now)
-    c.requires.union.1.capacity w.on c.node.ensures.value
+    let a = asks (g.met.C.Comparator.total c.args.comp.now) c.requires.union.1.capacity w.on c.node.ensures.value
     (c.is_inner.ensures.inner.0 c.loop-index-test.true) in
     let u = c.loop-index.invariant.1
     (c.goes_along.ensures.ordered c.if-not-goes_along.true c.args.from a.0 a.1 a.2 (c.follow-index.ensures.index a.0 a.1 a.2)) in
@@ -98,7 +87,6 @@ returns-then-not-goes_along g c =
 pub loop-index-smaller : goal.loop-index-smaller
 loop-index-smaller g c = omega (
   arith,
-  c.below-next.ensures.height,
   deeper-low (g.met.C.Comparator.total c.args.comp.now)
       c.requires.union.1.capacity c.loop-index.invariant.0.on c.node.ensures.value
       (c.is_inner.ensures.inner.0 c.loop-index-test.true),
@@ -132,12 +120,10 @@ pub returns : goal.returns
 returns g c =
     let w = c.loop-index.invariant.0 in
     let u = c.loop-index.invariant.1 (ap is_gt (sym c.cmp.ensures) ∙ sym c.is_gt.ensures ∙ c.if-is_gt.false) in
-    let e = came-end c.args.pool.now c.args.root c.args.from w
-    (ends-on (g.met.C.Comparator.total c.args.comp.now)
+    let e = came-end c.args.pool.now c.args.root c.args.from w (ends-on (g.met.C.Comparator.total c.args.comp.now)
     c.requires.union.1.capacity w.on c.node.ensures.value
     (λ i. false≢true (sym c.loop-index-test.false ∙ c.is_inner.ensures.inner.1 i)) w.way) in
-    let h = came-end c.args.pool.now c.args.root c.args.to u
-    (ends-on (g.met.C.Comparator.total c.args.comp.now)
+    let h = came-end c.args.pool.now c.args.root c.args.to u (ends-on (g.met.C.Comparator.total c.args.comp.now)
     c.requires.union.1.capacity u.on c.node.ensures.value
     (λ i. false≢true (sym c.loop-index-test.false ∙ c.is_inner.ensures.inner.1 i)) u.way) in
     record {

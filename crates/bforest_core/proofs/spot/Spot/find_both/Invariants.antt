@@ -1,6 +1,4 @@
-use Rattle.std.proofs.Common.{◌-◌, ◌≡◌, false}
-use Rattle.std.specs.Ordering.{is_gt}
-use Rattle.bforest_core.proofs.walks.Searches.{CameTo}
+use Rattle.bforest_core.proofs.{Words.{is_gt, ◌-◌, ◌≡◌, false}, walks.Searches.CameTo}
 use Rattle.bforest_core.proofs.spot.Spot.find_both.Given as goal
 
 abbrev pub invariant-loop-index : goal.invariant-loop-index

@@ -1,5 +1,4 @@
-use Rattle.std.proofs.Common.{refl, rules, sym, ◌∙◌}
-use Rattle.bforest_core.proofs.{Words.{false≢true, slice_get_within}, walks.CodesDown.{first-here, first-of, root-held, root-under}}
+use Rattle.bforest_core.proofs.{Words.{refl, rules, sym, ◌∙◌, false≢true, slice_get_within}, walks.CodesDown.{first-here, first-of, root-held, root-under}}
 use Rattle.bforest_core.proofs.spot.Spot.first.Goals as goal
 
 pub node-requires : goal.node-requires

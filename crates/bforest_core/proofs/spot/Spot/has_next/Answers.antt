@@ -1,5 +1,5 @@
-use Rattle.std.proofs.Common.{rules, ◌+◌, ◌%◌, inl, inr, sym, ◌∙◌, arith}
-use Rattle.bforest_core.proofs.{Words.{cases_lt, false≢true, lt-ltb, ltb-true}, walks.Codes.{spot-count, spot-has, spot-last}}
+use Rattle.bforest_core.proofs.Words.{rules, ◌+◌, ◌%◌, inl, inr, sym, ◌∙◌, arith, cases_lt, false≢true, lt-ltb, ltb-true}
+use Rattle.bforest_core.proofs.walks.Codes.{spot-count, spot-has, spot-last}
 use Rattle.bforest_core.proofs.spot.Spot.has_next.Goals as goal
 
 pub child_count-requires : goal.child_count-requires

@@ -1,6 +1,5 @@
-use Rattle.std.proofs.Common.{rules, refl, arith, ◌<◌}
-use Rattle.bforest_core.proofs.{Words.{tree_of, heads}, walks.Codes.{last-leaf, spot-height, spot-low, spot-over}, walks.Cousins.{cousin, cousin-asks}}
-use Rattle.bforest_core.proofs.walks.Cousins.{far-behind, grand-count, parent-asks, same-spot}
+use Rattle.bforest_core.proofs.{Words.{rules, refl, arith, tree_of, heads}, walks.Codes.{last-leaf, spot-height, spot-low, spot-over}}
+use Rattle.bforest_core.proofs.walks.Cousins.{cousin, cousin-asks, far-behind, grand-count, parent-asks, same-spot}
 use Rattle.bforest_core.proofs.spot.Spot.next_cousin.Goals as goal
 
 pub child_count-requires : goal.child_count-requires
@@ -12,10 +11,13 @@ child-parent-requires g c = (search rules, parent-asks c.requires.union c.requir
 pub child-leaf-requires : goal.child-leaf-requires
 child-leaf-requires g c = (search rules, cousin-asks c.requires.union c.requires.spot.1 c.requires.deep c.requires.last c.child_count.ensures.value c.if-index-child_count.true c.child-parent.ensures)
 
-pub returns-then-index-child_count-clause-some : goal.returns-then-index-child_count-clause-some
-returns-then-index-child_count-clause-some g c = λ place s.
-    cousin c.requires.union s c.requires.deep c.requires.last c.child_count.ensures.value c.if-index-child_count.true c.child-parent.ensures refl refl refl refl
-    c.child-leaf.ensures
+pub returns-then-index-child_count : goal.returns-then-index-child_count
+returns-then-index-child_count g c = record {
+  some = λ place s.
+      cousin c.requires.union s c.requires.deep c.requires.last c.child_count.ensures.value c.if-index-child_count.true c.child-parent.ensures refl refl refl refl
+      c.child-leaf.ensures;
+  none = λ bad. absurd (let no = bad in cc);
+}
 
 pub next_far-requires : goal.next_far-requires
 next_far-requires g c =
@@ -34,12 +36,10 @@ next_far-requires g c =
     )
 
 pub overflow_mul-spot : goal.overflow_mul-spot
-overflow_mul-spot g c =
-    let low : c.args.self.now.code < 281474976710656 = spot-low c.requires.union c.requires.spot.1 in
-    omega (arith, low)
+overflow_mul-spot g c = omega (arith, spot-low c.requires.union c.requires.spot.1)
 
 pub returns-in_err-far-clause-none : goal.returns-in_err-far-clause-none
-returns-in_err-far-clause-none g c = λ none place s. last-leaf c.requires.union c.args.root s.root_is
+returns-in_err-far-clause-none g c = λ none place s. last-leaf c.requires.union _ s.root_is
     (c.next_far.ensures.next.none c.in_err-far.was s.numbers (tree_of c.args.pool.now.nodes c.args.root).above
     (heads (tree_of c.args.pool.now.nodes c.args.root).leaves) place (spot-over c.requires.union s))
 
@@ -52,9 +52,4 @@ pub overflow_add-index : goal.overflow_add-index
 overflow_add-index g c = omega arith
 
 pub overflow_add-spot : goal.overflow_add-spot
-overflow_add-spot g c =
-    let low : c.args.self.now.code < 281474976710656 = spot-low c.requires.union c.requires.spot.1 in
-    omega (arith, low)
-
-pub returns-then-index-child_count-clause-none : goal.returns-then-index-child_count-clause-none
-returns-then-index-child_count-clause-none g c = λ bad. absurd (let no = bad in cc)
+overflow_add-spot g c = omega (arith, spot-low c.requires.union c.requires.spot.1)

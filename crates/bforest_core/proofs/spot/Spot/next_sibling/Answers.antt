@@ -1,5 +1,4 @@
-use Rattle.std.proofs.Common.{rules, arith, refl}
-use Rattle.bforest_core.proofs.{walks.Codes.spot-low, walks.Cousins.{sibling-asks, sibling-behind}}
+use Rattle.bforest_core.proofs.{Words.{rules, arith, refl}, walks.Codes.spot-low, walks.Cousins.{sibling-asks, sibling-behind}}
 use Rattle.bforest_core.proofs.spot.Spot.next_sibling.Goals as goal
 
 pub child-leaf-requires : goal.child-leaf-requires

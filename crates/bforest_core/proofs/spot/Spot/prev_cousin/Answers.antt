@@ -1,6 +1,5 @@
-use Rattle.std.proofs.Common.{rules, refl, arith, ◌<◌}
-use Rattle.bforest_core.proofs.{Words.{tree_of, heads}, walks.Cousins.{cousin-before, cousin-before-asks, cousin-last-asks, far-before, parent-before-asks}}
-use Rattle.bforest_core.proofs.{walks.Cousins.same-spot, walks.Codes.{spot-height, spot-low, spot-over}}
+use Rattle.bforest_core.proofs.{Words.{rules, refl, arith, tree_of, heads}, walks.Codes.{spot-height, spot-low, spot-over}}
+use Rattle.bforest_core.proofs.walks.Cousins.{cousin-before, cousin-before-asks, cousin-last-asks, far-before, parent-before-asks, same-spot}
 use Rattle.bforest_core.proofs.spot.Spot.prev_cousin.Goals as goal
 
 pub prev_far-requires : goal.prev_far-requires
@@ -46,25 +45,21 @@ child-leaf-requires g c = (
       c.last_index-last.ensures.last,
 )
 
-pub returns-then-index-gt0-clause-some : goal.returns-then-index-gt0-clause-some
-returns-then-index-gt0-clause-some g c = λ place s.
-    cousin-before c.requires.union s c.requires.deep c.requires.first c.if-index-gt0.true c.child-parent.ensures c.last_index-last.ensures.last refl refl refl refl c.child-leaf.ensures
-
-pub returns-then-index-gt0-clause-none : goal.returns-then-index-gt0-clause-none
-returns-then-index-gt0-clause-none g c = λ bad. absurd (let no = bad in cc)
+pub returns-then-index-gt0 : goal.returns-then-index-gt0
+returns-then-index-gt0 g c = record {
+  some = λ place s.
+      cousin-before c.requires.union s c.requires.deep c.requires.first c.if-index-gt0.true c.child-parent.ensures c.last_index-last.ensures.last refl refl refl refl c.child-leaf.ensures;
+  none = λ bad. absurd (let no = bad in cc);
+}
 
 pub overflow_add-spot : goal.overflow_add-spot
-overflow_add-spot g c =
-    let low : c.args.self.now.code < 281474976710656 = spot-low c.requires.union c.requires.spot.1 in
-    omega (arith, low, c.last_index-last.ensures.most)
+overflow_add-spot g c = omega (arith, spot-low c.requires.union c.requires.spot.1, c.last_index-last.ensures.most)
 
 pub overflow_sub-index : goal.overflow_sub-index
-overflow_sub-index g c = omega (arith, c.if-index-gt0.true)
+overflow_sub-index g c = omega arith
 
 pub overflow_sub-spot : goal.overflow_sub-spot
-overflow_sub-spot g c = omega (arith, c.if-index-gt0.true)
+overflow_sub-spot g c = omega arith
 
 pub overflow_mul-spot : goal.overflow_mul-spot
-overflow_mul-spot g c =
-    let low : c.args.self.now.code < 281474976710656 = spot-low c.requires.union c.requires.spot.1 in
-    omega (arith, low)
+overflow_mul-spot g c = omega (arith, spot-low c.requires.union c.requires.spot.1)

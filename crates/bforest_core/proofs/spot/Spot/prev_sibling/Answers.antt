@@ -1,5 +1,4 @@
-use Rattle.std.proofs.Common.{rules, refl}
-use Rattle.bforest_core.proofs.walks.Cousins.{before-asks, sibling-before}
+use Rattle.bforest_core.proofs.{Words.{rules, refl}, walks.Cousins.{before-asks, sibling-before}}
 use Rattle.bforest_core.proofs.spot.Spot.prev_sibling.Goals as goal
 
 pub child-leaf-requires : goal.child-leaf-requires
