@@ -30,16 +30,23 @@ module _ {V : Type 0} (most : ℕ) (reads : Bool) (shown : Answer ℕ V → List
       × (Live old h → text ≡ counts_text (length (sizes_of old.forest (number_at old h))) (slots_of old.forest) (free_of old.forest))
       × (new ≡ old)
 
--- the answer to the words of a line, for maps and for sets
+  -- the answer to the words of a line
+  abbrev pub TellsBy : (List Word → Line V → Type 0) → State ℕ V → List Word → List ℕ → State ℕ V → Type 0
+  TellsBy spells old words text new = (line : Line V) × spells words line × Tells old line text new
+
+-- words that spell no line
+abbrev pub IsBadBy : {V : Type 0} → (List Word → Line V → Type 0) → List Word → Type 0
+IsBadBy {V} spells words = (line : Line V) → spells words line → ⊥
+
+-- both, for maps and for sets
 abbrev pub MapTells : State ℕ ℕ → List Word → List ℕ → State ℕ ℕ → Type 0
-MapTells old words text new = (line : Line ℕ) × SpellsMap words line × Tells 7 true map_text old line text new
+MapTells = TellsBy 7 true map_text SpellsMap
 
 abbrev pub SetTells : State ℕ (Unit {0}) → List Word → List ℕ → State ℕ (Unit {0}) → Type 0
-SetTells old words text new = (line : Line (Unit {0})) × SpellsSet words line × Tells 15 false set_text old line text new
+SetTells = TellsBy 15 false set_text SpellsSet
 
--- words that spell no line, for maps and for sets
 abbrev pub IsBadForMaps : List Word → Type 0
-IsBadForMaps words = (line : Line ℕ) → SpellsMap words line → ⊥
+IsBadForMaps = IsBadBy SpellsMap
 
 abbrev pub IsBadForSets : List Word → Type 0
-IsBadForSets words = (line : Line (Unit {0})) → SpellsSet words line → ⊥
+IsBadForSets = IsBadBy SpellsSet

@@ -4,7 +4,7 @@ ghost use Rattle.std.specs.Prelude.{IfNone, IfOk, IfSome, List, map, string_byte
 use std::alloc::{AllocError, Global};
 
 /// An engine that answers the words of lines, one line after another.
-pub(crate) trait Engine: Drop {
+pub(crate) trait Engine {
     /// Whether these words may have this text as answer, and leave this engine.
     ghost tells: { Self → List (List ℕ) → List ℕ → Self → Type 0 };
 

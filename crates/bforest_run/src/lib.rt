@@ -7,6 +7,7 @@
 mod book_line;
 mod books;
 mod engine;
+mod handles;
 mod line;
 mod lines;
 mod maps;

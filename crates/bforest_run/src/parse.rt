@@ -1,13 +1,16 @@
 //! The lines that words spell.
-ghost use Rattle.bforest_run.specs.Grammar.{Reads, SaysEdit, SaysMap, SaysRange, SaysRead, SaysRetainMap, SaysRetainSet, SaysSet, SpellsMap, SpellsSet};
+ghost use Rattle.bforest_run.specs.Grammar.{Reads, SaysEdit, SaysMap, SaysRange, SaysRead, SaysRetainMap, SaysRetainSet, SaysSet, Spells};
 ghost use Rattle.bforest_run.specs.Grammar.{all_of, entry_of, keyed_of, lone_of, map_act_of, set_act_of, pair_of, range_of, retained_map_of, retained_set_of, script_of, side_of, simple_of, verbs};
 ghost use Rattle.bforest_calls.specs.declared.call.Call.TheVariants as call;
-ghost use Rattle.bforest_run.specs.Words.{row_of};
+ghost use Rattle.bforest_run.specs.Words.{Word, row_of};
 ghost use Rattle.bforest_run.specs.declared.line.Line.TheVariants.{Made};
-ghost use Rattle.std.specs.Prelude.{IfOk, IfSome, map, option_map, ◌<◌, ◌≡◌};
+ghost use Rattle.bforest_run.specs.declared.line.Line.{Line};
+ghost use Rattle.bforest_run.specs.declared.line.Verb.{Verb};
+ghost use Rattle.std.specs.Prelude.{IfOk, IfSome, List, map, option_map, ◌<◌, ◌≡◌};
 
 use crate::line::{Line, Verb};
 use crate::named::{Named, all_named};
+use crate::shown_answer::Shows;
 use crate::word::{bound_named, handle_named, number, order_named, put_named};
 use bforest_calls::{Act, Call, Look, Side};
 use std::alloc::{AllocError, Global};
@@ -180,30 +183,41 @@ fn side_named(letter: u8) -> Option<Side>
     }
 }
 
-/// The line that the words spell, for maps, or `None` where it is bad.
-pub(crate) fn map_line(alloc: Global, words: &[&str]) -> Result<Option<Line<u32>>, AllocError>
-    ensures { IfOk result (Reads (SpellsMap (map (λ w. w.now) words.now))) }
+/// The value of an entry, as lines spell it: a number for maps, and nothing for sets.
+pub(crate) trait Spelled: Shows {
+    // The line that the words behind its verb spell.
+    ghost says: { Verb → List Word → Line Self → Type 0 };
+
+    /// The line that the words behind its verb spell, or `None` where it is bad.
+    fn line_of(alloc: Global, verb: Verb, words: &[&str]) -> Result<Option<Line<Self>>, AllocError>
+        ensures { IfOk result (Reads (says verb (map (λ w. w.now) words.now))) };
+}
+
+/// The line that the words spell, or `None` where it is bad.
+pub(crate) fn line<V: Spelled>(alloc: Global, words: &[&str]) -> Result<Option<Line<V>>, AllocError>
+    ensures { IfOk result (Reads (Spells V.says (map (λ w. w.now) words.now))) }
 {
     let [verb, words @ ..] = words else {
         return Ok(None);
     };
     match verb_named(verb) {
-        Some(verb) => map_line_of(alloc, verb, words),
+        Some(verb) => V::line_of(alloc, verb, words),
         None => Ok(None),
     }
 }
 
-/// The line that the words behind its verb spell, for maps.
-fn map_line_of(alloc: Global, verb: Verb, words: &[&str]) -> Result<Option<Line<u32>>, AllocError>
-    ensures { IfOk result (Reads (SaysMap verb (map (λ w. w.now) words.now))) }
-{
-    match verb {
-        Verb::Insert => Ok(map_insertion(words)),
-        Verb::Range => ranging(alloc, words),
-        Verb::Read => reading(alloc, words),
-        Verb::Edit => map_editing(alloc, words),
-        Verb::Retain => map_retaining(alloc, words),
-        _ => Ok(simple(verb, words)),
+impl Spelled for u32 {
+    ghost says = { SaysMap };
+
+    fn line_of(alloc: Global, verb: Verb, words: &[&str]) -> Result<Option<Line<u32>>, AllocError> {
+        match verb {
+            Verb::Insert => Ok(map_insertion(words)),
+            Verb::Range => ranging(alloc, words),
+            Verb::Read => reading(alloc, words),
+            Verb::Edit => map_editing(alloc, words),
+            Verb::Retain => map_retaining(alloc, words),
+            _ => Ok(simple(verb, words)),
+        }
     }
 }
 
@@ -287,29 +301,17 @@ fn map_retaining(alloc: Global, words: &[&str]) -> Result<Option<Line<u32>>, All
     Ok(Some(Line::Made(Call::Retain { h, c, keys, put })))
 }
 
-/// The line that the words spell, for sets, or `None` where it is bad.
-pub(crate) fn set_line(alloc: Global, words: &[&str]) -> Result<Option<Line<()>>, AllocError>
-    ensures { IfOk result (Reads (SpellsSet (map (λ w. w.now) words.now))) }
-{
-    let [verb, words @ ..] = words else {
-        return Ok(None);
-    };
-    match verb_named(verb) {
-        Some(verb) => set_line_of(alloc, verb, words),
-        None => Ok(None),
-    }
-}
+impl Spelled for () {
+    ghost says = { SaysSet };
 
-/// The line that the words behind its verb spell, for sets.
-fn set_line_of(alloc: Global, verb: Verb, words: &[&str]) -> Result<Option<Line<()>>, AllocError>
-    ensures { IfOk result (Reads (SaysSet verb (map (λ w. w.now) words.now))) }
-{
-    match verb {
-        Verb::Insert => Ok(set_insertion(words)),
-        Verb::Range => ranging(alloc, words),
-        Verb::Edit => set_editing(alloc, words),
-        Verb::Retain => set_retaining(alloc, words),
-        _ => Ok(simple(verb, words)),
+    fn line_of(alloc: Global, verb: Verb, words: &[&str]) -> Result<Option<Line<()>>, AllocError> {
+        match verb {
+            Verb::Insert => Ok(set_insertion(words)),
+            Verb::Range => ranging(alloc, words),
+            Verb::Edit => set_editing(alloc, words),
+            Verb::Retain => set_retaining(alloc, words),
+            _ => Ok(simple(verb, words)),
+        }
     }
 }
 

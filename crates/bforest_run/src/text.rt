@@ -9,9 +9,9 @@ ghost use Rattle.std.specs.Prelude.{Err, IfErr, IfOk, IfSome, List, OnErr, OnOk,
 
 use crate::engine::Engine;
 use crate::lines::Lines;
-use crate::maps::Maps;
+use crate::maps::maps;
 use crate::reply::Reply;
-use crate::sets::Sets;
+use crate::sets::sets;
 use crate::stop::Stop;
 use crate::word::words_in;
 use interval_books::Books;
@@ -74,8 +74,8 @@ pub fn run_text<R: Read, W: Write>(
         (W.contents output.old) (W.contents output.new) result) }
 {
     match kind {
-        Kind::Map => run(alloc, &mut Maps::new(alloc, limit), input, output),
-        Kind::Set => run(alloc, &mut Sets::new(alloc, limit), input, output),
+        Kind::Map => run(alloc, &mut maps(alloc, limit), input, output),
+        Kind::Set => run(alloc, &mut sets(alloc, limit), input, output),
         Kind::Books(count) => run_books(alloc, count, input, output),
     }
 }
