@@ -1,16 +1,7 @@
 use Rattle.bforest_trees.proofs.Measures.{depth-four}
 use Rattle.bforest.proofs.map.Map.levels.Goals as goal
-use Rattle.bforest.specs.Forest.{list_of}
-use Rattle.std.proofs.Common.{length}
 
-pub returns-clause-depth : goal.returns-clause-depth
-returns-clause-depth g c = λ two. rw (← c.self.view_is, ← c.forest.view_is) (depth-four c.levels.result (length (list_of c.forest.inside.trees c.self.inside.root)) two (c.levels.ensures.depth two))
-
-pub returns-clause-leaves : goal.returns-clause-leaves
-returns-clause-leaves g c = rw (← c.self.view_is, ← c.forest.view_is) c.levels.ensures.leaves
-
-pub returns-clause-count : goal.returns-clause-count
-returns-clause-count g c = rw (← c.self.view_is, ← c.forest.view_is) c.levels.ensures.count
-
-pub returns-clause-most : goal.returns-clause-most
-returns-clause-most g c = c.levels.ensures.most
+pub returns : goal.returns
+returns g c = rw (← c.self.view_is, ← c.forest.view_is) (
+    let told = c.levels.ensures in
+    record { count = told.count; depth = λ two. depth-four _ _ two (told.depth two); leaves = told.leaves; most = told.most })
