@@ -17,8 +17,7 @@ module _ {K X : Type 0} where
   -- a row fits after an insertion into a node with room
   pub FitRow-put : (half most : ℕ) (before after : Row K X) (m es fs : _) → length fs ≡ suc (length es) → length es < most → FitRow half most (before ++ node m es ∷ after) → FitRow half most (before ++ node m fs ∷ after)
   FitRow-put half most before after m es fs more lt f =
-      let s = FitRow-split half most before (node m es) after f in
-      FitRow-join half most before (node m fs) after s.0 (omega arith, omega arith, s.1.2)
+      let s = FitRow-split half most before (node m es) after f in FitRow-join half most before (node m fs) after s.0 (omega arith, omega arith, s.1.2)
 
   -- splitting a node keeps the entries of the row
   pub flat-halved : (before after : Row K X) (m n xs ys : _) → flat (before ++ node m xs ∷ node n ys ∷ after) ≡ flat before ++ ((xs ++ ys) ++ flat after)
@@ -28,11 +27,9 @@ module _ {K X : Type 0} where
   pub heads-halved : (before after : Row K X) (m n : ℕ) (x : K × X) (xs : List (K × X)) (y : K × X) (ys : List (K × X)) (key : K) → key ≡ y.0 → heads (before ++ node m (x ∷ xs) ∷ node n (y ∷ ys) ∷ after) ≡ heads before ++ (x.0, m) ∷ (key, n) ∷ heads after
   heads-halved before after m n x xs y ys key is = rw (heads-append _ _, is) refl
 
-  pub FitRow-halved : (half most : ℕ) (before after : Row K X) (m n es xs ys : _) → 1 ≤ half
-      → FitRow half most (before ++ node m es ∷ after) → half ≤ length xs → length xs ≤ most → half ≤ length ys → length ys ≤ most
-      → FitRow half most (before ++ node m xs ∷ node n ys ∷ after)
-  FitRow-halved half most before after m n es xs ys one f hx mx hy my =
-      let s = FitRow-split half most before (node m es) after f in
+  pub FitRow-halved : (half most : ℕ) (before after : Row K X) (m n es xs ys : _) → 1 ≤ half → FitRow half most (before ++ node m es ∷ after) → half ≤ length xs
+      → length xs ≤ most → half ≤ length ys → length ys ≤ most → FitRow half most (before ++ node m xs ∷ node n ys ∷ after)
+  FitRow-halved half most before after m n es xs ys one f hx mx hy my = let s = FitRow-split half most before (node m es) after f in
       FitRow-join half most before (node m xs) (node n ys ∷ after) s.0 (hx, mx, (omega (arith, least-le half one after), my, s.1.2))
 
 module _ {K X : Type 0} where
@@ -48,8 +45,7 @@ module _ {K X : Type 0} where
   )
 
   pub in_right : (before after n right xs ys m j p : _) → length (heads before) ≡ length before → m ≡ right → j < length ys → p ≡ length (flat before) + (length xs + j) → InHalf before n right xs ys after m j p true
-  in_right before after n right xs ys m j p seen here within place =
-      let front = before ++ node n xs ∷ [] in
+  in_right before after n right xs ys m j p seen here within place = let front = before ++ node n xs ∷ [] in
       let flat_front : length (flat front) ≡ length (flat before) + length xs = ap length (flat-append before (node n xs ∷ [])) ∙ length-append _ _ ∙ ap (λ z. length (flat before) + length z) (append-nil xs) in (
         record { before = front; entries = ys; after = after; row_is = cc (append_assoc _ _ _); within = within; place_is = omega arith },
         length-append before (node n xs ∷ []) ∙ omega arith,

@@ -44,10 +44,7 @@ module _ {K V X : Type 0} (kind : List K → List X → Content K V) where
 between : {A : Type 0} (p q l r : List A) → p ++ q ≡ l ++ r → length l ≤ length p → (mid : List A) × (p ≡ l ++ mid) × (r ≡ mid ++ q)
 between p q [] r e low = (p, refl, sym e)
 between [] q (z ∷ l) r e low = absurd (omega arith)
-between (y ∷ p) q (z ∷ l) r e low =
-    let t : p ++ q ≡ l ++ r = cc in
-    let w = between p q l r t (omega arith) in
-    (w.0, cc, w.2)
+between (y ∷ p) q (z ∷ l) r e low = let t : p ++ q ≡ l ++ r = cc in let w = between p q l r t (omega arith) in (w.0, cc, w.2)
 
 module _ {K V X : Type 0} (content : List (K × X) → Content K V) where
   -- two nodes in slots, the right one in what was the front of the chain
@@ -99,11 +96,9 @@ module _ {K V X : Type 0} (content : List (K × X) → Content K V) where
 
     -- `split_node` leaves the node split over two slots
     pub split_at : (right : ℕ) → Cuts parts.lhs_entries → parts.lhs_entries < length es → count n t.chain ≡ 0 → front_of t.chain ≡ Some right → right < length s.nodes → Split t s n right parts.lhs_entries es parts.crit_key
-    split_at right cuts less none front low =
-        let c = cut es parts.lhs_entries less in
+    split_at right cuts less none front low = let c = cut es parts.lhs_entries less in
         let p = cuts c.l c.x c.r sp.left_half_is sp.right_half_is parts.crit_key c.place_is (subst (λ v. IsCut v parts.lhs_entries sp.left_half_is parts.crit_key sp.right_half_is) (cc (whole_is)) sp.cut) in
-        let mid = with_front t t.chain sp.right_half_is in
-        let size = ap (λ v. length v.nodes) sp.after ∙ length-set _ n _ ∙ length-with_front t _ _ in
+        let mid = with_front t t.chain sp.right_half_is in let size = ap (λ v. length v.nodes) sp.after ∙ length-set _ n _ ∙ length-with_front t _ _ in
         let w = takes t mid right sp.right_half_is front refl (omega arith) in
         let ne : n ≢ right = λ v. let h = ap (λ k. count k t.chain) v in omega (arith, ap (λ k. count right k) w.chain_is, count-same right mid.chain) in
         let put = puts _ s n _ _ (w.same n ne ∙ was) sp.after in
@@ -156,8 +151,7 @@ module _ {K V X : Type 0} (content : List (K × X) → Content K V) where
     pub into_left : (l l2 r : _) → es ≡ l ++ r → grown ≡ l2 ++ r → length l2 ≡ suc (length l) → length l ≤ q → suc q ≡ left_count → q + right_count ≡ length es →
         ((mid : _) → write (content (l ++ mid)) ≡ content (l2 ++ mid)) → u ≡ with_node s n (write (content sp.zs)) → Halves t u n right middle grown left_count right_count
     into_left l l2 r es_is grown_is more low left_is right_is wrote after =
-        let w = between sp.zs (sp.y ∷ sp.ys) l r (sym sp.es_is ∙ es_is) (omega (arith, sp.count_is)) in
-        let put = puts s u n _ _ sp.two.here (cc (wrote w.0)) in
+        let w = between sp.zs (sp.y ∷ sp.ys) l r (sym sp.es_is ∙ es_is) (omega (arith, sp.count_is)) in let put = puts s u n _ _ sp.two.here (cc (wrote w.0)) in
         halves _ _ _ _ _ _ (cc (grown_is, append_assoc _ _ _))
         (omega (arith, length-append l2 w.0, length-append l w.0, ap length w.1, sp.count_is, left_is))
         (omega (arith, ap length sp.es_is, length-append sp.zs (sp.y ∷ sp.ys), sp.count_is, right_is)) (omega (arith, left_is)) (ap (λ v. (v, right) ∷ []) (sym sp.key_is))
@@ -169,8 +163,7 @@ module _ {K V X : Type 0} (content : List (K × X) → Content K V) where
         u ≡ with_node s right (write (content (sp.y ∷ sp.ys))) → Halves t u n right first grown left_count right_count
     into_right first l r r2 es_is grown_is more high some left_is right_is wrote after =
         let w = between l r sp.zs (sp.y ∷ sp.ys) (sym es_is ∙ sp.es_is) (omega (arith, sp.count_is)) in
-        let there = wrote w.0 (omega (arith, ap length w.1, length-append sp.zs w.0, sp.count_is)) in
-        let put = puts s u _ _ _ sp.two.there (cc (there.0)) in
+        let there = wrote w.0 (omega (arith, ap length w.1, length-append sp.zs w.0, sp.count_is)) in let put = puts s u _ _ _ sp.two.there (cc (there.0)) in
         halves _ _ _ _ _ _ (cc (grown_is, append_assoc _ _ _)) (sp.count_is ∙ left_is)
         (omega (arith, length-append w.0 r2, length-append w.0 r, ap length w.2, ap length sp.es_is, length-append sp.zs (sp.y ∷ sp.ys), sp.count_is, right_is))
         (omega (arith, left_is)) (there.1 w.2)

@@ -28,8 +28,7 @@ module _ {K V : Type 0} where
     module _ (u : Table K V) (key : K) (value : V) (put : Bool) (has : HasRoom Leaf (λ keys vals. length keys) cap t (get_or ms 0 r) put) (wrote : Written Leaf (λ z. with_entry z (get_or js 0 0) key value) t u (get_or ms 0 r) put) where
       -- a successful insertion leaves the tree with the entry inserted
       pub put_inserts : put ≡ true → Inserted cap t u ms js size tree place (key, value)
-      put_inserts done =
-          let es = d.l ++ d.r in
+      put_inserts done = let es = d.l ++ d.r in
           let fewer : length (entry_keys es) < cap = put_fewer _ t _ _ num_is _ _ d.slot_is u (λ keys vals. length keys) _ (λ z. with_entry z (get_or js 0 0) key value) _ has wrote done in
           let after = put_in _ t _ _ num_is _ _ d.slot_is u (λ keys vals. length keys) _ (λ z. with_entry z (get_or js 0 0) key value) _ has wrote fewer ∙ ap (λ z. with_node t (get_or ms 0 0) z) (with_entry_is V _ _ _ _ _ d.index_is) in
           put_leaf _ p d (omega (arith, keys_count es)) (puts t u _ _ _ d.slot_is after)
@@ -68,16 +67,17 @@ module _ {K V : Type 0} where
           early_asks =
               asks_put _ s _ _ num_is _ _ low_cut.two.here _ (left_used leaf_content s low_cut.two d.none_chain) (omega (arith, keys_count low_cut.zs, low_cut.count_is, low_is))
 
-          pub early_halves : (u key value put : _) → HasRoom Leaf (λ keys vals. length keys) cap s (get_or ms 0 r) put
-              → Written Leaf (λ z. with_entry z (get_or js 0 0) key value) s u (get_or ms 0 r) put
-              → LeafHalved cap t u ms ms js size tree place (key, value) parts.crit_key right false
+          pub early_halves : (u key value put : _) → HasRoom Leaf (λ keys vals. length keys) cap s (get_or ms 0 r) put → Written Leaf (λ z. with_entry z (get_or
+              js 0 0) key value) s u (get_or ms 0 r) put → LeafHalved cap t u ms ms js size tree place (key, value) parts.crit_key right false
           early_halves u key value put has puts =
               let written = put_in Leaf s _ _ num_is _ _ low_cut.two.here u (λ keys vals. length keys) cap (λ z. with_entry z (get_or js 0 0) key value) put has puts (omega (arith, keys_count low_cut.zs, low_cut.count_is, low_is, full_is)) in
-              let h = into_left leaf_content u (d.l ++ (key, value) ∷ d.r) low_cut (λ v. with_entry v (get_or js 0 0) key value) (half_of cap) (half_of cap)
-              d.l (d.l ++ (key, value) ∷ []) d.r refl (sym (append_assoc d.l ((key, value) ∷ []) d.r))
-              (omega (arith, length-append d.l ((key, value) ∷ []))) (omega (arith, d.index_is, low_is))
-              (omega (arith, low_is)) (omega (arith, low_is, full_is))
-              (λ mid. cc (with_entry_is V d.l mid key value (get_or js 0 0) d.index_is, append_assoc d.l ((key, value) ∷ []) mid)) written in
+              let h = into_left leaf_content u (d.l ++ (key, value) ∷ d.r) low_cut (λ v. with_entry v (get_or js 0 0) key value) (half_of cap) (half_of cap) d.l
+              (d.l ++ (key, value) ∷ []) d.r refl (sym (append_assoc d.l ((key, value) ∷ []) d.r)) (omega (arith, length-append d.l ((key, value) ∷ []))) (omega
+              (arith, d.index_is, low_is)) (omega (arith, low_is)) (omega (arith, low_is, full_is)) (λ mid. cc (
+                with_entry_is V d.l mid key value (get_or js 0
+                    0) d.index_is,
+                append_assoc d.l ((key, value) ∷ []) mid,
+              )) written in
               leaf_parted ms js (key, value) false capacity p d full_is h (λ i other. refl) (λ i other. refl) seen
               (in_left _ _ _ _ _ _ _ _ seen (omega arith) (omega (arith, d.place_is, d.index_is)))
 
@@ -99,12 +99,9 @@ module _ {K V : Type 0} where
               → Written Leaf (λ z. with_entry z (get_or js 0 0 - parts.lhs_entries) key value) s u right put
               → (get_or js 0 0 - parts.lhs_entries ≡ 0 → first ≡ key) → (0 < get_or js 0 0 - parts.lhs_entries → first ≡ parts.crit_key) →
               1 ≤ length js → LeafHalved cap t u ms (set ms 0 right) (set js 0 (get_or js 0 0 - parts.lhs_entries)) size tree place (key, value) first right true
-          late_halves u key first value put has puts zero more some =
-              let rights = high_cut.y ∷ high_cut.ys in
-              let behind = get_or js 0 0 - parts.lhs_entries in
-              let written = put_in Leaf s right right refl _ _ high_cut.two.there u (λ keys vals. length keys) cap
-              (λ z. with_entry z behind key value) put has puts
-              (omega (arith, keys_count rights, ap length high_cut.es_is, length-append high_cut.zs rights, high_cut.count_is, high_is, full_is)) in
+          late_halves u key first value put has puts zero more some = let rights = high_cut.y ∷ high_cut.ys in let behind = get_or js 0 0 - parts.lhs_entries in
+              let written = put_in Leaf s right right refl _ _ high_cut.two.there u (λ keys vals. length keys) cap (λ z. with_entry z behind key value) put has
+              puts (omega (arith, keys_count rights, ap length high_cut.es_is, length-append high_cut.zs rights, high_cut.count_is, high_is, full_is)) in
               let h = into_right leaf_content u (d.l ++ (key, value) ∷ d.r) high_cut (λ v. with_entry v behind key value) (half_of cap) (half_of cap)
               first d.l d.r ((key, value) ∷ d.r) refl refl refl (omega (arith, d.index_is, late_within)) (omega (arith, high_is)) high_is (omega (arith, high_is, full_is))
               (λ mid is. (let mid_is = is ∙ ap (λ z. z - parts.lhs_entries) d.index_is in (

@@ -13,19 +13,16 @@ use Rattle.bforest_nodes.specs.declared.node.SplitOff.{SplitOff}
 
 module _ {K V : Type 0} where
   -- the split level, except for where the path stands
-  pub parted : {t u : Table K V} {ms js : _} (ms' js' : _) {up size rows a : _}
-      {x : _} (y : _) {b middle right : _} (p moved : _) {big small : ℕ} → (4 ≤ big) × (big ≤ 8) × (4 ≤ small)
-      × (small ≤ 8) → ((after : _) → (if nat_lt (get_or js up 0) 4 then 5 ∷ 4 ∷ after else 4 ∷ 5 ∷ after) ≡ big ∷ small ∷ after)
-      → (d : Spot t ms js up size rows a x b) → length (d.q.l ++ x ∷ d.q.r) ≡ 8 →
-      (h : Halves inner_content t u (get_or ms up 0) right middle (d.q.l ++ x ∷ y ∷ d.q.r) big small) →
-      ((i : ℕ) → i ≢ up → get_or ms' i 0 ≡ get_or ms i 0) → ((i : ℕ) → i ≢ up → get_or js' i 0 ≡ get_or js i 0) →
-      length (heads d.q.before) ≡ length d.q.before → InHalf d.q.before (get_or ms up 0) right (h.z ∷ h.xs) (h.y ∷ h.ys) d.q.after (get_or ms' up 0) (get_or js' up 0) p moved →
-      Halved t u ms js ms' js' up size rows (a ++ x ∷ y ∷ b) (length a) p middle right moved
+  pub parted : {t u : Table K V} {ms js : _} (ms' js' : _) {up size rows a : _} {x : _} (y : _) {b middle right : _} (p moved : _) {big small : ℕ} → (4 ≤ big) ×
+      (big ≤ 8) × (4 ≤ small) × (small ≤ 8) → ((after : _) → (if nat_lt (get_or js up 0) 4 then 5 ∷ 4 ∷ after else 4 ∷ 5 ∷ after) ≡ big ∷ small ∷ after) → (d :
+      Spot t ms js up size rows a x b) → length (d.q.l ++ x ∷ d.q.r) ≡ 8 → (h : Halves inner_content t u (get_or ms up 0) right middle (d.q.l ++ x ∷ y ∷ d.q.r)
+      big small) → ((i : ℕ) → i ≢ up → get_or ms' i 0 ≡ get_or ms i 0) → ((i : ℕ) → i ≢ up → get_or js' i 0 ≡ get_or js i 0) → length (heads
+      d.q.before) ≡ length
+      d.q.before → InHalf d.q.before (get_or ms up 0) right (h.z ∷ h.xs) (h.y ∷ h.ys) d.q.after (get_or ms' up 0) (get_or js' up 0) p moved → Halved
+      t u ms js ms'
+      js' up size rows (a ++ x ∷ y ∷ b) (length a) p middle right moved
   parted {ms} ms' js' {up} {x} y p moved sides halves_are d eight h far_m far_j full at =
-      let q = d.q in
-      let n = get_or ms up 0 in
-      let es = q.l ++ x ∷ q.r in
-      let row = q.before ++ node n es ∷ q.after in
+      let q = d.q in let n = get_or ms up 0 in let es = q.l ++ x ∷ q.r in let row = q.before ++ node n es ∷ q.after in
       let first_is = head-grown n q.l x q.r (y ∷ q.r) ∙ ap (λ z. head_of n z) h.grown_is in
       let hs0 : heads row ≡ heads q.before ++ (h.z.0, n) ∷ heads q.after = heads-append q.before _ ∙ ap (λ z. heads q.before ++ (z ++ heads q.after)) first_is in
       let list_is = ap (λ z. flat q.before ++ z) (append_assoc q.l (x ∷ y ∷ q.r) (flat q.after)) ∙ sym (append_assoc (flat q.before) q.l _) ∙ sym (cc) in
@@ -62,8 +59,7 @@ module _ {K V : Type 0} where
       -- a successful insertion needs one node in all and leaves the rows grown
       pub put_grows : put ≡ true → (moved index : _) → index ≡ (if moved then suc (get_or js up 0) else get_or js up 0) → up < length js →
           GrownBy w (key, child) moved u ms (set js up index) size []
-      put_grows done moved index index_is low_js =
-          let es = d.q.l ++ x ∷ d.q.r in
+      put_grows done moved index index_is low_js = let es = d.q.l ++ x ∷ d.q.r in
           let fewer : length (entry_items es) < 8 = put_fewer _ t _ _ num_is _ _ d.f.slot_is u (λ keys children. length children) 8 (λ z. with_child z (get_or js up 0) key child) _ has wrote done in
           let after = put_in _ t _ _ num_is _ _ d.f.slot_is u (λ keys children. length children) 8 (λ z. with_child z (get_or js up 0) key child) _ has wrote fewer ∙ ap (λ z. with_node t (get_or ms up 0) z) (with_child_is V _ x _ _ _ _ d.q.entry_is) in
           settle_room _ _ _ d (omega (arith, item_count es)) (puts t u _ _ _ d.f.slot_is after)
@@ -96,19 +92,29 @@ module _ {K V : Type 0} where
         early_asks early =
             asks_put _ s _ _ num_is _ _ cut.two.here _ (left_used inner_content s cut.two d.f.none_chain) (omega (arith, key_count cut.zs, cut.count_is, four))
 
-        pub early_halves : (u key child moved put index : _) → get_or js up 0 < 4 → HasRoom Inner (λ keys children. length children) 8 s (get_or ms up r) put
-            → Written Inner (λ z. with_child z (get_or js up 0) key child) s u (get_or ms up r) put
-            → index ≡ (if moved then suc (get_or js up 0) else get_or js up 0) → up < length js →
-            HalvedBy w (key, child) moved u ms (set js up index) parts.crit_key right false
+        pub early_halves : (u key child moved put index : _) → get_or js up 0 < 4 → HasRoom Inner (λ keys children. length children) 8 s (get_or ms up r) put →
+            Written Inner (λ z. with_child z (get_or js up 0) key child) s u (get_or ms up r) put → index ≡ (if moved then suc (get_or js up 0) else
+            get_or js up
+            0) → up < length js → HalvedBy w (key, child) moved u ms (set js up index) parts.crit_key right false
         early_halves u key child moved put index early has puts index_is low_js =
             let written = put_in Inner s _ _ num_is _ _ cut.two.here u (λ keys children. length children) 8 (λ z. with_child z (get_or js up 0) key child) put has puts (omega (arith, item_count cut.zs, cut.count_is, four)) in
             let new : K × ℕ = (key, child) in
-            let h = into_left inner_content u (d.q.l ++ x ∷ new ∷ d.q.r) cut (λ v. with_child v (get_or js up 0) key child) 5 4
-            (d.q.l ++ x ∷ []) (d.q.l ++ x ∷ new ∷ []) d.q.r (sym (append_assoc d.q.l (x ∷ []) d.q.r))
-            (sym (append_assoc d.q.l (x ∷ new ∷ []) d.q.r))
-            (omega (arith, length-append d.q.l (x ∷ []), length-append d.q.l (x ∷ new ∷ [])))
-            (omega (arith, length-append d.q.l (x ∷ []), d.q.entry_is, four)) (omega (arith, four)) (omega (arith, four, eight))
-            (λ mid. cc (append_assoc d.q.l (x ∷ []) mid, with_child_is V d.q.l x mid key child (get_or js up 0) d.q.entry_is, append_assoc d.q.l (x ∷ new ∷ []) mid)) written in
+            let h = into_left inner_content u (d.q.l ++ x ∷ new ∷ d.q.r) cut (λ v. with_child v (get_or js up 0) key child) 5 4 (d.q.l ++ x ∷ []) (d.q.l ++ x ∷
+            new ∷ []) d.q.r (sym (append_assoc d.q.l (x ∷ []) d.q.r)) (sym (append_assoc d.q.l (x ∷ new ∷ []) d.q.r)) (omega (
+              arith,
+              length-append d.q.l (x ∷
+                  []),
+              length-append d.q.l (x ∷ new ∷ []),
+            )) (omega (arith, length-append d.q.l (x ∷ []), d.q.entry_is, four)) (omega (arith, four)) (omega (
+              arith,
+              four,
+              eight,
+            )) (λ mid. cc (
+              append_assoc d.q.l (x ∷ []) mid,
+              with_child_is V d.q.l x mid key child (get_or js up 0) d.q.entry_is,
+              append_assoc d.q.l
+                  (x ∷ new ∷ []) mid,
+            )) written in
             let j_is = get_or-set_same js up index 0 low_js ∙ index_is ∙ step_is moved (get_or js up 0) in
             parted ms (set js up index) new (if moved then suc (length a) else length a) false (omega arith, omega arith, omega arith, omega arith) (λ after. (let a = below_lt (get_or js up 0) 4 early in rw a refl)) d eight h
             (λ i other. refl) (λ i other. get_or-set_other js up i index 0 other) seen
@@ -122,10 +128,10 @@ module _ {K V : Type 0} where
         pub late_asks : PutAsks Inner s right (get_or js up 0 - 4)
         late_asks = asks_put _ s _ _ refl _ _ cut.two.there _ used (omega (arith, key_count (cut.y ∷ cut.ys), index_small, right_is))
 
-        pub late_halves : (u key child moved put index : _) → 4 ≤ get_or js up 0 → HasRoom Inner (λ keys children. length children) 8 s right put
-            → Written Inner (λ z. with_child z (get_or js up 0 - 4) key child) s u right put
-            → index ≡ (if moved then suc (get_or js up 0 - 4) else get_or js up 0 - 4) → up < length js →
-            HalvedBy w (key, child) moved u (set ms up right) (set js up index) parts.crit_key right true
+        pub late_halves : (u key child moved put index : _) → 4 ≤ get_or js up 0 → HasRoom Inner (λ keys children. length children) 8 s right put → Written
+            Inner (λ z. with_child z (get_or js up 0 - 4) key child) s u right put → index ≡ (if moved then suc (get_or js up 0 - 4) else get_or js
+            up 0 - 4) → up
+            < length js → HalvedBy w (key, child) moved u (set ms up right) (set js up index) parts.crit_key right true
         late_halves u key child moved put index late has puts index_is low_js =
             let written = put_in Inner s right right refl _ _ cut.two.there u (λ keys children. length children) 8 (λ z. with_child z (get_or js up 0 - 4) key child) put has puts (omega (arith, item_count (cut.y ∷ cut.ys), right_is)) in
             let h = into_right inner_content u (d.q.l ++ x ∷ (key, child) ∷ d.q.r) cut (λ v. with_child v (get_or js up 0 - 4) key child) 4 5

@@ -28,8 +28,7 @@ gain-low (Some p) hs rows s t few low = climb-seventeen p hs rows s t few low
 module _ {K V : Type 0} where
   -- a tree has no more leaves than there are slots
   leaves_within : {most : ℕ} {table : Table K V} {root tree : _} → Rooted most table root tree → length (heads tree.leaves) ≤ length table.nodes
-  leaves_within {table} {tree} r =
-      let c = λ (m : ℕ). count-append m (numbers tree.leaves) (flat_map numbers tree.above) in
+  leaves_within {table} {tree} r = let c = λ (m : ℕ). count-append m (numbers tree.leaves) (flat_map numbers tree.above) in
       let once : (m : ℕ) → count m (numbers tree.leaves) ≤ once_below m (length table.nodes) = λ m. elim (cases_lt m (length table.nodes)) [
         | inl low ↦ omega (arith, below-one m _ low, c m, count-append m (numbers_of tree) table.chain, r.apart m)
         | inr past ↦ elim (cases_lt 0 (count m (numbers tree.leaves))) [
@@ -41,16 +40,12 @@ module _ {K V : Type 0} where
 
   -- an insertion leaves at most 17 levels, where the slots have numbers
   pub growth-low : (most : ℕ) (table : Table K V) (root place : ℕ) → IsUnion most table → IsTrue (is_root table.nodes root) → slot_count table ≤ 4294967295 → length (growth most place (sizes_of (tree_of table.nodes root))) ≤ 17
-  growth-low most table root place union is slots =
-      let r = rooted _ _ _ union is in
-      let tree = tree_of table.nodes root in
+  growth-low most table root place union is slots = let r = rooted _ _ _ union is in let tree = tree_of table.nodes root in
       omega (arith, gain-low (leaf_gain most place (sizes tree.leaves)).0 (heads tree.leaves) tree.above r.fit.stacked r.fit.topped (omega (arith, leaves_within r)) r.low)
 
   -- a path under a root is where an entry may be inserted in its tree, which is in the table
   pub placed-under : (most : ℕ) (table : Table K V) {root place path indices size : _} → IsUnion most table → PlacedUnder table.nodes root path indices size place → Placed most table path indices size (tree_of table.nodes root) place
-  placed-under most table union p =
-      let r = rooted _ _ _ union p.root_is in
-      record { fit = r.fit; inside = r.inside; apart = r.apart; at = p.at }
+  placed-under most table union p = let r = rooted _ _ _ union p.root_is in record { fit = r.fit; inside = r.inside; apart = r.apart; at = p.at }
 
   -- a path under a root has at least one level and at most 17
   pub under-low : (most : ℕ) (table : Table K V) {root place path indices size : _} → IsUnion most table → PlacedUnder table.nodes root path indices size place → (0 < size) × (size ≤ 17)
@@ -65,23 +60,16 @@ module _ {K V : Type 0} where
 
   -- a root that was on the chain differs from the old root
   new_ne : {most : ℕ} {table : Table K V} (new : Table K V) {root : ℕ} {tree : Tree K V} (root' taken : _) → Rooted most table root tree → table.chain ≡ taken ++ new.chain → 0 < count root' taken → root' ≢ root
-  new_ne new root' taken r chain_is some same =
-      let among = rw (r.root_is ∙ sym same) at (root-among _ _ _ r.fit r.inside r.some) in
+  new_ne new root' taken r chain_is some same = let among = rw (r.root_is ∙ sym same) at (root-among _ _ _ r.fit r.inside r.some) in
       omega (arith, some, r.apart root', ap (λ z. count root' z) chain_is, count-append)
 
   -- inserting an entry into the tree under a root, after the nodes that it needs were reserved
   pub insertion : {most : ℕ} (old : _) {new : _} (root : ℕ) {place path' indices' size' entry : _} → IsUnion most old → IsTrue (is_root old.nodes root) → size' ≤ 17 →
       Inserted most (reserved old (need most place (sizes_of (tree_of old.nodes root)))) new path' indices' size' (tree_of old.nodes root) place entry → Insertion most old new root (top_of path' size') place entry path' indices' size'
   insertion {most} old {new} root {place} {path'} {indices'} {size'} union is low i =
-      let tree = tree_of old.nodes root in
-      let n = need most place (sizes_of tree) in
-      let mid = reserved old n in
-      let root' = root_of i.tree' in
-      let roots = reserved-roots most old n union root in
-      let same = roots.1 is in
-      let union_mid = reserved-union most old n union in
-      let r = rw same at (rooted most mid root union_mid (roots.0 ∙ is)) in
-      let nums = λ (m : ℕ). ap (λ z. count m (numbers_of z)) same in
+      let tree = tree_of old.nodes root in let n = need most place (sizes_of tree) in let mid = reserved old n in let root' = root_of i.tree' in
+      let roots = reserved-roots most old n union root in let same = roots.1 is in let union_mid = reserved-union most old n union in
+      let r = rw same at (rooted most mid root union_mid (roots.0 ∙ is)) in let nums = λ (m : ℕ). ap (λ z. count m (numbers_of z)) same in
       let planted : IsPlanted most new.nodes i.tree' = record { fit = i.fit; inside = i.inside; some = row_some i.stands.leaf; low = omega (arith, low) } in
       let e = exchanged root i.taken union_mid (roots.0 ∙ is) planted i.chain_is i.slots_are (λ m. omega (arith, i.numbers_are m, nums m)) (λ m none. i.others m (omega (arith, nums m))) in
       let levels : length (growth most place (sizes_of tree)) ≡ suc (length i.tree'.above) = omega (arith, ap length i.sizes_are, length-map i.tree'.above sizes) in
@@ -122,10 +110,8 @@ module _ {K V : Type 0} where
   -- inserting an entry into a leaf with room
   pub put-here : {most : ℕ} {old new : Table K V} {root place path indices size entry : _} → IsUnion most old → PlacedUnder old.nodes root path indices size place →
       Inserted most old new path indices size (tree_of old.nodes root) place entry → Put most old new root place entry path indices size
-  put-here {most} {old} {new} {root} {place} {path} {indices} {size} {entry} union p i =
-      let n = need most place (sizes_of (tree_of old.nodes root)) in
-      let enough : n ≤ free_count old = omega (arith, ap length i.chain_is, length-append i.taken new.chain) in
-      let levels = under-low most old union p in
+  put-here {most} {old} {new} {root} {place} {path} {indices} {size} {entry} union p i = let n = need most place (sizes_of (tree_of old.nodes root)) in
+      let enough : n ≤ free_count old = omega (arith, ap length i.chain_is, length-append i.taken new.chain) in let levels = under-low most old union p in
       record {
         some = levels.0;
         low = levels.1;
@@ -136,18 +122,15 @@ module _ {K V : Type 0} where
   -- reserving nodes leaves the path at its place
   pub placed-mid : (most : ℕ) (old mid : Table K V) {root place path indices size : _} (n : ℕ) → IsUnion most old → PlacedUnder old.nodes root path indices size place → mid ≡ reserved old n → Placed most mid path indices size (tree_of old.nodes root) place
   placed-mid most old mid {root} n union p mid_is =
-      let same = reserved-roots most old n union root in
-      let r = rooted most (reserved old n) root (reserved-union most old n union) (cc) in
-      let s = rw (same.1 p.root_is) at r in
-      rw mid_is (record { fit = s.fit; inside = s.inside; apart = s.apart; at = p.at })
+      let same = reserved-roots most old n union root in let r = rooted most (reserved old n) root (reserved-union most old n union) (cc) in
+      let s = rw (same.1 p.root_is) at r in rw mid_is (record { fit = s.fit; inside = s.inside; apart = s.apart; at = p.at })
 
   -- inserting an entry by a split of the leaf, after the nodes were reserved
   pub put-split : (most : ℕ) (old mid new : Table K V) {root place path indices size : _} (n path' indices' size' : _) (entry : K × V) → IsUnion most old → PlacedUnder old.nodes root path indices size place → slot_count old ≤ 4294967295 →
       ((tree place : _) → Placed most old path indices size tree place → n ≡ need most place (sizes_of tree)) → ¬ (room old < n) → mid ≡ reserved old n →
       ((tree place : _) → Placed most mid path indices size tree place → Inserted most mid new path' indices' size' tree place entry) → Put most old new root place entry path' indices' size'
   put-split most old mid new {root} {place} n path' indices' size' entry union p slots needs enough mid_is inserts =
-      let tree = tree_of old.nodes root in
-      let n_is = needs tree place (placed-under most old union p) in
+      let tree = tree_of old.nodes root in let n_is = needs tree place (placed-under most old union p) in
       let mid_old = mid_is ∙ ap (λ z. reserved old z) n_is in
       let i = inserts tree place (placed-mid _ _ _ _ union p mid_old) in
       let low : size' ≤ 17 = omega (arith, ap length i.sizes_are, length-map i.tree'.above sizes, growth-low most old root place union p.root_is slots) in

@@ -59,9 +59,7 @@ module _ {K V : Type 0} {cmp : K → K → Ordering} (most : ℕ) {table : Table
   module _ (value : V) (answer : Result (Option V) ℕ) (new : Table K V) (answer_is : answer ≡ put_answer most (leaf_content es) (search_of cmp (entry_keys es) key)) (new_is : new ≡ with_node table leaf (with_put most (leaf_content es) (search_of cmp (entry_keys es) key) key value)) where
     -- where the key is present, its value is written
     overwrites : is_present cmp es key ≡ true → PutsInLeaf cmp table root key most value path indices size answer new
-    overwrites here =
-        let p = place cmp es key in
-        let found = search_of-keys_of cmp es key ∙ ap (λ b. if b then Ok p else Err p) here in
+    overwrites here = let p = place cmp es key in let found = search_of-keys_of cmp es key ∙ ap (λ b. if b then Ok p else Err p) here in
         let said = answer_is ∙ ap (λ z. put_answer most (leaf_content es) z) found ∙ ap Ok (items-read es p ∙ sym (value_for-present cmp es key here)) in
         let after = new_is ∙ ap (λ z. with_node table leaf (with_put most (leaf_content es) z key value)) found in
         let at_index : with_value_at table (get_or path 0 0) (get_or js 0 0) value ≡ with_node table leaf (content_with (leaf_content es) p value) =
@@ -105,11 +103,8 @@ module _ {K V : Type 0} {cmp : K → K → Ordering} (most : ℕ) {table : Table
 
       -- where the leaf has room, the entry is inserted
       inserts : room ≡ true → PutsInLeaf cmp table root key most value path indices size answer new
-      inserts fits =
-          let tree = tree_of table.nodes root in
-          let ok = said ∙ ap (λ b. if b then Ok None else Err (place cmp es key)) fits in
-          let d = leaf_spot (is_placed none) in
-          let gain = room_gain d (rw (← keys_count (d.l ++ d.r)) ((has _ _ d.slot_is).0 fits)) in
+      inserts fits = let tree = tree_of table.nodes root in let ok = said ∙ ap (λ b. if b then Ok None else Err (place cmp es key)) fits in
+          let d = leaf_spot (is_placed none) in let gain = room_gain d (rw (← keys_count (d.l ++ d.r)) ((has _ _ d.slot_is).0 fits)) in
           let levels = ap (λ z. length (z.1 ∷ gain_above z.0 (map sizes tree.above))) gain in
           let put = put-here union (placed none) (put_inserts (is_placed none) 0 e.wide new key value room has wrote fits) in
           let put_is = after ∙ ap (λ b. with_node table leaf (if b then with_entry (leaf_content es) (place cmp es key) key value else leaf_content es)) fits in
@@ -129,8 +124,7 @@ module _ {K V : Type 0} {cmp : K → K → Ordering} (most : ℕ) {table : Table
 
       -- where the leaf is full, nothing changes
       refuses : room ≡ false → PutsInLeaf cmp table root key most value path indices size answer new
-      refuses past =
-          let err = said ∙ ap (λ b. if b then Ok None else Err (place cmp es key)) past in
+      refuses past = let err = said ∙ ap (λ b. if b then Ok None else Err (place cmp es key)) past in
           let same : new ≡ table = (put_full (is_placed none) 0 e.wide new key value room has wrote past).1 in
           record {
             ok = rw err tt;

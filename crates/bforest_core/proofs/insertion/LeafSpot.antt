@@ -56,8 +56,7 @@ module _ {K V : Type 0} (slots : List (Content K V)) (ms js : _) where
   renew_first up [] list key s t i = record { rows' = []; stacked = length_rekey key list ∙ s; topped = tt; inside = tt; stands = λ place st. st; sizes_are = refl; numbers_are = refl }
   renew_first up ([] ∷ rows) list key s t i = absurd (omega (arith, ap length s.0))
   renew_first up ((node n [] ∷ row) ∷ rows) list key s t i = absurd (omega (arith, least-pos 4 (omega arith) row))
-  renew_first up ((node n (e ∷ es) ∷ row) ∷ rows) list key s t i =
-      let r = renew_first (suc up) rows (heads (node n (e ∷ es) ∷ row)) key s.2 t.1 i.1 in
+  renew_first up ((node n (e ∷ es) ∷ row) ∷ rows) list key s t i = let r = renew_first (suc up) rows (heads (node n (e ∷ es) ∷ row)) key s.2 t.1 i.1 in
       record {
         rows' = (node n ((key, e.1) ∷ es) ∷ row) ∷ r.rows';
         stacked = (ap (λ z. rekey key z) s.0, s.1, r.stacked);
@@ -119,17 +118,11 @@ module _ {K V : Type 0} where
 
   pub leaf_spot : {most t ms js size tree place : _} → Placed most t ms js size tree place → LeafSpot most t ms js tree place
   leaf_spot {most} {ms} {js} p =
-      let at = p.at.points in
-      let n = get_or ms 0 0 in
-      let l = take (get_or js 0 0) at.entries in
-      let r = drop (get_or js 0 0) at.entries in
+      let at = p.at.points in let n = get_or ms 0 0 in let l = take (get_or js 0 0) at.entries in let r = drop (get_or js 0 0) at.entries in
       let l_is = length-take-le (get_or js 0 0) at.entries at.within in
-      let is = at.leaves_are ∙ ap (λ z. at.before ++ node n z ∷ at.after) (sym (take-append-drop _ _)) in
-      let fit = rw is at p.fit in
-      let inside = rw is at p.inside.leaves_in in
-      let apart = rw is at p.apart in
-      let f = FitRow-split (half_of most) most at.before (node n (l ++ r)) at.after fit.leaves_fit in
-      let d = apart_here n _ _ _ _ _ apart in
+      let is = at.leaves_are ∙ ap (λ z. at.before ++ node n z ∷ at.after) (sym (take-append-drop _ _)) in let fit = rw is at p.fit in
+      let inside = rw is at p.inside.leaves_in in let apart = rw is at p.apart in
+      let f = FitRow-split (half_of most) most at.before (node n (l ++ r)) at.after fit.leaves_fit in let d = apart_here n _ _ _ _ _ apart in
       record {
         before = at.before;
         l = l;
@@ -154,8 +147,7 @@ module _ {K V : Type 0} where
   -- the rows over the leaves after the insertion
   pub renewed : {most : ℕ} {t : Table K V} {ms js size tree place : _} (entry : K × V) → 1 ≤ most → Placed most t ms js size tree place → (d : LeafSpot most t ms js tree place) →
       Renewed t.nodes ms js 1 tree.above (heads (d.before ++ node (get_or ms 0 0) (d.l ++ entry ∷ d.r) ∷ d.after))
-  renewed {most} {ms} entry one p d =
-      let f = FitRow-split (half_of most) most d.before (node (get_or ms 0 0) (d.l ++ d.r)) d.after d.fit.leaves_fit in
+  renewed {most} {ms} entry one p d = let f = FitRow-split (half_of most) most d.before (node (get_or ms 0 0) (d.l ++ d.r)) d.after d.fit.leaves_fit in
       renew _ _ _ 1 _ _ _ _ entry d.r d.after d.first (omega (arith, least-pos (half_of most) (omega (arith, one)) d.after)) d.fit.stacked d.fit.topped p.inside.rows_in
 
   -- the sizes of the leaves where the leaf has room
@@ -166,16 +158,12 @@ module _ {K V : Type 0} where
   pub put_leaf : {most t u ms js size tree place : _} (entry : _) → Placed most t ms js size tree place → (d : LeafSpot most t ms js tree place) → length (d.l ++ d.r) < most →
       Puts t u (get_or ms 0 0) (leaf_content (d.l ++ entry ∷ d.r)) → Inserted most t u ms js size tree place entry
   put_leaf {most} {t} {u} {ms} {js} {size} {tree} {place} entry p d room w =
-      let n = get_or ms 0 0 in
-      let old = d.l ++ d.r in
-      let es = d.l ++ entry ∷ d.r in
-      let row2 = d.before ++ node n es ∷ d.after in
+      let n = get_or ms 0 0 in let old = d.l ++ d.r in let es = d.l ++ entry ∷ d.r in let row2 = d.before ++ node n es ∷ d.after in
       let above = renewed entry (omega arith) p d in
       let len : length es ≡ suc (length old) = omega (arith, length-append d.l (entry ∷ d.r), length-append d.l d.r) in
       let none2 = ap (λ z. count n z) above.numbers_are ∙ d.none_rows in
       let c0 = λ (m : ℕ). ap (λ z. count m (numbers z ++ flat_map numbers tree.above)) d.leaves_are in
-      let c2 = λ (m : ℕ). counts m d.before n old d.after tree.above t.chain in
-      let g = room_gain d room in
+      let c2 = λ (m : ℕ). counts m d.before n old d.after tree.above t.chain in let g = room_gain d room in
       let fit' : IsFit most (record { leaves = row2; above = above.rows' }) = record { leaves_fit = FitRow-put (half_of most) most d.before d.after n old es len room d.fit.leaves_fit; stacked = above.stacked; topped = above.topped } in
       let stands : Stands ms js size (record { leaves = row2; above = above.rows' }) place = record {
         leaf = record { before = d.before; entries = es; after = d.after; row_is = refl; within = omega (arith, length-append d.l (entry ∷ d.r)); place_is = omega arith };

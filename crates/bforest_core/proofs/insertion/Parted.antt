@@ -20,11 +20,8 @@ module _ {K V X : Type 0} {content : List (K × X) → Content K V} {half most :
       → flat before ++ (grown ++ flat after) ≡ list → ((i : ℕ) → i ≢ up → get_or ms' i 0 ≡ get_or ms i 0) → ((i : ℕ) → i ≢ up → get_or js' i 0 ≡ get_or js i 0)
       → InHalf before (get_or ms up 0) right (h.z ∷ h.xs) (h.y ∷ h.ys) after (get_or ms' up 0) (get_or js' up 0) p moved → Parted content half most t u ms ms' js' up size list p middle right moved
   part {right = right} ms' js' moved inside fit one sides apart h above list_is far_m far_j at =
-      let n = get_or ms up 0 in
-      let c = λ (m : ℕ). counts m before n es after rest t.chain in
-      let c4 = λ (m : ℕ). ap (λ z. count m z) h.two.chain_is in
-      let here = count-same n (numbers after) in
-      let there = count-same right u.chain in
+      let n = get_or ms up 0 in let c = λ (m : ℕ). counts m before n es after rest t.chain in let c4 = λ (m : ℕ). ap (λ z. count m z) h.two.chain_is in
+      let here = count-same n (numbers after) in let there = count-same right u.chain in
       let none : count n (numbers before) + count n (numbers after) ≡ 0 = omega (arith, apart n, c n) in
       let none_rest : count n (flat_map numbers rest) ≡ 0 = omega (arith, apart n, c n) in
       let none_right : count right (numbers before) + count right (numbers after) ≡ 0 = omega (arith, apart right, c right, c4 right) in
@@ -88,9 +85,7 @@ module _ {K V X : Type 0} {content : List (K × X) → Content K V} {half most t
   tops top = rw heads_are (g.topped _ (one_more _ _ _ _) top)
 
   abbrev pub stands_at : IsAt halves (get_or ms'' up 0) (get_or js'' up 0) p
-  stands_at =
-      let here_m = g.nodes_below up (omega arith) in
-      let here_j = g.entries_below up (omega arith) in
+  stands_at = let here_m = g.nodes_below up (omega arith) in let here_j = g.entries_below up (omega arith) in
       record { before = h.at.before; entries = h.at.entries; after = h.at.after; row_is = rw here_m h.at.row_is; within = rw here_j h.at.within; place_is = rw here_j h.at.place_is }
 
   pub stands_over : StandsAbove ms'' js'' (suc up) g.rows' (length h.at.before)
@@ -106,8 +101,7 @@ module _ {K V X : Type 0} {content : List (K × X) → Content K V} {half most t
   numbers_are m = omega (arith, was m, counts m before n (first ∷ others) (node right (next ∷ more) ∷ after) g.rows' v.chain, g.numbers_are m)
 
   pub inside : RowIn content v.nodes halves
-  inside =
-      row-same _ _ _ halves
+  inside = row-same _ _ _ halves
       (λ m some. g.others m (omega (arith, h.apart m, counts m before n entries after rest t.chain, counts m before n (first ∷ others) (node right (next ∷ more) ∷ after) g.rows' v.chain, ap (λ z. count m z) chain_is, count-append m taken v.chain))) h.inside
 
   pub others_same : (m : ℕ) → count m (numbers (before ++ node n entries ∷ after) ++ flat_map numbers rest) + count m (right ∷ taken) ≡ 0 → slice_get v.nodes m ≡ slice_get t.nodes m

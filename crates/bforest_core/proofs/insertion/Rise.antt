@@ -20,21 +20,17 @@ step_most true = omega arith
 step_most false = omega arith
 
 module _ {K V : Type 0} where
-  pub settle_room : {t u : Table K V} {ms js : _} (js' : _) {up size rows a : _}
-      {x : _} (y : _) {b : _} (moved : Bool) → (d : Spot t ms js up size rows a x b) → length (d.q.l ++ x ∷ d.q.r) < 8
-      → Puts t u (get_or ms up 0) (inner_content (d.q.l ++ x ∷ y ∷ d.q.r)) →
-      get_or js' up 0 ≡ (if moved then suc (get_or js up 0) else get_or js up 0) → ((i : ℕ) → i ≢ up → get_or js' i 0 ≡ get_or js i 0) →
-      (1 ≡ need_above (Some (length a)) (map sizes rows)) × Grown t u ms js ms js' up size size rows (a ++ x ∷ y ∷ b) (if moved then suc (length a) else length a) (gain_above (Some (length a)) (map sizes rows)) []
+  pub settle_room : {t u : Table K V} {ms js : _} (js' : _) {up size rows a : _} {x : _} (y : _) {b : _} (moved : Bool) → (d : Spot t ms js up size rows a x b)
+      → length (d.q.l ++ x ∷ d.q.r) < 8 → Puts t u (get_or ms up 0) (inner_content (d.q.l ++ x ∷ y ∷ d.q.r)) → get_or js' up 0 ≡ (if moved then suc
+      (get_or js up
+      0) else get_or js up 0) → ((i : ℕ) → i ≢ up → get_or js' i 0 ≡ get_or js i 0) → (1 ≡ need_above (Some (length a)) (map sizes rows)) × Grown t u
+      ms js ms js'
+      up size size rows (a ++ x ∷ y ∷ b) (if moved then suc (length a) else length a) (gain_above (Some (length a)) (map sizes rows)) []
   settle_room {t} {u} {ms} {js} js' {up} {x} y moved d room w j_is far =
-      let q = d.q in
-      let n = get_or ms up 0 in
-      let old = q.l ++ x ∷ q.r in
-      let es = q.l ++ x ∷ y ∷ q.r in
-      let ab = d.whole in
+      let q = d.q in let n = get_or ms up 0 in let old = q.l ++ x ∷ q.r in let es = q.l ++ x ∷ y ∷ q.r in let ab = d.whole in
       let len : length es ≡ suc (length old) = omega (arith, length-append q.l (x ∷ y ∷ q.r), length-append q.l (x ∷ q.r)) in
       let at_is = j_is ∙ step_is moved (get_or js up 0) ∙ ap (λ z. step moved + z) (sym q.entry_is) in
-      let c = λ (m : ℕ). counts m q.before n old q.after q.rest t.chain in
-      let c2 = λ (m : ℕ). counts m q.before n es q.after q.rest u.chain in
+      let c = λ (m : ℕ). counts m q.before n old q.after q.rest t.chain in let c2 = λ (m : ℕ). counts m q.before n es q.after q.rest u.chain in
       let hs : heads (q.before ++ node n old ∷ q.after) ≡ heads (q.before ++ node n es ∷ q.after) =
       heads-append q.before _ ∙ ap (λ z. heads q.before ++ (z ++ heads q.after)) (head-grown n q.l x q.r (y ∷ q.r)) ∙ sym (heads-append q.before _) in
       let g = gain_spot q.before n old q.l q.after ∙ gain_room q.before (length old) (length q.l) (sizes q.after) (omega (arith, length-append q.l (x ∷ q.r))) room in
@@ -72,18 +68,13 @@ module _ {K V : Type 0} where
   -- the need and the number of levels above a level with a split node, from those one level up
   pub sizes_halved : {t u : Table K V} {ms js ms' js' up size rows list was p key right moved : _} → (h : Halved t u ms js ms' js' up size rows list was p key right moved) →
       (need_above (Some was) (map sizes rows) ≡ suc (need_above (Some (length (heads h.before))) (map sizes h.rest))) × (length (gain_above (Some was) (map sizes rows)) ≡ suc (length (gain_above (Some (length (heads h.before))) (map sizes h.rest))))
-  sizes_halved h = (
-    cc,
-    cc,
-  )
+  sizes_halved h = (cc, cc)
 
   -- the rows from a level up, after the right half was inserted into the levels above
   pub rise : {t u v : Table K V} {ms js ms' js' ms'' js'' up size size' rows : _}
       {hs list q was p key right moved taken : _} → Above t ms js up size rows hs q → (h : Halved t u ms js ms' js' up size rows list was p key right moved) →
       Rises h.parted v ms'' js'' size' taken → Grown t v ms js ms'' js'' up size size' rows list p (gain_above (Some was) (map sizes rows)) (right ∷ taken)
-  rise {t} {v = v} {ms} {up} {rows} {taken} ab h g =
-      let n = get_or ms up 0 in
-      let row = h.before ++ node n h.entries ∷ h.after in
+  rise {t} {v = v} {ms} {up} {rows} {taken} ab h g = let n = get_or ms up 0 in let row = h.before ++ node n h.entries ∷ h.after in
       let hs0 : heads row ≡ heads h.before ++ (h.first.0, n) ∷ heads h.after = heads-append h.before _ ∙ ap (λ z. heads h.before ++ (z ++ heads h.after)) h.head_is in
       let nums = λ (m : ℕ). ap (λ z. count m (flat_map numbers z)) h.rows_were in
       let own = λ (m : ℕ). count-append m (numbers row ++ flat_map numbers h.rest) t.chain in
@@ -165,9 +156,7 @@ need_some p (level ∷ levels) = omega arith
 module _ {K V : Type 0} where
   -- a split below a full node takes at least two nodes
   pub need_full : {t : Table K V} {ms js up size rows a x b : _} → (d : Spot t ms js up size rows a x b) → length (d.q.l ++ x ∷ d.q.r) ≡ 8 → 2 ≤ need_above (Some (length a)) (map sizes rows)
-  need_full {ms} {up} {rows} {a} {x} d eight =
-      let q = d.q in
-      let es = q.l ++ x ∷ q.r in
+  need_full {ms} {up} {rows} {a} {x} d eight = let q = d.q in let es = q.l ++ x ∷ q.r in
       let needs : need_above (Some (length a)) (map sizes rows) ≡ suc (need_above (Some (length q.before)) (map sizes q.rest)) =
       rw (q.a_is, q.rows_are, gain_spot q.before (get_or ms up 0) es q.l q.after, gain_full q.before (length es) (length q.l) (sizes q.after) (omega arith) eight) refl in
       omega (arith, need_some (length q.before) (map sizes q.rest))

@@ -71,15 +71,11 @@ module _ {K V : Type 0} where
     pub low_key_asks : (i : ℕ) → i < get_or indices up 0 → KeyAt t (get_or path up r) i
     pub key_asks : (m i : ℕ) → Counts t (get_or path up r) m → i + 1 < m → KeyAt t (get_or path up r) i
 
-  pub seen : {t path indices up size rows : _} (a x : _)
-      (b : _) → Above t path indices up size rows (a ++ x ∷ b) (length a) → up < size → (r : ℕ) → length path ≡ 17 → size ≤ 17
-      → Seen t path indices up size rows a x b r
+  pub seen : {t path indices up size rows : _} (a x : _) (b : _) → Above t path indices up size rows (a ++ x ∷ b) (length a) → up < size → (r : ℕ) → length path
+      ≡ 17 → size ≤ 17 → Seen t path indices up size rows a x b r
   seen {t} {path} {up} a x b p low r wide height =
-      let d = spot a x b p low in
-      let es = d.q.l ++ x ∷ d.q.r in
-      let num_is = get_or_default path up r 0 (omega arith) in
-      let slot = ap (λ z. slice_get t.nodes z) num_is ∙ d.f.slot_is in
-      let none = ap (λ z. count z t.chain) num_is ∙ d.f.none_chain in
+      let d = spot a x b p low in let es = d.q.l ++ x ∷ d.q.r in let num_is = get_or_default path up r 0 (omega arith) in
+      let slot = ap (λ z. slice_get t.nodes z) num_is ∙ d.f.slot_is in let none = ap (λ z. count z t.chain) num_is ∙ d.f.none_chain in
       let counted : (m : ℕ) → Counts t (get_or path up r) m → m ≡ length es = λ m value. value (inner_content es) slot ∙ item_count es in
       record {
         d = d;

@@ -64,10 +64,7 @@ module _ {K V X : Type 0} (content : List (K × X) → Content K V) where
 
   -- two writes in sequence write two slots
   puts_two : (t u : Table K V) (n q c d old_n old_q : _) → slice_get t.nodes n ≡ Some old_n → slice_get t.nodes q ≡ Some old_q → n ≢ q → u ≡ with_node (with_node t n c) q d → PutsTwo t u n q c d
-  puts_two t u n q c d old_n old_q fn fq ne is =
-      let v = with_node t n c in
-      let own = n ∷ q ∷ [] in
-      let one = puts t v n c old_n fn refl in
+  puts_two t u n q c d old_n old_q fn fq ne is = let v = with_node t n c in let own = n ∷ q ∷ [] in let one = puts t v n c old_n fn refl in
       let two = puts v u q d old_q (one.same q (λ e. ne (sym e)) ∙ fq) is in
       record {
         here = two.same n ne ∙ one.here;
@@ -98,17 +95,15 @@ module _ {K V X : Type 0} (content : List (K × X) → Content K V) where
   module _ (t u : Table K V) {cap most : ℕ} (n q : ℕ) (e : K × X) (es f fs : _) (s : IsStored content cap most) (ne : n ≢ q) (two : 2 ≤ most) (fn : slice_get t.nodes n ≡ Some (content (e ∷ es))) (fq : slice_get t.nodes q ≡ Some (content (f ∷ fs))) where
     -- the balanced nodes are these two
     balances_at : {got : Option K} (b : IsBalancedAt cap t n f.0 q got u) → Balances cap (content (e ∷ es)) f.0 (content (f ∷ fs)) got b.new_left b.new_right
-    balances_at {got} b =
-        let under_is = some_same _ _ (cc) in
-        rw (← (some_same b.neighbour (content (f ∷ fs)) (cc))) (subst (λ z. Balances cap z f.0 b.neighbour got b.new_left b.new_right) under_is b.balances)
+    balances_at {got} b = let under_is = some_same _ _ (cc) in
+        rw (← (some_same b.neighbour (content (f ∷ fs)) cc)) (subst (λ z. Balances cap z f.0 b.neighbour got b.new_left b.new_right) under_is b.balances)
 
     whole_count : entry_count (content (e ∷ es)) + entry_count (content (f ∷ fs)) ≡ length (e ∷ es) + length (f ∷ fs)
     whole_count = omega arith
 
     -- where everything fits, balancing merges into the right node
     pub all_right_at : IsBalancedAt cap t n f.0 q None u → AllRight t u most n q (e ∷ es) (f ∷ fs)
-    all_right_at b =
-        let bal = balances_at b in
+    all_right_at b = let bal = balances_at b in
         elim (cases_lt most (length (e ∷ es) + length (f ∷ fs))) [
           | inl more ↦ absurd (let w = bal.shares (omega (arith, more)) in let g = w.1 in cc)
           | inr less ↦ (let w = bal.merges (omega arith) in
@@ -118,18 +113,13 @@ module _ {K V X : Type 0} (content : List (K × X) → Content K V) where
     -- where not everything fits, balancing shares the entries
     pub spread_at : {key : K} → IsBalancedAt cap t n f.0 q (Some key) u → Spread t u most n q (e ∷ es) (f ∷ fs) key
     spread_at {key} b =
-        let bal = balances_at b in
-        let full = s.capacity_is (e ∷ es) in
-        let total = whole_count in
-        let both = length (e ∷ es) + length (f ∷ fs) in
+        let bal = balances_at b in let full = s.capacity_is (e ∷ es) in let total = whole_count in let both = length (e ∷ es) + length (f ∷ fs) in
         let len = length-append (e ∷ es) (f ∷ fs) in
         elim (cases_lt most (length (e ∷ es) + length (f ∷ fs))) [
           | inr less ↦ absurd (let w = bal.merges (omega arith) in let g = w.0 in cc)
           | inl more ↦ (let w = bal.shares (omega (arith, more)) in
-              let c = cut ((e ∷ es) ++ f ∷ fs) (both - both / 2) (omega (arith, more, two)) in
-              let h = head-is n c.l (omega (arith, more, two)) in
-              let whole = c.es_is ∙ ap (λ z. z ++ c.x ∷ c.r) h.es_is in
-              let left = ap length (sym h.es_is) ∙ c.place_is in
+              let c = cut ((e ∷ es) ++ f ∷ fs) (both - both / 2) (omega (arith, more, two)) in let h = head-is n c.l (omega (arith, more, two)) in
+              let whole = c.es_is ∙ ap (λ z. z ++ c.x ∷ c.r) h.es_is in let left = ap length (sym h.es_is) ∙ c.place_is in
               let cuts : IsCut (content ((h.first ∷ h.others) ++ c.x ∷ c.r)) (both - both / 2) b.new_left w.0 b.new_right =
               subst (λ z. IsCut (content ((h.first ∷ h.others) ++ c.x ∷ c.r)) (left_share z) b.new_left w.0 b.new_right) total
               (subst (λ z. IsCut z (left_share (entry_count (content (e ∷ es)) + entry_count (content (f ∷ fs))))
@@ -145,6 +135,6 @@ module _ {K V X : Type 0} (content : List (K × X) → Content K V) where
                 left_is = left;
                 right_is = omega (arith, ap length whole, length-append (h.first ∷ h.others) (c.x ∷ c.r));
                 key_is = some_same key w.0 w.1 ∙ p.key_is;
-                two = puts_two t u n q _ _ _ _ fn fq ne (cc);
+                two = puts_two t u n q _ _ _ _ fn fq ne cc;
               })
         ]

@@ -36,8 +36,7 @@ module _ {K : Type 0} where
   top_of_rows : (list row rows root : _) → Stacked list (row ∷ rows) → root_above list (row ∷ rows) ≡ root → Top (row ∷ rows) root
   top_of_rows list row [] root s is = top_here _ _ _ s is
   top_of_rows list row (next ∷ rows) root s is =
-      let t = top_of_rows (heads row) next rows root s.2 is in
-      record { init = row ∷ t.init; entries = t.entries; rows_are = cc; some = t.some }
+      let t = top_of_rows (heads row) next rows root s.2 is in record { init = row ∷ t.init; entries = t.entries; rows_are = cc; some = t.some }
 
   -- the rows below a root with a single child have the child as their root
   below-root : (list : Heads K) (init : Rows K) (root : ℕ) (x : K × ℕ) → Stacked list (init ++ (node root (x ∷ []) ∷ []) ∷ []) → Stacked list init × (root_above list init ≡ x.1)
@@ -48,9 +47,7 @@ module _ {K : Type 0} where
   topped-here : (list : Heads K) (init : Rows K) (root : ℕ) (es : Heads K) → 2 ≤ length es → Stacked list (init ++ (node root es ∷ []) ∷ []) → (2 ≤ length list) × Topped list (init ++ (node root es ∷ []) ∷ [])
   topped-here list [] root es two s = let low : 2 ≤ length list = omega (arith, ap length s.0, length-append es []) in (low, (low, tt))
   topped-here list (row ∷ init) root es two s =
-      let t = topped-here (heads row) init root es two s.2 in
-      let low : 2 ≤ length list = omega (arith, heads-flat row, ap length s.0) in
-      (low, (low, t.1))
+      let t = topped-here (heads row) init root es two s.2 in let low : 2 ≤ length list = omega (arith, heads-flat row, ap length s.0) in (low, (low, t.1))
 
   -- the trimmed sizes of a tree are those of its levels up to the first of one node
   pub trimmed-is : (leaves : List ℕ) (list : Heads K) (rows gone : Rows K) → length leaves ≡ length list → Stacked list (rows ++ gone) → Stacked list rows → Topped list rows →
@@ -66,18 +63,14 @@ module _ {K : Type 0} where
   topped-sizes list list' rows [] s s' len same t = tt
   topped-sizes list list' [] (row' ∷ rows') s s' len same t = absurd cc
   topped-sizes list list' (row ∷ rows) (row' ∷ rows') s s' len same t =
-      let here : sizes row' ≡ sizes row = cc in
-      let rest : map sizes rows' ≡ map sizes rows = cc in
-      let a = fit_full 4 8 (omega arith) row s.1 in
+      let here : sizes row' ≡ sizes row = cc in let rest : map sizes rows' ≡ map sizes rows = cc in let a = fit_full 4 8 (omega arith) row s.1 in
       let b = fit_full 4 8 (omega arith) row' s'.1 in
       (omega arith, topped-sizes (heads row) (heads row') rows rows' s.2 s'.2 (omega (arith, length-sizes row, length-sizes row', ap length here)) rest t.1)
 
   -- a path through the rows is a path through the lower ones
   pub stands-below : (path indices : List ℕ) (level : ℕ) (list : Heads K) (rows gone : Rows K) (place : ℕ) → place < length list → Stacked list rows → StandsAbove path indices level (rows ++ gone) place → StandsAbove path indices level rows place
   stands-below path indices level list [] gone place low s st = omega arith
-  stands-below path indices level list (row ∷ rows) gone place low s st =
-      let at = st.0 in
-      let full = fit_full 4 8 (omega arith) row s.1 in
+  stands-below path indices level list (row ∷ rows) gone place low s st = let at = st.0 in let full = fit_full 4 8 (omega arith) row s.1 in
       let within : length at.before < length (heads row) = omega (arith, ap length at.row_is, length-append at.before (node (get_or path level 0) at.entries ∷ at.after)) in
       (at, stands-below path indices (suc level) (heads row) rows gone (length at.before) within s.2 st.1)
 
@@ -132,11 +125,8 @@ module _ {K V : Type 0} where
     slot_is = inside.1.0.0
 
     none_else : (count root (flat_map numbers top.init) ≡ 0) × (count root t.chain ≡ 0)
-    none_else =
-        let c = whole.apart root in
-        let d = count-append root (flat_map numbers (top.init ++ (node root top.entries ∷ []) ∷ [])) t.chain in
-        let e = count_top root top.init root top.entries in
-        (omega (arith, count-same root []), omega (arith, count-same root []))
+    none_else = let c = whole.apart root in let d = count-append root (flat_map numbers (top.init ++ (node root top.entries ∷ []) ∷ [])) t.chain in
+        let e = count_top root top.init root top.entries in (omega (arith, count-same root []), omega (arith, count-same root []))
 
     -- the root meets what counting its children requires
     pub counted_asks : NodeAt t root
@@ -153,9 +143,7 @@ module _ {K V : Type 0} where
       -- the root has a single child
       module _ (few : n ≤ 1) where
         child : (x : _) × (top.entries ≡ x ∷ [])
-        child =
-            let h = head-is root top.entries top.some in
-            (h.first, cc (nil_from_length h.others (omega (arith, count_is, ap length h.es_is))))
+        child = let h = head-is root top.entries top.some in (h.first, cc (nil_from_length h.others (omega (arith, count_is, ap length h.es_is))))
 
         -- the root meets what reading its child requires
         pub child_asks : ChildAt t root 0
@@ -184,9 +172,7 @@ module _ {K V : Type 0} where
 
           -- the rows below the root, after further roots were discarded
           pub trim_then : {w size' root' gone : _} → Trimmed v w (size - 1) size' top.init list only root' gone → Trimmed t w size size' rows list root root' (gone ++ root ∷ [])
-          trim_then {size'} {gone} r =
-              let row = node root top.entries ∷ [] in
-              let c = λ (m : ℕ). count_top m r.discarded root top.entries in
+          trim_then {size'} {gone} r = let row = node root top.entries ∷ [] in let c = λ (m : ℕ). count_top m r.discarded root top.entries in
               let d = λ (m : ℕ). count-append m gone (root ∷ []) in
               let parts = ap (λ z. count root z) (ap (flat_map numbers) r.rows_are ∙ flat_map-append numbers r.rows' r.discarded) ∙ count-append root (flat_map numbers r.rows') (flat_map numbers r.discarded) in
               let less : size' < size = omega (arith, whole.height, ap length r.rows_are, length-append r.rows' r.discarded, length-append top.init (row ∷ [])) in

@@ -5,11 +5,7 @@ use Rattle.bforest_core.proofs.{table.Tables.{Puts, count-other, slice_get-set_a
 
 -- a number that occurs in a singleton list is its element
 pub only_here : (m n ms : _) → 0 < count m (n ∷ []) → count n ms ≡ 0 → count m ms ≡ 0
-only_here m n ms some none =
-    elim (eqb_tells n m) [
-      | inl w ↦ (let e = w.1 in rw (← e) none)
-      | inr w ↦ absurd (omega (arith, count-other m n [] w.1))
-    ]
+only_here m n ms some none = elim (eqb_tells n m) [ inl w ↦ (let e = w.1 in rw (← e) none) | inr w ↦ absurd (omega (arith, count-other m n [] w.1)) ]
 
 module _ {K V : Type 0} where
   -- an unchanged table frees nothing

@@ -68,17 +68,13 @@ module _ {K V : Type 0} {most : ℕ} {old now : Table K V} {root place path indi
       -- the entry was the leaf's only one
       pub single : m ≡ 0 → IsSingle old now leaf
       single none =
-          let h = some_first es (omega (arith, within)) in
-          let one = h.2 ∙ ap (λ z. h.0 ∷ z) (nil_from_length h.1 (omega (arith, count_is, ap length h.2))) in
+          let h = some_first es (omega (arith, within)) in let one = h.2 ∙ ap (λ z. h.0 ∷ z) (nil_from_length h.1 (omega (arith, count_is, ap length h.2))) in
           record { entry = h.0; slot_was = cc; freed_is = cc (freed_again old leaf left) }
 
       -- the leaf has others
       pub others : m ≢ 0 → HasOthers old now path indices
-      others some =
-          let h = some_first es (omega (arith, within)) in
-          let k = some_first h.1 (omega (arith, count_is, ap length h.2)) in
-          let two = h.2 ∙ ap (λ z. h.0 ∷ z) k.2 in
-          record { x = h.0; y = k.0; more = k.1; slot_was = cc; new_is = cc }
+      others some = let h = some_first es (omega (arith, within)) in let k = some_first h.1 (omega (arith, count_is, ap length h.2)) in
+          let two = h.2 ∙ ap (λ z. h.0 ∷ z) k.2 in record { x = h.0; y = k.0; more = k.1; slot_was = cc; new_is = cc }
 
       -- the leaf has others, and the rows above have its first key
       module _ (some : m ≢ 0) (v : _) (renews : (t tree' place' : _) → StandsIn most t path indices size tree' place' → HasOthers t now path indices → LeafLoss most t v path indices size tree' place') where
@@ -98,13 +94,10 @@ module _ {K V : Type 0} {most : ℕ} {old now : Table K V} {root place path indi
 
       -- the tree of one leaf that has others
       pub alone_kept : size ≡ 1 → 0 < m → Shrinks most old now path root place (Some root)
-      alone_kept one some =
-          let s = stood_in in
-          let l = alone_loss s leaf refl (others (λ none. omega arith)) (omega arith) in
+      alone_kept one some = let s = stood_in in let l = alone_loss s leaf refl (others (λ none. omega arith)) (omega arith) in
           settled (kept_removed s l root_was (λ z. Unit {0}) (inr (alone_last l (omega arith))) (λ z is. tt))
 
       -- the tree of one leaf, which had one entry
       pub alone_freed : size ≡ 1 → m ≤ 0 → (v : _) → v ≡ with_freed now read → Shrinks most old v path root place None
-      alone_freed one none v freed =
-          let c = e.union.1.capacity in
+      alone_freed one none v freed = let c = e.union.1.capacity in
           (outcome most old v (λ z. Unit {0}) e.union e.stood None tt (λ is. (emptied_tree c (single (omega arith)) read num_is stood_in v freed one))).shrinks

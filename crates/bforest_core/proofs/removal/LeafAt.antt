@@ -12,8 +12,7 @@ remove_map f l r x = cc (map-append f l (x ∷ r), remove_at (map f l) (f x) (ma
 -- removing an entry of a node removes it from the list of the row
 pub remove_flat : {K V : Type 0} (before : Row K V) (n l x r after : _) →
     remove (flat (before ++ node n (l ++ x ∷ r) ∷ after)) (length (flat before) + length l) ≡ flat (before ++ node n (l ++ r) ∷ after)
-remove_flat before n l x r after =
-    let whole : flat (before ++ node n (l ++ x ∷ r) ∷ after) ≡ (flat before ++ l) ++ x ∷ (r ++ flat after) =
+remove_flat before n l x r after = let whole : flat (before ++ node n (l ++ x ∷ r) ∷ after) ≡ (flat before ++ l) ++ x ∷ (r ++ flat after) =
     flat-append before _ ∙ ap (λ z. flat before ++ z) (append_assoc l _ _) ∙ sym (append_assoc _ l _) in
     ap (λ z. remove z (length (flat before) + length l)) whole ∙ ap (λ z. remove ((flat before ++ l) ++ x ∷ (r ++ flat after)) z) (sym (length-append _ l)) ∙ remove_at (flat before ++ l) x (r ++ flat after) (length (flat before ++ l)) refl
     ∙ append_assoc _ l _ ∙ ap (λ z. flat before ++ z) (sym (append_assoc l r _)) ∙ sym (flat-append before (node n (l ++ r) ∷ after))
@@ -72,19 +71,11 @@ module _ {K V : Type 0} where
 
   -- a tree in which a path stands can be cut at the path's entry
   pub leaf_at : {most t path indices size tree place : _} → StandsIn most t path indices size tree place → LeafAt most t path indices size tree place
-  leaf_at {most} {path} {indices} s =
-      let at = s.stands.leaf in
-      let n = get_or path 0 0 in
-      let c = cut at.entries (get_or indices 0 0) at.within in
-      let row = at.before ++ node n (c.l ++ c.x ∷ c.r) ∷ at.after in
-      let is = at.row_is ∙ ap (λ z. at.before ++ node n z ∷ at.after) c.es_is in
-      let fit = rw is at s.fit.leaves_fit in
-      let inside = rw is at s.inside.leaves_in in
-      let apart = rw is at s.apart in
-      let f = FitRow-split (half_of most) most at.before (node n (c.l ++ c.x ∷ c.r)) at.after fit in
-      let d = apart_here n _ _ _ _ _ apart in
-      let one : 1 ≤ most = omega (arith, length-append c.l (c.x ∷ c.r)) in
-      let half : 1 ≤ half_of most = omega arith in
+  leaf_at {most} {path} {indices} s = let at = s.stands.leaf in let n = get_or path 0 0 in let c = cut at.entries (get_or indices 0 0) at.within in
+      let row = at.before ++ node n (c.l ++ c.x ∷ c.r) ∷ at.after in let is = at.row_is ∙ ap (λ z. at.before ++ node n z ∷ at.after) c.es_is in
+      let fit = rw is at s.fit.leaves_fit in let inside = rw is at s.inside.leaves_in in let apart = rw is at s.apart in
+      let f = FitRow-split (half_of most) most at.before (node n (c.l ++ c.x ∷ c.r)) at.after fit in let d = apart_here n _ _ _ _ _ apart in
+      let one : 1 ≤ most = omega (arith, length-append c.l (c.x ∷ c.r)) in let half : 1 ≤ half_of most = omega arith in
       let full = Solid-full (half_of most) most half at.before f.0 in
       record {
         before = at.before;
@@ -117,15 +108,10 @@ module _ {K V : Type 0} where
   pub leaf_loss : {most t u v path indices size tree place : _} → (d : LeafAt most t path indices size tree place) → 1 ≤ length (d.l ++ d.r) → Puts t u (get_or path 0 0) (leaf_content (d.l ++ d.r)) →
       Rebuilt u v path indices path indices 1 size tree.above (heads (d.before ++ node (get_or path 0 0) (d.l ++ d.r) ∷ d.after)) (length (heads d.before)) (map sizes tree.above) [] → LeafLoss most t v path indices size tree place
   leaf_loss {t} {u} {v} {path} {tree} d more w b =
-      let n = get_or path 0 0 in
-      let old = d.l ++ d.x ∷ d.r in
-      let es = d.l ++ d.r in
-      let row2 = d.before ++ node n es ∷ d.after in
+      let n = get_or path 0 0 in let old = d.l ++ d.x ∷ d.r in let es = d.l ++ d.r in let row2 = d.before ++ node n es ∷ d.after in
       let len : length old ≡ suc (length es) = omega (arith, length-append d.l (d.x ∷ d.r), length-append d.l d.r) in
-      let c0 = λ (m : ℕ). ap (λ z. count m (numbers z)) d.leaves_are in
-      let c1 = λ (m : ℕ). counts m d.before n old d.after tree.above t.chain in
-      let c2 = λ (m : ℕ). counts m d.before n es d.after b.rows' v.chain in
-      let c7 = λ (m : ℕ). ap (λ z. count m z) (b.frees.chain_is ∙ w.chain_is) in
+      let c0 = λ (m : ℕ). ap (λ z. count m (numbers z)) d.leaves_are in let c1 = λ (m : ℕ). counts m d.before n old d.after tree.above t.chain in
+      let c2 = λ (m : ℕ). counts m d.before n es d.after b.rows' v.chain in let c7 = λ (m : ℕ). ap (λ z. count m z) (b.frees.chain_is ∙ w.chain_is) in
       let c8 = λ (m : ℕ). count-append m (numbers tree.leaves) (flat_map numbers tree.above) in
       let in_u = row-put _ _ _ _ n _ _ d.after d.inside w.same w.here d.none in
       record {

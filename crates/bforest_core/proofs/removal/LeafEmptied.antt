@@ -30,9 +30,7 @@ module _ {K V : Type 0} {most : ℕ} {t : Table K V} {path indices size : _} (ca
 
   -- a leaf of one entry is the last
   row_is : f.before ++ node (get_or path 0 0) (f.l ++ f.x ∷ f.r) ∷ f.after ≡ f.before ++ node (get_or path 0 0) (f.x ∷ []) ∷ []
-  row_is =
-      let n = get_or path 0 0 in
-      let none = none_after _ _ n _ _ (omega arith) one f.fit in
+  row_is = let n = get_or path 0 0 in let none = none_after _ _ n _ _ (omega arith) one f.fit in
       simp (none_left, nil_from_length f.r (omega (arith, one, length-append f.l (f.x ∷ f.r))), none)
 
   leaves_are : tree.leaves ≡ f.before ++ node (get_or path 0 0) (f.x ∷ []) ∷ []
@@ -58,10 +56,7 @@ module _ {K V : Type 0} {most : ℕ} {t : Table K V} {path indices size : _} (ca
     -- the only leaf was removed, so the tree is empty
     pub emptied_tree : size ≡ 1 → Emptied most t v tree place
     emptied_tree single =
-        let n = get_or path 0 0 in
-        let above_is = nil_from_length tree.above (omega arith) in
-        let seen = rw above_is at s.fit.stacked in
-        let seen_is = seen in
+        let n = get_or path 0 0 in let above_is = nil_from_length tree.above (omega arith) in let seen = rw above_is at s.fit.stacked in let seen_is = seen in
         let none = nil_from_length _ (omega (arith, Solid-full (half_of most) most f.half f.before f.solid, heads_are)) in
         let only = leaves_are ∙ ap (λ z. z ++ node n (f.x ∷ []) ∷ []) none in
         let levels = ap (λ z. sizes z ∷ map sizes tree.above) only ∙ ap (λ z. (1 ∷ []) ∷ map sizes z) above_is in
@@ -79,9 +74,7 @@ module _ {K V : Type 0} {most : ℕ} {t : Table K V} {path indices size : _} (ca
     module _ (more : size ≢ 1) where
       -- the last of the leaves before it
       pub o : LastOf f.before
-      o =
-          let two = two_leaves _ _ s.fit.topped (λ e. more (omega arith)) in
-          last_of_solid _ _ f.half _ f.solid (omega (arith, heads_are, heads-flat f.before))
+      o = let two = two_leaves _ _ s.fit.topped (λ e. more (omega arith)) in last_of_solid _ _ f.half _ f.solid (omega (arith, heads_are, heads-flat f.before))
 
       pub above_then : Above v path indices 1 size tree.above (heads o.init ++ (o.w.0, o.number) ∷ (f.x.0, get_or path 0 0) ∷ []) (suc (length (heads o.init)))
       above_then = above_freed v _ _ o apart freed_is (rw (← row_is) f.above)
@@ -97,19 +90,14 @@ module _ {K V : Type 0} {most : ℕ} {t : Table K V} {path indices size : _} (ca
 
         untrimmed : Untrimmed most t u tree place f.before dropped.1.rows' (nodes_up path 0 (suc dropped.0))
         untrimmed =
-            let n = get_or path 0 0 in
-            let front = f.before in
-            let row = front ++ node n (f.x ∷ []) ∷ [] in
-            let r = dropped.1 in
-            let hs = last_heads o in
+            let n = get_or path 0 0 in let front = f.before in let row = front ++ node n (f.x ∷ []) ∷ [] in let r = dropped.1 in let hs = last_heads o in
             let full = Solid-full (half_of most) most f.half front f.solid in
             let len : suc (length (heads o.init)) ≡ length front = omega (arith, ap length hs, length-append (heads o.init) ((o.w.0, o.number) ∷ [])) in
             let first : place ≡ length (flat front) + 0 = omega (arith, place_is) in
             let inside = (row-split leaf_content t.nodes front (node n (f.l ++ f.x ∷ f.r) ∷ f.after) f.inside).0 in
             let in_v = row-same leaf_content t.nodes v.nodes front (λ m some. freed_other t v n freed_is m (ne_from_count m n (numbers front) some (omega (arith, f.none)))) inside in
             let lost = ap (λ z. loss most place z) (ap sizes leaves_are ∙ sizes-append front (node n (f.x ∷ []) ∷ [])) ∙ ap (λ z. loss most z (sizes front ++ suc 0 ∷ [])) first ∙ loss_at most front 0 0 [] (omega arith) in
-            let c0 = λ (m : ℕ). ap (λ z. count m (numbers z)) leaves_are in
-            let c1 = λ (m : ℕ). counts m front n (f.x ∷ []) [] tree.above t.chain in
+            let c0 = λ (m : ℕ). ap (λ z. count m (numbers z)) leaves_are in let c1 = λ (m : ℕ). counts m front n (f.x ∷ []) [] tree.above t.chain in
             let c2 = λ (m : ℕ). count-append m (numbers tree.leaves) (flat_map numbers tree.above) in
             record {
               flat_is = sym (cc (leaves_are, remove_flat front n [] f.x [] [], flat-append front (node n [] ∷ []), append-nil (flat front)));
@@ -137,6 +125,5 @@ module _ {K V : Type 0} {most : ℕ} {t : Table K V} {path indices size : _} (ca
           -- the tree after roots with a single child were discarded: the path is at the end
           pub drop_removed : (u2 : Table K V) (path' indices' size2 root' : _) → ((rows list : _) → UpTo u size rows list root → (gone : _)
               × Trimmed u u2 size size2 rows list root root' gone) → Removed most t u2 path (λ z. IsPathAt path' indices' 0 z place) tree place root'
-          drop_removed u2 path' indices' size2 root' trims =
-              let g = trims dropped.1.rows' (heads f.before) up in
+          drop_removed u2 path' indices' size2 root' trims = let g = trims dropped.1.rows' (heads f.before) up in
               trimmed_removed (suc dropped.0) (λ z. IsPathAt path' indices' 0 z place) s untrimmed root_is g.1 refl place_is

@@ -26,9 +26,7 @@ module _ {K V : Type 0} {cmp : K → K → Ordering} (most : ℕ) {table root le
 
   -- where the key is present, its entry is removed
   takes : is_present cmp es key ≡ true → TakesFromLeaf cmp table root key most path indices size answer new
-  takes here =
-      let p = place cmp es key in
-      let found : search_of cmp (entry_keys es) key ≡ Ok p = cc (search_of-keys_of cmp es key) in
+  takes here = let p = place cmp es key in let found : search_of cmp (entry_keys es) key ≡ Ok p = cc (search_of-keys_of cmp es key) in
       let said : answer ≡ option_map (λ v. (p, v)) (value_for cmp es key) = cc (items-read es p, value_for-present cmp es key here) in
       let taken : EntryTaken most table new root at path (set indices 0 p) size = record {
         union = union;
@@ -43,9 +41,7 @@ module _ {K V : Type 0} {cmp : K → K → Ordering} (most : ℕ) {table root le
 
   -- where it is absent, nothing changes
   leaves : is_present cmp es key ≡ false → TakesFromLeaf cmp table root key most path indices size answer new
-  leaves none =
-      let p = place cmp es key in
-      let found = search_of-keys_of cmp es key ∙ ap (λ b. if b then Ok p else Err p) none in
+  leaves none = let p = place cmp es key in let found = search_of-keys_of cmp es key ∙ ap (λ b. if b then Ok p else Err p) none in
       let after = new_is ∙ ap (λ z. with_node table leaf (with_taken (leaf_content es) z)) found in
       record {
         value = cc (value_for-absent cmp es key none);

@@ -99,15 +99,10 @@ module _ {K V X : Type 0} {content : List (K × X) → Content K V} {half most o
     -- a level is rebalanced once the rows above lost the entry of a merged node
     pub joined_restored : {new : Table K V} {path' indices' freed : List ℕ} (r : Rebuilt w new path1 indices1 path' indices' (suc level) size l.rest (heads l.before ++ (j.first.0, j.right) ∷ heads j.after') (length (heads l.before))
         (loss_above (Some (length (heads l.before))) (map sizes l.rest)) freed) → 1 ≤ half → Restores new path' indices' (freed ++ n ∷ [])
-    joined_restored {new} {path'} {indices'} {freed} r one =
-        let both = l.entries ++ j.right_entries in
-        let row = l.before ++ node j.right both ∷ j.after' in
-        let own1 = numbers (l.before ++ node n l.entries ∷ l.after) ++ flat_map numbers l.rest in
-        let p = l.on_level in
-        let full = Solid-full half most one l.before p.solid in
-        let c = λ (m : ℕ). counts m l.before n l.entries l.after l.rest mid.chain in
-        let c0 = λ (m : ℕ). ap (λ z. count m (n ∷ numbers z)) j.after_is in
-        let list_is = sym (cc (heads-append _ _)) in
+    joined_restored {new} {path'} {indices'} {freed} r one = let both = l.entries ++ j.right_entries in let row = l.before ++ node j.right both ∷ j.after' in
+        let own1 = numbers (l.before ++ node n l.entries ∷ l.after) ++ flat_map numbers l.rest in let p = l.on_level in
+        let full = Solid-full half most one l.before p.solid in let c = λ (m : ℕ). counts m l.before n l.entries l.after l.rest mid.chain in
+        let c0 = λ (m : ℕ). ap (λ z. count m (n ∷ numbers z)) j.after_is in let list_is = sym (cc (heads-append _ _)) in
         let fits = subst (λ z. FitRow half most z) j.after_is p.fits in
         let left = frees-then (λ m none. omega (arith, c m)) (λ m here. only_here m n _ here (omega (arith, p.apart n, c n, count-same n (numbers l.after))))
         (frees-wider own1 (λ m none. omega (arith, c m)) j.frees) r.frees in (
@@ -141,9 +136,7 @@ module _ {K V : Type 0} {t u : Table K V} {path indices : List ℕ} {up size : �
   rebuilt : {v : Table K V} {path' indices' freed : _} → Restores l v path' indices' freed → SameBelow up path path' → SameBelow up indices indices' → top_of path' size ≡ top_of path size
       → Rebuilt t v path indices path' indices' up size rows hs p (loss_above (Some p) (map sizes rows)) freed
   rebuilt {path'} restored below below_too top =
-      let r = restored.0 in
-      let n' = get_or path' up 0 in
-      let solid = (FitRow-split 4 8 r.front (node n' r.entries) r.after (rw (← r.row_is) r.fit)).0 in
+      let r = restored.0 in let n' = get_or path' up 0 in let solid = (FitRow-split 4 8 r.front (node n' r.entries) r.after (rw (← r.row_is) r.fit)).0 in
       record {
         rows' = r.row ∷ r.rows;
         above = record {

@@ -17,13 +17,9 @@ second_key (z ∷ l) x y r = second _ l x y r
 
 module _ {K V : Type 0} where
   -- the rows one level up, cut at the path's node
-  pub up_above : {t : Table K V} {path indices up size rows a x : _}
-      {b : _} → (d : Spot t path indices up size rows a x b) → (k : K)
-      × Above t path indices (suc up) size d.q.rest (heads d.q.before ++ (k, get_or path up 0) ∷ heads d.q.after)
-      (length (heads d.q.before))
-  up_above d =
-      let h = head-is _ _ (omega (arith, d.count_is)) in
-      (h.first.0, headed d.q.before d.q.after h (rows_above d))
+  pub up_above : {t : Table K V} {path indices up size rows a x : _} {b : _} → (d : Spot t path indices up size rows a x b) → (k : K) × Above t path indices
+      (suc up) size d.q.rest (heads d.q.before ++ (k, get_or path up 0) ∷ heads d.q.after) (length (heads d.q.before))
+  up_above d = let h = head-is _ _ (omega (arith, d.count_is)) in (h.first.0, headed d.q.before d.q.after h (rows_above d))
 
   -- the rows above a level, as a step on it requires them
   pub over-above : {t : Table K V} {path indices level size rows list place : _} → Above t path indices level size rows list place → Over t.nodes path indices level size rows list place
@@ -38,8 +34,7 @@ module _ {K V : Type 0} where
   -- the rows after a step, with another index below them
   pub entered_next : {t : Table K V} {path indices path' indices' : _} (indices2 : _) {level size rows : _} (a x y b : _) → Above t path indices (suc level) size rows (a ++ x ∷ y ∷ b) (length a) →
       Moved path indices path' indices' level rows (a ++ x ∷ y ∷ b) (suc (length a)) → ((i : ℕ) → suc level ≤ i → get_or indices2 i 0 ≡ get_or indices' i 0) → Above t path' indices2 (suc level) size rows (a ++ x ∷ y ∷ b) (suc (length a)) × (get_or path' level 0 ≡ y.1)
-  entered_next indices2 a x y b p m same =
-      let len : length (a ++ x ∷ []) ≡ suc (length a) = length-append a _ ∙ omega arith in
+  entered_next indices2 a x y b p m same = let len : length (a ++ x ∷ []) ≡ suc (length a) = length-append a _ ∙ omega arith in
       let found = ap (λ z. slice_get z (suc (length a))) (sym (append_assoc a _ _)) ∙ slice_get_at _ y b _ len in
       let head_is = some_same m.head y (cc) in (
         record { stacked = p.stacked; inside = p.inside; stands = stands-same _ _ _ _ _ _ _ (λ i high. refl) same m.stands; height = p.height; apart = p.apart },
@@ -81,8 +76,7 @@ module _ {K V : Type 0} where
       n = let nx = next_above (Some next) (subst (Beside t path indices (up + 1) size) is beside) in next_of 4 8 (omega arith) _ _ _ _ d.f.fit.2 nx.1
 
       n_slot : slice_get t.nodes next.1 ≡ Some (inner_content (n.f ∷ n.fs))
-      n_slot =
-          let i = (row-split _ _ _ (node (get_or path up 0) (d.q.l ++ x ∷ d.q.r) ∷ d.q.after) d.f.inside).1.1 in
+      n_slot = let i = (row-split _ _ _ (node (get_or path up 0) (d.q.l ++ x ∷ d.q.r) ∷ d.q.after) d.f.inside).1.1 in
           (subst (λ z. RowIn inner_content t.nodes z) n.after_is i).0
 
       -- the next parent meets what reading its first child requires
@@ -96,8 +90,7 @@ module _ {K V : Type 0} where
 
       pub same_parent : (key child : _) → get_or indices up 0 + 1 < m → ReadsKey t (get_or path up r) (get_or indices up 0) key → ReadsChild t (get_or path up r) (get_or indices up 0 + 1) child → NextIs (Some (key, child)) b
       same_parent key child more reads_key reads_child =
-          let es = d.q.l ++ x ∷ d.q.r in
-          let w = some_first d.q.r (omega (arith, here.counted m value, d.count_is)) in
+          let es = d.q.l ++ x ∷ d.q.r in let w = some_first d.q.r (omega (arith, here.counted m value, d.count_is)) in
           let high : suc (length d.q.l) ≡ get_or indices up 0 + 1 = omega (arith, d.q.entry_is) in
           let key_is = some_same _ _ (cc (second_key d.q.l x w.0 w.1, d.q.entry_is, reads_key (drop 1 (entry_keys es)) (entry_items es) here.slot_is)) in
           let child_is = some_same _ _ (cc (second (λ z. z.1) _ x _ _, reads_child (drop 1 (entry_keys es)) (entry_items es) here.slot_is)) in
@@ -113,7 +106,6 @@ module _ {K V : Type 0} where
 
         -- the right neighbour has another parent
         pub next_parent : (o : Option (K × ℕ)) (next : _) (is : o ≡ Some next) (beside : Beside t path indices (up + 1) size o) (child : ℕ) → ReadsChild t next.1 0 child → NextIs (Some (next.0, child)) b
-        next_parent o next is beside child reads =
-            let w = n o next is beside in
+        next_parent o next is beside child reads = let w = n o next is beside in
             let child_is = some_same _ _ (reads (drop 1 (entry_keys (w.f ∷ w.fs))) (entry_items (w.f ∷ w.fs)) (n_slot o next is beside)) in
             (w.fs ++ flat w.rest, behind ∙ ap (λ z. flat z) w.after_is ∙ ap (λ z. (z, w.f.1) ∷ (w.fs ++ flat w.rest)) (sym w.k_is) ∙ ap (λ z. (next.0, z) ∷ (w.fs ++ flat w.rest)) child_is)

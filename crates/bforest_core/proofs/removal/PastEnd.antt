@@ -27,8 +27,7 @@ module _ {K V : Type 0} {most : ℕ} {t v : Table K V} {path indices size tree p
 
   -- no leaf follows where the leaf is the whole tree
   pub alone_last : size ≤ 1 → l.after ≡ []
-  alone_last low =
-      let one = top_one l.rest low above in
+  alone_last low = let one = top_one l.rest low above in
       no_nodes (half_of most) most loss_half l.after l.fits (nil_from_length (heads l.after) (omega (arith, length-append (heads l.before) ((named.first.0, get_or path 0 0) ∷ heads l.after))))
 
   -- a leaf follows
@@ -54,4 +53,4 @@ module _ {K V : Type 0} {most : ℕ} {t v : Table K V} {path indices size tree p
 
       -- the path is past all entries
       pub behind_all : (found : Option (K × ℕ)) (none : Bool) → m ≤ get_or indices 0 0 → Beside v path indices 1 size found → is_some found ≡ not none → none ≡ true → (l.after ≡ []) × (get_or indices 0 0 ≡ length l.entries)
-      behind_all found none high beside is so = (none_follows found (beside beside_asks) (cc), omega (arith, count_is))
+      behind_all found none high beside is so = (none_follows found (beside beside_asks) cc, omega (arith, count_is))

@@ -43,8 +43,7 @@ module _ {K V X : Type 0} {content : List (K × X) → Content K V} {half most :
         → length (flat front) + get_or indices' up 0 ≡ length (flat before) + get_or indices up 0 → SameBelow up path path'
         → SameBelow up indices indices' → top_of path' size ≡ top_of path size
         → Healed content half most t t path indices path' indices' up size before n es after rest
-    settle_same front m fs back same above m_is within place_is below below_too top_is =
-        let outcome = judged _ _ _ _ hm.lo p.some why in
+    settle_same front m fs back same above m_is within place_is below below_too top_is = let outcome = judged _ _ _ _ hm.lo p.some why in
         record {
           before' = front;
           number' = m;
@@ -87,17 +86,14 @@ module _ {K V X : Type 0} {content : List (K × X) → Content K V} {half most :
         × (get_or path' up 0 ≡ q) → get_or indices' up 0 ≡ 0 → SameBelow up path path' →
         SameBelow up indices indices' → top_of path' size ≡ top_of path size → Healed content half most t t path indices path' indices' up size before n (e ∷ es) (node q (f ∷ fs) ∷ after) rest
     settle_move {path'} {indices'} healthy e_is above z_is below below_too top_is =
-        let front = before ++ node n (e ∷ es) ∷ [] in
-        let same = append_assoc before (node n (e ∷ es) ∷ []) (node q (f ∷ fs) ∷ after) in
+        let front = before ++ node n (e ∷ es) ∷ [] in let same = append_assoc before (node n (e ∷ es) ∷ []) (node q (f ∷ fs) ∷ after) in
         let len : length (heads front) ≡ suc (length (heads before)) = ap length (heads-append before (node n (e ∷ es) ∷ [])) ∙ length-append (heads before) ((e.0, n) ∷ []) ∙ omega arith in
         let flats = ap length (flat-append before (node n (e ∷ es) ∷ []) ∙ ap (λ z. flat before ++ z) (append-nil (e ∷ es))) ∙ length-append (flat before) (e ∷ es) in
         settle_same p (inl healthy) front q (f ∷ fs) after same (rw (same, heads-append before (node n (e ∷ es) ∷ node q (f ∷ fs) ∷ after), len) above.0) above.1 (λ low. omega arith) (omega arith) below below_too top_is
 
     -- the two nodes are different and in no other row, and the right one is off the chain
     pub apart : (n ≢ q) × (count n (numbers before) + count n (numbers after) ≡ 0) × (count q (numbers before) + count q (numbers after) ≡ 0) × (count q t.chain ≡ 0)
-    apart =
-        let c = λ (m : ℕ). counts m before n (e ∷ es) (node q (f ∷ fs) ∷ after) rest t.chain in
-        let sn = count-same n (q ∷ numbers after) in
+    apart = let c = λ (m : ℕ). counts m before n (e ∷ es) (node q (f ∷ fs) ∷ after) rest t.chain in let sn = count-same n (q ∷ numbers after) in
         let sq = count-same q (numbers after) in (
           λ same. let h = ap (λ z. count z (q ∷ numbers after)) same in omega (arith, c n),
           omega (arith, p.apart n, c n),
@@ -111,9 +107,7 @@ module _ {K V X : Type 0} {content : List (K × X) → Content K V} {half most :
 
     -- the rows above, after a write of the two slots
     pub above_two_put : {u c d : _} → PutsTwo content t u n q c d → Above u path indices (suc up) size rest (heads before ++ (e.0, n) ∷ (f.0, q) ∷ heads after) (length (heads before))
-    above_two_put {u} w =
-        let k = λ (m : ℕ). counts m before n (e ∷ es) (node q (f ∷ fs) ∷ after) rest t.chain in
-        let b = above_both in
+    above_two_put {u} w = let k = λ (m : ℕ). counts m before n (e ∷ es) (node q (f ∷ fs) ∷ after) rest t.chain in let b = above_both in
         above_same u (λ m some. (two_frees w).others m (omega (arith, p.apart m, k m)))
         (λ m. omega (arith, b.apart m, ap (λ z. count m z) w.frees.chain_is, count-append)) b
 
@@ -121,16 +115,10 @@ module _ {K V X : Type 0} {content : List (K × X) → Content K V} {half most :
       -- the node takes entries of its right neighbour, and the key between the two was updated above
       pub settle_spread : {key : K} (s : Spread content t u most n q (e ∷ es) (f ∷ fs) key) → Rebuilt u v path indices path indices (suc up) size rest (heads before ++ (e.0, n) ∷ (key, q) ∷ heads after) (length (heads before)) (map sizes rest) [] →
           Healed content half most t v path indices path indices up size before n (e ∷ es) (node q (f ∷ fs) ∷ after) rest
-      settle_spread {key} s b =
-          let both = length (e ∷ es) + length (f ∷ fs) in
-          let row2 = before ++ node n (s.x ∷ s.xs) ∷ node q (s.y ∷ s.ys) ∷ after in
-          let outcome = rebalanced_spread most (length es) (length (f ∷ fs)) (sizes after) (omega arith) s.more in
-          let fit_q = p.fits in
-          let x_is : e ≡ s.x = (let w = s.whole in cc) in
-          let lo : half ≤ suc (length s.xs) = omega arith in
-          let hi : suc (length s.xs) ≤ most = omega arith in
-          let hi_q : suc (length s.ys) ≤ most = omega arith in
-          let c = λ (m : ℕ). counts m before n (e ∷ es) (node q (f ∷ fs) ∷ after) rest t.chain in
+      settle_spread {key} s b = let both = length (e ∷ es) + length (f ∷ fs) in let row2 = before ++ node n (s.x ∷ s.xs) ∷ node q (s.y ∷ s.ys) ∷ after in
+          let outcome = rebalanced_spread most (length es) (length (f ∷ fs)) (sizes after) (omega arith) s.more in let fit_q = p.fits in
+          let x_is : e ≡ s.x = (let w = s.whole in cc) in let lo : half ≤ suc (length s.xs) = omega arith in let hi : suc (length s.xs) ≤ most = omega arith in
+          let hi_q : suc (length s.ys) ≤ most = omega arith in let c = λ (m : ℕ). counts m before n (e ∷ es) (node q (f ∷ fs) ∷ after) rest t.chain in
           let c2 = λ (m : ℕ). count-row m before n (s.x ∷ s.xs) (node q (s.y ∷ s.ys) ∷ after) in
           let in_u = row-put_two _ _ _ _ n q _ _ _ _ after p.inside s.two.same s.two.here s.two.there apart.1 apart.2 in
           let flats = flat-append before (node n (s.x ∷ s.xs) ∷ node q (s.y ∷ s.ys) ∷ after) ∙ ap (λ z. flat before ++ z)
@@ -165,11 +153,8 @@ module _ {K V X : Type 0} {content : List (K × X) → Content K V} {half most :
       settle_join s v_is low =
           let both : List (K × X) = (e ∷ es) ++ f ∷ fs in
           let outcome = rebalanced_joined most (length es) (length (f ∷ fs)) (sizes after) (omega arith) s.fits in
-          let len = length-append (e ∷ es) (f ∷ fs) in
-          let fit_q = p.fits in
-          let a = above_both in
-          let high = above_two rest (heads before) (e.0, n) (f.0, q) (heads after) a in
-          let other = freed_other u v n v_is in
+          let len = length-append (e ∷ es) (f ∷ fs) in let fit_q = p.fits in let a = above_both in
+          let high = above_two rest (heads before) (e.0, n) (f.0, q) (heads after) a in let other = freed_other u v n v_is in
           let c = λ (m : ℕ). counts m before n (e ∷ es) (node q (f ∷ fs) ∷ after) rest t.chain in
           let frees = frees-after (λ m none. omega (arith, c m)) (two_frees s.two) (frees-one u v n s.left_content (n ∷ []) s.two.here v_is (omega (arith, count-same n []))) in
           record {

@@ -113,9 +113,7 @@ module _ {K V : Type 0} {cap least : ℕ} {t : Table K V} {path indices up size 
         -- entering the next node leaves the level rebalanced
         pub past_heals : (path' indices' : _) → Enters t path indices path' indices' up size → get_or indices' up 0 ≡ 0
             → SameBelow up path path' → SameBelow up indices indices' → top_of path' size ≡ top_of path size → Heals w t path' indices'
-        past_heals path' indices' moved first below below_too top_is =
-            let entered = moved past_asks in
-            let len = ap length named.es_is in
+        past_heals path' indices' moved first below below_too top_is = let entered = moved past_asks in let len = ap length named.es_is in
             heals then t path' indices' (settle_move hm (level then) (omega (arith, half_here)) (omega (arith, count_read m value)) entered first below below_too top_is)
 
   -- the rows above, cut at the node
@@ -132,8 +130,7 @@ module _ {K V : Type 0} {cap least : ℕ} {t : Table K V} {path indices up size 
 
   -- the last node stays
   pub last_heals : Beside t path indices (up + 1) size None → Heals w t path indices
-  last_heals beside =
-      let none = no_nodes _ _ half_some _ p.fits (next_is None beside) in
+  last_heals beside = let none = no_nodes _ _ half_some _ p.fits (next_is None beside) in
       settle_stay hm p (inr none) (λ some. omega (arith, length-append es (flat after), ap (λ z. length (flat z)) none))
 
   module _ (m : ℕ) (value : Counts t (get_or path up r) m) (under : m < least) {o : Option (K × ℕ)} {next : _} (is : o ≡ Some next) (beside : Beside t path indices (up + 1) size o) where
@@ -151,15 +148,11 @@ module _ {K V : Type 0} {cap least : ℕ} {t : Table K V} {path indices up size 
     lies = apart hm (level d)
 
     slots : (slice_get t.nodes n ≡ Some (content (e ∷ others))) × (slice_get t.nodes q ≡ Some (content (d.f ∷ d.fs)))
-    slots =
-        let both = (row-split _ _ _ (node n (e ∷ others) ∷ node q (d.f ∷ d.fs) ∷ d.rest) (level d).inside).1 in
-        (both.0, both.1.0)
+    slots = let both = (row-split _ _ _ (node n (e ∷ others) ∷ node q (d.f ∷ d.fs) ∷ d.rest) (level d).inside).1 in (both.0, both.1.0)
 
     -- the two nodes meet what balancing requires
     pub balance_asks : IsUsed t (get_or path up r) × (IsUsed t q × ((get_or path up r ≢ q) × IsUnderflowedAt cap t.nodes (get_or path up r) q))
-    balance_asks =
-        let ce = s.count_is (e ∷ others) in
-        let cf = s.count_is (d.f ∷ d.fs) in
+    balance_asks = let ce = s.count_is (e ∷ others) in let cf = s.count_is (d.f ∷ d.fs) in
         let both : IsUnderflowedAt cap t.nodes n q = record {
           under = content (e ∷ others);
           neighbour = content (d.f ∷ d.fs);
@@ -203,6 +196,5 @@ module _ {K V : Type 0} {cap least : ℕ} {t : Table K V} {path indices up size 
 
         -- freeing the left node leaves the two merged
         pub free_joins : (v : _) → v ≡ with_freed u (get_or path up r) → Joins w v (set path up q) indices
-        free_joins v freed =
-            let j = settle_join hm (level d) v under_is all_right (cc (num_is)) low in
+        free_joins v freed = let j = settle_join hm (level d) v under_is all_right (cc (num_is)) low in
             both_back (λ y z. Joined content half most t v path indices (set path up q) indices up size before n y z rest) es _ after _ named.es_is d.after_is j

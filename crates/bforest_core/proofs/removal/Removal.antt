@@ -14,13 +14,11 @@ module _ {K V : Type 0} where
   -- a path under a root stands in its tree, which is in the table
   pub stands_in : (most : ℕ) (table : Table K V) {root place path indices size : _} → IsUnion most table → StandsUnder table.nodes root path indices size place → StandsIn most table path indices size (tree_of table.nodes root) place
   stands_in most table union s =
-      let r = rooted _ _ _ union s.root_is in
-      record { fit = r.fit; inside = r.inside; apart = r.apart; low = r.low; stands = s.stands }
+      let r = rooted _ _ _ union s.root_is in record { fit = r.fit; inside = r.inside; apart = r.apart; low = r.low; stands = s.stands }
 
   -- the place where a path stands is that of an entry
   pub place_low : (path indices size : _) (tree : Tree K V) (place : ℕ) → Stands path indices size tree place → place < length (flat tree.leaves)
-  place_low path indices size tree place s =
-      let at = s.leaf in
+  place_low path indices size tree place s = let at = s.leaf in
       omega (arith, at.place_is, at.within, ap (λ z. length (flat z)) at.row_is, ap length (flat-append at.before (node (get_or path 0 0) at.entries ∷ at.after)), length-append (flat at.before) (at.entries ++ flat at.after), length-append at.entries (flat at.after))
 
   -- the effect of a removal on the table and the path, with the root that is left, if any
@@ -30,15 +28,12 @@ module _ {K V : Type 0} where
 
   module _ (most old new : _) {root place path indices size : _} (Now : Tree K V → Type 0) (union : IsUnion most old) (s : StandsUnder old.nodes root path indices size place) where
     removed_root : {root' : ℕ} (i : Removed most old new path Now (tree_of old.nodes root) place root') → Said most old new path root place Now (Some (root_of i.tree'))
-    removed_root i =
-        let tree = tree_of old.nodes root in
-        let r = rooted most old root union s.root_is in
+    removed_root i = let tree = tree_of old.nodes root in let r = rooted most old root union s.root_is in
         let planted : IsPlanted most new.nodes i.tree' = record { fit = i.fit; inside = i.inside; some = i.some; low = omega arith } in
         let e = exchanged-freed root union s.root_is planted i.frees i.numbers_are in
         let levels : length (shrink most place (sizes_of tree)) ≡ suc (length i.tree'.above) = omega (arith, ap length i.sizes_are, length-map i.tree'.above sizes) in
         let levels_were : length (sizes_of tree) ≡ suc (length tree.above) = omega (arith, length-map tree.above sizes) in
-        let among = root-among most new.nodes i.tree' i.fit i.inside i.some in
-        let c = λ (m : ℕ). count-append m (numbers_of tree) old.chain in
+        let among = root-among most new.nodes i.tree' i.fit i.inside i.some in let c = λ (m : ℕ). count-append m (numbers_of tree) old.chain in
         let rooted_is = λ (z : root_of i.tree' ≡ root). ap (λ w. count w i.freed) (z ∙ sym r.root_is) in
         record {
           at = (e.root_is, subst Now (sym e.tree_is) i.at);
@@ -88,10 +83,7 @@ module _ {K V : Type 0} where
 
     -- removing the last entry of a tree
     ending : Emptied most old new (tree_of old.nodes root) place → Said most old new path root place Now None
-    ending i =
-        let tree = tree_of old.nodes root in
-        let r = rooted _ _ _ union s.root_is in
-        let u = uprooted-union _ _ union s.root_is i.frees i.freed_is in
+    ending i = let tree = tree_of old.nodes root in let r = rooted _ _ _ union s.root_is in let u = uprooted-union _ _ union s.root_is i.frees i.freed_is in
         let among = root-among _ _ _ r.fit r.inside r.some in
         record {
           at = tt;

@@ -50,8 +50,7 @@ module _ {K V : Type 0} {most : ℕ} {old : Table K V} {path indices size tree p
 
     -- the path stands at the place, in the rows that stay
     stands : {new2 : Table K V} {size1 size2 root' gone : _} → get_or indices' 0 0 < length r.entries → (t : Trimmed new new2 size1 size2 r.rows (heads r.row) root root' gone) → Stands path' indices' size2 (record { leaves = r.row; above = t.rows' }) place
-    stands within t =
-        let st = rw t.rows_are at r.above.stands in
+    stands within t = let st = rw t.rows_are at r.above.stands in
         let few : length (heads r.front) < length (heads r.row) = omega (arith, full, fit_full (half_of most) most half r.row r.fit, ap length r.row_is, length-append r.front (node m r.entries ∷ r.after)) in
         record {
           leaf = record { before = r.front; entries = r.entries; after = r.after; row_is = r.row_is; within = within; place_is = r.place_is };
@@ -80,8 +79,7 @@ module _ {K V : Type 0} {most : ℕ} {old mid : Table K V} {path indices size tr
 
   -- the removal is complete where the leaf is still half full or the last
   pub kept_removed : (Now : Tree K V → Type 0) → (half_of most ≤ length l.entries) ⊎ (l.after ≡ []) → ((z : Tree K V) → flat z.leaves ≡ remove (flat tree.leaves) place → Now z) → Removed most old mid path Now tree place root
-  kept_removed Now why now =
-      let r = kept_restored l.loss (judged _ _ _ _ (omega arith) l.some why) (enough (half_of most) l.entries l.after l.some why) in
+  kept_removed Now why now = let r = kept_restored l.loss (judged _ _ _ _ (omega arith) l.some why) (enough (half_of most) l.entries l.after l.some why) in
       let len : length (l.before ++ node n l.entries ∷ l.after) ≡ length tree.leaves = omega (arith, ap length sizes_were.0, length-sizes tree.leaves, length-sizes l.before, length-sizes l.after, length-append (sizes l.before) (suc (length l.entries) ∷ sizes l.after), length-append l.before (node n l.entries ∷ l.after)) in
       trimmed_removed 0 Now s (untrimmed s half root_is r refl) root_is (whole s half root_is r refl refl len (sym sizes_were.1)) refl (now _ r.list_is)
 
@@ -91,15 +89,13 @@ module _ {K V : Type 0} {most : ℕ} {old mid : Table K V} {path indices size tr
 
   -- the removal is complete where the path was at the last entry
   pub past_removed : l.after ≡ [] → get_or indices 0 0 ≡ length l.entries → Removed most old mid path (λ z. IsPathAt path indices 0 z place) tree place root
-  past_removed none last =
-      kept_removed _ (inr none)
+  past_removed none last = kept_removed _ (inr none)
       (λ z is. omega (arith, ap length is, ap length l.list_is, ap length (flat-append l.before (node n l.entries ∷ l.after)), length-append (flat l.before) (l.entries ++ flat l.after), length-append l.entries (flat l.after), ap (λ z. length (flat z)) none))
 
   -- the removal is complete where the leaf was rebalanced and stays
   pub healed_removed : {new : Table K V} {path' indices' size1 : _} → Healed leaf_content (half_of most) most mid new path indices path' indices' 0 size l.before n l.entries l.after l.rest → size1 ≡ size →
       Removed most old new path (λ z. place < length (flat z.leaves) → IsPathAt path' indices' size1 z place) tree place root
-  healed_removed h size_is =
-      let r = healed_restored l.loss h in
+  healed_removed h size_is = let r = healed_restored l.loss h in
       let len : length (h.before' ++ node h.number' h.entries' ∷ h.after') ≡ length tree.leaves = omega (
         arith,
         ap length sizes_were.0,
@@ -126,9 +122,7 @@ module _ {K V : Type 0} {most : ℕ} {old mid : Table K V} {path indices size tr
       Merged z freed = Rebuilt mid2 new path1 indices1 path' indices' 1 z l.rest (heads l.before ++ (j.first.0, j.right) ∷ heads j.after') (length (heads l.before)) (loss_above (Some (length (heads l.before))) (map sizes l.rest)) freed
 
       above : (levels : ℕ) × Merged size (nodes_up path 1 levels)
-      above =
-          let m = merged leaf_merge_asks in
-          (m.0, rw (← nodes_up-same _ _ 1 _ j.nodes_above) (subst (λ z. Merged z (nodes_up path1 1 m.0)) size_is m.1))
+      above = let m = merged leaf_merge_asks in (m.0, rw (← nodes_up-same _ _ 1 _ j.nodes_above) (subst (λ z. Merged z (nodes_up path1 1 m.0)) size_is m.1))
 
       joined : Restores l.loss new path' indices' (nodes_up path 0 (suc above.0))
       joined = joined_restored l.loss j above.1 half
@@ -144,6 +138,5 @@ module _ {K V : Type 0} {most : ℕ} {old mid : Table K V} {path indices size tr
       pub joined_removed : {new2 path2 indices2 size3 root' : _}
           → ((rows list : _) → UpTo new size2 rows list root → (gone : _) × Trimmed new new2 size2 size3 rows list root root' gone) → path2 ≡ path' → indices2 ≡ indices' →
           Removed most old new2 path (λ z. place < length (flat z.leaves) → IsPathAt path2 indices2 size3 z place) tree place root'
-      joined_removed trims path_is indices_is =
-          let t = trims joined.0.rows (heads joined.0.row) (up_here s half root_is joined.0 top size2_is) in
+      joined_removed trims path_is indices_is = let t = trims joined.0.rows (heads joined.0.row) (up_here s half root_is joined.0 top size2_is) in
           rw (path_is, indices_is) (completed s half root_is joined.0 top (suc above.0) refl joined.1 t.1 size2_is)

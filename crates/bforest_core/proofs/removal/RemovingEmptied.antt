@@ -41,8 +41,7 @@ module _ {K V : Type 0} where
   pub above_freed : {X : Type 0} {t : Table K V} (v : Table K V) {path indices up size : _} (n : ℕ) {before : Row K X} (x : K × X)
       {rest : _} (o : LastOf before) → Distinct ((numbers (before ++ node n (x ∷ []) ∷ []) ++ flat_map numbers rest) ++ t.chain) → v ≡ with_freed t n →
       Above t path indices up size rest (heads (before ++ node n (x ∷ []) ∷ [])) (length (heads before)) → Above v path indices up size rest (heads o.init ++ (o.w.0, o.number) ∷ (x.0, n) ∷ []) (suc (length (heads o.init)))
-  above_freed {t} v {path} {indices} {up} {size} n {before} x {rest} o apart is p =
-      let c = λ (m : ℕ). counts m before n (x ∷ []) [] rest t.chain in
+  above_freed {t} v {path} {indices} {up} {size} n {before} x {rest} o apart is p = let c = λ (m : ℕ). counts m before n (x ∷ []) [] rest t.chain in
       let none : count n (flat_map numbers rest) ≡ 0 = omega (arith, apart n, c n, count-same n []) in
       let list = heads-append before (node n (x ∷ []) ∷ []) ∙ ap (λ z. z ++ (x.0, n) ∷ []) (last_heads o) ∙ append_assoc (heads o.init) ((o.w.0, o.number) ∷ []) ((x.0, n) ∷ []) in
       let len : length (heads before) ≡ suc (length (heads o.init)) = omega (arith, ap length (last_heads o), length-append (heads o.init) ((o.w.0, o.number) ∷ [])) in
@@ -54,8 +53,7 @@ module _ {K V : Type 0} where
 
   module _ {t : Table K V} {path indices up size rows a x : _} (d : Spot t path indices up size rows a x []) where
     ends : (d.q.r ≡ []) × (d.q.after ≡ [])
-    ends =
-        let len = length-append d.q.r (flat d.q.after) in
+    ends = let len = length-append d.q.r (flat d.q.after) in
         (nil_from_length d.q.r (omega (arith, ap length d.q.b_is)), no_nodes 4 8 (omega arith) d.q.after d.f.fit.2 (nil_from_length (heads d.q.after) (omega (arith, heads-flat d.q.after, ap length d.q.b_is))))
 
     -- the path's row ends with the entry
@@ -66,8 +64,7 @@ module _ {K V : Type 0} where
     known = facts t _ _ _ _ _ _ _ x _ _ _ whole
 
     were : map sizes rows ≡ (sizes d.q.before ++ suc (length d.q.l) ∷ []) ∷ map sizes d.q.rest
-    were =
-        let n = get_or path up 0 in
+    were = let n = get_or path up 0 in
         let row = ap (λ z. d.q.before ++ node n (d.q.l ++ x ∷ z) ∷ d.q.after) ends.0 ∙ ap (λ z. d.q.before ++ node n (d.q.l ++ x ∷ []) ∷ z) ends.1 in
         let len : length (d.q.l ++ x ∷ []) ≡ suc (length d.q.l) = length-append d.q.l (x ∷ []) ∙ omega arith in
         cc (sizes-append d.q.before (node n (d.q.l ++ x ∷ []) ∷ []))
@@ -81,15 +78,9 @@ module _ {K V : Type 0} where
 
     -- the node keeps other entries
     drop_keep : (u : Table K V) → length (d.q.l ++ x ∷ d.q.r) ≢ 1 → u ≡ with_node t (get_or path up 0) (without_child (inner_content (d.q.l ++ x ∷ d.q.r)) (get_or indices up 0)) → Dropped t u path size rows a (loss_above (Some (length a)) (map sizes rows)) []
-    drop_keep u more u_is =
-        let q = d.q in
-        let n = get_or path up 0 in
-        let old = q.l ++ x ∷ [] in
-        let row = q.before ++ node n q.l ∷ [] in
-        let old_is = ap (λ z. q.l ++ x ∷ z) ends.0 in
-        let len : length old ≡ suc (length q.l) = length-append q.l (x ∷ []) ∙ omega arith in
-        let some : 1 ≤ length q.l = omega (arith, ap length old_is) in
-        let f = some_first q.l some in
+    drop_keep u more u_is = let q = d.q in let n = get_or path up 0 in let old = q.l ++ x ∷ [] in let row = q.before ++ node n q.l ∷ [] in
+        let old_is = ap (λ z. q.l ++ x ∷ z) ends.0 in let len : length old ≡ suc (length q.l) = length-append q.l (x ∷ []) ∙ omega arith in
+        let some : 1 ≤ length q.l = omega (arith, ap length old_is) in let f = some_first q.l some in
         let gone = ap (λ z. without_child (inner_content z) (get_or indices up 0)) (old_is ∙ ap (λ z. z ++ x ∷ []) f.2) ∙ removed_last V f.0 f.1 x (get_or indices up 0) (cc) ∙ ap (λ z. inner_content z) (sym f.2) in
         let w = puts t u n _ _ known.slot_is (u_is ∙ ap (λ z. with_node t n z) gone) in
         let high : up + length q.rest ≡ size - 1 = omega (arith, whole.height) in
@@ -117,19 +108,13 @@ module _ {K V : Type 0} where
       front = last_of_solid 4 8 (omega arith) _ d.f.solid (omega (arith, some, ap length a_front))
 
       above_then : Above v path indices (suc up) size d.q.rest (heads front.init ++ (front.w.0, front.number) ∷ (x.0, get_or path up 0) ∷ []) (suc (length (heads front.init)))
-      above_then =
-          let e = ends in
-          let apart = whole.apart in
-          let p = rows_above d in
+      above_then = let e = ends in let apart = whole.apart in let p = rows_above d in
           above_freed v (get_or path up 0) x front (rw l_none at apart) v_is (rw (l_none, e.0, e.1) at p)
 
       drop_empty : {u freed : _} → Dropped v u path size d.q.rest (heads front.init ++ (front.w.0, front.number) ∷ [])
           (loss_above (Some (suc (length (heads front.init)))) (map sizes d.q.rest)) freed
           → Dropped t u path size rows a (loss_above (Some (length a)) (map sizes rows)) (freed ++ get_or path up 0 ∷ [])
-      drop_empty r =
-          let q = d.q in
-          let n = get_or path up 0 in
-          let hs = last_heads front in
+      drop_empty r = let q = d.q in let n = get_or path up 0 in let hs = last_heads front in
           let len : length q.before ≡ suc (length (heads front.init)) = omega (arith, Solid-full 4 8 (omega arith) q.before d.f.solid, ap length hs, length-append (heads front.init) ((front.w.0, front.number) ∷ [])) in
           let in_v = row-same _ _ _ _ (λ m some. freed_other t v n v_is m (ne_from_count m n (numbers q.before) some (omega (arith, known.none))))
           (row-split _ _ _ _ known.inside).0 in
@@ -164,10 +149,7 @@ module _ {K V : Type 0} where
     module _ (cnt : ℕ) (value : Counts t (get_or path up r) cnt) where
       -- the call ensures its effect where the node keeps other entries
       pub keeps : (u : Table K V) → cnt ≢ 1 → Removes t u (get_or path up r) (get_or indices up 0) → Drops t u path up size rows a y
-      keeps u more removes =
-          let s = here in
-          let es = s.d.q.l ++ x ∷ s.d.q.r in
-          let u_is = removes (drop 1 (entry_keys es)) (entry_items es) s.slot_is in
+      keeps u more removes = let s = here in let es = s.d.q.l ++ x ∷ s.d.q.r in let u_is = removes (drop 1 (entry_keys es)) (entry_items es) s.slot_is in
           (0, rw (← len_is) (drop_keep s.d u (λ e. more (s.counted cnt value ∙ e)) (rw s.num_is at u_is)))
 
       module _ (one : cnt ≡ 1) (v : Table K V) (freed : v ≡ with_freed t (get_or path up r)) (high : ℕ) (high_is : high ≡ suc up) where
@@ -192,7 +174,6 @@ module _ {K V : Type 0} where
 
         -- what the call one level up ensures is what this one has to
         pub empties : (u : Table K V) → ((w2 : LastAbove v path indices high size) → Drops v u path high size w2.rows w2.before w2.y) → Drops t u path up size rows a y
-        empties u drops =
-            let w = drops above_asks in
+        empties u drops = let w = drops above_asks in
             let r = subst (λ z. Dropped v u path size here.d.q.rest (heads o.init ++ (o.w.0, o.number) ∷ []) (loss_above (Some (suc (length (heads o.init)))) (map sizes here.d.q.rest)) (nodes_up path z w.0)) high_is w.1 in
             (suc w.0, rw (← len_is) (drop_empty here.d v single some v_is r))

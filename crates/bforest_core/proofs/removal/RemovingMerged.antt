@@ -17,14 +17,10 @@ module _ {K V : Type 0} where
         list ≡ heads (d.q.before ++ node (get_or path up 0) es ∷ after) → FitRow 4 8 (node (get_or path up 0) (d.q.l ++ x ∷ d.q.r) ∷ after) → RowIn inner_content t.nodes (d.q.before ++ node (get_or path up 0) (d.q.l ++ x ∷ d.q.r) ∷ after) →
         Rebuilt t v path indices path indices (suc up) size d.q.rest list (length (heads d.q.before)) (map sizes d.q.rest) [] → Puts v u (get_or path up 0) (inner_content es) → Loosened inner_content 4 8 t u path indices up size (map sizes rows) (flat_map numbers rows) (a ++ (x.0, y.1) ∷ b) (length a)
     loosened {v} {u} es after len some low sizes_same numbers_same flat_is heads_are fits inside r w =
-        let q = d.q in
-        let num = get_or path up 0 in
-        let old = q.l ++ x ∷ q.r in
+        let q = d.q in let num = get_or path up 0 in let old = q.l ++ x ∷ q.r in
         let own = numbers (q.before ++ node num old ∷ q.after) ++ flat_map numbers q.rest in
-        let c = λ (i : ℕ). counts i q.before num old q.after q.rest t.chain in
-        let c2 = λ (i : ℕ). counts i q.before num es after r.rows' u.chain in
-        let c3 = λ (i : ℕ). ap (λ z. count i (num ∷ z)) numbers_same in
-        let c4 = λ (i : ℕ). ap (λ z. count i z) (w.chain_is ∙ r.frees.chain_is) in
+        let c = λ (i : ℕ). counts i q.before num old q.after q.rest t.chain in let c2 = λ (i : ℕ). counts i q.before num es after r.rows' u.chain in
+        let c3 = λ (i : ℕ). ap (λ z. count i (num ∷ z)) numbers_same in let c4 = λ (i : ℕ). ap (λ z. count i z) (w.chain_is ∙ r.frees.chain_is) in
         let none : count num (numbers q.before) + count num (numbers after) ≡ 0 = omega (arith, d.f.none, ap (λ z. count num z) numbers_same) in
         let row_v = row-same inner_content t.nodes v.nodes (q.before ++ node num old ∷ after) (λ i some. r.frees.others i (omega (arith, d.whole.apart i, c i, c3 i, count-row i q.before num old after))) inside in
         record {
@@ -56,16 +52,9 @@ module _ {K V : Type 0} where
     take_same : (s u : Table K V) (key : K) → get_or indices up 0 + 1 < length (d.q.l ++ x ∷ d.q.r) → slice_get (drop 1 (entry_keys (d.q.l ++ x ∷ d.q.r))) (get_or indices up 0 - 1) ≡ Some key →
         s ≡ with_node t (get_or path up 0) (Inner (set (drop 1 (entry_keys (d.q.l ++ x ∷ d.q.r))) (get_or indices up 0) key) (entry_items (d.q.l ++ x ∷ d.q.r))) →
         u ≡ with_node s (get_or path up 0) (without_child (Inner (set (drop 1 (entry_keys (d.q.l ++ x ∷ d.q.r))) (get_or indices up 0) key) (entry_items (d.q.l ++ x ∷ d.q.r))) (get_or indices up 0)) → Loosened inner_content 4 8 t u path indices up size (map sizes rows) (flat_map numbers rows) (a ++ (x.0, y.1) ∷ b) (length a)
-    take_same s u key more key_is s_is u_is =
-        let q = d.q in
-        let num = get_or path up 0 in
-        let e = get_or indices up 0 in
-        let old = q.l ++ x ∷ q.r in
-        let w = next_in q.l x q.r e y b (flat q.after) q.b_is q.entry_is more in
-        let es = q.l ++ (x.0, y.1) ∷ w.0 in
-        let len = length-append q.l ((x.0, y.1) ∷ w.0) in
-        let one = puts t s _ _ _ d.f.slot_is s_is in
-        let key_then = rw w.1 at key_is in
+    take_same s u key more key_is s_is u_is = let q = d.q in let num = get_or path up 0 in let e = get_or indices up 0 in let old = q.l ++ x ∷ q.r in
+        let w = next_in q.l x q.r e y b (flat q.after) q.b_is q.entry_is more in let es = q.l ++ (x.0, y.1) ∷ w.0 in
+        let len = length-append q.l ((x.0, y.1) ∷ w.0) in let one = puts t s _ _ _ d.f.slot_is s_is in let key_then = rw w.1 at key_is in
         let gone = ap (λ z. without_child (with_key (inner_content (q.l ++ x ∷ z)) e key) e) w.1 ∙ removed_same V q.l x y w.0 key e q.entry_is key_then in
         let two = puts s u _ _ _ one.here (simp (u_is, gone)) in
         loosened es q.after (omega (arith, length-append q.l (x ∷ q.r), ap length w.1)) (omega arith) (omega arith) refl refl (simp (append_assoc, w.2))
@@ -87,10 +76,7 @@ module _ {K V : Type 0} where
           (heads d.q.before ++ (o.z.0, get_or path up 0) ∷ (x.0, o.q) ∷ heads o.rest) (length (heads d.q.before)) (map sizes d.q.rest) []
           → slice_get v.nodes (get_or path up 0) ≡ Some (inner_content (d.q.l ++ x ∷ d.q.r)) →
           u ≡ with_node v (get_or path up 0) (without_child (inner_content (d.q.l ++ x ∷ d.q.r)) (get_or indices up 0)) → Loosened inner_content 4 8 t u path indices up size (map sizes rows) (flat_map numbers rows) (a ++ (x.0, y.1) ∷ b) (length a)
-      take_over {v} u r slot u_is =
-          let q = d.q in
-          let num = get_or path up 0 in
-          let after = node o.q ((x.0, y.1) ∷ o.ys) ∷ o.rest in
+      take_over {v} u r slot u_is = let q = d.q in let num = get_or path up 0 in let after = node o.q ((x.0, y.1) ∷ o.ys) ∷ o.rest in
           let gone = ap (λ z. without_child (inner_content z) (get_or indices up 0)) old_is ∙ removed_last V o.z o.zs x (get_or indices up 0) index_is ∙ ap (λ z. inner_content z) (sym o.l_is) in
           let two = puts v u _ _ _ slot (cc) in
           let list = heads-append q.before (node num q.l ∷ after) ∙ ap (λ z. heads q.before ++ (head_of num z ++ (x.0, o.q) ∷ heads o.rest)) o.l_is in
@@ -134,8 +120,7 @@ module _ {K V : Type 0} where
 
           pub same_parent : (u : Table K V) (i : ℕ) → i ≡ get_or indices up 0 - 1 → ReadsKey t (get_or path up r) i key → Removes s u (get_or path up r) (get_or indices up 0) → Loosened inner_content 4 8 t u path indices up size (map sizes rows) (flat_map numbers rows) (a ++ (x.0, y.1) ∷ b) (length a)
           same_parent u i i_is reads removes =
-              let num_is = here.num_is in
-              let u_is = removes (set (drop 1 (entry_keys ds)) (get_or indices up 0) key) (entry_items ds) one.here in
+              let num_is = here.num_is in let u_is = removes (set (drop 1 (entry_keys ds)) (get_or indices up 0) key) (entry_items ds) one.here in
               let key_is = rw i_is at (reads (drop 1 (entry_keys ds)) (entry_items ds) here.slot_is) in
               take_same d s u key (rw (← here.counted cnt value) more) key_is (rw num_is at s_is) (rw num_is at u_is)
 
@@ -171,7 +156,6 @@ module _ {K V : Type 0} where
 
             pub next_parent : (u : Table K V) → ReadsKey t (get_or path up r) (get_or indices up 0 - 1) key → Removes v u (get_or path up r) (get_or indices up 0) → Loosened inner_content 4 8 t u path indices up size (map sizes rows) (flat_map numbers rows) (a ++ (x.0, y.1) ∷ b) (length a)
             next_parent u reads removes =
-                let num_is = here.num_is in
-                let k_is = moved_key d o key (reads (drop 1 (entry_keys ds)) (entry_items ds) here.slot_is) in
+                let num_is = here.num_is in let k_is = moved_key d o key (reads (drop 1 (entry_keys ds)) (entry_items ds) here.slot_is) in
                 let u_is = removes (drop 1 (entry_keys ds)) (entry_items ds) (cc (slot_then)) in
                 take_over d o u (rw (high_is, k_is) at rebuilt) slot_then (rw num_is at u_is)

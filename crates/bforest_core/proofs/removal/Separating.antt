@@ -29,15 +29,13 @@ across n l x [] [] y b f e h = absurd cc
 across n l x [] (node q [] ∷ after) y b f e h = absurd (let g = f.2.0 in omega (arith, least-pos 4 (omega arith) after))
 across n [] x [] (node q (w ∷ ys) ∷ after) y b f e h = absurd (let g = f.0 in omega arith)
 across n (z ∷ zs) x [] (node q (w ∷ ys) ∷ after) y b f e h =
-    let hy : y ≡ w = cc in
-    record { z = z; zs = zs; q = q; ys = ys; rest = after; l_is = refl; r_is = refl; after_is = cc; b_is = cc }
+    let hy : y ≡ w = cc in record { z = z; zs = zs; q = q; ys = ys; rest = after; l_is = refl; r_is = refl; after_is = cc; b_is = cc }
 
 module _ {K V : Type 0} where
   module _ {t : Table K V} {path indices up size rows a x y b : _} (d : Spot t path indices up size rows a x (y ∷ b)) (o : Across d.q.l d.q.r d.q.after y b) where
     -- the first key of the next parent is in no slot of its row
     pub across_in : (key : K) → RowIn inner_content t.nodes (d.q.before ++ node (get_or path up 0) (d.q.l ++ x ∷ d.q.r) ∷ node o.q ((key, y.1) ∷ o.ys) ∷ o.rest)
-    across_in key =
-        let s = row-split _ _ _ _ d.f.inside in
+    across_in key = let s = row-split _ _ _ _ d.f.inside in
         row-join _ _ _ (node (get_or path up 0) (d.q.l ++ x ∷ d.q.r) ∷ node o.q ((key, y.1) ∷ o.ys) ∷ o.rest) s.0 (s.1.0, rw o.after_is at s.1.1)
 
     -- the rows one level up, where the two parents are neighbours
@@ -51,21 +49,17 @@ module _ {K V : Type 0} where
 
   module _ {t : _} (u : Table K V) {path indices up size rows a x b : _} (key : K) (d : Spot t path indices up size rows a x b) where
     -- updating the key where it is a separator in the path's parent
-    pub rekey_parent : 0 < get_or indices up 0 → u ≡ with_node t (get_or path up 0)
-        (Inner (set (drop 1 (entry_keys (d.q.l ++ x ∷ d.q.r))) (get_or indices up 0 - 1) key) (entry_items (d.q.l ++ x ∷ d.q.r)))
-        → Rebuilt t u path indices path indices up size rows (a ++ (key, x.1) ∷ b) (length a) (map sizes rows) []
+    pub rekey_parent : 0 < get_or indices up 0 → u ≡ with_node t (get_or path up 0) (Inner (set (drop 1 (entry_keys (d.q.l ++ x ∷ d.q.r))) (get_or indices up 0
+        - 1) key) (entry_items (d.q.l ++ x ∷ d.q.r))) → Rebuilt t u path indices path indices up size rows (a ++ (key, x.1) ∷ b) (length a) (map sizes rows) []
     rekey_parent some u_is = renamed d u _ x _ _ _ _ refl (omega arith) u_is (cc (append_assoc _ _ _))
 
     -- updating the key where it is the parent's first, in the rows above
-    pub rekey_first : get_or indices up 0 ≤ 0
-        → Rebuilt t u path indices path indices (suc up) size d.q.rest (heads d.q.before ++ (key, get_or path up 0) ∷ heads d.q.after)
-        (length (heads d.q.before)) (map sizes d.q.rest) []
-        → Rebuilt t u path indices path indices up size rows (a ++ (key, x.1) ∷ b) (length a) (map sizes rows) []
+    pub rekey_first : get_or indices up 0 ≤ 0 → Rebuilt t u path indices path indices (suc up) size d.q.rest (heads d.q.before ++ (key, get_or path up 0) ∷
+        heads d.q.after) (length (heads d.q.before)) (map sizes d.q.rest) [] → Rebuilt t u path indices path indices up size rows (a ++ (key, x.1) ∷
+        b) (length a)
+        (map sizes rows) []
     rekey_first none r =
-        let q = d.q in
-        let num = get_or path up 0 in
-        let l_is = nil_from_length q.l (omega (arith, q.entry_is)) in
-        let s = row-split _ _ _ _ d.f.inside in
+        let q = d.q in let num = get_or path up 0 in let l_is = nil_from_length q.l (omega (arith, q.entry_is)) in let s = row-split _ _ _ _ d.f.inside in
         lifted_above d ((key, x.1) ∷ q.r) q.after ((key, x.1) ∷ b) (ap (λ z. length (z ++ x ∷ q.r)) (sym l_is)) refl refl (cc (q.b_is, l_is))
         (sym (heads-append q.before (node num ((key, x.1) ∷ q.r) ∷ q.after))) (rw l_is at d.f.fit) (row-join inner_content t.nodes q.before (node num ((key, x.1) ∷ q.r) ∷ q.after) s.0 (rw l_is at s.1)) r
 
@@ -74,9 +68,7 @@ module _ {K V : Type 0} where
     rekey_same : get_or indices up 0 + 1 < length (d.q.l ++ x ∷ d.q.r) → u ≡ with_node t (get_or path up 0)
         (Inner (set (drop 1 (entry_keys (d.q.l ++ x ∷ d.q.r))) (get_or indices up 0) key) (entry_items (d.q.l ++ x ∷ d.q.r)))
         → Rebuilt t u path indices path indices up size rows (a ++ x ∷ (key, y.1) ∷ b) (length a) (map sizes rows) []
-    rekey_same more u_is =
-        let q = d.q in
-        let w = next_in _ x _ _ y b _ q.b_is q.entry_is more in
+    rekey_same more u_is = let q = d.q in let w = next_in _ x _ _ y b _ q.b_is q.entry_is more in
         let es_is = ap (λ z. q.l ++ x ∷ z) w.1 ∙ sym (append_assoc q.l (x ∷ []) (y ∷ w.0)) in
         renamed d u _ y _ _ _ _ es_is (omega (arith, length-append q.l (x ∷ []), q.entry_is)) u_is (simp append_assoc (ap (λ z. q.l ++ x ∷ (key, y.1) ∷ z) (sym w.2)))
 
@@ -84,10 +76,7 @@ module _ {K V : Type 0} where
     rekey_over : (o : Across d.q.l d.q.r d.q.after y b) → Rebuilt t u path indices path indices (suc up) size d.q.rest
         (heads d.q.before ++ (o.z.0, get_or path up 0) ∷ (key, o.q) ∷ heads o.rest) (length (heads d.q.before)) (map sizes d.q.rest) []
         → Rebuilt t u path indices path indices up size rows (a ++ x ∷ (key, y.1) ∷ b) (length a) (map sizes rows) []
-    rekey_over o r =
-        let q = d.q in
-        let num = get_or path up 0 in
-        let after = node o.q ((key, y.1) ∷ o.ys) ∷ o.rest in
+    rekey_over o r = let q = d.q in let num = get_or path up 0 in let after = node o.q ((key, y.1) ∷ o.ys) ∷ o.rest in
         let flats = append_assoc q.l (x ∷ q.r) (flat after) ∙ ap (λ z. q.l ++ x ∷ (z ++ flat after)) o.r_is ∙ ap (λ z. q.l ++ x ∷ (key, y.1) ∷ z) (sym o.b_is) in
         let list = heads-append q.before (node num (q.l ++ x ∷ q.r) ∷ after) ∙ ap (λ z. heads q.before ++ (head_of num (z ++ x ∷ q.r) ++ (key, o.q) ∷ heads o.rest)) o.l_is in
         lifted_above d _ _ (x ∷ (key, y.1) ∷ b) refl (ap (λ z. sizes z) (sym o.after_is)) (ap (λ z. numbers z) (sym o.after_is)) flats (sym list)
@@ -109,9 +98,7 @@ module _ {K V : Type 0} where
     module _ (m : ℕ) (value : Counts t (get_or path up r) m) where
       -- the neighbour has the same parent
       pub same_parent : (u : Table K V) (key : K) → get_or indices up 0 + 1 < m → Writes t u (get_or path up r) (get_or indices up 0) key → Rebuilt t u path indices path indices up size rows (a ++ x ∷ (key, y.1) ∷ b) (length a) (map sizes rows) []
-      same_parent u key more sets =
-          let s = here in
-          let es = s.d.q.l ++ x ∷ s.d.q.r in
+      same_parent u key more sets = let s = here in let es = s.d.q.l ++ x ∷ s.d.q.r in
           rekey_same u key s.d (omega (arith, s.counted m value)) (rw s.num_is at (sets (drop 1 (entry_keys es)) (entry_items es) s.slot_is))
 
       module _ (less : m ≤ get_or indices up 0 + 1) where

@@ -36,15 +36,11 @@ module _ {K V : Type 0} where
       -- the leaf has no other entry
       pub single : m ≡ 1 → IsSingle t t (get_or path 0 0)
       single one =
-          let h = first in
-          record { entry = h.0; slot_was = cc (d.slot_is, nil_from_length h.1 (omega (arith, count_is, ap length h.2))); freed_is = refl }
+          let h = first in record { entry = h.0; slot_was = cc (d.slot_is, nil_from_length h.1 (omega (arith, count_is, ap length h.2))); freed_is = refl }
 
       -- the leaf has another entry
       pub others : m ≢ 1 → (x y : K × V) × (rest : List (K × V)) × (slice_get t.nodes (get_or path 0 0) ≡ Some (leaf_content (x ∷ y ∷ rest)))
-      others more =
-          let h = first in
-          let k = some_first h.1 (omega (arith, more, count_is, ap length h.2)) in
-          (h.0, k.0, k.1, cc (d.slot_is))
+      others more = let h = first in let k = some_first h.1 (omega (arith, more, count_is, ap length h.2)) in (h.0, k.0, k.1, cc (d.slot_is))
 
     -- the leaf is used
     pub leaf_used : IsUsed t (get_or path 0 0)
@@ -52,16 +48,12 @@ module _ {K V : Type 0} where
 
     -- the leaf meets what removing the entry requires
     pub out_asks : IsUsed t read × LeafKeyAt t read (get_or indices 0 0)
-    out_asks = (
-      rw num_is leaf_used,
-      (entry_keys es, entry_items es, slot, omega (arith, leaf_keys es, d.index_is, length-append d.l (d.x ∷ d.r))),
-    )
+    out_asks = (rw num_is leaf_used, (entry_keys es, entry_items es, slot, omega (arith, leaf_keys es, d.index_is, length-append d.l (d.x ∷ d.r))))
 
     -- the entry was removed from the leaf, which has others
     pub has_others : (u : _) (has : (x y : _) × (rest : _) × (slice_get t.nodes (get_or path 0 0) ≡ Some (leaf_content (x ∷ y ∷ rest)))) →
         ((keys : List K) (vals : List V) → slice_get t.nodes read ≡ Some (Leaf keys vals) → u ≡ with_node t read (without_entry (Leaf keys vals) (get_or indices 0 0))) → HasOthers t u path indices
-    has_others u has takes =
-        let all = has.0 ∷ has.1 ∷ has.2 in
+    has_others u has takes = let all = has.0 ∷ has.1 ∷ has.2 in
         record { x = has.0; y = has.1; more = has.2; slot_was = has.3; new_is = cc (takes (entry_keys all) (entry_items all) (simp (num_is, has.3))) }
 
     module _ {u : Table K V} (h : HasOthers t u path indices) where
@@ -72,16 +64,12 @@ module _ {K V : Type 0} where
       more = omega (arith, leaf_count es all (slice_get t.nodes (get_or path 0 0)) d.slot_is h.slot_was, length-append d.l (d.x ∷ d.r), length-append d.l d.r)
 
       w : Puts t u (get_or path 0 0) (leaf_content (d.l ++ d.r))
-      w =
-          let n = get_or path 0 0 in
-          let same = read_same _ n _ _ d.slot_is h.slot_was in
+      w = let n = get_or path 0 0 in let same = read_same _ n _ _ d.slot_is h.slot_was in
           puts t u n _ _ d.slot_is (cc (without_entry_is d.l d.x d.r (get_or indices 0 0) d.index_is))
 
       -- where the leaf is the whole tree, there is no row above that names it
       pub alone_loss : size ≤ 1 → LeafLoss most t u path indices size tree place
-      alone_loss low =
-          let n = get_or path 0 0 in
-          let a = above_written w d.none_rows d.above in
+      alone_loss low = let n = get_or path 0 0 in let a = above_written w d.none_rows d.above in
           let len = as_many_heads d.before n es (d.l ++ d.r) d.after (omega (arith, length-append d.l (d.x ∷ d.r))) more in
           leaf_loss d more w (rebuilt_same (above_top _ _ low len a))
 
@@ -92,9 +80,7 @@ module _ {K V : Type 0} where
 
       -- an entry that is not the first was removed
       pub behind : 0 < get_or indices 0 0 → LeafLoss most t u path indices size tree place
-      behind high =
-          let n = get_or path 0 0 in
-          let f = some_first d.l (omega (arith, d.index_is)) in
+      behind high = let n = get_or path 0 0 in let f = some_first d.l (omega (arith, d.index_is)) in
           let new = sym (heads-append d.before (node n (d.l ++ d.r) ∷ d.after) ∙ ap (λ z. heads d.before ++ (head_of n (z ++ d.r) ++ heads d.after)) f.2) in
           leaf_loss d more w (rebuilt_same (rw new at (above_then f.0.0 (λ rs. ap (λ z. head_of n (z ++ d.x ∷ rs)) f.2))))
 
@@ -121,8 +107,7 @@ module _ {K V : Type 0} where
         pub ahead : (v key : _) → ((keys : List K) (vals : List V) → slice_get u.nodes read ≡ Some (Leaf keys vals) → slice_get keys 0 ≡ Some key) →
             ((w : OneAbove u path indices 1 size) → Rebuilt u v path indices path indices 1 size w.rows (w.before ++ (key, w.x.1) ∷ w.after) (length w.before) (map sizes w.rows) []) →
             LeafLoss most t v path indices size tree place
-        ahead v key reads rekeys =
-            let n = get_or path 0 0 in
+        ahead v key reads rekeys = let n = get_or path 0 0 in
             let new : heads d.before ++ ((key, n) ∷ heads d.after) ≡ heads (d.before ++ node n (d.l ++ d.r) ∷ d.after) =
             simp ((some_same _ _ (reads (entry_keys (next.0 ∷ next.1)) (entry_items (next.0 ∷ next.1)) slot_then)), next.2, heads-append) in
             leaf_loss d more w

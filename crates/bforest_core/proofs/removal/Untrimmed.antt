@@ -71,14 +71,11 @@ module _ {K V : Type 0} where
   pub trimmed_removed : {most old mid new path indices size tree place root leaves rows : _} (up : ℕ) {size1 size2 root' gone : _} (Now : Tree K V → Type 0) →
       StandsIn most old path indices size tree place → Untrimmed most old mid tree place leaves rows (nodes_up path 0 up) → root_of tree ≡ root → (t : Trimmed mid new size1 size2 rows (heads leaves) root root' gone) → size1 ≡ size →
       Now (record { leaves = leaves; above = t.rows' }) → Removed most old new path Now tree place root'
-  trimmed_removed {most} {old} {mid} {new} {path} {tree} {leaves} {rows} up {gone} Now s u root_is t size_is at =
-      let freed = nodes_up path 0 up in
+  trimmed_removed {most} {old} {mid} {new} {path} {tree} {leaves} {rows} up {gone} Now s u root_is t size_is at = let freed = nodes_up path 0 up in
       let parts = λ (m : ℕ). ap (λ z. count m z) (ap (flat_map numbers) t.rows_are ∙ flat_map-append numbers t.rows' t.discarded) ∙ count-append m (flat_map numbers t.rows') (flat_map numbers t.discarded) in
       let c0 = λ (m : ℕ). count-append m (numbers leaves) (flat_map numbers rows) in
-      let c1 = λ (m : ℕ). count-append m (numbers leaves) (flat_map numbers t.rows') in
-      let c2 = λ (m : ℕ). count-append m gone freed in
-      let c3 = λ (m : ℕ). count-append m (numbers_of tree) old.chain in
-      let rows_in = rows-parts mid.nodes t.rows' t.discarded (rw (← t.rows_are) u.rows_in) in
+      let c1 = λ (m : ℕ). count-append m (numbers leaves) (flat_map numbers t.rows') in let c2 = λ (m : ℕ). count-append m gone freed in
+      let c3 = λ (m : ℕ). count-append m (numbers_of tree) old.chain in let rows_in = rows-parts mid.nodes t.rows' t.discarded (rw (← t.rows_are) u.rows_in) in
       let len = length-sizes leaves ∙ sym (fit_full (half_of most) most u.half leaves u.leaves_fit) in
       let count_is = ap length t.rows_are ∙ length-append t.rows' t.discarded in
       record {

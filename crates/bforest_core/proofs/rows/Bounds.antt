@@ -24,8 +24,7 @@ levels-few hs (node m es ∷ ns) (row2 ∷ rows) s t =
 pub depth : {K V : Type 0} (half most : ℕ) → 1 ≤ half → (leaves : Row K V) (above : _) → FitRow half most leaves → Stacked (heads leaves) above → Topped (heads leaves) above → 1 ≤ length above → half * 4 ^ (length above - 1) < length (flat leaves)
 depth half most one leaves [] f s t two = absurd (omega arith)
 depth half most one [] (row ∷ rows) f s t two = absurd (omega arith)
-depth half most one (node m es ∷ ns) (row ∷ rows) f s t two =
-    let e : length (row ∷ rows) - 1 ≡ length rows = omega arith in
+depth half most one (node m es ∷ ns) (row ∷ rows) f s t two = let e : length (row ∷ rows) - 1 ≡ length rows = omega arith in
     let p : half * 4 ^ length rows ≤ half * length ns = mul-le-mul_left half (omega (arith, levels-few (heads (node m es ∷ ns)) row rows s t, fit_full half most one (node m es ∷ ns) f)) in
     rw e (omega (arith, p, entries-many _ _ one m _ _ f))
 
@@ -62,18 +61,14 @@ none_small p s room =
 
 root_full : {K : Type 0} (p : ℕ) {q : ℕ} (row : Row K ℕ) → length (heads row) ≡ 1 → FitRow 4 8 row → (inner_gain p (sizes row)).0 ≡ Some q → 8 ≤ length (flat row)
 root_full p [] one f e = absurd (omega arith)
-root_full p (node m es ∷ []) one f e =
-    let len : length (flat (node m es ∷ [])) ≡ length es = length-append es [] ∙ omega arith in
+root_full p (node m es ∷ []) one f e = let len : length (flat (node m es ∷ [])) ≡ length es = length-append es [] ∙ omega arith in
     elim (cases_lt (length es) 8) [ inl lt ↦ absurd (let z = none_small p _ lt in cc) | inr ge ↦ omega arith ]
 root_full p (node m es ∷ n ∷ ns) one f e = absurd (omega (arith, fit_full 4 8 (omega arith) (node m es ∷ n ∷ ns) f))
 
 -- a tree that gets a new root has many nodes
 risen : {K : Type 0} (p : ℕ) (hs : Heads K) (row : Row K ℕ) (rows : Rows K) → Stacked hs (row ∷ rows) → Topped hs (row ∷ rows) → length (gain_above (Some p) (map sizes (row ∷ rows))) ≡ suc (suc (length rows)) → 7 * 4 ^ length rows < length hs
-risen p hs row [] s t e =
-    let g = some_grew (inner_gain p (sizes row)).0 [] (omega arith) in
-    omega (arith, root_full p row s.2 s.1 g.1, ap length s.0)
-risen p hs row (row2 ∷ rows) s t e =
-    let g = some_grew (inner_gain p (sizes row)).0 (map sizes (row2 ∷ rows)) (omega (arith, length-map (row2 ∷ rows) sizes)) in
+risen p hs row [] s t e = let g = some_grew (inner_gain p (sizes row)).0 [] (omega arith) in omega (arith, root_full p row s.2 s.1 g.1, ap length s.0)
+risen p hs row (row2 ∷ rows) s t e = let g = some_grew (inner_gain p (sizes row)).0 (map sizes (row2 ∷ rows)) (omega (arith, length-map (row2 ∷ rows) sizes)) in
     let r = risen g.0 (heads row) row2 rows s.2 t.1 (ap (λ z. length (gain_above z (map sizes (row2 ∷ rows)))) (sym g.1) ∙ omega arith) in
     omega (arith, wide row s.1 (omega (arith, r)), pow-succ' 4 (length rows), ap length s.0)
   where
@@ -84,9 +79,7 @@ risen p hs row (row2 ∷ rows) s t e =
 -- an insertion leaves at most as many levels as a path has room for
 pub climb-seventeen : {K : Type 0} (p : ℕ) (hs : Heads K) (rows : Rows K) → Stacked hs rows → Topped hs rows → length hs < 2 ^ 32 → length rows ≤ 16 → length (gain_above (Some p) (map sizes rows)) ≤ 16
 climb-seventeen p hs [] s t few low = omega arith
-climb-seventeen p hs (row ∷ rows) s t few low =
-    let len = length-map (row ∷ rows) sizes in
-    let most = gain-most (Some p) (map sizes (row ∷ rows)) in
+climb-seventeen p hs (row ∷ rows) s t few low = let len = length-map (row ∷ rows) sizes in let most = gain-most (Some p) (map sizes (row ∷ rows)) in
     elim (cases_lt (length (gain_above (Some p) (map sizes (row ∷ rows)))) 17) [
       | inl lt ↦ omega arith
       | inr ge ↦ (let fifteen : length rows ≡ 15 = omega arith in

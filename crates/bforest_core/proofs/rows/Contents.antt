@@ -21,11 +21,9 @@ module _ {K : Type 0} (V : Type 0) where
   removed_same [] x y r key zero e k = without_some (key ∷ entry_keys r) (x.1 ∷ y.1 ∷ entry_items r) 0 (omega arith)
   removed_same [] x y r key (suc n) e k = absurd (omega arith)
   removed_same (z ∷ l) x y r key zero e k = absurd (omega arith)
-  removed_same (z ∷ l) x y r key (suc n) e k =
-      let kl : length (entry_keys l) ≡ n = length-map l (λ (w : K × ℕ). w.0) ∙ omega arith in
+  removed_same (z ∷ l) x y r key (suc n) e k = let kl : length (entry_keys l) ≡ n = length-map l (λ (w : K × ℕ). w.0) ∙ omega arith in
       let kl2 : length (entry_keys l ++ x.0 ∷ []) ≡ suc n = length-append (entry_keys l) (x.0 ∷ []) ∙ omega arith in
-      let il : length (entry_items l) ≡ n = length-map l (λ (w : K × ℕ). w.1) ∙ omega arith in
-      let keys_are = map-append (λ (w : K × ℕ). w.0) l (x ∷ y ∷ r) in
+      let il : length (entry_items l) ≡ n = length-map l (λ (w : K × ℕ). w.1) ∙ omega arith in let keys_are = map-append (λ (w : K × ℕ). w.0) l (x ∷ y ∷ r) in
       let less : suc n - 1 ≡ n = omega arith in
       let key_is = some_same key x.0 (sym k ∙ rw (less, keys_are) (slice_get_at (entry_keys l) x.0 (y.0 ∷ entry_keys r) n kl)) in
       let written : set (entry_keys (l ++ x ∷ y ∷ r)) (suc n) key ≡ entry_keys l ++ x.0 ∷ x.0 ∷ entry_keys r =

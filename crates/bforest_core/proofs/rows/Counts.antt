@@ -23,27 +23,24 @@ at-most-one m n = elim (cases_lt m n) [ inl low ↦ omega (arith, below-one m n 
 -- a list is cut at a number that occurs in it
 pub standing : (n ms : _) → 0 < count n ms → (p : _) × (q : _) × (ms ≡ p ++ n ∷ q)
 standing n [] some = absurd (omega arith)
-standing n (m ∷ ms) some =
-    elim (eqb_tells m n) [
-      | inl w ↦ ([], ms, ap (λ z. z ∷ ms) w.1)
-      | inr w ↦ (let r = standing n ms (omega (arith, count-other n m ms w.1)) in (m ∷ r.0, r.1, ap (λ z. m ∷ z) r.2))
-    ]
+standing n (m ∷ ms) some = elim (eqb_tells m n) [
+  | inl w ↦ ([], ms, ap (λ z. z ∷ ms) w.1)
+  | inr w ↦ (let r = standing n ms (omega (arith, count-other n m ms w.1)) in (m ∷ r.0, r.1, ap (λ z. m ∷ z) r.2))
+]
 
 -- a number occurs exactly where a search finds it
 pub found-counts : (n ms : _) → IsTrue (list_any (λ m. nat_eq m n) ms) ↔ (0 < count n ms)
 found-counts n [] = (λ found. absurd cc, λ some. absurd (omega arith))
-found-counts n (m ∷ ms) =
-    elim (eqb_tells m n) [
-      | inl w ↦ (let e = w.0 in (λ found. omega (arith, ap (λ z. count z (m ∷ ms)) w.1, count-same m ms), λ some. rw e refl))
-      | inr w ↦ (let e = w.0 in let r = found-counts n ms in (λ found. omega (arith, count-other n m ms w.1, r.0 (rw e at found)), λ some. rw e (r.1 (omega (arith, count-other n m ms w.1)))))
-    ]
+found-counts n (m ∷ ms) = elim (eqb_tells m n) [
+  | inl w ↦ (let e = w.0 in (λ found. omega (arith, ap (λ z. count z (m ∷ ms)) w.1, count-same m ms), λ some. rw e refl))
+  | inr w ↦ (let e = w.0 in let r = found-counts n ms in (λ found. omega (arith, count-other n m ms w.1, r.0 (rw e at found)), λ some. rw e (r.1 (omega (arith, count-other n m ms w.1)))))
+]
 
 -- lists with the same counts have the same sum
 pub sum-same : (f : ℕ → ℕ) (xs ys : _) → ((n : ℕ) → count n xs ≡ count n ys) → sum_by f xs ≡ sum_by f ys
 sum-same f [] [] same = refl
 sum-same f [] (y ∷ ys) same = absurd (omega (arith, same y, count-same y ys))
-sum-same f (x ∷ xs) ys same =
-    let s = standing x ys (omega (arith, same x, count-same x xs)) in
+sum-same f (x ∷ xs) ys same = let s = standing x ys (omega (arith, same x, count-same x xs)) in
     let less : (n : ℕ) → count n xs ≡ count n (s.0 ++ s.1) = λ n. (let a = ap (λ z. count n z) s.2 in omega (arith, same n, count-append)) in
     omega (arith, sum-same f xs (s.0 ++ s.1) less, ap (λ z. sum_by f z) s.2, sum_by-cons f x xs, sum_by-append f s.0 (x ∷ s.1), sum_by-append f s.0 s.1, sum_by-cons f x s.1)
 
@@ -63,9 +60,7 @@ upto (suc n) = upto n ++ n ∷ []
 -- each number below n occurs once
 pub count-upto : (m n : ℕ) → count m (upto n) ≡ once_below m n
 count-upto m zero = sym (past-none m zero (omega arith))
-count-upto m (suc n) =
-    let a = count-append m (upto n) (n ∷ []) in
-    let ih = count-upto m n in
+count-upto m (suc n) = let a = count-append m (upto n) (n ∷ []) in let ih = count-upto m n in
     elim (eqb_tells n m) [
       | inl w ↦ (let e = ap (λ z. count z (n ∷ [])) w.1 in omega (arith, count-same n [], past-none m n (omega (arith, w.1)), below-one m (suc n) (omega (arith, w.1))))
       | inr w ↦ elim (cases_lt m n) [
@@ -82,8 +77,7 @@ length-upto (suc n) = omega (arith, length-append (upto n) (n ∷ []), length-up
 -- a list whose counts are at most those of another is not longer
 no-longer : (xs ys : _) → ((n : ℕ) → count n xs ≤ count n ys) → length xs ≤ length ys
 no-longer [] ys le = omega arith
-no-longer (x ∷ xs) ys le =
-    let s = standing x ys (omega (arith, le x, count-same x xs)) in
+no-longer (x ∷ xs) ys le = let s = standing x ys (omega (arith, le x, count-same x xs)) in
     let less : (n : ℕ) → count n xs ≤ count n (s.0 ++ s.1) = λ n. (let a = ap (λ z. count n z) s.2 in omega (arith, le n, count-append)) in
     omega (arith, no-longer xs (s.0 ++ s.1) less, ap length s.2, length-append s.0 (x ∷ s.1), length-append s.0 s.1)
 
@@ -104,21 +98,18 @@ module _ {K V : Type 0} where
 
   -- whatever a slot names, the slots name
   pub named-slot : (slots : List (Content K V)) (k : ℕ) {content : Content K V} (m : ℕ) → slice_get slots k ≡ Some content → count m (children_of content) ≤ count m (flat_map children_of slots)
-  named-slot slots k {content = content} m found =
-      let rest = drop (suc k) slots in
+  named-slot slots k {content = content} m found = let rest = drop (suc k) slots in
       let a = ap (λ z. count m (flat_map children_of z)) (sym (around slots k content found)) ∙ ap (λ z. count m z) (flat_map-append children_of (take k slots) (content ∷ rest)) in
       omega (arith, count-append)
 
   -- the first `n` slots name what the numbers below `n` name
   named-upto : (slots n : _) → n ≤ length slots → named_by slots (upto n) ≡ flat_map children_of (take n slots)
   named-upto slots zero low = refl
-  named-upto slots (suc n) low =
-      let more = last_taken slots n (slot slots n) (slice_get-get_or slots n (Free None) (omega arith)) in
+  named-upto slots (suc n) low = let more = last_taken slots n (slot slots n) (slice_get-get_or slots n (Free None) (omega arith)) in
       cc (flat_map-append (λ m. children_of (slot slots m)) (upto n) (n ∷ []), named-upto slots n (omega arith), flat_map-append children_of (take n slots) (slot slots n ∷ []))
 
   -- a list in which each slot occurs once names what all slots name
   pub all-named : (slots ms : _) → ((n : ℕ) → count n ms ≡ once_below n (length slots)) → (m : ℕ) → count m (flat_map children_of slots) ≡ count m (named_by slots ms)
   all-named slots ms once m =
       let a = named-same (λ k. children_of (slot slots k)) ms (upto (length slots)) (λ n. once n ∙ sym (count-upto n (length slots))) m in
-      let b = named-upto slots (length slots) (omega arith) ∙ ap (λ z. flat_map children_of z) (take_all (length slots) slots (omega arith)) in
-      sym (cc)
+      let b = named-upto slots (length slots) (omega arith) ∙ ap (λ z. flat_map children_of z) (take_all (length slots) slots (omega arith)) in sym (cc)

@@ -19,9 +19,8 @@ module _ {K V : Type 0} where
   spot_room t f room = rw (f.rows_are, f.row_is, f.place_is, sizes-append _ _, gain_room _ _ _ _ f.within room) refl
 
   -- the need of a full leaf
-  pub leaf_need_full : {most : ℕ} {t : Table K V} {ms js tree place : _} → (d : LeafSpot most t ms js tree place)
-      → length (d.l ++ d.r) ≡ most → need_above (leaf_gain most place (sizes tree.leaves)).0 (map sizes tree.above) ≡ need_above
-      (Some (length d.before)) (map sizes tree.above)
+  pub leaf_need_full : {most : ℕ} {t : Table K V} {ms js tree place : _} → (d : LeafSpot most t ms js tree place) → length (d.l ++ d.r) ≡ most → need_above
+      (leaf_gain most place (sizes tree.leaves)).0 (map sizes tree.above) ≡ need_above (Some (length d.before)) (map sizes tree.above)
   leaf_need_full d full = cc (full_gain d full)
 
   -- a level above the leaves, and the test whether the path's node there is full
@@ -38,15 +37,13 @@ module _ {K V : Type 0} where
 
     -- the rows above the level
     pub level_above : (rows : _) × (list : _) × (at : ℕ) × Above t ms js (up + 1) size rows list at
-    level_above =
-        let above : Above t ms js (suc up) size level.rest (heads level.row) (length level.before) =
-        record {
-          stacked = level.over.stacked;
-          inside = level.over.inside;
-          stands = level.over.stands;
-          height = level.over.height;
-          apart = λ m. omega (arith, ab.apart m, ap (λ z. count m (flat_map numbers z ++ t.chain)) level.rows_are, count-append);
-        } in
+    level_above = let above : Above t ms js (suc up) size level.rest (heads level.row) (length level.before) = record {
+      stacked = level.over.stacked;
+      inside = level.over.inside;
+      stands = level.over.stands;
+      height = level.over.height;
+      apart = λ m. omega (arith, ab.apart m, ap (λ z. count m (flat_map numbers z ++ t.chain)) level.rows_are, count-append);
+    } in
         (level.rest, heads level.row, length level.before, rw (add-one up) above)
 
     module _ (content : Content K V) (read : slice_get t.nodes (get_or ms up r) ≡ Some content) where
@@ -74,19 +71,18 @@ module _ {K V : Type 0} where
 
     -- the rows above the leaf
     pub leaf_above : (rows : _) × (list : _) × (at : ℕ) × Above t ms js 1 size rows list at
-    leaf_above =
-        let row = leaf.before ++ node (get_or ms 0 0) (leaf.l ++ leaf.r) ∷ leaf.after in (
-          tree.above,
-          heads row,
-          length leaf.before,
-          record {
-            stacked = leaf.fit.stacked;
-            inside = p.inside.rows_in;
-            stands = leaf.stands;
-            height = omega arith;
-            apart = λ m. omega (arith, leaf.apart m, count-append);
-          },
-        )
+    leaf_above = let row = leaf.before ++ node (get_or ms 0 0) (leaf.l ++ leaf.r) ∷ leaf.after in (
+      tree.above,
+      heads row,
+      length leaf.before,
+      record {
+        stacked = leaf.fit.stacked;
+        inside = p.inside.rows_in;
+        stands = leaf.stands;
+        height = omega arith;
+        apart = λ m. omega (arith, leaf.apart m, count-append);
+      },
+    )
 
     module _ (wide : 0 < length ms) (r : ℕ) where
       leaf_slot : slice_get t.nodes (get_or ms 0 r) ≡ Some (leaf_content (leaf.l ++ leaf.r))

@@ -9,9 +9,7 @@ pub cut_same : {A : Type 0} (p q : List A) (x y : A) (s t : List A) → p ++ x �
 cut_same [] [] x y s t e h = (refl, cc, cc)
 cut_same [] (z ∷ q) x y s t e h = absurd (omega arith)
 cut_same (z ∷ p) [] x y s t e h = absurd (omega arith)
-cut_same (z ∷ p) (w ∷ q) x y s t e h =
-    let r = cut_same p q x y s t (let g : p ++ x ∷ s ≡ q ++ y ∷ t = cc in g) (omega arith) in
-    ((let k = r.0 in cc), r.1, r.2)
+cut_same (z ∷ p) (w ∷ q) x y s t e h = let r = cut_same p q x y s t (let g : p ++ x ∷ s ≡ q ++ y ∷ t = cc in g) (omega arith) in ((let k = r.0 in cc), r.1, r.2)
 
 -- a list, cut at a place within it
 pub record Cut {A : Type 0} (es : List A) (j : ℕ) : Type 0 where
@@ -24,9 +22,7 @@ pub record Cut {A : Type 0} (es : List A) (j : ℕ) : Type 0 where
 pub cut : {A : Type 0} (es : List A) (j : ℕ) → j < length es → Cut es j
 cut [] j h = absurd (omega arith)
 cut (e ∷ es) zero h = record { l = []; x = e; r = es; es_is = refl; place_is = refl }
-cut (e ∷ es) (suc j) h =
-    let c = cut es j (omega arith) in
-    record { l = e ∷ c.l; x = c.x; r = c.r; es_is = cc; place_is = cc }
+cut (e ∷ es) (suc j) h = let c = cut es j (omega arith) in record { l = e ∷ c.l; x = c.x; r = c.r; es_is = cc; place_is = cc }
 
 pub record Parent {K : Type 0} (ms js : List ℕ) (up : ℕ) (rows : Rows K) (a : Heads K) (x : K × ℕ) (b : Heads K) : Type 0 where
   pub before : Row K ℕ
@@ -48,12 +44,8 @@ Cut_above t ms js up size before n l x r after rest =
 -- the number of the row's node occurs nowhere else in the rows
 pub apart_here : {K X : Type 0} (n : ℕ) (before : Row K X) (es after ms fs : _) → Distinct ((numbers (before ++ node n es ∷ after) ++ ms) ++ fs) →
     (count n (numbers before) + count n (numbers after) ≡ 0) × (count n ms ≡ 0) × (count n fs ≡ 0)
-apart_here n before es after ms fs d =
-    let one = d n in
-    let a = count-append n (numbers (before ++ node n es ∷ after) ++ ms) fs in
-    let b = count-append n (numbers (before ++ node n es ∷ after)) ms in
-    let c = count-row n before n es after in
-    let e = count-same n (numbers after) in
+apart_here n before es after ms fs d = let one = d n in let a = count-append n (numbers (before ++ node n es ∷ after) ++ ms) fs in
+    let b = count-append n (numbers (before ++ node n es ∷ after)) ms in let c = count-row n before n es after in let e = count-same n (numbers after) in
     (omega arith, omega arith, omega arith)
 
 -- the path's place among the nodes of a row
@@ -68,10 +60,7 @@ module _ {K V : Type 0} where
   pub parent : {t : Table K V} {ms js up size : _} (rows a x b : _) → Above t ms js up size rows (a ++ x ∷ b) (length a) → up < size →
       Parent ms js up rows a x b
   parent [] a x b p low = absurd (omega arith)
-  parent {ms} {js} {up} (row ∷ rest) a x b p low =
-      let at = p.stands.0 in
-      let n = get_or ms up 0 in
-      let c = cut at.entries (get_or js up 0) at.within in
+  parent {ms} {js} {up} (row ∷ rest) a x b p low = let at = p.stands.0 in let n = get_or ms up 0 in let c = cut at.entries (get_or js up 0) at.within in
       let whole : a ++ x ∷ b ≡ (flat at.before ++ c.l) ++ c.x ∷ (c.r ++ flat at.after) =
       sym p.stacked.0 ∙ ap flat at.row_is ∙ ap (λ z. flat (at.before ++ node n z ∷ at.after)) c.es_is ∙ simp (flat-append, append_assoc) in
       let same = cut_same a (flat at.before ++ c.l) x c.x b (c.r ++ flat at.after) whole (omega (arith, length-append (flat at.before) c.l)) in
@@ -82,7 +71,7 @@ module _ {K V : Type 0} where
         r = c.r;
         after = at.after;
         rest = rest;
-        rows_are = ap (λ z. z ∷ rest) (cc);
+        rows_are = ap (λ z. z ∷ rest) cc;
         a_is = same.0;
         b_is = same.2;
         entry_is = c.place_is;
@@ -94,8 +83,7 @@ module _ {K V : Type 0} where
   above_two [] a x y b h = absurd (omega (arith, length-append a (x ∷ y ∷ b)))
   above_two (row ∷ rest) a x y b h = omega arith
 
-  cut_above : {t : Table K V} {ms js up size rows a x : _}
-      {b : _} → Above t ms js up size rows (a ++ x ∷ b) (length a) → (q : Parent ms js up rows a x b)
+  cut_above : {t : Table K V} {ms js up size rows a x : _} {b : _} → Above t ms js up size rows (a ++ x ∷ b) (length a) → (q : Parent ms js up rows a x b)
       → Cut_above t ms js up size q.before (get_or ms up 0) q.l x q.r q.after q.rest
   cut_above p q = rw (q.rows_are, q.a_is, q.b_is) at p
 
@@ -112,8 +100,7 @@ module _ {K V : Type 0} where
   pub facts : (t : Table K V) (ms js up size before n l x r after rest : _) →
       Cut_above t ms js up size before n l x r after rest → Facts t ms js up size before n l x r after rest
   facts t ms js up size before n l x r after rest p =
-      let f = FitRow-split 4 8 before (node n (l ++ x ∷ r)) after p.stacked.1 in
-      let d = apart_here n _ _ _ _ _ p.apart in
+      let f = FitRow-split 4 8 before (node n (l ++ x ∷ r)) after p.stacked.1 in let d = apart_here n _ _ _ _ _ p.apart in
       record {
         slot_is = (row-split _ _ _ (node n (l ++ x ∷ r) ∷ after) p.inside.0).1.0;
         solid = f.0;
@@ -133,18 +120,13 @@ module _ {K V : Type 0} where
     pub most_is : length (q.l ++ x ∷ q.r) ≤ 8
 
   pub spot : {t : Table K V} {ms js up size rows : _} (a x b : _) → Above t ms js up size rows (a ++ x ∷ b) (length a) → up < size → Spot t ms js up size rows a x b
-  spot {t} {rows} a x b p low =
-      let q = parent rows a x b p low in
-      let w = cut_above p q in
-      let f = facts t _ _ _ _ _ _ _ x _ _ _ w in
+  spot {t} {rows} a x b p low = let q = parent rows a x b p low in let w = cut_above p q in let f = facts t _ _ _ _ _ _ _ x _ _ _ w in
       record { q = q; whole = w; f = f; count_is = omega (arith, length-append q.l (x ∷ q.r), q.entry_is); most_is = f.fit.1 }
 
 -- two paths that agree from a level up stand at the same place there
 pub stands-same : {K : Type 0} (ms js ms' js' : List ℕ) (up : ℕ) (rows : Rows K) (p : ℕ) → ((i : ℕ) → up ≤ i → get_or ms' i 0 ≡ get_or ms i 0) → ((i : ℕ) → up ≤ i → get_or js' i 0 ≡ get_or js i 0) → StandsAbove ms js up rows p → StandsAbove ms' js' up rows p
 stands-same ms js ms' js' up [] p f g s = s
-stands-same ms js ms' js' up (row ∷ rows) p f g s =
-    let fm = f up (omega arith) in
-    let gj = g up (omega arith) in
+stands-same ms js ms' js' up (row ∷ rows) p f g s = let fm = f up (omega arith) in let gj = g up (omega arith) in
     let at = s.0 in (
       record { before = at.before; entries = at.entries; after = at.after; row_is = rw fm at.row_is; within = rw gj at.within; place_is = rw gj at.place_is },
       stands-same ms js ms' js' (suc up) rows (length at.before) (λ i low. f i (omega arith)) (λ i low. g i (omega arith)) s.1,

@@ -26,9 +26,7 @@ module _ {K V : Type 0} where
 
   -- a reservation changes nothing where enough nodes are free
   pub reserved-enough : (table : Table K V) (n : ℕ) → n ≤ free_count table → reserved table n ≡ table
-  reserved-enough table n enough =
-      let none : n - free_count table ≡ 0 = omega arith in
-      rw none (ap (λ z. record table { nodes = z }) (append-nil table.nodes))
+  reserved-enough table n enough = let none : n - free_count table ≡ 0 = omega arith in rw none (ap (λ z. record table { nodes = z }) (append-nil table.nodes))
 
   module _ {t : Table K V} (nodes : List (Content K V)) (chain : _) {free : ℕ} (limit len n : ℕ) (view : record { nodes = nodes; chain = chain; limit = limit } ≡ t) (counted : length chain ≡ free) (len_is : len ≡ length nodes) where
     -- the fields of a pool as fields of its table

@@ -8,9 +8,7 @@ use Rattle.bforest_core.proofs.{table.Lists.{slice_get-append_left, slice_get-se
 -- a number that is not in a list differs from each of its numbers
 all_apart : (x ys : _) → list_any (nat_eq x) ys ≡ false → AllByRecursion (λ y. nat_eq x y ≡ false) ys
 all_apart x [] off = tt
-all_apart x (y ∷ ys) off =
-    let parts = or_parts _ _ off in
-    (parts.0, all_apart x ys parts.1)
+all_apart x (y ∷ ys) off = let parts = or_parts _ _ off in (parts.0, all_apart x ys parts.1)
 
 -- a number that differs from each number of a list is not in it
 pub none_apart : (x ys : _) → AllByRecursion (λ y. nat_eq x y ≡ false) ys → list_any (nat_eq x) ys ≡ false
@@ -46,8 +44,7 @@ module _ {K V : Type 0} where
   -- a write to a slot that is not on the chain keeps the chain
   pub IsChain-set : (nodes : List (Content K V)) (chain first at content : _) → list_any (nat_eq at) chain ≡ false → IsChain nodes chain first → IsChain (set nodes at content) chain first
   IsChain-set nodes [] first at content off linked = linked
-  IsChain-set nodes (node ∷ rest) first at content off linked =
-      let parts = or_parts _ _ off in
+  IsChain-set nodes (node ∷ rest) first at content off linked = let parts = or_parts _ _ off in
       (linked.0, linked.1, slice_get-set_apart nodes at node content (λ same. eqb-false at node parts.0 (sym same)) ∙ linked.2, IsChain-set nodes rest linked.0 at content parts.1 linked.3)
 
   -- appending slots keeps the chain
@@ -64,8 +61,7 @@ module _ {K V : Type 0} where
   -- new nodes in front of the chain
   pub IsChain-fresh : (nodes : List (Content K V)) (chain first count : _) → IsChain nodes chain first → IsChain (nodes ++ fresh_nodes (length nodes) count first) (down_from (length nodes) count ++ chain) (front_of_new (length nodes) count first)
   IsChain-fresh nodes chain first zero linked = rw (append-nil nodes) linked
-  IsChain-fresh nodes chain first (suc count) linked =
-      let more = fresh_nodes (length nodes) count first in
+  IsChain-fresh nodes chain first (suc count) linked = let more = fresh_nodes (length nodes) count first in
       let size : length nodes + count ≡ length (nodes ++ more) = omega (arith, length-append nodes more, length-fresh_nodes K V (length nodes) count first) in
       let made = IsChain-push (nodes ++ more) _ _ (IsChain-fresh nodes chain first count linked) in
       rw size (subst (λ ns. IsChain ns (length (nodes ++ more) ∷ (down_from (length nodes) count ++ chain)) (Some (length (nodes ++ more)))) (append_assoc nodes more (Free (front_of_new (length nodes) count first) ∷ [])) made)
@@ -79,10 +75,7 @@ module _ {K V : Type 0} where
   pub IsChain-free : (nodes : List (Content K V)) (chain first : _) → IsChain nodes chain first → (q : ℕ) → list_any (nat_eq q) chain ≡ true → IsFreeAt nodes q
   IsChain-free nodes [] first linked q on = cc
   IsChain-free nodes (node ∷ rest) first linked q on =
-      elim (eqb_tells q node) [
-        | inl same ↦ (linked.0, cc)
-        | inr other ↦ IsChain-free nodes rest linked.0 linked.3 q (rw other.0 at on)
-      ]
+      elim (eqb_tells q node) [ inl same ↦ (linked.0, cc) | inr other ↦ IsChain-free nodes rest linked.0 linked.3 q (rw other.0 at on) ]
 
   -- the numbers of a chain are those of slots
   pub IsChain-below : (nodes : List (Content K V)) (chain first : _) → IsChain nodes chain first → (q : ℕ) → list_any (nat_eq q) chain ≡ true → q < length nodes
@@ -95,7 +88,6 @@ module _ {K V : Type 0} where
   -- new nodes in front of the chain keep its numbers different
   pub IsDistinct-fresh : (nodes : List (Content K V)) (chain first count : _) → IsChain nodes chain first → IsDistinct nat_eq chain → IsDistinct nat_eq (down_from (length nodes) count ++ chain)
   IsDistinct-fresh nodes chain first zero linked distinct = distinct
-  IsDistinct-fresh nodes chain first (suc count) linked distinct =
-      let before = nodes ++ fresh_nodes (length nodes) count first in
+  IsDistinct-fresh nodes chain first (suc count) linked distinct = let before = nodes ++ fresh_nodes (length nodes) count first in
       let size : length before ≡ length nodes + count = omega (arith, length-append nodes (fresh_nodes (length nodes) count first), length-fresh_nodes K V (length nodes) count first) in
       IsDistinct-front (length nodes + count) _ (off_chain _ _ _ _ (IsChain-fresh nodes chain first count linked) (omega arith)) (IsDistinct-fresh nodes chain first count linked distinct)

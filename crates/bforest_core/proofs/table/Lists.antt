@@ -32,14 +32,12 @@ module _ {X : Type 0} where
   -- a write before a cut, then one right after it
   pub set-front-back : {xs : List X} (front back : List X) (low high x y : _) → xs ≡ front ++ back → length front ≡ high → low < high → set front low x ++ set back 0 y ≡ set (set xs low x) high y
   set-front-back front back low high x y is len below =
-      let size : length (set front low x) ≡ high = omega (arith, length-set front low x) in
-      let none : high - high ≡ 0 = omega arith in
+      let size : length (set front low x) ≡ high = omega (arith, length-set front low x) in let none : high - high ≡ 0 = omega arith in
       rw (is, set-append_left front back low x (omega arith), set-append_right (set front low x) back high high y size (omega arith), none)
 
   -- a write right after a cut, then one before it
   pub set-back-front : {xs : List X} (front back : List X) (low high x y : _) → xs ≡ front ++ back → length front ≡ high → low < high → set front low y ++ set back 0 x ≡ set (set xs high x) low y
-  set-back-front front back low high x y is len below =
-      let none : high - high ≡ 0 = omega arith in
+  set-back-front front back low high x y is len below = let none : high - high ≡ 0 = omega arith in
       rw (is, set-append_right front back high high x len (omega arith), none, set-append_left front (set back 0 x) low y (omega arith))
 
   -- an element that is read before a cut
@@ -49,14 +47,11 @@ module _ {X : Type 0} where
   -- the element that is read right after a cut
   pub behind : {xs : List X} (front back : List X) (high x : _) → xs ≡ front ++ back → length front ≡ high → 0 < length back → x ≡ get_or back 0 x → slice_get xs high ≡ Some x
   behind front back high x is len some read =
-      let place : high ≡ length front + 0 = omega arith in
-      cc (slice_get-append-add front back 0, slice_get_read back (length back) 0 x refl some read)
+      let place : high ≡ length front + 0 = omega arith in cc (slice_get-append-add front back 0, slice_get_read back (length back) 0 x refl some read)
 
   -- two elements written over one list
   pub refilled_two : (xs : List X) (i j x y n : _) → n ≡ length xs → take n (slice_set (slice_set xs i x) j y ++ drop (length (slice_set (slice_set xs i x) j y)) xs) ≡ slice_set (slice_set xs i x) j y
-  refilled_two xs i j x y n size =
-      let ys = slice_set (slice_set xs i x) j y in
-      let same = length-set _ j y ∙ length-set xs i x in
+  refilled_two xs i j x y n size = let ys = slice_set (slice_set xs i x) j y in let same = length-set _ j y ∙ length-set xs i x in
       rw (drop_all (length ys) xs (omega arith), append-nil ys) (take_all n ys (omega arith))
 
   -- the rest of a list from an element on starts with it

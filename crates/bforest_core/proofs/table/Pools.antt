@@ -29,9 +29,7 @@ module _ {K V : Type 0} where
   pub IsPool-set_two : {n : ℕ} (nodes : List (Content K V)) (first free limit : _) {left right : ℕ} (l r : Content K V) {t : Table K V} {a b : ℕ} → record { nodes = nodes; chain = chain_from nodes free first; limit = limit } ≡ t → left ≡ a → right ≡ b →
       list_any (nat_eq a) t.chain ≡ false → list_any (nat_eq b) t.chain ≡ false → IsPool n nodes first free limit → IsPool n (set (set nodes left l) right r) first free limit × (chain_from (set (set nodes left l) right r) free first ≡ chain_from nodes free first)
   IsPool-set_two nodes first free limit {left = left} {right = right} l r view left_is right_is off_a off_b pool =
-      let once = IsPool-set left l (rw (← view, ← left_is) at off_a) pool in
-      let twice = IsPool-set right r (cc) once.0 in
-      (twice.0, cc)
+      let once = IsPool-set left l (rw (← view, ← left_is) at off_a) pool in let twice = IsPool-set right r (cc) once.0 in (twice.0, cc)
 
   -- a used node is used in an equal table, under an equal number
   pub used_inside : {t : Table K V} {u node number : _} → u ≡ t → number ≡ node → IsUsed t node → IsUsed u number
@@ -39,15 +37,13 @@ module _ {K V : Type 0} where
 
   -- at most as many nodes are free as there are slots
   pub free_within : {n : _} (nodes : List (Content K V)) (first free : _) {limit : _} → IsPool n nodes first free limit → free ≤ length nodes
-  free_within nodes first free pool =
-      let most = length-le_from_distinct_below _ _ pool.distinct (IsChain-below nodes _ first pool.linked) in
-      omega arith
+  free_within nodes first free pool = let most = length-le_from_distinct_below _ _ pool.distinct (IsChain-below nodes _ first pool.linked) in omega arith
 
   -- a used slot is freed and put in front of the chain
-  pub IsPool-freed : {n : ℕ} (nodes : List (Content K V)) (first free limit at : _) → at < length nodes
-      → list_any (nat_eq at) (chain_from nodes free first) ≡ false → IsPool n nodes first free limit
-      → IsPool n (set nodes at (Free first)) (Some at) (free + 1) limit
-      × (chain_from (set nodes at (Free first)) (free + 1) (Some at) ≡ at ∷ chain_from nodes free first)
+  pub IsPool-freed : {n : ℕ} (nodes : List (Content K V)) (first free limit at : _) → at < length nodes → list_any (nat_eq at) (chain_from nodes free first) ≡
+      false → IsPool n nodes first free limit → IsPool n (set nodes at (Free first)) (Some at) (free + 1) limit × (chain_from (set nodes at (Free
+      first)) (free +
+      1) (Some at) ≡ at ∷ chain_from nodes free first)
   IsPool-freed nodes first free limit at within off pool =
       IsPool-made (set nodes at (Free first)) (at ∷ chain_from nodes free first) (Some at) (free + 1) limit pool.capacity (IsChain-freed nodes (chain_from nodes free first) first at within off pool.linked)
       (omega arith) (IsDistinct-front at _ off pool.distinct) (omega (arith, length-set nodes at (Free first))) pool.limit_within
@@ -58,11 +54,11 @@ module _ {K V : Type 0} where
       omega (arith, free_within _ _ _ (IsPool-freed nodes first free limit at within off pool).0, length-set nodes at (Free first))
 
   -- new slots in front of the chain
-  pub IsPool-grown : {n : ℕ} (nodes : List (Content K V)) (first free limit count total : _) → total ≡ count + free
-      → length nodes + count ≤ limit → IsPool n nodes first free limit
-      → IsPool n (nodes ++ fresh_nodes (length nodes) count first) (front_of_new (length nodes) count first) total limit
-      × (chain_from (nodes ++ fresh_nodes (length nodes) count first) total (front_of_new (length nodes) count first) ≡ down_from
-      (length nodes) count ++ chain_from nodes free first)
+  pub IsPool-grown : {n : ℕ} (nodes : List (Content K V)) (first free limit count total : _) → total ≡ count + free → length nodes + count ≤ limit → IsPool n
+      nodes first free limit → IsPool n (nodes ++ fresh_nodes (length nodes) count first) (front_of_new (length nodes) count first) total limit × (chain_from
+      (nodes ++ fresh_nodes (length nodes) count first) total (front_of_new (length nodes) count first) ≡ down_from (length nodes) count ++
+      chain_from nodes free
+      first)
   IsPool-grown nodes first free limit count total total_is within pool =
       IsPool-made (nodes ++ fresh_nodes (length nodes) count first) (down_from (length nodes) count ++ chain_from nodes free first) (front_of_new (length nodes) count first) total limit pool.capacity (IsChain-fresh nodes (chain_from nodes free first) first count pool.linked)
       (omega (arith, length-append (down_from (length nodes) count) (chain_from nodes free first), length-down_from (length nodes) count))
@@ -84,11 +80,8 @@ module _ {K V : Type 0} where
       → IsPool n nodes next (free - 1) limit × (chain_from nodes free (Some node) ≡ node ∷ chain_from nodes (free - 1) next) × (list_any (nat_eq node) (chain_from nodes (free - 1) next) ≡ false)
   IsPool-taken next zero some pool found = absurd (omega arith)
   IsPool-taken {nodes = nodes} {node = node} next (suc count) {limit = limit} some pool found =
-      let less : suc count - 1 ≡ count = omega arith in
-      let after = ap next_of found in
-      let same : pool.linked.0 ≡ next = let there = pool.linked.2 in cc in
-      let tail = chain_from nodes count next in
-      let distinct : IsDistinct nat_eq (node ∷ tail) = rw after at pool.distinct in
+      let less : suc count - 1 ≡ count = omega arith in let after = ap next_of found in let same : pool.linked.0 ≡ next = let there = pool.linked.2 in cc in
+      let tail = chain_from nodes count next in let distinct : IsDistinct nat_eq (node ∷ tail) = rw after at pool.distinct in
       let counted : length tail ≡ count = omega (arith, rw after at pool.counted) in
       let made = IsPool-made nodes tail next count limit pool.capacity (rw (after, same) at pool.linked.3) counted (IsDistinct-tail nat_eq node tail distinct) pool.slots_within pool.limit_within in
       rw (less, after) (made.0, refl, none_apart _ _ (IsDistinct-head nat_eq node tail distinct))
@@ -115,6 +108,4 @@ module _ {K V : Type 0} where
 -- a number that is not on the chain is not its front
 pub apart_front : (chain : _) {node front : ℕ} → front_of chain ≡ Some front → list_any (nat_eq node) chain ≡ false → front ≡ node → ⊥
 apart_front [] is off e = cc
-apart_front (first ∷ rest) {node = node} {front = front} is off e =
-    let same : first ≡ front = cc in
-    eqb-false node first (or_parts _ _ off).0 (sym (same ∙ e))
+apart_front (first ∷ rest) {node = node} {front = front} is off e = let same : first ≡ front = cc in eqb-false node first (or_parts _ _ off).0 (sym (same ∙ e))

@@ -57,10 +57,8 @@ module _ {K V : Type 0} where
   down-all slots f [] [] s i one = absurd (omega arith)
   down-all slots f (x ∷ []) [] s i one = let e : f + 0 ≡ f = omega arith in rw e refl
   down-all slots f (x ∷ y ∷ hs) [] s i one = absurd (omega arith)
-  down-all slots f hs (row ∷ rows) s i one =
-      let r = down-all slots (suc f) (heads row) rows s.2 i.1 (heads-some row (omega (arith, ap length s.0))) in
-      let e : f + suc (length rows) ≡ suc f + length rows = omega arith in
-      let c = children-row slots row i.0 ∙ ap entry_items s.0 in
+  down-all slots f hs (row ∷ rows) s i one = let r = down-all slots (suc f) (heads row) rows s.2 i.1 (heads-some row (omega (arith, ap length s.0))) in
+      let e : f + suc (length rows) ≡ suc f + length rows = omega arith in let c = children-row slots row i.0 ∙ ap entry_items s.0 in
       rw e (r ∙ rw (items-heads 4 8 (omega arith) row s.1) (down-row _ f _ _ _ c (rw length-map one)))
 
   -- the row of the leaves is read back
@@ -70,8 +68,7 @@ module _ {K V : Type 0} where
 
   inners-back : (slots : List (Content K V)) (row : _) → RowIn inner_content slots row → inner_row slots (flat row) (numbers row) ≡ row
   inners-back slots [] i = refl
-  inners-back slots (node m es ∷ ns) i =
-      let a = ap (λ z. length (children_of z)) (slot-is _ m _ i.0) ∙ length-map es (λ e. e.1) in
+  inners-back slots (node m es ∷ ns) i = let a = ap (λ z. length (children_of z)) (slot-is _ m _ i.0) ∙ length-map es (λ e. e.1) in
       rw (a, take_at es (flat ns) (length es) refl, drop_at es (flat ns) (length es) refl, inners-back slots ns i.1) refl
 
   rows-back : (slots : List (Content K V)) (hs rows : _) → Stacked hs rows → RowsIn slots rows → inner_rows slots hs (map numbers rows) ≡ rows
@@ -83,8 +80,7 @@ module _ {K V : Type 0} where
   pub read-back : (most : _) {slots : _} (tree : Tree K V) → IsFit most tree → IsIn slots tree → 1 ≤ length (flat tree.leaves) → length tree.above ≤ 16 → tree_of slots (root_of tree) ≡ tree
   unfolding tree_of
   read-back most {slots = slots} tree fit inside some low =
-      let one = half-some most tree.leaves fit.leaves_fit some in
-      let g = (17 - length tree.above) - 1 in
+      let one = half-some most tree.leaves fit.leaves_fit some in let g = (17 - length tree.above) - 1 in
       let ef : 17 ≡ suc g + length tree.above = omega arith in
       let d = down-all _ _ _ _ fit.stacked inside.rows_in (heads-some tree.leaves some) in
       let a : levels_below slots 17 (root_of tree ∷ []) [] ≡ numbers tree.leaves ∷ map numbers tree.above =

@@ -13,7 +13,7 @@ read_same list n x y first second = some_same y x (cc)
 
 -- what holds of one read of a slot holds of another
 pub read_as : {A : Type 0} {x y : A} (list : List A) (n : ℕ) → slice_get list n ≡ Some x → slice_get list n ≡ Some y → (P : A → Type 0) → P x → P y
-read_as list n first second P said = subst P (sym (some_same _ _ (cc))) said
+read_as list n first second P said = subst P (sym (some_same _ _ cc)) said
 
 pub slice_get_at : {A : Type 0} → (p : List A) (y : A) (ys : List A) (n : ℕ) → length p ≡ n → slice_get (p ++ y ∷ ys) n ≡ Some y
 slice_get_at [] y ys zero e = refl
@@ -73,17 +73,13 @@ module _ {K : Type 0} (V : Type 0) where
   -- inserting a child after another
   pub with_child_is : (l : Heads K) (x : K × ℕ) (r : Heads K) (key : K) (child e : ℕ) → length l ≡ e → with_child {V = V} (inner_content (l ++ x ∷ r)) e key child ≡ inner_content (l ++ x ∷ (key, child) ∷ r)
   with_child_is l x r key child e is =
-      let next : e + 1 ≡ suc (length l) = omega arith in
-      rw (next, ← is, insert_key l x r (key, child), insert_after (λ w. w.1) l x r (key, child)) refl
+      let next : e + 1 ≡ suc (length l) = omega arith in rw (next, ← is, insert_key l x r (key, child), insert_after (λ w. w.1) l x r (key, child)) refl
 
   -- the parts of an inner node after its first `q` children
   pub inner_cuts : (x xs y ys q : _) (left right : Content K V) (key : K) → length (x ∷ xs) ≡ q → IsCut (inner_content ((x ∷ xs) ++ y ∷ ys)) q left key right → Parts inner_content (x ∷ xs) y ys left right key
   inner_cuts x xs y ys q left right key e c =
-      let kl : length (entry_keys xs) ≡ q - 1 = length-map xs (λ w. w.0) ∙ omega arith in
-      let kl2 = ap suc (length-map xs (λ w. w.0)) ∙ e in
-      let il = length-map (x ∷ xs) (λ w. w.1) ∙ e in
-      let k = map-append (λ w. w.0) xs (y ∷ ys) in
-      let i = map-append (λ w. w.1) (x ∷ xs) (y ∷ ys) in
+      let kl : length (entry_keys xs) ≡ q - 1 = length-map xs (λ w. w.0) ∙ omega arith in let kl2 = ap suc (length-map xs (λ w. w.0)) ∙ e in
+      let il = length-map (x ∷ xs) (λ w. w.1) ∙ e in let k = map-append (λ w. w.0) xs (y ∷ ys) in let i = map-append (λ w. w.1) (x ∷ xs) (y ∷ ys) in
       record {
         left_is = rw (k, i, take_at (entry_keys xs) (y.0 ∷ entry_keys ys) (q - 1) kl, take_at (entry_items (x ∷ xs)) (y.1 ∷ entry_items ys) q il) at c.left_is;
         right_is = rw (k, i, drop-behind (entry_keys xs) y.0 (entry_keys ys) q kl2, drop_at (entry_items (x ∷ xs)) (y.1 ∷ entry_items ys) q il) at c.right_is;
@@ -97,9 +93,7 @@ module _ {K : Type 0} (V : Type 0) where
   -- the parts of a leaf after its first `q` entries
   pub leaf_cuts : (xs : List (K × V)) (y ys q left right key : _) → length xs ≡ q → IsCut (leaf_content (xs ++ y ∷ ys)) q left key right → Parts leaf_content xs y ys left right key
   leaf_cuts xs y ys q left right key e c =
-      let kl = length-map xs (λ w. w.0) ∙ e in
-      let il = length-map xs (λ w. w.1) ∙ e in
-      let k = map-append (λ w. w.0) xs (y ∷ ys) in
+      let kl = length-map xs (λ w. w.0) ∙ e in let il = length-map xs (λ w. w.1) ∙ e in let k = map-append (λ w. w.0) xs (y ∷ ys) in
       let i = map-append (λ w. w.1) xs (y ∷ ys) in
       record {
         left_is = rw (k, i, take_at (entry_keys xs) (y.0 ∷ entry_keys ys) q kl, take_at (entry_items xs) (y.1 ∷ entry_items ys) q il) at c.left_is;

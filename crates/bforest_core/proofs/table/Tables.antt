@@ -66,8 +66,7 @@ module _ {K V : Type 0} where
     -- nodes of a row are replaced, where only two slots change
     pub row-changed : (t u before old new after n q : _) → RowIn content t (before ++ (old ++ after)) → ((m : ℕ) → m ≢ n → m ≢ q → slice_get u m ≡ slice_get t m) → RowIn content u new →
         count n (numbers before) + count n (numbers after) ≡ 0 → count q (numbers before) + count q (numbers after) ≡ 0 → RowIn content u (before ++ (new ++ after))
-    row-changed t u before old new after n q i same here none none_q =
-        let s = row-split t _ _ i in
+    row-changed t u before old new after n q i same here none none_q = let s = row-split t _ _ i in
         let kept = λ (m : ℕ) (ms : List ℕ) (some : 0 < count m ms) (a : count n ms ≡ 0) (b : count q ms ≡ 0). same m (ne_from_count m n ms some a) (ne_from_count m q ms some b) in
         row-join u _ _ (row-same t u before (λ m some. kept m (numbers before) some (omega arith) (omega arith)) s.0)
         (row-join u _ _ here (row-same t u after (λ m some. kept m (numbers after) some (omega arith) (omega arith)) (row-split t _ _ s.1).1))
@@ -108,14 +107,13 @@ module _ {K V : Type 0} where
     pub limit_is : u.limit ≡ t.limit
 
   pub puts : (t u : Table K V) (n c old : _) → slice_get t.nodes n ≡ Some old → u ≡ with_node t n c → Puts t u n c
-  puts t u n c old found is =
-      record {
-        here = cc (slice_get-set_same _ n c (slice_get_within _ n _ found));
-        same = λ m ne. cc (slice_get-set_apart _ n m c ne);
-        chain_is = cc;
-        slots_are = cc (length-set _ n c);
-        limit_is = cc;
-      }
+  puts t u n c old found is = record {
+    here = cc (slice_get-set_same _ n c (slice_get_within _ n _ found));
+    same = λ m ne. cc (slice_get-set_apart _ n m c ne);
+    chain_is = cc;
+    slots_are = cc (length-set _ n c);
+    limit_is = cc;
+  }
 
   pub puts-then : {t u v n c d : _} → Puts t u n c → Puts u v n d → Puts t v n d
   puts-then p q = record { here = q.here; same = λ m ne. q.same m ne ∙ p.same m ne; chain_is = cc; slots_are = cc; limit_is = cc }
@@ -130,9 +128,7 @@ module _ {K V : Type 0} where
 
   takes_at : (t u : Table K V) (n c chain : _) → t.chain ≡ chain → front_of chain ≡ Some n → u ≡ with_front t chain c → n < length t.nodes → Takes t u n c
   takes_at t u n c [] is front after low = absurd cc
-  takes_at t u n c (m ∷ rest) is front after low =
-      let same : m ≡ n = cc in
-      let after2 = after ∙ ap (λ z. with_front t (z ∷ rest) c) same in
+  takes_at t u n c (m ∷ rest) is front after low = let same : m ≡ n = cc in let after2 = after ∙ ap (λ z. with_front t (z ∷ rest) c) same in
       record {
         here = cc (slice_get-set_same _ n c low);
         same = λ k ne. cc (slice_get-set_apart _ n k c ne);

@@ -35,11 +35,7 @@ sum-kept p f (x ∷ xs) = by (p x) refl (sum-kept p f xs)
 -- a number that passes the test occurs as often among those kept, and no other occurs there
 count-kept : (p : ℕ → Bool) (m xs : _) → count m (kept p xs) ≡ (if p m then count m xs else 0)
 count-kept p m [] = elim (p m) as (λ (b : Bool). ◌≡◌ {A = ℕ} 0 (if b then 0 else 0)) [ true ↦ refl | false ↦ refl ]
-count-kept p m (x ∷ xs) =
-    elim (eqb_tells x m) [
-      | inl w ↦ rw w.1 (here (p m) refl (count-kept p m xs))
-      | inr w ↦ there (p x) refl w.1 (count-kept p m xs)
-    ]
+count-kept p m (x ∷ xs) = elim (eqb_tells x m) [ inl w ↦ rw w.1 (here (p m) refl (count-kept p m xs)) | inr w ↦ there (p x) refl w.1 (count-kept p m xs) ]
   where
     here : (b : Bool) → p m ≡ b → count m (kept p xs) ≡ (if p m then count m xs else 0) → count m (kept p (m ∷ xs)) ≡ (if p m then count m (m ∷ xs) else 0)
     here true e ih = let k = ap (λ z. if z then count m xs else 0) e in rw e (omega arith)
@@ -68,20 +64,16 @@ module _ {K V : Type 0} where
 
   -- the roots are the numbers of slots that pass the test
   roots-kept : {most : _} (table : Table K V) (trees : _) → IsForest most table trees → (m : ℕ) → count m (map root_of trees) ≡ count m (kept (is_root table.nodes) (upto (length table.nodes)))
-  roots-kept table trees f m =
-      cc (by _ refl, count-kept _ m _, count-upto m _)
+  roots-kept table trees f m = cc (by _ refl, count-kept _ m _, count-upto m _)
     where
       by : (b : Bool) → is_root table.nodes m ≡ b → count m (map root_of trees) ≡ (if is_root table.nodes m then once_below m (length table.nodes) else 0)
       by true e = let k = ap (λ z. if z then once_below m (length table.nodes) else 0) e in omega (arith, roots-once table f m, (root-counts f m).0 e, below-one m _ (root-within _ m e))
-      by false e =
-          let k = ap (λ z. if z then once_below m (length table.nodes) else 0) e in
+      by false e = let k = ap (λ z. if z then once_below m (length table.nodes) else 0) e in
           elim (cases_lt 0 (count m (map root_of trees))) [ inl some ↦ absurd (false≢true (sym e ∙ (root-counts f m).1 some)) | inr past ↦ omega arith ]
 
   -- the slots are the free nodes and the nodes of the trees under all roots
   pub account : {most : ℕ} (table : Table K V) → IsUnion most table → length table.nodes ≡ length table.chain + sum_by (λ n. if is_root table.nodes n then length (numbers_of (tree_of table.nodes n)) else 0) (upto (length table.nodes))
-  account table union =
-      let trees = union.0 in
-      let f = union.1 in
+  account table union = let trees = union.0 in let f = union.1 in
       let a = length-same (flat_map numbers_of trees ++ table.chain) (upto (length table.nodes)) (λ m. f.account m ∙ sym (count-upto m (length table.nodes))) in
       let b = trees-sum [] trees f in
       let c = sum-same (λ n. nodes_under table.nodes n) (map root_of trees) (kept (is_root table.nodes) (upto (length table.nodes))) (roots-kept table trees f) in

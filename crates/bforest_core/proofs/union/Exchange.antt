@@ -35,12 +35,10 @@ module _ {K V : Type 0} where
   -- how often a number occurs in three parts of the trees and on the chain
   count_parts : (m : ℕ) (before some after : List (Tree K V)) (chain : _) →
       count m (flat_map numbers_of (before ++ (some ++ after)) ++ chain) ≡ count m (flat_map numbers_of before) + (count m (flat_map numbers_of some) + count m (flat_map numbers_of after)) + count m chain
-  count_parts m before some after chain =
-      let a = ap (λ z. count m (z ++ chain)) (flat_map-append numbers_of before (some ++ after)) in
+  count_parts m before some after chain = let a = ap (λ z. count m (z ++ chain)) (flat_map-append numbers_of before (some ++ after)) in
       let b = count-append m (flat_map numbers_of before ++ flat_map numbers_of (some ++ after)) chain in
       let c = count-append m (flat_map numbers_of before) (flat_map numbers_of (some ++ after)) in
-      let d = ap (λ z. count m z) (flat_map-append numbers_of some after) ∙ count-append m (flat_map numbers_of some) (flat_map numbers_of after) in
-      omega arith
+      let d = ap (λ z. count m z) (flat_map-append numbers_of some after) ∙ count-append m (flat_map numbers_of some) (flat_map numbers_of after) in omega arith
 
   -- some numbers of the trees are replaced: with the chain, each occurs as often as before, and other slots
   -- stay
@@ -74,9 +72,8 @@ module _ {K V : Type 0} where
     pub low : length tree.above ≤ 16
 
   -- replacing trees of a forest by others that are in the new table
-  pub exchange-trees : {most : ℕ} {old new : Table K V} (before gone come after : List (Tree K V))
-      → IsForest most old (before ++ (gone ++ after)) → Every (IsPlanted most new.nodes) come
-      → Traded old new (flat_map numbers_of gone) (flat_map numbers_of come) → IsForest most new (before ++ (come ++ after))
+  pub exchange-trees : {most : ℕ} {old new : Table K V} (before gone come after : List (Tree K V)) → IsForest most old (before ++ (gone ++ after)) → Every
+      (IsPlanted most new.nodes) come → Traded old new (flat_map numbers_of gone) (flat_map numbers_of come) → IsForest most new (before ++ (come ++ after))
   exchange-trees {old = old} {new = new} before gone come after f p t =
       let one : (m : ℕ) → count m (flat_map numbers_of before) + (count m (flat_map numbers_of gone) + count m (flat_map numbers_of after)) + count m old.chain ≤ 1 =
       λ m. omega (arith, f.account m, at-most-one m (length old.nodes), count_parts m before gone after old.chain) in
@@ -87,8 +84,7 @@ module _ {K V : Type 0} where
         inside = every_put _ _ _ _ (
           trees-same _ _ _ (λ m here. t.others m (omega (arith, one m))) ins.0,
           trees-same _ _ _ (λ m here. t.others m (omega (arith, one m))) ins.1,
-        )
-            (every-map _ _ (λ tree q. q.inside) _ p);
+        ) (every-map _ _ (λ tree q. q.inside) _ p);
         some = every_put (λ tree. 1 ≤ length (flat tree.leaves)) _ _ _ (every_outer (λ tree. 1 ≤ length (flat tree.leaves)) _ _ _ f.some)
             (every-map _ _ (λ tree q. q.some) _ p);
         low = every_put (λ tree. length tree.above ≤ 16) _ _ _ (every_outer (λ tree. length tree.above ≤ 16) _ _ _ f.low) (every-map _ _ (λ tree q. q.low) _ p);
@@ -98,30 +94,24 @@ module _ {K V : Type 0} where
 
   -- how often a number is a root in three parts of the trees
   count_roots : (m : ℕ) (before some after : List (Tree K V)) → count m (map root_of (before ++ (some ++ after))) ≡ count m (map root_of before) + (count m (map root_of some) + count m (map root_of after))
-  count_roots m before some after =
-      let a = ap (λ z. count m z) (map-append _ _ _) ∙ count-append m (map root_of before) (map root_of (some ++ after)) in
-      let b = ap (λ z. count m z) (map-append _ _ _) ∙ count-append m (map root_of some) (map root_of after) in
-      omega arith
+  count_roots m before some after = let a = ap (λ z. count m z) (map-append _ _ _) ∙ count-append m (map root_of before) (map root_of (some ++ after)) in
+      let b = ap (λ z. count m z) (map-append _ _ _) ∙ count-append m (map root_of some) (map root_of after) in omega arith
 
   -- a tree before or after the replaced ones is computed alike from each table that has it
   outer_tree : (most : ℕ) (before after : List (Tree K V)) (other : ℕ) → 0 < count other (map root_of before) + count other (map root_of after) → (tree : _) × ((table : _) (some : List (Tree K V)) → IsForest most table (before ++ (some ++ after)) → tree_of table.nodes other ≡ tree)
-  outer_tree most before after other there =
-      elim (cases_lt 0 (count other (map root_of before))) [
-        | inl here ↦ (let r = tree-with _ _ here in (r.1, λ table some f. (tree-back r.0 r.1 (r.2 ++ (some ++ after)) other f (cc (append_assoc r.0 (r.1 ∷ r.2) (some ++ after))) r.4).0))
-        | inr none ↦ (let r = tree-with after other (omega arith) in (
-          r.1,
-          λ table some f. (tree-back ((before ++ some) ++ r.0) r.1 r.2 other f
-              (cc (append_assoc _ _ _, append_assoc _ _ _)) r.4).0,
-        ))
-      ]
+  outer_tree most before after other there = elim (cases_lt 0 (count other (map root_of before))) [
+    | inl here ↦ (let r = tree-with _ _ here in (r.1, λ table some f. (tree-back r.0 r.1 (r.2 ++ (some ++ after)) other f (cc (append_assoc r.0 (r.1 ∷ r.2) (some ++ after))) r.4).0))
+    | inr none ↦ (let r = tree-with after other (omega arith) in (
+      r.1,
+      λ table some f. (tree-back ((before ++ some) ++ r.0) r.1 r.2 other f (cc (append_assoc _ _ _, append_assoc _ _ _)) r.4).0,
+    ))
+  ]
 
   -- every number that is no root of the replaced trees is a root as before, and keeps its tree
   pub others-keep : {most old new : _} (before gone come after : List (Tree K V)) → IsForest most old (before ++ (gone ++ after)) → IsForest most new (before ++ (come ++ after)) →
       (other : ℕ) → count other (map root_of gone) ≡ 0 → count other (map root_of come) ≡ 0 → (IsTrue (is_root new.nodes other) ↔ IsTrue (is_root old.nodes other)) × (IsTrue (is_root old.nodes other) → tree_of new.nodes other ≡ tree_of old.nodes other)
   others-keep {most = most} {old = old} {new = new} before gone come after f g other none none' =
-      let cf = root-counts f other in
-      let cg = root-counts g other in
-      let a = count_roots other before gone after in
+      let cf = root-counts f other in let cg = root-counts g other in let a = count_roots other before gone after in
       let b = count_roots other before come after in (
         (λ root. cf.1 (omega (arith, cg.0 root)), λ root. cg.1 (omega (arith, cf.0 root))),
         λ root. (let t = outer_tree most before after other (omega (arith, cf.0 root)) in t.1 new come g ∙ sym (t.1 old gone f)),

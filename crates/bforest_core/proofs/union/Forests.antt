@@ -24,18 +24,15 @@ module _ {K V : Type 0} where
   named_rows slots [] [] s i m = absurd (omega arith)
   named_rows slots (x ∷ []) [] s i m = omega arith
   named_rows slots (x ∷ y ∷ hs) [] s i m = absurd (omega arith)
-  named_rows slots hs (row ∷ rows) s i m =
-      let ih = named_rows slots (heads row) rows s.2 i.1 m in
+  named_rows slots hs (row ∷ rows) s i m = let ih = named_rows slots (heads row) rows s.2 i.1 m in
       let a = ap (λ z. count m z) (flat_map-append (λ k. children_of (slot slots k)) _ _) ∙ count-append m (named_by slots (numbers row)) (named_by slots (flat_map numbers rows)) in
-      let b = ap (λ z. count m z) (children-row slots row i.0 ∙ ap entry_items s.0) in
-      let c = ap (λ z. count m z) (items-heads 4 8 (omega arith) row s.1) in
+      let b = ap (λ z. count m z) (children-row slots row i.0 ∙ ap entry_items s.0) in let c = ap (λ z. count m z) (items-heads 4 8 (omega arith) row s.1) in
       omega (arith, count-append m (numbers row) (flat_map numbers rows))
 
   -- each number of a tree but its root is named by one node of the tree, and no other number is
   named_tree : {most slots : _} {tree : Tree K V} → IsFit most tree → IsIn slots tree → 1 ≤ length (flat tree.leaves) → (m : ℕ) →
       count m (named_by slots (numbers_of tree)) + count m (root_of tree ∷ []) ≡ count m (numbers_of tree)
-  named_tree {most = most} {slots = slots} {tree = tree} f i some m =
-      let r = named_rows _ _ _ f.stacked i.rows_in m in
+  named_tree {most = most} {slots = slots} {tree = tree} f i some m = let r = named_rows _ _ _ f.stacked i.rows_in m in
       let a = ap (λ z. count m z) (flat_map-append (λ k. children_of (slot slots k)) _ _) ∙ count-append m (named_by slots (numbers tree.leaves)) (named_by slots (flat_map numbers tree.above)) in
       let b = ap (λ z. count m z) (children-leaves slots tree.leaves i.leaves_in) in
       let c = ap (λ z. count m z) (items-heads (half_of most) most (half-some most tree.leaves f.leaves_fit some) tree.leaves f.leaves_fit) in
@@ -49,9 +46,7 @@ module _ {K V : Type 0} where
   named_trees : (most : ℕ) (slots : List (Content K V)) (trees : List (Tree K V)) → Every (IsFit most) trees → Every (IsIn slots) trees → Every (λ tree. 1 ≤ length (flat tree.leaves)) trees → (m : ℕ) →
       count m (named_by slots (flat_map numbers_of trees)) + count m (map root_of trees) ≡ count m (flat_map numbers_of trees)
   named_trees most slots [] f i some m = omega arith
-  named_trees most slots (tree ∷ trees) f i some m =
-      let one = named_tree f.0 i.0 some.0 m in
-      let ih = named_trees most slots trees f.1 i.1 some.1 m in
+  named_trees most slots (tree ∷ trees) f i some m = let one = named_tree f.0 i.0 some.0 m in let ih = named_trees most slots trees f.1 i.1 some.1 m in
       let a = ap (λ z. count m z) (flat_map-append (λ k. children_of (slot slots k)) _ _) ∙ count-append m (named_by slots (numbers_of tree)) (named_by slots (flat_map numbers_of trees)) in
       omega (arith, count-append m (numbers_of tree) (flat_map numbers_of trees))
 
@@ -72,17 +67,14 @@ module _ {K V : Type 0} where
 
   -- the root of a tree is a node
   root_used : {most : ℕ} → IsLeafCapacity most → (slots : List (Content K V)) (tree : _) → IsRooted most slots (root_of tree) tree → is_used (slot slots (root_of tree)) ≡ true
-  root_used capacity slots tree r =
-      let u = whole_under r in
+  root_used capacity slots tree r = let u = whole_under r in
       elim (node_under capacity tree.above [] u.0 (root_of tree) [] u.1) [ inl w ↦ ap is_used (slot-is slots (root_of tree) _ w.slot_is) | inr w ↦ ap is_used (slot-is slots (root_of tree) _ w.slot_is) ]
 
   -- the slots of a table name each number of its trees except the roots
   named_all : {most : _} {table : Table K V} {trees : _} → IsForest most table trees → (m : ℕ) → count m (flat_map children_of table.nodes) + count m (map root_of trees) ≡ count m (flat_map numbers_of trees)
-  named_all {table = table} {trees = trees} f m =
-      let a = all-named _ _ f.account m in
+  named_all {table = table} {trees = trees} f m = let a = all-named _ _ f.account m in
       let b = ap (λ z. count m z) (flat_map-append (λ k. children_of (slot table.nodes k)) _ _) ∙ count-append m (named_by table.nodes (flat_map numbers_of trees)) (named_by table.nodes table.chain) in
-      let c = ap (λ z. count m z) (named_free table.nodes table.chain f.free) in
-      omega (arith, named_trees _ _ _ f.fit f.inside f.some m)
+      let c = ap (λ z. count m z) (named_free table.nodes table.chain f.free) in omega (arith, named_trees _ _ _ f.fit f.inside f.some m)
 
   -- a number occurs in the trees or on the chain at most once
   pub once : {most : _} {table : Table K V} {trees : _} → IsForest most table trees → (m : ℕ) → count m (flat_map numbers_of trees) + count m table.chain ≤ 1
@@ -105,23 +97,20 @@ module _ {K V : Type 0} where
   -- the trees, cut at the tree of a root
   pub tree-with : (trees : List (Tree K V)) (m : ℕ) → 0 < count m (map root_of trees) → (before : List (Tree K V)) × (tree : _) × (after : List (Tree K V)) × (trees ≡ before ++ tree ∷ after) × (root_of tree ≡ m)
   tree-with [] m some = absurd (omega arith)
-  tree-with (tree ∷ trees) m some =
-      elim (eqb_tells (root_of tree) m) [
-        | inl w ↦ ([], tree, trees, refl, w.1)
-        | inr w ↦ (let r = tree-with trees m (omega (arith, count-other m (root_of tree) (map root_of trees) w.1)) in (tree ∷ r.0, r.1, r.2, ap (λ z. tree ∷ z) r.3, r.4))
-      ]
+  tree-with (tree ∷ trees) m some = elim (eqb_tells (root_of tree) m) [
+    | inl w ↦ ([], tree, trees, refl, w.1)
+    | inr w ↦ (let r = tree-with trees m (omega (arith, count-other m (root_of tree) (map root_of trees) w.1)) in (tree ∷ r.0, r.1, r.2, ap (λ z. tree ∷ z) r.3, r.4))
+  ]
 
   -- a tree of the witness is computed from its root, which is a root of the table
   pub tree-back : {most : _} {table : Table K V} {trees : _} (before : List (Tree K V)) (tree : Tree K V) (after : List (Tree K V)) (root : ℕ) → IsForest most table trees → trees ≡ before ++ tree ∷ after → root_of tree ≡ root →
       (tree_of table.nodes root ≡ tree) × IsTrue (is_root table.nodes root)
   unfolding is_root
   tree-back {most = most} {table = table} before tree after root given split is =
-      let f = rw split at given in
-      let fit = (every-append (IsFit most) before (tree ∷ after) f.fit).1.0 in
+      let f = rw split at given in let fit = (every-append (IsFit most) before (tree ∷ after) f.fit).1.0 in
       let inside = (every-append (IsIn table.nodes) before (tree ∷ after) f.inside).1.0 in
       let some = (every-append (λ tree. 1 ≤ length (flat tree.leaves)) before (tree ∷ after) f.some).1.0 in
-      let low = (every-append (λ tree. length tree.above ≤ 16) before (tree ∷ after) f.low).1.0 in
-      let m = root_of tree in
+      let low = (every-append (λ tree. length tree.above ≤ 16) before (tree ∷ after) f.low).1.0 in let m = root_of tree in
       let here = ap (λ z. count m z) (map-append root_of before (tree ∷ after)) ∙ count-append m (map root_of before) (m ∷ map root_of after) in
       let none : count m (flat_map children_of table.nodes) ≡ 0 = omega (arith, count-same m (map root_of after), named_all f m, once f m) in
       let used = root_used f.capacity table.nodes tree (record { fit = fit; inside = inside; root_is = refl; some = some; low = low }) in

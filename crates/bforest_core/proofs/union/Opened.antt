@@ -31,8 +31,7 @@ module _ {K V : Type 0} where
 
   module _ {most : ℕ} (capacity : IsLeafCapacity most) {slots leaves : _} where
     open_leaf : (lower : _) {first : _} (number : _) → LeafUnder most slots leaves lower [] first number [] → Opened most slots leaves lower number
-    open_leaf lower number s =
-        let row = one_node most (some_leaf capacity) s.at in
+    open_leaf lower number s = let row = one_node most (some_leaf capacity) s.at in
         record {
           low = [];
           rows = [];
@@ -47,9 +46,7 @@ module _ {K V : Type 0} where
         }
 
     open_inner : (lower : _) {first : _} (number : _) → InnerUnder most slots leaves lower [] first number [] → Opened most slots leaves lower number
-    open_inner lower number s =
-        let row = one_node 8 (omega arith) s.at in
-        let es = s.at.e ∷ s.at.es in
+    open_inner lower number s = let row = one_node 8 (omega arith) s.at in let es = s.at.e ∷ s.at.es in
         record {
           low = leaves;
           rows = s.rows;

@@ -25,9 +25,7 @@ module _ {K V : Type 0} where
   pub planted-alloc : (most : ℕ) {old : Table K V} (new : Table K V) {number : ℕ} (key : K) (value : V) → IsUnion most old → front_of (reserved old 1).chain ≡ Some number → new ≡ with_front (reserved old 1) (reserved old 1).chain (Leaf (key ∷ []) (value ∷ [])) →
       Plants most old new number (key, value)
   planted-alloc most {old = old} new {number = number} key value union front is =
-      let mid = reserved old 1 in
-      let u = reserved-union most old 1 union in
-      let f = front_rest mid.chain front in
+      let mid = reserved old 1 in let u = reserved-union most old 1 union in let f = front_rest mid.chain front in
       let t = takes mid new number (Leaf (key ∷ []) (value ∷ [])) front is (within-slots u.1 number (omega (arith, ap (λ z. count number z) f.1, count-same number f.0))) in
       let tree : Tree K V = record { leaves = node number ((key, value) ∷ []) ∷ []; above = [] } in
       let p : IsPlanted most new.nodes tree = record {
@@ -38,8 +36,7 @@ module _ {K V : Type 0} where
       } in
       let moved = traded mid new [] (numbers_of tree) (number ∷ []) [] new.chain u.1.free (λ m. omega (arith, once u.1 m)) t.chain_is refl tt t.slots_are (λ m. omega arith) (λ m none. t.same m (absent_ne m number [] (omega arith))) in
       let g = exchange-trees [] [] (tree ∷ []) u.0 u.1 (p, tt) (subst (λ z. Traded mid new [] z) (one_tree tree) moved) in
-      let back = tree-back [] tree u.0 number g refl refl in
-      let made = length-fresh_nodes K V (slot_count old) (1 - free_count old) (front_of old.chain) in
+      let back = tree-back [] tree u.0 number g refl refl in let made = length-fresh_nodes K V (slot_count old) (1 - free_count old) (front_of old.chain) in
       let slots = length-append old.nodes (fresh_nodes (slot_count old) (1 - free_count old) (front_of old.chain)) in
       let chains = length-append (down_from (slot_count old) (1 - free_count old)) old.chain in
       let downs = length-down_from (slot_count old) (1 - free_count old) in

@@ -14,9 +14,7 @@ every-down P first f (suc n) = (f (first + n) (omega arith), every-down P first 
 -- the new numbers are those that `n` more slots have
 count-down : (m first n : ℕ) → count m (down_from first n) + once_below m first ≡ once_below m (first + n)
 count-down m first zero = let e : first + 0 ≡ first = omega arith in rw e (omega arith)
-count-down m first (suc n) =
-    let e : first + suc n ≡ suc (first + n) = omega arith in
-    let a = ap (λ z. once_below m z) e in
+count-down m first (suc n) = let e : first + suc n ≡ suc (first + n) = omega arith in let a = ap (λ z. once_below m z) e in
     omega (arith, count-upto m (suc (first + n)), count-upto m (first + n), count-append m (upto (first + n)) ((first + n) ∷ []), count-down m first n)
 
 module _ {K V : Type 0} where
@@ -39,15 +37,12 @@ module _ {K V : Type 0} where
 
   -- the slots before the new ones are unchanged
   slots_same : (xs more : List (Content K V)) (m : ℕ) → m < length xs → slice_get (xs ++ more) m ≡ slice_get xs m
-  slots_same xs more m low =
-      let e = slice_get-get_or xs m (Free None) low in
-      slice_get-append_left _ _ m _ e ∙ sym e
+  slots_same xs more m low = let e = slice_get-get_or xs m (Free None) low in slice_get-append_left _ _ m _ e ∙ sym e
 
   -- a table with `n` new slots has the same trees
   with-slots-forest : {most : _} {table : Table K V} (n : _) {trees : _} → IsForest most table trees → IsForest most (with_slots table n) trees
   with-slots-forest {table = table} n {trees = trees} f =
-      let more = fresh_nodes (slot_count table) n (front_of table.chain) in
-      let c = λ (m : ℕ). count-append m (flat_map numbers_of trees) table.chain in
+      let more = fresh_nodes (slot_count table) n (front_of table.chain) in let c = λ (m : ℕ). count-append m (flat_map numbers_of trees) table.chain in
       let low = within-slots f in
       let slots : length (table.nodes ++ more) ≡ length table.nodes + n = omega (arith, length-append table.nodes more, length-fresh_nodes K V (slot_count table) n (front_of table.chain)) in
       record {
@@ -68,14 +63,12 @@ module _ {K V : Type 0} where
   -- a reservation keeps the roots and their trees
   pub reserved-roots : (most : ℕ) (table : Table K V) (n : ℕ) → IsUnion most table → (number : ℕ) →
       (is_root (reserved table n).nodes number ≡ is_root table.nodes number) × (IsTrue (is_root table.nodes number) → tree_of (reserved table n).nodes number ≡ tree_of table.nodes number)
-  reserved-roots most table n union number =
-      let k = others-keep [] [] [] union.0 union.1 (with-slots-forest (n - free_count table) union.1) number refl refl in
+  reserved-roots most table n union number = let k = others-keep [] [] [] union.0 union.1 (with-slots-forest (n - free_count table) union.1) number refl refl in
       (same_from_decides (is_root (reserved table n).nodes number) (is_root table.nodes number) k.0 (λ is. is, λ is. is), k.1)
 
   -- a change that keeps the other trees of the table with more slots keeps those of the table
   pub reserved-then : (most : ℕ) (table : Table K V) (n : ℕ) (new : Table K V) (root root' : ℕ) → IsUnion most table → OthersKeep (reserved table n).nodes new.nodes root root' → OthersKeep table.nodes new.nodes root root'
-  reserved-then most table n new root root' union keep other ne ne' =
-      let r = reserved-roots _ _ n union _ in
+  reserved-then most table n new root root' union keep other ne ne' = let r = reserved-roots _ _ n union _ in
       let k = keep other ne ne' in ((λ now. sym r.0 ∙ k.0.0 now, λ was. k.0.1 (r.0 ∙ was)), λ was. k.1 (r.0 ∙ was) ∙ r.1 was)
 
   -- an equal table, or one with reserved nodes, is a union of trees and keeps them

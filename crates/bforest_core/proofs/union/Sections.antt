@@ -16,16 +16,14 @@ module _ {K X : Type 0} where
   row-cut half most one row [] b f h = record { left = []; right = row; row_is = refl; left_is = refl; right_is = h }
   row-cut half most one [] (x ∷ a) b f h = absurd cc
   row-cut half most one (node m [] ∷ ns) (x ∷ a) b f h = absurd (omega (arith, least-pos half one ns))
-  row-cut half most one (node m (e ∷ es) ∷ ns) (x ∷ a) b f h =
-      let r = row-cut half most one ns a b f.2 (cc) in
+  row-cut half most one (node m (e ∷ es) ∷ ns) (x ∷ a) b f h = let r = row-cut half most one ns a b f.2 (cc) in
       record { left = node m (e ∷ es) ∷ r.left; right = r.right; row_is = cc; left_is = cc; right_is = r.right_is }
 
   -- both parts of a fit row fit
   fit_cut : (half most : ℕ) → 1 ≤ half → (xs ys : Row K X) → FitRow half most (xs ++ ys) → FitRow half most xs × FitRow half most ys
   fit_cut half most one [] ys f = (tt, f)
   fit_cut half most one (node m es ∷ []) ys f = ((omega (arith, least-pos half one ys), f.1, tt), f.2)
-  fit_cut half most one (node m es ∷ (x ∷ xs)) ys f =
-      let r = fit_cut half most one (x ∷ xs) ys f.2 in ((f.0, f.1, r.0), r.1)
+  fit_cut half most one (node m es ∷ (x ∷ xs)) ys f = let r = fit_cut half most one (x ∷ xs) ys f.2 in ((f.0, f.1, r.0), r.1)
 
 -- inner rows cut below two parts of the top
 pub record RowsCut {K V : Type 0} (slots : List (Content K V)) (list : Heads K) (rows : Rows K) (a b : Heads K) : Type 0 where
@@ -47,10 +45,8 @@ module _ {K V : Type 0} where
   rows-cut slots list [] a b s i =
       record { list_left = a; list_right = b; left = []; right = []; list_is = s; left_stacked = refl; right_stacked = refl; left_in = tt; right_in = tt; left_height = refl; right_height = refl; counted = λ m. refl }
   rows-cut slots list (row ∷ rows) a b s i =
-      let r = rows-cut slots (heads row) rows a b s.2 i.1 in
-      let c = row-cut 4 8 (omega arith) row r.list_left r.list_right s.1 r.list_is in
-      let fits = fit_cut 4 8 (omega arith) c.left c.right (rw (← c.row_is) s.1) in
-      let ins = row-split _ _ _ c.right (rw (← c.row_is) i.0) in
+      let r = rows-cut slots (heads row) rows a b s.2 i.1 in let c = row-cut 4 8 (omega arith) row r.list_left r.list_right s.1 r.list_is in
+      let fits = fit_cut 4 8 (omega arith) c.left c.right (rw (← c.row_is) s.1) in let ins = row-split _ _ _ c.right (rw (← c.row_is) i.0) in
       record {
         list_left = flat c.left;
         list_right = flat c.right;
@@ -80,11 +76,9 @@ module _ {K V : Type 0} (most : ℕ) (slots : List (Content K V)) where
     pub counted : (m : ℕ) → count m (numbers_under leaves lower) ≡ count m (numbers_under leaves_left lower_left) + count m (numbers_under leaves_right lower_right)
 
   pub under-cut : 1 ≤ half_of most → {leaves lower : _} (a b : _) → Under most slots leaves lower (a ++ b) → UnderCut leaves lower a b
-  under-cut one {leaves = leaves} {lower = lower} a b u =
-      let r = rows-cut slots (heads leaves) lower a b u.stacked u.rows_in in
+  under-cut one {leaves = leaves} {lower = lower} a b u = let r = rows-cut slots (heads leaves) lower a b u.stacked u.rows_in in
       let c = row-cut (half_of most) most one leaves r.list_left r.list_right u.leaves_fit r.list_is in
-      let fits = fit_cut _ _ one _ _ (rw (← c.row_is) u.leaves_fit) in
-      let ins = row-split leaf_content slots c.left c.right (rw (← c.row_is) u.leaves_in) in
+      let fits = fit_cut _ _ one _ _ (rw (← c.row_is) u.leaves_fit) in let ins = row-split leaf_content slots c.left c.right (rw (← c.row_is) u.leaves_in) in
       record {
         leaves_left = c.left;
         leaves_right = c.right;

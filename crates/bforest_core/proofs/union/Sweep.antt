@@ -10,9 +10,7 @@ use Rattle.bforest_core.proofs.{walks.Steps.read, rows.LevelRows.some_leaf, unio
 -- rows below no nodes have no nodes
 rows_none : {K : Type 0} (list : Heads K) (rows : Rows K) → StackedTo list rows [] → (list ≡ []) × ((m : ℕ) → count m (flat_map numbers rows) ≡ 0)
 rows_none list [] s = (s, λ m. refl)
-rows_none list (row ∷ rows) s =
-    let r = rows_none (heads row) rows s.2 in
-    let none = no_heads 4 8 (omega arith) row s.1 r.0 in
+rows_none list (row ∷ rows) s = let r = rows_none (heads row) rows s.2 in let none = no_heads 4 8 (omega arith) row s.1 r.0 in
     (cc, λ m. omega (arith, count-append m (numbers row) (flat_map numbers rows), ap (λ z. count m (numbers z)) none, r.1 m))
 
 module _ {K V : Type 0} where
@@ -25,22 +23,19 @@ module _ {K V : Type 0} where
 
   under_none : (most : ℕ) → IsLeafCapacity most → {slots : List (Content K V)} {leaves lower : _} → Under most slots leaves lower [] → (m : ℕ) → count m (numbers_under leaves lower) ≡ 0
   under_none most capacity {leaves = leaves} {lower = lower} u m =
-      let r = rows_none _ _ u.stacked in
-      let none = no_heads _ _ (some_leaf capacity) _ u.leaves_fit r.0 in
+      let r = rows_none _ _ u.stacked in let none = no_heads _ _ (some_leaf capacity) _ u.leaves_fit r.0 in
       omega (arith, count-append m (numbers leaves) (flat_map numbers lower), ap (λ z. count m (numbers z)) none, r.1 m)
 
   -- the numbers below a node are the same in any slots that agree on them
   down-same : (old new : List (Content K V)) (levels number : ℕ) → ((m : ℕ) → 0 < count m (numbers_down old levels number) → slice_get new m ≡ slice_get old m) → numbers_down new levels number ≡ numbers_down old levels number
   down-same old new zero number same = refl
   down-same old new (suc levels) number same =
-      let kids = reverse (children_of (slot old number)) in
-      let here = slot_same old new number (same number (omega (arith, count-same number []))) in
+      let kids = reverse (children_of (slot old number)) in let here = slot_same old new number (same number (omega (arith, count-same number []))) in
       cc (all (down-same old new levels) kids (λ m some. same m (omega (arith, count-append m (number ∷ []) (flat_map (numbers_down old levels) kids)))))
     where
-      all : ((kid : ℕ) → ((m : ℕ) → 0 < count m (numbers_down old levels kid) → slice_get new m ≡ slice_get old m)
-          → numbers_down new levels kid ≡ numbers_down old levels kid) → (kids : _)
-          → ((m : ℕ) → 0 < count m (flat_map (numbers_down old levels) kids) → slice_get new m ≡ slice_get old m)
-          → flat_map (numbers_down new levels) kids ≡ flat_map (numbers_down old levels) kids
+      all : ((kid : ℕ) → ((m : ℕ) → 0 < count m (numbers_down old levels kid) → slice_get new m ≡ slice_get old m) → numbers_down new levels kid ≡ numbers_down
+          old levels kid) → (kids : _) → ((m : ℕ) → 0 < count m (flat_map (numbers_down old levels) kids) → slice_get new m ≡ slice_get old m) → flat_map
+          (numbers_down new levels) kids ≡ flat_map (numbers_down old levels) kids
       all again [] same = refl
       all again (kid ∷ kids) same =
           cc (again kid (λ m some. same m (omega (arith, count-append m (numbers_down old levels kid) (flat_map (numbers_down old levels) kids)))), all again kids (λ m some. same m (omega (arith, count-append m (numbers_down old levels kid) (flat_map (numbers_down old levels) kids)))))
@@ -85,12 +80,10 @@ module _ {K V : Type 0} where
         }
 
     -- the next child is freed with everything below it
-    pub sweep-next : {now new index : _} (x : _) → Distinct (numbers_under leaves rows ++ old.chain)
-        → (t : Turn now index x) → GivesAll now new (numbers_under t.cut.leaves_left t.cut.lower_left)
-        (numbers_down now.nodes (length t.cut.lower_left) x.1) → Swept most old new leaves rows top (suc index)
+    pub sweep-next : {now new index : _} (x : _) → Distinct (numbers_under leaves rows ++ old.chain) → (t : Turn now index x) → GivesAll now new (numbers_under
+        t.cut.leaves_left t.cut.lower_left) (numbers_down now.nodes (length t.cut.lower_left) x.1) → Swept most old new leaves rows top (suc index)
     sweep-next {now = now} {index = index} x apart t g =
-        let own = numbers_under t.cut.leaves_left t.cut.lower_left in
-        let n = λ (m : ℕ). count-append m t.swept.own own in
+        let own = numbers_under t.cut.leaves_left t.cut.lower_left in let n = λ (m : ℕ). count-append m t.swept.own own in
         record {
           left_leaves = t.cut.leaves_right;
           left_rows = t.cut.lower_right;
@@ -98,9 +91,15 @@ module _ {K V : Type 0} where
           given = numbers_down now.nodes (length t.cut.lower_left) x.1 ++ t.swept.given;
           under = t.cut.right;
           height = cc;
-          frees = frees-then (λ m z. omega (arith, n m))
-              (λ m some. omega (arith, apart m, t.swept.counted m, count-append m (numbers_under leaves rows) old.chain, t.swept.split m, t.cut.counted m))
-              (frees-wider _ (λ m z. omega (arith, n m)) t.swept.frees) g.frees;
+          frees = frees-then (λ m z. omega (arith, n m)) (λ m some. omega (
+            arith,
+            apart m,
+            t.swept.counted m,
+            count-append m (numbers_under leaves rows)
+                old.chain,
+            t.swept.split m,
+            t.cut.counted m,
+          )) (frees-wider _ (λ m z. omega (arith, n m)) t.swept.frees) g.frees;
           order =
               cc (down-same now.nodes old.nodes (length t.cut.lower_left) x.1 (λ m some. sym (t.swept.frees.others m (omega (arith, g.counted m, apart m, count-append m (numbers_under leaves rows) old.chain, t.swept.split m, t.cut.counted m)))), last_taken (entry_items top) index x.1 (simp (items-read top index, t.found)), reverse-append (take index (entry_items top)) (x.1 ∷ []));
           counted = λ m. omega (arith, count-append m (numbers_down now.nodes (length t.cut.lower_left) x.1) t.swept.given, n m, g.counted m, t.swept.counted m);
@@ -119,8 +118,7 @@ module _ {K V : Type 0} where
 
 -- the entry whose item is at an index
 item_at : {K : Type 0} (top : Heads K) (index child : ℕ) → slice_get (entry_items top) index ≡ Some child → (x : K × ℕ) × (slice_get top index ≡ Some x) × (x.1 ≡ child)
-item_at top index child found =
-    let r = read top index (omega (arith, slice_get_within (entry_items top) index child found, length-map top (λ w. w.1))) in
+item_at top index child found = let r = read top index (omega (arith, slice_get_within (entry_items top) index child found, length-map top (λ w. w.1))) in
     (r.0, r.1, some_same _ _ (cc (items-read _ _, found)))
 
 module _ {K V : Type 0} where
@@ -133,12 +131,9 @@ module _ {K V : Type 0} where
     pub slot_is : slice_get now.nodes number ≡ Some opened.content
     pub off_chain : count number now.chain ≡ 0
 
-  pub sweeping : {most : ℕ} {old now : Table K V} {leaves lower number index : _}
-      → Distinct (numbers_under leaves lower ++ old.chain) → (o : Opened most old.nodes leaves lower number)
-      → Swept most old now o.low o.rows o.top index → Sweeping most old now leaves lower number index
-  sweeping {old = old} {leaves = leaves} {lower = lower} {number = number} apart o s =
-      let one = count-same number [] in
-      let a = apart number in
+  pub sweeping : {most : ℕ} {old now : Table K V} {leaves lower number index : _} → Distinct (numbers_under leaves lower ++ old.chain) → (o : Opened most
+      old.nodes leaves lower number) → Swept most old now o.low o.rows o.top index → Sweeping most old now leaves lower number index
+  sweeping {old = old} {leaves = leaves} {lower = lower} {number = number} apart o s = let one = count-same number [] in let a = apart number in
       record {
         opened = o;
         swept = s;
@@ -151,14 +146,17 @@ module _ {K V : Type 0} where
   -- the node is freed after its children
   pub gives-down : {most : _} {old now : _} {leaves lower number index : _} → (s : Sweeping most old now leaves lower number index) →
       GivesAll old now (numbers_under s.opened.low s.opened.rows) (flat_map (numbers_down old.nodes (length s.opened.rows)) (reverse (entry_items s.opened.top))) → GivesAll old (with_freed now number) (numbers_under leaves lower) (numbers_down old.nodes (length lower) number)
-  gives-down {old = old} {now = now} {number = number} s all =
-      let own = numbers_under s.opened.low s.opened.rows in
+  gives-down {old = old} {now = now} {number = number} s all = let own = numbers_under s.opened.low s.opened.rows in
       let below = flat_map (numbers_down old.nodes (length s.opened.rows)) (reverse (entry_items s.opened.top)) in
       let apart : (m : ℕ) → 0 < count m below → count m (number ∷ []) ≡ 0 =
       λ m some. elim (cases_lt 0 (count m (number ∷ []))) [ inl here ↦ absurd (omega (arith, all.counted m, only_here m _ _ here s.alone)) | inr past ↦ omega arith ] in
       rw s.opened.down (record {
-        frees = frees-then (λ m zero. omega (arith, zero, s.opened.counted m)) apart
-            (frees-wider _ (λ m zero. omega (arith, zero, s.opened.counted m)) all.frees)
+        frees = frees-then (λ m zero. omega (arith, zero, s.opened.counted m)) apart (frees-wider _ (λ m zero. omega (
+          arith,
+          zero,
+          s.opened.counted
+              m,
+        )) all.frees)
             (frees-one now (with_freed now number) number s.opened.content (number ∷ []) s.slot_is refl (omega (arith, count-same number [])));
         counted = λ m. omega (arith, s.opened.counted m, all.counted m);
       })
@@ -168,8 +166,7 @@ module _ {K V : Type 0} where
       {lower number : _} → Distinct (numbers_under leaves lower ++ old.chain) → (o : Opened most old.nodes leaves lower number) → (IsInner o.content → ⊥)
       → GivesAll old (with_freed old number) (numbers_under leaves lower) (numbers_down old.nodes (length lower) number)
   unfolding sweeping
-  gives-leaf capacity old apart o other =
-      let first = sweep-first capacity old o.low o.rows o.top o.under in
+  gives-leaf capacity old apart o other = let first = sweep-first capacity old o.low o.rows o.top o.under in
       let all = sweep-last capacity old o.low o.rows o.top (omega (arith, childless _ other, ap length o.children_are, length-map o.top (λ e. e.1))) first in
       gives-down (sweeping apart o first) all
 
@@ -177,6 +174,5 @@ module _ {K V : Type 0} where
   pub child_turn : {most : ℕ} (capacity : IsLeafCapacity most) {old now : _} {leaves lower number index : _} {child : ℕ} → (s : Sweeping most old now leaves lower number index)
       → slice_get (children_of s.opened.content) index ≡ Some child → (x : K × ℕ) × (x.1 ≡ child) × (index < length s.opened.top)
       × Turn capacity old s.opened.low s.opened.rows s.opened.top now index x
-  child_turn capacity {now = now} {index = index} {child = child} s found =
-      let i = item_at s.opened.top index child (cc (found)) in
+  child_turn capacity {now = now} {index = index} {child = child} s found = let i = item_at s.opened.top index child (cc (found)) in
       (i.0, i.2, slice_get_within _ _ _ i.1, sweep-turn _ _ _ s.opened.rows s.opened.top now index i.0 s.apart s.swept i.1)

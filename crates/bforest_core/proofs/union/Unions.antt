@@ -41,12 +41,9 @@ module _ {K V : Type 0} where
   -- in a union of trees, the tree computed from a root is the tree under it
   pub rooted : (most table root : _) → IsUnion most table → IsTrue (is_root table.nodes root) → Rooted most table root (tree_of table.nodes root)
   rooted most table root union root_there =
-      let r = tree-with _ _ ((root-counts union.1 root).0 root_there) in
-      let s = rooted_at _ _ _ _ r.4 (subst (λ z. IsForest most table z) r.3 union.1) in
+      let r = tree-with _ _ ((root-counts union.1 root).0 root_there) in let s = rooted_at _ _ _ _ r.4 (subst (λ z. IsForest most table z) r.3 union.1) in
       rw s.tree_is s
 
   -- the tree computed from a root is in the slots
   pub is-rooted : {most : ℕ} {table : Table K V} (root : ℕ) → IsUnion most table → IsTrue (is_root table.nodes root) → IsRooted most table.nodes root (tree_of table.nodes root)
-  is-rooted root union is =
-      let r = rooted _ _ _ union is in
-      record { fit = r.fit; inside = r.inside; root_is = r.root_is; some = r.some; low = r.low }
+  is-rooted root union is = let r = rooted _ _ _ union is in record { fit = r.fit; inside = r.inside; root_is = r.root_is; some = r.some; low = r.low }

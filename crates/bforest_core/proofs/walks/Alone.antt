@@ -13,9 +13,7 @@ lone n = n ∷ 0 ∷ 0 ∷ 0 ∷ 0 ∷ 0 ∷ 0 ∷ 0 ∷ 0 ∷ 0 ∷ 0 ∷ 0 ∷
 pub ends-alone : {K V : Type 0} (cmp : K → K → Ordering) → IsTotalOrder cmp → {most : ℕ} (table : Table K V) (root : ℕ) (key : K) → IsUnion most table → IsTrue (is_root table.nodes root) → IsLeaf (slot table.nodes root) → IsIncreasing cmp (flat (tree_of table.nodes root).leaves) →
     EndsIn cmp table root key root (lone root) (lone 0) 1
 ends-alone cmp o table root key union is leaf inc =
-    let u = under-root root union is in
-    let leaves = (tree_of table.nodes root).leaves in
-    let lower = (tree_of table.nodes root).above in
+    let u = under-root root union is in let leaves = (tree_of table.nodes root).leaves in let lower = (tree_of table.nodes root).above in
     let one = union.1.capacity in
     elim (node_under one lower [] u.first root [] u.under) [
       | inl s ↦ (let step = leaf_step o one inc (all_through cmp u.first key) s in
@@ -31,8 +29,7 @@ none-above path indices path' indices' (row ∷ rows) place low s = absurd (omeg
 
 -- of a path of one level only the leaf and the index there tell where an entry may be inserted
 pub placed-alone : {K V : Type 0} (slots : List (Content K V)) (root : ℕ) (path indices path' indices' : List ℕ) {place : ℕ} → get_or path 0 0 ≡ get_or path' 0 0 → get_or indices 0 0 ≡ get_or indices' 0 0 → PlacedUnder slots root path indices 1 place → PlacedUnder slots root path' indices' 1 place
-placed-alone slots root path indices path' indices' node_is index_is p =
-    let q = p.at.points in
+placed-alone slots root path indices path' indices' node_is index_is p = let q = p.at.points in
     record {
       root_is = p.root_is;
       at = record {

@@ -24,10 +24,7 @@ module _ {K V : Type 0} {slots : List (Content K V)} {root code depth numbers ro
 
   -- what the child is, as it was read
   pub branch-child : {child : ℕ} → ChildRead slots number index child → NumberAt list to child
-  branch-child reads =
-      let w = b.at in
-      let e = read w.entries index b.low in
-      let item = items-read w.entries index ∙ ap (λ z. option_map (λ x. x.1) z) e.1 in
+  branch-child reads = let w = b.at in let e = read w.entries index b.low in let item = items-read w.entries index ∙ ap (λ z. option_map (λ x. x.1) z) e.1 in
       let same = some_same _ _ (sym item ∙ reads (drop 1 (entry_keys w.entries)) (entry_items w.entries) w.slot_is) in (
         e.0.0,
         ap (λ z. slice_get z to) (sym (here p some).flat_is) ∙ ap (λ z. slice_get (flat (here p some).row) z) b.to_is
@@ -37,18 +34,17 @@ module _ {K V : Type 0} {slots : List (Content K V)} {root code depth numbers ro
   -- the way to the child, by the way to the node
   pub branch-way : {above others : _} → CodedOver slots root above (depth - 1) others (here p some).rest (heads (here p some).row) b.top → {code1 : ℕ}
       → code1 ≡ above * 8 + index → CodedOver slots root code1 depth (number ∷ others) rows list to
-  branch-way {above} {others} q code_is =
-      record {
-        stacked = p.stacked;
-        inside = p.inside;
-        coded = rw (here p some).rows_are (
-          record { before = b.at.before; entries = b.at.entries; after = b.at.after; row_is = b.at.row_is; within = omega arith; place_is = omega arith },
-          subst (λ z. Coded others (here p some).rest z (length b.at.before)) (sym (digit-put _ _ _ branch-low code_is).1)
-              (subst (λ z. Coded others (here p some).rest above z) (sym b.at.at) q.coded),
-        );
-        root_is = p.root_is;
-        depth_is = p.depth_is;
-      }
+  branch-way {above} {others} q code_is = record {
+    stacked = p.stacked;
+    inside = p.inside;
+    coded = rw (here p some).rows_are (
+      record { before = b.at.before; entries = b.at.entries; after = b.at.after; row_is = b.at.row_is; within = omega arith; place_is = omega arith },
+      subst (λ z. Coded others (here p some).rest z (length b.at.before)) (sym (digit-put _ _ _ branch-low code_is).1)
+          (subst (λ z. Coded others (here p some).rest above z) (sym b.at.at) q.coded),
+    );
+    root_is = p.root_is;
+    depth_is = p.depth_is;
+  }
 
 module _ {K V : Type 0} {slots : List (Content K V)} {root code depth numbers rows list place : _}
     (p : CodedOver slots root code depth numbers rows list place) (some : depth ≢ 0) where
@@ -58,9 +54,7 @@ module _ {K V : Type 0} {slots : List (Content K V)} {root code depth numbers ro
 
   -- what the index of a node's last child asks
   pub last-asks : {number : ℕ} (top : ℕ) → NumberAt (heads h.row) top number → LastAsked slots number
-  last-asks top n =
-      let w = node-at _ _ 8 4 (omega arith) _ h.fit h.inside _ _ n in
-      (inner_content w.entries, w.slot_is, omega (arith, item_count w.entries))
+  last-asks top n = let w = node-at _ _ 8 4 (omega arith) _ h.fit h.inside _ _ n in (inner_content w.entries, w.slot_is, omega (arith, item_count w.entries))
 
   -- the node that was read, and the code's last digit
   module _ {parent : ℕ} (same : parent ≡ h.number) {index : ℕ} (digit : code % 8 ≡ index) where
@@ -119,6 +113,5 @@ module _ {K V : Type 0} {slots : List (Content K V)} {root code depth numbers ro
 
         -- the first child of the node behind
         abbrev pub first-of : {top number : ℕ} → top ≡ suc h.top → NumberAt (heads h.row) top number → Branch p some number 0 (suc place)
-        first-of {top} behind n =
-            let w = node-at _ _ 8 4 (omega arith) _ h.fit h.inside _ _ n in
+        first-of {top} behind n = let w = node-at _ _ 8 4 (omega arith) _ h.fit h.inside _ _ n in
             record { top = top; at = w; low = w.some; to_is = omega (arith, seam h.at w behind, h.place_is, h.within, past) }

@@ -43,8 +43,7 @@ module _ {K V : Type 0} (slots : List (Content K V)) (root code depth : ℕ) whe
 
   pub lowest : {numbers : _} (rows : _) {list place : _} → CodedOver slots root code depth numbers rows list place → depth ≢ 0 → Lowest numbers rows list place
   lowest [] p some = absurd (some p.depth_is)
-  lowest {numbers = numbers} (row ∷ rest) p some =
-      let at = p.coded.0 in
+  lowest {numbers = numbers} (row ∷ rest) p some = let at = p.coded.0 in
       record {
         row = row;
         rest = rest;
@@ -107,9 +106,7 @@ kept-same (row ∷ rest) p some parent is = sym is
 module _ {K V : Type 0} {n : ℕ} {table : Table K V} (union : IsUnion n table) (root : ℕ) (is : IsTrue (is_root table.nodes root)) where
   -- the leaf that is the node at this place of the lowest level
   pub leaf-at : {place number : ℕ} → NumberAt (heads (tree_of table.nodes root).leaves) place number → IsLeafAt table root place number
-  leaf-at m =
-      let w = is-rooted root union is in
-      let a = node-at _ _ n _ (some_leaf union.1.capacity) _ w.fit.leaves_fit w.inside.leaves_in _ _ m in
+  leaf-at m = let w = is-rooted root union is in let a = node-at _ _ n _ (some_leaf union.1.capacity) _ w.fit.leaves_fit w.inside.leaves_in _ _ m in
       record { before = a.before; entries = a.entries; after = a.after; leaves_are = a.row_is; at = a.at; slot_is = a.slot_is; some = a.some }
 
   -- the last node of the lowest level is the last leaf

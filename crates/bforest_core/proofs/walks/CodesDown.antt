@@ -21,16 +21,15 @@ module _ {K V : Type 0} {most : _} {slots : List (Content K V)} {leaves lower a 
   -- the way to a child of an inner node, by the way to the node
   pub child-way : {index : ℕ} → index ≤ length s.at.es → {spot next : Spot} → next.code ≡ spot.code * 8 + index → next.parent ≡ number → next.grand ≡ spot.parent → next.height ≡ suc spot.height
       → {upper numbers : _} → IsWay numbers spot upper (length a) → {place : ℕ} → place ≡ length (flat s.at.before) + index → IsWay (number ∷ numbers) next (s.row ∷ upper) place
-  child-way low {spot} code parent grand height {upper} {numbers} w place_is =
-      record {
-        coded = (
-          record { before = s.at.before; entries = s.at.e ∷ s.at.es; after = s.at.after; row_is = s.at.row_is; within = omega arith; place_is = omega arith },
-          rw (digit-put _ _ _ (omega arith) code).1 (subst (λ z. Coded numbers upper spot.code z) (sym s.at.before_is) w.coded),
-        );
-        parent_is = λ some. sym parent;
-        grand_is = λ some. w.parent_is (omega arith) ∙ sym grand;
-        height_is = cc;
-      }
+  child-way low {spot} code parent grand height {upper} {numbers} w place_is = record {
+    coded = (
+      record { before = s.at.before; entries = s.at.e ∷ s.at.es; after = s.at.after; row_is = s.at.row_is; within = omega arith; place_is = omega arith },
+      rw (digit-put _ _ _ (omega arith) code).1 (subst (λ z. Coded numbers upper spot.code z) (sym s.at.before_is) w.coded),
+    );
+    parent_is = λ some. sym parent;
+    grand_is = λ some. w.parent_is (omega arith) ∙ sym grand;
+    height_is = cc;
+  }
 
 module _ {K V : Type 0} {most : _} {slots : List (Content K V)} (capacity : IsLeafCapacity most) {leaves lower : _} (a : Heads K) (first : K) (number : ℕ) (b : Heads K) (u : Under most slots leaves lower (a ++ (first, number) ∷ b)) {content : Content K V} (read : slice_get slots number ≡ Some content) where
   -- at a leaf the way has ended
@@ -43,9 +42,7 @@ module _ {K V : Type 0} {most : _} {slots : List (Content K V)} (capacity : IsLe
         (numbers, rw ended.lower_is (subst (IsWay numbers spot upper) is w), rw (← is) (number-here _ a _ _ b u ended.lower_is))
 
     ends : b ≡ [] → length a ≡ length leaves - 1
-    ends none =
-        let s = ended.at in
-        let after = no_heads _ _ (some_leaf capacity) _ s.after_fit (cc) in
+    ends none = let s = ended.at in let after = no_heads _ _ (some_leaf capacity) _ s.after_fit (cc) in
         omega (arith, ap length after, ap length s.row_is, length-append s.before (node number (s.e ∷ s.es) ∷ s.after))
 
   -- a level down
@@ -71,8 +68,7 @@ module _ {K V : Type 0} {most : _} {slots : List (Content K V)} (capacity : IsLe
 
     module _ {index child : ℕ} (low : index ≤ length below.at.es) (reads : ChildRead slots number index child) {spot next : Spot} (code : next.code ≡ spot.code * 8 + index) (parent : next.parent ≡ number) (grand : next.grand ≡ spot.parent) (height : next.height ≡ suc spot.height) {upper numbers : _} (w : IsWay numbers spot upper (length a)) where
       down : Down upper numbers next index child
-      down =
-          let c = child_under below below.slot_is index (reads _ _ below.slot_is) in
+      down = let c = child_under below below.slot_is index (reads _ _ below.slot_is) in
           record { front = c.0; key = c.1; back = c.2; under = c.3; way = child-way below low code parent grand height w c.4; front_is = c.4; sum_is = c.5 }
 
 -- what is said of the first leaf, and of the last, as the end of a way
@@ -100,8 +96,7 @@ module _ {K V : Type 0} {most : ℕ} {slots : List (Content K V)} (capacity : Is
       down-asks = child-at _ asked.4 asked.5 number asked.6 asked.8 read _ _ low-here
 
       pub down-low : (spot.code < 35184372088832) × (spot.height < 16) × (index < 8)
-      down-low =
-          let r = way-low capacity asked.4 asked.5 number asked.6 asked.8 read inner asked.9 asked.10 in
+      down-low = let r = way-low capacity asked.4 asked.5 number asked.6 asked.8 read inner asked.9 asked.10 in
           (r.0, r.1, omega (arith, low-here, (below capacity asked.4 asked.5 number asked.6 asked.8 read inner).room))
 
     module _ {child : ℕ} (reads : ChildRead slots number index child) {spot next : Spot} (code : next.code ≡ spot.code * 8 + index)
@@ -117,16 +112,14 @@ module _ {K V : Type 0} {most : ℕ} {slots : List (Content K V)} (capacity : Is
         kept = turns.keeps leaves lower a first b here side went.front went.back went.front_is went.sum_is
 
       pub down-ask : HasUnder most slots Side spot number → HasUnder most slots Side next child
-      down-ask asked =
-          let s = here asked.0 asked.1 asked.2 asked.3 asked.4 asked.5 asked.6 asked.7 asked.8 asked.9 in
+      down-ask asked = let s = here asked.0 asked.1 asked.2 asked.3 asked.4 asked.5 asked.6 asked.7 asked.8 asked.9 in
           let d = went asked.0 asked.1 asked.2 asked.3 asked.4 asked.5 asked.6 asked.7 asked.8 asked.9 in
           let side = kept asked.0 asked.1 asked.2 asked.3 asked.4 asked.5 asked.6 asked.7 asked.8 asked.9 in
           (asked.0, s.rows, s.row ∷ asked.2, number ∷ asked.3, d.front, d.key, d.back, side, d.under, d.way, omega arith)
 
       pub down-on : (Said : Row K V → Rows K → Type 0) → OnUnder most slots Side next child Said → OnUnder most slots Side spot number Said
       down-on Said says leaves lower upper numbers a first b side u w =
-          let s = here leaves lower upper numbers a first b side u w in
-          let d = went leaves lower upper numbers a first b side u w in
+          let s = here leaves lower upper numbers a first b side u w in let d = went leaves lower upper numbers a first b side u w in
           subst (Said leaves) (rows-join s upper) (says leaves s.rows (s.row ∷ upper) (number ∷ numbers) d.front d.key d.back (kept leaves lower upper numbers a first b side u w) d.under d.way)
 
 -- from a node on one side of its level the way down has come to a node further down, and it ends where the way from there ends
@@ -141,15 +134,12 @@ way-root spot code height = record { coded = (code, refl); parent_is = λ low. a
 
 -- the way from the root down, at its end
 pub way-spot : {K V : Type 0} (table : Table K V) (root : ℕ) {spot : Spot} {place numbers : _} → IsTrue (is_root table.nodes root) → IsWay numbers spot ((tree_of table.nodes root).above ++ []) place → IsSpotAt table root spot place
-way-spot table root {numbers = numbers} is w =
-    let v = rw (append-nil (tree_of table.nodes root).above) at w in
+way-spot table root {numbers = numbers} is w = let v = rw (append-nil (tree_of table.nodes root).above) at w in
     record { root_is = is; numbers = numbers; coded = v.coded; parent_is = v.parent_is; grand_is = v.grand_is; height_is = v.height_is }
 
 -- a root has entries
 pub root-held : {K V : Type 0} {n : ℕ} {table : Table K V} (union : IsUnion n table) (root : ℕ) (is : IsTrue (is_root table.nodes root)) → LastAsked table.nodes root
-root-held union root is =
-    let u = under-root root union is in
-    node_held union.1.capacity [] u.first root [] u.under
+root-held union root is = let u = under-root root union is in node_held union.1.capacity [] u.first root [] u.under
 
 -- the ways down from a root
 module _ {K V : Type 0} {n : ℕ} {table : Table K V} (union : IsUnion n table) {root : ℕ} (is : IsTrue (is_root table.nodes root)) {spot : Spot} (code : spot.code ≡ 0) (height : spot.height ≡ 0) where
@@ -161,11 +151,7 @@ module _ {K V : Type 0} {n : ℕ} {table : Table K V} (union : IsUnion n table) 
   said-root side Said says = let u = under-root root union is in says (tree_of table.nodes root).leaves (tree_of table.nodes root).above [] [] [] u.first [] side u.under (way-root spot code height)
 
   pub first-of : {end : Spot} {leaf : ℕ} → OnUnder n table.nodes IsFirst spot root (FirstSaid end leaf) → IsSpotAt table root end 0 × IsLeafAt table root 0 leaf
-  first-of {end} {leaf} says =
-      let r = said-root refl (FirstSaid end leaf) says in
-      (way-spot table root is r.1, leaf-at union root is r.2)
+  first-of {end} {leaf} says = let r = said-root refl (FirstSaid end leaf) says in (way-spot table root is r.1, leaf-at union root is r.2)
 
   pub last-of : {end : Spot} {leaf : ℕ} → OnUnder n table.nodes IsLast spot root (LastSaid end leaf) → IsSpotAt table root end (leaf_count table root - 1) × IsLeafAt table root (leaf_count table root - 1) leaf
-  last-of {end} {leaf} says =
-      let r = said-root refl (LastSaid end leaf) says in
-      (way-spot table root is r.1, leaf-at union root is r.2)
+  last-of {end} {leaf} says = let r = said-root refl (LastSaid end leaf) says in (way-spot table root is r.1, leaf-at union root is r.2)

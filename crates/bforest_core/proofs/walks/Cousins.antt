@@ -11,9 +11,7 @@ use Rattle.bforest_core.specs.declared.spot.Spot.{Spot}
 -- a code leads to one place
 pub coded-place : {K : Type 0} (numbers : List ℕ) (rows : Rows K) (code place : ℕ) → Coded numbers rows code place → place_by rows code ≡ place
 coded-place numbers [] code place c = sym c.1
-coded-place numbers (row ∷ rows) code place c =
-    let at = c.0 in
-    let up = coded-place (drop 1 numbers) rows (code / 8) (length at.before) c.1 in
+coded-place numbers (row ∷ rows) code place c = let at = c.0 in let up = coded-place (drop 1 numbers) rows (code / 8) (length at.before) c.1 in
     let front : take (place_by rows (code / 8)) row ≡ at.before = ap (λ z. take z row) up ∙ ap (λ z. take (length at.before) z) at.row_is
     ∙ take_at at.before _ (length at.before) refl in
     cc
@@ -32,10 +30,9 @@ module _ {K V : Type 0} {n : ℕ} {table : Table K V} (union : IsUnion n table) 
   Leaf = Branch over (other union s some)
 
   -- the way to the leaf, and the leaf as it was read
-  there : {number digit to : ℕ} (b : Leaf number digit to) {above others : _} → CodedOver table.nodes root above (spot.height - 1) others
-      (it union s some).rest (heads (it union s some).row) b.top → {next : Spot} {leaf : ℕ} → next.code ≡ above * 8 + digit → next.parent ≡ number
-      → next.height ≡ spot.height → (1 < spot.height → get_or others 0 0 ≡ next.grand) → ChildRead table.nodes number digit leaf →
-      IsSpotAt table root next to × IsLeafAt table root to leaf
+  there : {number digit to : ℕ} (b : Leaf number digit to) {above others : _} → CodedOver table.nodes root above (spot.height - 1) others (it union s some).rest
+      (heads (it union s some).row) b.top → {next : Spot} {leaf : ℕ} → next.code ≡ above * 8 + digit → next.parent ≡ number → next.height ≡ spot.height → (1 <
+      spot.height → get_or others 0 0 ≡ next.grand) → ChildRead table.nodes number digit leaf → IsSpotAt table root next to × IsLeafAt table root to leaf
   there b q {next} code parent height grand reads = (
     far-spot union s (way-of (branch-way b q refl) next code height (λ low. sym parent) grand),
     leaf-at union root s.root_is (branch-child b reads),
@@ -71,9 +68,8 @@ module _ {K V : Type 0} {n : ℕ} {table : Table K V} (union : IsUnion n table) 
     pub sibling-asks : ChildAsked table.nodes spot.parent (spot.code % 8 + 1)
     sibling-asks = branch-asks behind
 
-    pub sibling-behind : {next : Spot} {child : ℕ} → next.code ≡ spot.code + 1 → next.parent ≡ spot.parent → next.grand ≡ spot.grand
-        → next.height ≡ spot.height → ChildRead table.nodes spot.parent (spot.code % 8 + 1) child → IsSpotAt table root next (suc place)
-        × IsLeafAt table root (suc place) child
+    pub sibling-behind : {next : Spot} {child : ℕ} → next.code ≡ spot.code + 1 → next.parent ≡ spot.parent → next.grand ≡ spot.grand → next.height ≡ spot.height
+        → ChildRead table.nodes spot.parent (spot.code % 8 + 1) child → IsSpotAt table root next (suc place) × IsLeafAt table root (suc place) child
     sibling-behind code parent grand height reads =
         there union s h.some behind (it union s h.some).over (omega arith) parent height (λ low. s.grand_is low ∙ sym grand) reads
 
@@ -84,9 +80,9 @@ module _ {K V : Type 0} {n : ℕ} {table : Table K V} (union : IsUnion n table) 
     pub before-asks : ChildAsked table.nodes spot.parent (spot.code % 8 - 1)
     before-asks = branch-asks before
 
-    pub sibling-before : {next : Spot} {child : ℕ} → next.code ≡ spot.code - 1 → next.parent ≡ spot.parent → next.grand ≡ spot.grand
-        → next.height ≡ spot.height → ChildRead table.nodes spot.parent (spot.code % 8 - 1) child → (0 < place) × IsSpotAt table root next (place - 1)
-        × IsLeafAt table root (place - 1) child
+    pub sibling-before : {next : Spot} {child : ℕ} → next.code ≡ spot.code - 1 → next.parent ≡ spot.parent → next.grand ≡ spot.grand → next.height ≡ spot.height
+        → ChildRead table.nodes spot.parent (spot.code % 8 - 1) child → (0 < place) × IsSpotAt table root next (place - 1) × IsLeafAt table root
+        (place - 1) child
     sibling-before code parent grand height reads =
         let r = there union s h.0 before (it union s h.0).over (omega arith) parent height (λ low. s.grand_is low ∙ sym grand) reads in
         (prev-some (spot-over union s) (other union s h.0) (its union s h.0) refl h.1, r.0, r.1)
@@ -99,17 +95,12 @@ module _ {K V : Type 0} {n : ℕ} {table : Table K V} (union : IsUnion n table) 
   ]
     where
       below : 0 < spot.height → suc place ≡ leaf_count table root
-      below some =
-          last-leaf union root s.root_is (none-next (spot-over union s) (other union s some) (its union s some) refl (counts union s some)
-          (high union s some last)
-          (way-none _ _ _ _ _ _ (it union s some).over (omega (arith, some))).1)
+      below some = last-leaf union root s.root_is (none-next (spot-over union s) (other union s some) (its union s some) refl (counts union s some) (high union
+          s some last) (way-none _ _ _ _ _ _ (it union s some).over (omega (arith, some))).1)
 
   -- a leaf without a grandparent and without a sibling before it is the first of the tree
   pub first-low : (HasPrev spot → ⊥) → spot.height < 2 → place ≡ 0
-  first-low first low = elim (eqb_tells spot.height 0) [
-    | inl none ↦ (way-none _ _ _ _ _ _ (spot-over union s) none.1).2
-    | inr w ↦ below (omega arith)
-  ]
+  first-low first low = elim (eqb_tells spot.height 0) [ inl none ↦ (way-none _ _ _ _ _ _ (spot-over union s) none.1).2 | inr w ↦ below (omega arith) ]
     where
       below : 0 < spot.height → place ≡ 0
       below some = none-prev (spot-over union s) (other union s some) (its union s some) refl (nought union s some first)
@@ -144,8 +135,7 @@ module _ {K V : Type 0} {n : ℕ} {table : Table K V} (union : IsUnion n table) 
 
       module _ {parent : ℕ} (reads : ChildRead table.nodes spot.grand (spot.code / 8 % 8 + 1) parent) where
         abbrev next-leaf : Branch (spot-over union s) (other union s some) parent 0 (suc place)
-        next-leaf =
-            first-of (spot-over union s) (other union s some) (its union s some) refl (counts union s some) (high union s some last) refl
+        next-leaf = first-of (spot-over union s) (other union s some) (its union s some) refl (counts union s some) (high union s some last) refl
             (branch-child next-up reads)
 
         -- what the first child of the next parent asks
@@ -155,8 +145,7 @@ module _ {K V : Type 0} {n : ℕ} {table : Table K V} (union : IsUnion n table) 
         -- the next leaf is that child
         pub cousin : {next : Spot} {leaf : ℕ} → next.code ≡ (spot.code / 8 + 1) * 8 → next.parent ≡ parent → next.grand ≡ spot.grand
             → next.height ≡ spot.height → ChildRead table.nodes parent 0 leaf → IsSpotAt table root next (suc place) × IsLeafAt table root (suc place) leaf
-        cousin code parent_is grand height found =
-            there union s some next-leaf (branch-way next-up (here up more).over {code1 =
+        cousin code parent_is grand height found = there union s some next-leaf (branch-way next-up (here up more).over {code1 =
             spot.code / 8 + 1} (omega arith)) (omega arith) parent_is height (λ low. sym grand) found
 
     module _ (first : HasPrev spot → ⊥) (low : 0 < spot.code / 8 % 8) where
@@ -195,14 +184,12 @@ module _ {K V : Type 0} {n : ℕ} {table : Table K V} (union : IsUnion n table) 
 module _ {K V : Type 0} {n : ℕ} {table : Table K V} (union : IsUnion n table) {root : ℕ} {spot far : Spot} {leaf : ℕ} where
   pub far-behind : IsNextOf table.nodes root spot.code spot.height (Some (far, leaf)) → (place : ℕ) → IsSpotAt table root spot place
       → IsSpotAt table root far (suc place) × IsLeafAt table root (suc place) leaf
-  far-behind says place s =
-      let r = says.some s.numbers (tree_of table.nodes root).above (heads (tree_of table.nodes root).leaves) place (spot-over union s) in
+  far-behind says place s = let r = says.some s.numbers (tree_of table.nodes root).above (heads (tree_of table.nodes root).leaves) place (spot-over union s) in
       (subst (IsSpotAt table root far) r.1 (far-spot union s r.3), rw (← r.1) (leaf-at union root s.root_is r.4))
 
   pub far-before : IsPrevOf table.nodes root spot.code spot.height (Some (far, leaf)) → (place : ℕ) → IsSpotAt table root spot place → (0 < place)
       × IsSpotAt table root far (place - 1) × IsLeafAt table root (place - 1) leaf
-  far-before says place s =
-      let r = says.some s.numbers (tree_of table.nodes root).above (heads (tree_of table.nodes root).leaves) place (spot-over union s) in
+  far-before says place s = let r = says.some s.numbers (tree_of table.nodes root).above (heads (tree_of table.nodes root).leaves) place (spot-over union s) in
       let to : r.0 ≡ place - 1 = omega arith in
       (omega arith, subst (IsSpotAt table root far) to (far-spot union s r.3), rw (← to) (leaf-at union root s.root_is r.4))
 

@@ -36,11 +36,9 @@ module _ {K : Type 0} (cmp : K → K → Ordering) where
   -- the last entry that is not greater than the key is the first of its level, or not greater
   from_last : (front init : Heads K) (last : K × ℕ) {e : K × ℕ} (l : Heads K) (key : K) → (front ≡ []) ⊎ (cmp e.0 key ≢ Greater) → e ∷ l ≡ init ++ last ∷ [] → AllByRecursion (λ p. cmp p key ≢ Greater) (keys_of l) → IsFrom cmp (front ++ init) last.0 key
   from_last front [] last {e = e} l key f is h =
-      let same : e ≡ last = cc in
-      elim f [ inl none ↦ subst (λ z. IsFrom cmp (z ++ []) last.0 key) (sym none) tt | inr ng ↦ is_from _ _ _ (rw (← same) ng) ]
+      let same : e ≡ last = cc in elim f [ inl none ↦ subst (λ z. IsFrom cmp (z ++ []) last.0 key) (sym none) tt | inr ng ↦ is_from _ _ _ (rw (← same) ng) ]
   from_last front (x ∷ init) last l key f is h =
-      let rest : l ≡ init ++ last ∷ [] = cc in
-      is_from _ _ _ (all_split (λ p. cmp p key ≢ Greater) init (last ∷ []) (rw (← rest) h)).1.0
+      let rest : l ≡ init ++ last ∷ [] = cc in is_from _ _ _ (all_split (λ p. cmp p key ≢ Greater) init (last ∷ []) (rw (← rest) h)).1.0
 
 module _ {K V : Type 0} (cmp : K → K → Ordering) (most : ℕ) (slots : List (Content K V)) (leaves lower a first number b key : _) where
   -- a search in an inner node, whose row is the highest of those below
@@ -64,8 +62,7 @@ increasing_about : {K X : Type 0} (cmp : K → K → Ordering) (o : IsTotalOrder
     IsIncreasing cmp (flat at.before ++ (at.e ∷ (at.es ++ flat at.after))) × IsIncreasing cmp (at.e ∷ at.es) × IsIncreasing cmp (flat at.after)
 increasing_about cmp o {number = number} at inc =
     let parts = subst (IsIncreasing cmp) (cc (flat-append at.before (node number (at.e ∷ at.es) ∷ at.after))) inc in
-    let two = increasing_split o (at.e ∷ at.es) (flat at.after) (increasing_split o _ ((at.e ∷ at.es) ++ flat at.after) parts).1 in
-    (parts, two.0, two.1)
+    let two = increasing_split o (at.e ∷ at.es) (flat at.after) (increasing_split o _ ((at.e ∷ at.es) ++ flat at.after) parts).1 in (parts, two.0, two.1)
 
 module _ {K V : Type 0} {cmp : K → K → Ordering} (o : IsTotalOrder cmp) {most : ℕ} (capacity : IsLeafCapacity most) {slots : List (Content K V)} {leaves lower a first number b key : _} where
   module _ (inc : IsIncreasing cmp (flat leaves)) (g : GoesThrough cmp a first b key) where
@@ -80,8 +77,7 @@ module _ {K V : Type 0} {cmp : K → K → Ordering} (o : IsTotalOrder cmp) {mos
 
     pub leaf_step : LeafUnder most slots leaves lower a first number b → LeafStep cmp most slots leaves lower a first number b key
     leaf_step s =
-        let at = s.at in
-        let parts = increasing_about cmp o at inc in
+        let at = s.at in let parts = increasing_about cmp o at inc in
         let upto = upto_flat _ _ _ (some_leaf capacity) _ _ at.after_fit (rw at.after_is g.upto) in
         let from = from_at cmp a at g.from in
         record {
@@ -113,10 +109,8 @@ module _ {K V : Type 0} {cmp : K → K → Ordering} (o : IsTotalOrder cmp) {mos
         → ChildRead slots number index child → Below s index child
     below {index = index} {child = child} says reads =
         let index_is = says (entry_keys s.here.at.es) (entry_items (s.here.at.e ∷ s.here.at.es)) s.here.slot_is in
-        let child_at = reads (entry_keys s.here.at.es) (entry_items (s.here.at.e ∷ s.here.at.es)) s.here.slot_is in
-        let at = s.here.at in
-        let d = sides o at.es key (increasing_rest o at.e at.es s.increasing) in
-        let w = last_of at.e d.l in
+        let child_at = reads (entry_keys s.here.at.es) (entry_items (s.here.at.e ∷ s.here.at.es)) s.here.slot_is in let at = s.here.at in
+        let d = sides o at.es key (increasing_rest o at.e at.es s.increasing) in let w = last_of at.e d.l in
         let es_is = ap (λ z. at.e ∷ z) d.es_is ∙ ap (λ z. z ++ d.r) w.is ∙ append_assoc w.init (w.last ∷ []) d.r in
         let count_is : length w.init ≡ index = omega (arith, ap length w.is, length-append w.init (w.last ∷ [])) in
         let here = ap (λ z. slice_get z index) es_is ∙ slice_get_at _ _ _ _ count_is in
@@ -138,8 +132,7 @@ module _ {K V : Type 0} {cmp : K → K → Ordering} (o : IsTotalOrder cmp) {mos
     pub passed : (index : _) {child : _} (w : Below s index child) (path indices : _) {path' indices' : _} (path'' indices'' : _) {high : ℕ} → high ≡ length lower → Descended cmp leaves s.here.rows key (length w.front) path' indices' path'' indices'' →
         get_or path' high 0 ≡ number → get_or indices' high 0 ≡ index → path' ≡ set path high number → indices' ≡ set indices high index → Descended cmp leaves lower key (length a) path indices path'' indices''
     passed index w path indices path'' indices'' {high = high} high_is d m_is j_is nodes entries =
-        let m_at = d.nodes_above high (omega arith) ∙ m_is in
-        let j_at = d.entries_above high (omega arith) ∙ j_is in
+        let m_at = d.nodes_above high (omega arith) ∙ m_is in let j_at = d.entries_above high (omega arith) ∙ j_is in
         let more = stands_more path'' indices'' 1 s.here.rows (length d.leaf.before) high d.stands (omega arith) (seen_at s.here.at m_at j_at w.within w.place_is) in
         record {
           leaf = d.leaf;
@@ -164,8 +157,7 @@ module _ {K V : Type 0} {cmp : K → K → Ordering} (o : IsTotalOrder cmp) {mos
     leaf_found = cc (all_are, entry_between o _ _ _ _ s.increasing_after s.low s.high)
 
     abbrev pub placed : (m j : ℕ) → m ≡ number → j ≡ place cmp entries key → IsPlaced cmp leaves key m j
-    placed m j m_is j_is =
-        let at = s.here.at in
+    placed m j m_is j_is = let at = s.here.at in
         let same = ap (λ z. is_present cmp z key) all_are ∙ ap is_some (entry_between o (flat at.before) entries (flat at.after) key s.increasing_after s.low s.high) in
         record {
           before = at.before;
@@ -174,8 +166,8 @@ module _ {K V : Type 0} {cmp : K → K → Ordering} (o : IsTotalOrder cmp) {mos
           row_is = cc;
           within = omega (arith, place-le o entries key);
           place_is = cc (all_are, place_between o (flat at.before) entries (flat at.after) key s.increasing_after s.low s.high);
-          found = λ yes. omega (arith, place-present cmp entries key (cc));
-          first = λ no zero_is. elim s.from [ inl none ↦ none | inr ng ↦ absurd (first_passed o at.e at.es key s.increasing ng (cc) (cc)) ];
+          found = λ yes. omega (arith, place-present cmp entries key cc);
+          first = λ no zero_is. elim s.from [ inl none ↦ none | inr ng ↦ absurd (first_passed o at.e at.es key s.increasing ng (cc) cc) ];
         }
 
     -- the end of the descent

@@ -33,8 +33,7 @@ module _ {K : Type 0} where
   -- one more row on top
   pub stands_more : (path indices : List ℕ) (level : ℕ) (rows : Rows K) {row : Row K ℕ} (place : ℕ) {q : ℕ} (high : ℕ) → StandsTo path indices level rows place q → high ≡ level + length rows → (at : IsAt row (get_or path high 0) (get_or indices high 0) q) →
       StandsTo path indices level (rows ++ row ∷ []) place (length at.before)
-  stands_more path indices level [] place high s e at =
-      let h : high ≡ level = omega (arith, e) in
+  stands_more path indices level [] place high s e at = let h : high ≡ level = omega (arith, e) in
       (record { before = at.before; entries = at.entries; after = at.after; row_is = rw h at at.row_is; within = rw h at at.within; place_is = s ∙ (rw h at at.place_is) }, refl)
   stands_more path indices level (r ∷ rows) place high s e at =
       (s.0, stands_more path indices (suc level) rows (length s.0.before) high s.1 (omega (arith, e)) at)
@@ -56,11 +55,9 @@ module _ {K X : Type 0} where
   seen half most one [] [] first number b f h = absurd cc
   seen half most one [] (z ∷ a) first number b f h = absurd cc
   seen half most one (node m [] ∷ ns) a first number b f h = absurd (omega (arith, least-pos half one ns))
-  seen half most one (node m (e ∷ es) ∷ ns) [] first number b f h =
-      let same : ◌≡◌ {A = K × ℕ} (e.0, m) (first, number) = cc in
+  seen half most one (node m (e ∷ es) ∷ ns) [] first number b f h = let same : ◌≡◌ {A = K × ℕ} (e.0, m) (first, number) = cc in
       record { before = []; e = e; es = es; after = ns; row_is = ap (λ z. node z.1 (e ∷ es) ∷ ns) same; first_is = ap (λ z. z.0) same; before_is = refl; after_is = (cc); after_fit = f.2 }
-  seen half most one (node m (e ∷ es) ∷ ns) (z ∷ a) first number b f h =
-      let r = seen half most one ns a first number b f.2 (cc) in
+  seen half most one (node m (e ∷ es) ∷ ns) (z ∷ a) first number b f h = let r = seen half most one ns a first number b f.2 (cc) in
       record { before = node m (e ∷ es) ∷ r.before; e = r.e; es = r.es; after = r.after; row_is = cc; first_is = r.first_is; before_is = cc; after_is = r.after_is; after_fit = r.after_fit }
 
   -- what holds of all keys of a row holds of the keys of its heads

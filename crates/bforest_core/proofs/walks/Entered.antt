@@ -127,8 +127,7 @@ module _ {K V : Type 0} {most : ℕ} (capacity : IsLeafCapacity most) {slots : _
       pub back_over : {path' : _} (indices' : _) {last : ℕ} → LastRead slots (get_or path1 0 r) last → path' ≡ path1
           → get_or indices 0 0 ≤ 0 → get_or indices' 0 0 ≡ last → SameBut 0 indices1 indices' → (0 < place) × Stands path' indices' size tree (place - 1)
       back_over indices' says path_is none here above =
-          let last_at = last_is back_leaf key_total r wide says in
-          let seam_is = seam back_leaf.node leaf_here.node (omega (arith, went.0)) in
+          let last_at = last_is back_leaf key_total r wide says in let seam_is = seam back_leaf.node leaf_here.node (omega (arith, went.0)) in
           (omega arith, stands_in back_leaf s.size_is indices' (place - 1) path_is above (omega arith) (omega arith))
 
     -- where there is no previous leaf, the path stands on the first entry

@@ -15,11 +15,8 @@ up-none code = omega arith
 module _ {K V : Type 0} {slots : List (Content K V)} {root code height : ℕ} (o : HasWay slots root code height) where
   -- the ways to the nodes above the one at which a way ends
   ways : (n : ℕ) → n ≤ height → HasWay slots root (code / 2 ^ (3 * n)) (height - n)
-  ways zero low =
-      let none : height ≡ height - 0 = omega arith in
-      rw (← none) (subst (λ z. HasWay slots root z height) (sym (up-none code)) o)
-  ways (suc n) low =
-      let w = ways n (omega arith) in
+  ways zero low = let none : height ≡ height - 0 = omega arith in rw (← none) (subst (λ z. HasWay slots root z height) (sym (up-none code)) o)
+  ways (suc n) low = let w = ways n (omega arith) in
       rw (← up-code code n) (subst (HasWay slots root (code / 2 ^ (3 * n) / 8)) (omega arith) (above-asks w.4 (λ none. omega (arith, none))))
 
 -- what is said of a code and its levels holds of a spot that has them, one level further down
@@ -36,18 +33,14 @@ code-none (row ∷ rows) p none = absurd (omega (arith, none))
 -- at the root
 pub begun : {K V : Type 0} {slots : List (Content K V)} {root code height : ℕ} → HasWay slots root code height →
     (spot : Spot) → spot.code ≡ 0 → spot.height ≡ 0 → Followed slots root code height height spot root
-begun {height = height} o spot code none =
-    let w = ways o height (omega arith) in
-    let nought = sym (code-none w.1 w.4 (omega arith)) in
+begun {height = height} o spot code none = let w = ways o height (omega arith) in let nought = sym (code-none w.1 w.4 (omega arith)) in
     record { low = omega arith; height_is = omega (arith, none); code_is = cc; leads = root-leads spot none code }
 
 module _ {K V : Type 0} {slots : List (Content K V)} {root code height left : ℕ} {spot : Spot} {node : ℕ}
     (f : Followed slots root code height left spot node) where
   -- at the end of the way
   pub ended : (Of : ℕ → ℕ → Type 0) → left ≤ 0 → Of spot.code spot.height → Of code height
-  ended Of none says =
-      let nought : left ≡ 0 = omega (arith, none) in
-      let whole : spot.height ≡ height = omega (arith, none) in
+  ended Of none says = let nought : left ≡ 0 = omega (arith, none) in let whole : spot.height ≡ height = omega (arith, none) in
       rw (← whole) (subst (λ z. Of z spot.height) (f.code_is ∙ ap (λ z. code / 2 ^ (3 * z)) nought ∙ up-none code) says)
 
   module _ (some : 0 < left) where
@@ -55,9 +48,7 @@ module _ {K V : Type 0} {slots : List (Content K V)} {root code height left : �
     digit = code / 2 ^ (3 * (left - 1)) % 8
 
     up : code / 2 ^ (3 * (left - 1)) / 8 ≡ spot.code
-    up =
-        let back : suc (left - 1) ≡ left = omega (arith, some) in
-        cc (up-code _ _)
+    up = let back : suc (left - 1) ≡ left = omega (arith, some) in cc (up-code _ _)
 
     turn-code : spot.code * 8 + digit ≡ code / 2 ^ (3 * (left - 1))
     turn-code = omega (arith, up)
@@ -74,13 +65,12 @@ module _ {K V : Type 0} {slots : List (Content K V)} {root code height left : �
 
     pub turned : {next : Spot} {child : ℕ} → IsBelow spot node digit next → ChildRead slots node digit child →
         Followed slots root code height (left - 1) next child
-    turned {next} {child} b reads =
-        record {
-          low = omega arith;
-          height_is = b.height ∙ turn-height;
-          code_is = b.code ∙ turn-code;
-          leads = moved (λ c d. Leads slots root c d next child) b (leads-on (omega arith) f.leads b reads);
-        }
+    turned {next} {child} b reads = record {
+      low = omega arith;
+      height_is = b.height ∙ turn-height;
+      code_is = b.code ∙ turn-code;
+      leads = moved (λ c d. Leads slots root c d next child) b (leads-on (omega arith) f.leads b reads);
+    }
 
 -- what was found so far beside the way of a code, with some levels left: the lowest node, or nothing where there is none
 pub record Turning {K V : Type 0} (slots : List (Content K V)) (root code height : ℕ) (HasBeside : Content K V → ℕ → Type 0) (Beside AtEnd : ℕ → ℕ → Type 0) (left : ℕ) (here : Spot) (found : Option (Spot × ℕ)) : Type 0 where
@@ -99,11 +89,9 @@ module _ {K V : Type 0} {slots : List (Content K V)} {root code height : ℕ} {H
 
   module _ {left : ℕ} {here : Spot} {node : ℕ} (f : Followed slots root code height left here node) where
     -- at the end of the way
-    pub turning-ends : {found : Option (Spot × ℕ)} → Turning slots root code height HasBeside Beside AtEnd left here found → left ≤ 0 →
-        IfSome found (λ turn. IsTurn slots root code height HasBeside Beside AtEnd 0 turn.0 turn.1)
-        × (found ≡ None → IsBesideOf slots root code height Beside AtEnd None)
-    turning-ends {found = found} t low =
-        let nought : left ≡ 0 = omega arith in
+    pub turning-ends : {found : Option (Spot × ℕ)} → Turning slots root code height HasBeside Beside AtEnd left here found → left ≤ 0 → IfSome found (λ turn.
+        IsTurn slots root code height HasBeside Beside AtEnd 0 turn.0 turn.1) × (found ≡ None → IsBesideOf slots root code height Beside AtEnd None)
+    turning-ends {found = found} t low = let nought : left ≡ 0 = omega arith in
         (if-found found (λ turn is. rw (← nought) (t.some turn is)), λ none. ended f (λ c d. IsBesideOf slots root c d Beside AtEnd None) low (t.none none))
 
     module _ (some : 0 < left) where
@@ -137,10 +125,9 @@ module _ {K V : Type 0} {slots : List (Content K V)} {root code height : ℕ} {H
 
       -- one level further down
       pub turning-on : {above found : Option (Spot × ℕ)} {next : Spot} → IsLower slots root here node HasBeside Beside AtEnd (digit f some) above found →
-          Turning slots root code height HasBeside Beside AtEnd left here above →
-          ((content : Content K V) → slice_get slots node ≡ Some content → ¬ HasBeside content (digit f some) → IsBesideOf slots root here.code here.height Beside AtEnd None →
-          IsBesideOf slots root (here.code * 8 + digit f some) (suc here.height) Beside AtEnd None) → IsBelow here node (digit f some) next →
-          Turning slots root code height HasBeside Beside AtEnd (left - 1) next found
+          Turning slots root code height HasBeside Beside AtEnd left here above → ((content : Content K V) → slice_get slots node ≡ Some content → ¬ HasBeside
+          content (digit f some) → IsBesideOf slots root here.code here.height Beside AtEnd None → IsBesideOf slots root (here.code * 8 + digit f some) (suc
+          here.height) Beside AtEnd None) → IsBelow here node (digit f some) next → Turning slots root code height HasBeside Beside AtEnd (left - 1) next found
       turning-on lower t ends b = elim lower [
         | inl w ↦ record { some = λ turn is. rw (← some_same w.0 turn (cc)) (turn-here w.2 w.3); none = λ none. absurd (let no = sym w.1 ∙ none in cc) }
         | inr w ↦ record {
@@ -157,9 +144,7 @@ module _ {K V : Type 0} {slots : List (Content K V)} {root code height : ℕ} {H
 
   -- there it is the node beside the one at which the way ends
   pub turn-done : height ≤ spot.height → IsBesideOf slots root code height Beside AtEnd (Some (spot, number))
-  turn-done past =
-      let none : t.level ≡ 0 = omega arith in
-      let same = ap (λ z. code / 2 ^ (3 * z)) none ∙ up-none code in
+  turn-done past = let none : t.level ≡ 0 = omega arith in let same = ap (λ z. code / 2 ^ (3 * z)) none ∙ up-none code in
       rw (← same) (subst (λ z. IsBesideOf slots root (code / 2 ^ (3 * t.level)) z Beside AtEnd (Some (spot, number))) (omega (arith, none)) t.beside)
 
   module _ (some : 0 < t.level) where
@@ -177,6 +162,5 @@ module _ {K V : Type 0} {slots : List (Content K V)} {root code height : ℕ} {H
     pub turn-down : {child : Spot × ℕ} → IsBesideOf slots root (turn-end.spot.code * 8 + turn-digit) (suc turn-end.spot.height) Beside AtEnd (Some child) → child.0.height ≡ suc spot.height →
         IsTurn slots root code height HasBeside Beside AtEnd 0 child.0 child.1
     unfolding turn-here
-    turn-down beside height_is =
-        let h = turn-here {HasBeside = HasBeside} turn-end.way some beside (cc (turn-end.way.height_is)) in
+    turn-down beside height_is = let h = turn-here {HasBeside = HasBeside} turn-end.way some beside (cc (turn-end.way.height_is)) in
         record { level = t.level - 1; height_is = h.height_is; within = h.within; low = omega arith; beside = h.beside; ends = λ j more less. t.ends j more (omega arith) }

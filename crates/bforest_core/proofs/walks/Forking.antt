@@ -24,13 +24,11 @@ module _ {K : Type 0} {cmp : K → K → Ordering} (o : IsTotalOrder cmp) where
         → ((s : K) → slice_get ks (count_up_to cmp ks from) ≡ Some s → cmp s to ≡ Greater) → count_up_to cmp ks from ≡ count_up_to cmp ks to
     unfolding IsStrictlySortedBy
     same-child [] sorted says = refl
-    same-child (x ∷ ks) sorted says = go (λ more. same-child ks sorted.1 (λ s found. says s (cc))) (cmp x from) refl
+    same-child (x ∷ ks) sorted says = go (λ more. same-child ks sorted.1 (λ s found. says s cc)) (cmp x from) refl
       where
         later : (count_up_to cmp (x ∷ ks) from ≡ suc (count_up_to cmp ks from) → count_up_to cmp ks from ≡ count_up_to cmp ks to)
             → is_gt (cmp x from) ≡ false → count_up_to cmp (x ∷ ks) from ≡ count_up_to cmp (x ∷ ks) to
-        later rest low =
-            let more = count_up_to-yes cmp x ks from low in
-            cc (rest more, count_up_to-yes cmp x ks to (not-behind x from to low ordered))
+        later rest low = let more = count_up_to-yes cmp x ks from low in cc (rest more, count_up_to-yes cmp x ks to (not-behind x from to low ordered))
 
         go : (count_up_to cmp (x ∷ ks) from ≡ suc (count_up_to cmp ks from) → count_up_to cmp ks from ≡ count_up_to cmp ks to)
             → (r : Ordering) → cmp x from ≡ r → count_up_to cmp (x ∷ ks) from ≡ count_up_to cmp (x ∷ ks) to
@@ -45,14 +43,13 @@ module _ {K : Type 0} {cmp : K → K → Ordering} (o : IsTotalOrder cmp) where
   pub greater-behind : (from s : K) (ks : List K) → IsStrictlySortedBy cmp ks → slice_get ks (count_up_to cmp ks from) ≡ Some s → cmp s from ≡ Greater
   unfolding IsStrictlySortedBy
   greater-behind from s [] sorted read = absurd (cc)
-  greater-behind from s (x ∷ ks) sorted read = go (λ more. greater-behind from s ks sorted.1 (cc)) (cmp x from) refl
+  greater-behind from s (x ∷ ks) sorted read = go (λ more. greater-behind from s ks sorted.1 cc) (cmp x from) refl
     where
       go : (count_up_to cmp (x ∷ ks) from ≡ suc (count_up_to cmp ks from) → cmp s from ≡ Greater) → (r : Ordering) → cmp x from ≡ r → cmp s from ≡ Greater
       go rest Less e = rest (count_up_to-yes cmp x ks from (ap is_gt e))
       go rest Equal e = rest (count_up_to-yes cmp x ks from (ap is_gt e))
       go rest Greater e =
-          let none = count_up_to-no cmp x ks from (ap is_gt e) ∙ count_up_to-none cmp from ks (all_greater_behind cmp from o x ks sorted.0 (ap is_lt e)) in
-          cc
+          let none = count_up_to-no cmp x ks from (ap is_gt e) ∙ count_up_to-none cmp from ks (all_greater_behind cmp from o x ks sorted.0 (ap is_lt e)) in cc
 
   -- a key that is less than a separator is not greater than one that is not less
   not-greater : (from s to : K) → cmp s from ≡ Greater → is_lt (cmp to s) ≡ false → is_gt (cmp from to) ≡ false
@@ -71,8 +68,7 @@ module _ {K V : Type 0} {cmp : K → K → Ordering} (o : IsTotalOrder cmp) (slo
     × (length children ≡ suc (length keys)) × (index ≤ length keys)) where
   -- a search for the key goes to the child at the index, where one for a key that is not greater does
   abbrev pub GoesAlong : Type 0
-  GoesAlong =
-      (from : K) (keys : List K) (children : List ℕ) → slice_get slots node ≡ Some (Inner keys children) → index ≡ child_index cmp keys from
+  GoesAlong = (from : K) (keys : List K) (children : List ℕ) → slice_get slots node ≡ Some (Inner keys children) → index ≡ child_index cmp keys from
       → is_gt (cmp from key) ≡ false → index ≡ child_index cmp keys key
 
   module _ {keys : List K} {children : List ℕ} (found : slice_get slots node ≡ Some (Inner keys children)) where
@@ -86,15 +82,11 @@ module _ {K V : Type 0} {cmp : K → K → Ordering} (o : IsTotalOrder cmp) (slo
   module _ {last : ℕ} (says : LastRead slots node last) where
     pub separator-there : (index ≡ last → ⊥) → (keys : List K) × (children : List ℕ) × (slice_get slots node ≡ Some (Inner keys children))
         × (index < length keys)
-    separator-there other =
-        let is = says (Inner asked.0 asked.1) asked.2 in
-        (asked.0, asked.1, asked.2, omega arith)
+    separator-there other = let is = says (Inner asked.0 asked.1) asked.2 in (asked.0, asked.1, asked.2, omega arith)
 
     -- behind the last child there is none
     pub along-last : index ≡ last → GoesAlong
-    along-last is from keys children found at ordered =
-        let end = says (Inner asked.0 asked.1) asked.2 in
-        let same = ap length (same-keys found) in
+    along-last is from keys children found at ordered = let end = says (Inner asked.0 asked.1) asked.2 in let same = ap length (same-keys found) in
         at ∙ same-child o from key ordered keys (sorted-keys found)
         (λ s read. absurd (omega (arith, slice_get_within keys (child_index cmp keys from) s read)))
 
@@ -106,8 +98,8 @@ module _ {K V : Type 0} {cmp : K → K → Ordering} (o : IsTotalOrder cmp) (slo
 
   -- the separator behind the child is not greater, so the key is not less than one whose search goes to the child
   pub not-along : {s : K} → ((keys : List K) (children : _) → slice_get slots node ≡ Some (Inner keys children)
-      → slice_get keys index ≡ Some s) → is_lt (cmp key s) ≡ false
-      → (from : K) (keys : List K) (children : _) → slice_get slots node ≡ Some (Inner keys children)
+      → slice_get keys index ≡ Some s) → is_lt (cmp key s) ≡ false → (from : K) (keys : List K) (children : _) → slice_get slots node ≡ Some (Inner
+      keys children)
       → index ≡ child_index cmp keys from → is_gt (cmp from key) ≡ false
   not-along {s} reads past from keys children found at =
       not-greater o from s key (greater-behind o from s keys (sorted-keys found) (cc (reads keys children found))) past

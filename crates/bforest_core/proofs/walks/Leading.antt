@@ -16,8 +16,7 @@ child_cut (y ∷ es) (suc index) child found = let r = child_cut _ _ _ found in 
 -- a row ends with the last entry of its last node
 pub last_place : {K X : Type 0} {half : ℕ} (most : ℕ) → 1 ≤ half → {row : Row K X} {a first number : _}
     (at : Seen half most row a first number []) → length (flat row) ≡ length (flat at.before) + suc (length at.es)
-last_place most one {number = number} at =
-    let none = ap (λ z. length (flat z)) (no_heads _ _ one _ at.after_fit at.after_is) in
+last_place most one {number = number} at = let none = ap (λ z. length (flat z)) (no_heads _ _ one _ at.after_fit at.after_is) in
     let parts = ap length (ap flat at.row_is ∙ flat-append at.before (node number (at.e ∷ at.es) ∷ at.after)) in
     omega (arith, length-append (flat at.before) ((at.e ∷ at.es) ++ flat at.after), length-append at.es (flat at.after))
 
@@ -27,13 +26,12 @@ module _ {K V : Type 0} {most : ℕ} {slots : List (Content K V)} {leaves lower 
   pub leaf_led : (s : LeafUnder most slots leaves lower a first number b) (path' indices' : _) {index : ℕ} (place : ℕ) → index ≤ length s.at.es
       → place ≡ length (flat s.at.before) + index → get_or path' 0 0 ≡ number → get_or indices' 0 0 ≡ index → SameBut 0 path path'
       → SameBut 0 indices indices' → Led leaves lower place (length a) path indices path' indices'
-  leaf_led s path' indices' place within place_is m_is j_is nodes entries =
-      rw s.lower_is (record {
-        leaf = seen_at s.at m_is j_is within place_is;
-        stands = s.at.before_is;
-        nodes_above = λ i low. nodes i (λ z. omega (arith, low));
-        entries_above = λ i low. entries i (λ z. omega (arith, low));
-      })
+  leaf_led s path' indices' place within place_is m_is j_is nodes entries = rw s.lower_is (record {
+    leaf = seen_at s.at m_is j_is within place_is;
+    stands = s.at.before_is;
+    nodes_above = λ i low. nodes i (λ z. omega (arith, low));
+    entries_above = λ i low. entries i (λ z. omega (arith, low));
+  })
 
   -- the path, once it was written at an inner node, leads on from a child
   inner_led : (s : InnerUnder most slots leaves lower a first number b) {path1 indices1 : _} (path2 indices2 : _) (high : ℕ) {index : ℕ} {place : _} {top : ℕ}
@@ -60,23 +58,13 @@ module _ {K V : Type 0} {most : _} {slots : List (Content K V)} {leaves lower a 
   child_asks index within = (subst IsInner (sym content_is) tt, rw content_is (omega (arith, within, item_count (s.at.e ∷ s.at.es))))
 
   -- the leaves and rows under a child
-  pub child_under : (index : ℕ) {child : ℕ} → slice_get (children_of content2) index ≡ Some child → (front : _) × (key : K)
-      × (back : _) × Under most slots leaves s.rows (front ++ (key, child) ∷ back)
-      × (length front ≡ length (flat s.at.before) + index) × (length front + suc (length back) ≡ length (flat s.row))
+  pub child_under : (index : ℕ) {child : ℕ} → slice_get (children_of content2) index ≡ Some child → (front : _) × (key : K) × (back : _) × Under most slots
+      leaves s.rows (front ++ (key, child) ∷ back) × (length front ≡ length (flat s.at.before) + index) × (length front + suc (length back) ≡ length
+      (flat s.row))
   child_under index {child = child} found =
-      let c = child_cut (s.at.e ∷ s.at.es) index child (cc (content_is)) in
-      let front = flat s.at.before ++ c.0 in
-      let back = c.2 ++ flat s.at.after in
+      let c = child_cut (s.at.e ∷ s.at.es) index child (cc (content_is)) in let front = flat s.at.before ++ c.0 in let back = c.2 ++ flat s.at.after in
       let flat_is = ap flat s.at.row_is ∙ flat_parted s.at.before number c.0 (c.1, child) c.2 s.at.after c.3 in
-      let under = rw flat_is at s.under in (
-        front,
-        c.1,
-        back,
-        under,
-        cc (length-append _ _),
-        sym
-            (cc (length-append front ((c.1, child) ∷ back))),
-      )
+      let under = rw flat_is at s.under in (front, c.1, back, under, cc (length-append _ _), sym (cc (length-append front ((c.1, child) ∷ back))))
 
 module _ {K V : Type 0} (most : ℕ) (slots : List (Content K V)) where
   -- the rows meet what the call one level down the first nodes requires
@@ -100,9 +88,7 @@ module _ {K V : Type 0} {most : ℕ} (capacity : IsLeafCapacity most) {slots : L
 
     module _ {child : ℕ} (child_read : slice_get (children_of content2) 0 ≡ Some child) where
       pub front_below : FrontBelow most slots leaves lower child
-      front_below =
-          let c = child_under front_node read2 0 child_read in
-          let none = nil_from_length c.0 (omega (arith, none_flat _ front_node.at.before_is)) in
+      front_below = let c = child_under front_node read2 0 child_read in let none = nil_from_length c.0 (omega (arith, none_flat _ front_node.at.before_is)) in
           record {
             rows = front_node.rows;
             first = c.1;
@@ -132,9 +118,9 @@ module _ {K V : Type 0} {most : ℕ} {slots : List (Content K V)} where
   pub first-turns : {number : ℕ} → Turns most slots IsFirst (λ leaves. 0) number 0
   first-turns = record {
     within = λ leaves lower a first b s side. omega arith;
-    keeps = λ leaves lower a first b s side front back front_is sum_is. nil_from_length front (omega (arith, none_flat s.at.before (cc)));
+    keeps = λ leaves lower a first b s side front back front_is sum_is. nil_from_length front (omega (arith, none_flat s.at.before cc));
     low = λ leaves lower a first b s side. omega arith;
-    ends = λ leaves lower a first b s side. omega (arith, none_flat s.at.before (cc));
+    ends = λ leaves lower a first b s side. omega (arith, none_flat s.at.before cc);
   }
 
   pub last-turns : {number last : ℕ} (capacity : IsLeafCapacity most) → LastRead slots number last
@@ -159,8 +145,7 @@ module _ {K V : Type 0} {most : ℕ} (capacity : IsLeafCapacity most) {slots : L
   pub led-ends : level ≡ 0 → {path indices path1 indices1 : _} → (get_or path1 level 0 ≡ number) × (get_or indices1 level 0 ≡ index)
       → path1 ≡ set path level number → indices1 ≡ set indices level index → OnBelow most slots Side number level
       (λ leaves lower top. Led leaves lower (place leaves) top path indices path1 indices1)
-  led-ends none {indices1} here path_is indices_are leaves lower a first b side u level_is =
-      let s = leaf_at capacity a first number b u (omega arith) in
+  led-ends none {indices1} here path_is indices_are leaves lower a first b side u level_is = let s = leaf_at capacity a first number b u (omega arith) in
       leaf_led _ _ s _ indices1 (place leaves) (turns.low leaves lower a first b s side) (turns.ends leaves lower a first b s side)
       (cc) (cc)
       (λ i ne. set_but _ _ _ path_is i (λ e. ne (e ∙ none)))
@@ -169,16 +154,13 @@ module _ {K V : Type 0} {most : ℕ} (capacity : IsLeafCapacity most) {slots : L
   module _ (some : level ≢ 0) where
     -- what reading the child requires
     pub led-asks : HasBelow most slots Side number level → ChildAsked slots number index
-    led-asks w =
-        let s = inner_at capacity _ _ _ _ w.6 (λ z. some (w.7 ∙ z)) in
+    led-asks w = let s = inner_at capacity _ _ _ _ w.6 (λ z. some (w.7 ∙ z)) in
         (_, _, s.slot_is, omega (arith, turns.within w.0 w.1 w.2 w.3 w.4 s w.5, item_count (s.at.e ∷ s.at.es)))
 
     module _ {child : ℕ} (says : ChildRead slots number index child) where
       -- what the call capacity level down requires
       pub led-goes : HasBelow most slots Side number level → HasBelow most slots Side child (level - 1)
-      led-goes w =
-          let s = inner_at capacity _ _ _ _ w.6 (λ z. some (w.7 ∙ z)) in
-          let c = child_under s s.slot_is index (says _ _ s.slot_is) in
+      led-goes w = let s = inner_at capacity _ _ _ _ w.6 (λ z. some (w.7 ∙ z)) in let c = child_under s s.slot_is index (says _ _ s.slot_is) in
           (w.0, s.rows, c.0, c.1, c.2, turns.keeps w.0 w.1 w.2 w.3 w.4 s w.5 c.0 c.2 c.4 c.5, c.3, omega arith)
 
       pub led-on : {path indices path1 indices1 path2 indices2 : _} → (get_or path1 level 0 ≡ number) × (get_or indices1 level 0 ≡ index)
@@ -186,8 +168,7 @@ module _ {K V : Type 0} {most : ℕ} (capacity : IsLeafCapacity most) {slots : L
           (λ leaves lower top. Led leaves lower (place leaves) top path1 indices1 path2 indices2)
           → OnBelow most slots Side number level (λ leaves lower top. Led leaves lower (place leaves) top path indices path2 indices2)
       led-on {indices2 = indices2} here path_is indices_are leads leaves lower a first b side u level_is =
-          let s = inner_at capacity a _ _ b u (λ z. some (cc)) in
-          let c = child_under s s.slot_is index (says _ _ s.slot_is) in
+          let s = inner_at capacity a _ _ b u (λ z. some cc) in let c = child_under s s.slot_is index (says _ _ s.slot_is) in
           let d = leads leaves s.rows c.0 c.1 c.2 (turns.keeps leaves lower a first b s side c.0 c.2 c.4 c.5) c.3 (omega arith) in
           inner_led _ _ s _ indices2 level (cc) (turns.within leaves lower a first b s side) c.4 d here.0 here.1
           (set_but _ _ _ path_is) (set_but _ _ _ indices_are)

@@ -35,8 +35,7 @@ module _ {K X : Type 0} {cmp : K → K → Ordering} (o : IsTotalOrder cmp) (key
 
   -- a search in a list whose first entry is greater
   pub finds_first : (es : List (K × X)) → IsIncreasing cmp es → IsUpTo cmp es key → Finds cmp es key 0 None
-  finds_first es h up =
-      let high = all_greater o es key h (λ y c is. subst (λ z. IsUpTo cmp z key) is up) in
+  finds_first es h up = let high = all_greater o es key h (λ y c is. subst (λ z. IsUpTo cmp z key) is up) in
       record { place_is = place_between o [] [] es key h tt high; entry_is = entry_between o [] [] es key h tt high }
 
   all_at : (P : K → Type 0) (es : List (K × X)) (p e : _) → AllByRecursion P (keys_of es) → slice_get es p ≡ Some e → P e.0
@@ -48,24 +47,21 @@ module _ {K X : Type 0} {cmp : K → K → Ordering} (o : IsTotalOrder cmp) (key
   behind : (es : List (K × X)) (p e : _) → slice_get es p ≡ Some e → IsIncreasing cmp es → cmp e.0 key ≢ Greater → (n found : _) → (IsIncreasing cmp (e ∷ drop (suc p) es) → Finds cmp (e ∷ drop (suc p) es) key n found) → Finds cmp es key (p + n) found
   unfolding IsStrictlySortedBy
   behind [] p e here h ng n found f = absurd cc
-  behind (x ∷ es) zero e here h ng n found f =
-      let same = some_same x e here in
+  behind (x ∷ es) zero e here h ng n found f = let same = some_same x e here in
       subst (λ z. Finds cmp (x ∷ es) key z found) (omega arith) (subst (λ z. Finds cmp (z ∷ es) key n found) (sym same) (f (subst (λ z. IsIncreasing cmp (z ∷ es)) same h)))
   behind (x ∷ es) (suc p) e here h ng n found f =
       subst (λ z. Finds cmp (x ∷ es) key z found) (omega arith) (later x (less_from o _ _ _ (all_at _ _ p e h.0 here) ng) (behind es p e here h.1 ng n found f))
 
   -- a search that ends at an entry whose key compares equal
   pub finds_here : (es : List (K × X)) (p e : _) → slice_get es p ≡ Some e → IsIncreasing cmp es → cmp key e.0 ≡ Equal → Finds cmp es key p (Some e)
-  finds_here es p e here h t =
-      let same = o.antisymm e.0 key ∙ ap ordering_reverse t in
+  finds_here es p e here h t = let same = o.antisymm e.0 key ∙ ap ordering_reverse t in
       subst (λ z. Finds cmp es key z (Some e)) (omega arith) (behind es p e here h (λ g. let bad = sym same ∙ g in absurd cc) 0 (Some e) (λ i.
       let z = place-here cmp o e (drop (suc p) es) key i (ap is_lt same) in
       record { place_is = z; entry_is = cc }))
 
   -- a search that ends after a lesser entry, where the next is greater
   pub finds_behind : (es : List (K × X)) (p e : _) → slice_get es p ≡ Some e → IsIncreasing cmp es → cmp key e.0 ≡ Greater → IsUpTo cmp (drop (suc p) es) key → Finds cmp es key (suc p) None
-  finds_behind es p e here h t up =
-      let less = o.antisymm e.0 key ∙ ap ordering_reverse t in
+  finds_behind es p e here h t up = let less = o.antisymm e.0 key ∙ ap ordering_reverse t in
       subst (λ z. Finds cmp es key z None) (omega arith) (behind es p e here h (λ g. let bad = sym less ∙ g in absurd cc) 1 None (λ i. later e less (finds_first _ (increasing_rest o e (drop (suc p) es) i) up)))
 
 -- solid nodes without entries are none
@@ -77,15 +73,13 @@ module _ {K V : Type 0} {n : ℕ} (table : Table K V) (root : ℕ) (path : Path 
   module _ (union : IsUnion n table) where
     -- an entry may be inserted after the one on which the path stands
     pub placed-behind : (path' : Path K V n) (p : ℕ) → StandsOn table root path p → path'.node ≡ path.node → index_of path' ≡ index_of path + 1 → ((i : ℕ) → i ≢ 0 → get_or path'.entry i 0 ≡ get_or path.entry i 0) → path'.size ≡ path.size → IsPlaced table root path' (suc p)
-    placed-behind path' p on same index_is above size_is =
-        let w = on-tree union path on in
+    placed-behind path' p on same index_is above size_is = let w = on-tree union path on in
         let points = points_in union.1.capacity w.fit w.inside (on-leaf-in union path on) (cc) path'.entry (suc p) same above (omega arith) (omega arith) in
         record { root_is = on.root_is; at = record { points = points; first = λ none. absurd (omega arith) } }
 
     -- an entry may be inserted before the first of the list
     pub placed-first : StandsOn table root path 0 → IsPlaced table root path 0
-    placed-first on =
-        let s = on.stands in
+    placed-first on = let s = on.stands in
         let solid = (FitRow-split (half_of n) n s.leaf.before (node (leaf_of path) s.leaf.entries) s.leaf.after (rw (← s.leaf.row_is) (on-tree union path on).fit.leaves_fit)).0 in
         let points = points-stands _ _ _ 0 s in
         record { root_is = on.root_is; at = record { points = points; first = λ none. no_nodes _ n (some_leaf union.1.capacity) _ solid (omega arith) } }
@@ -103,7 +97,7 @@ module _ {K V : Type 0} {n : ℕ} (table : Table K V) (root : ℕ) (path : Path 
 
     -- the search ended on the key's entry, or at its place where the key is absent
     ended : {p found : _} → Finds cmp (list_under table root) key p found → (is_some found ≡ true → StandsOn table root path p) → (is_some found ≡ false → IsPlaced table root path p) → Ended (option_map (λ w. w.1) found)
-    ended f on at = record { value = cc; present = λ yes. rw f.place_is (on (cc)); absent = λ none. rw f.place_is (at (cc)) }
+    ended f on at = record { value = cc; present = λ yes. rw f.place_is (on cc); absent = λ none. rw f.place_is (at cc) }
 
 -- a path that moved to the entry before a place
 module _ {K V : Type 0} {n : ℕ} {cmp : K → K → Ordering} (o : IsTotalOrder cmp) (table : Table K V) (root key : _) (increasing : IsIncreasing cmp (list_under table root)) (path : Path K V n) {answer : Option (K × V)} where
@@ -111,9 +105,7 @@ module _ {K V : Type 0} {n : ℕ} {cmp : K → K → Ordering} (o : IsTotalOrder
   pub before-none : (p : ℕ) → answer ≡ entry_before (list_under table root) p → StandsOn table root path (p - 1) → IsUnion n table → IsUpTo cmp (drop p (list_under table root)) key → answer ≡ None → Ended table root path cmp key None
   before-none zero value on union up none =
       ended table root path cmp key (finds_first o key (list_under table root) increasing up) (λ some. never some refl) (λ none. placed-first table root path union on)
-  before-none (suc p) value on union up none =
-      let r = read (list_under table root) p (omega (arith, on-within table root path (suc p - 1) on)) in
-      absurd (cc)
+  before-none (suc p) value on union up none = let r = read (list_under table root) p (omega (arith, on-within table root path (suc p - 1) on)) in absurd (cc)
 
   -- the entry before the place has an equal key
   pub before-equal : (p : ℕ) → answer ≡ entry_before (list_under table root) p → StandsOn table root path (p - 1) → {e : K × V} → answer ≡ Some e → cmp key e.0 ≡ Equal → Ended table root path cmp key (Some e.1)

@@ -51,9 +51,7 @@ module _ {K V : Type 0} {slots : List (Content K V)} {root : ℕ} {spot : Spot} 
 
     -- the way to the node
     pub over : CodedOver slots root spot.code spot.height (drop 1 numbers) rest parents top
-    over =
-        let q = (here p some).over in
-        let coded = rw above-is at q.coded in
+    over = let q = (here p some).over in let coded = rw above-is at q.coded in
         record { stacked = q.stacked; inside = q.inside; coded = coded; root_is = q.root_is; depth_is = cc (level-is) }
 
     its : IsWay (drop 1 numbers) spot rest top
@@ -76,8 +74,7 @@ module _ {K V : Type 0} {slots : List (Content K V)} {root : ℕ} {spot : Spot} 
 
       -- the spot of that child
       stands-spot : {next : Spot} → IsBelow above number index1 next → IsWay (number ∷ b.others) next rows b.to
-      stands-spot {next} below =
-          let q = (here p some).over in
+      stands-spot {next} below = let q = (here p some).over in
           let beside : CodedOver slots root above.code (suc spot.height - 1) b.others rest parents
           b.branch.top = record { stacked = q.stacked; inside = q.inside; coded = b.way.coded; root_is = q.root_is; depth_is = q.depth_is } in
           way-of (branch-way b.branch beside refl) next below.code (cc (stands-height)) (λ more. sym below.parent)
@@ -95,20 +92,18 @@ module _ {K V : Type 0} {slots : List (Content K V)} {root : ℕ} {spot : Spot} 
   -- the child, and its spot
   pub leads-on : {next : Spot} {child : ℕ} → IsBelow spot node index next → ChildRead slots node index child →
       Leads slots root code (suc spot.height) next child
-  leads-on {next} b reads numbers rows list place p =
-      let parent = λ (low : 0 < suc spot.height). first-kept p some node said ∙ sym b.parent in
+  leads-on {next} b reads numbers rows list place p = let parent = λ (low : 0 < suc spot.height). first-kept p some node said ∙ sym b.parent in
       let grand = λ (low : 1 < suc spot.height). (its p).parent_is (omega arith) ∙ sym b.grand in
       (way-of p next b.code b.height parent grand, branch-child (own p some (same p) index-is) reads)
 
   -- the child that was read is the one beside
-  said-some : {Beside AtEnd : ℕ → ℕ → Type 0} {above : Spot} {number index1 : ℕ}
-      → ((numbers rows list place : _) (p : Way numbers rows list place) → Stands p (Beside place) above number index1) →
-      {next : Spot} {child : ℕ} → IsBelow above number index1 next → ChildRead slots number index1 child
-      → IsBesideOf slots root code (suc spot.height) Beside AtEnd (Some (next, child))
+  said-some : {Beside AtEnd : ℕ → ℕ → Type 0} {above : Spot} {number index1 : ℕ} → ((numbers rows list place : _) (p : Way numbers rows list place) → Stands p
+      (Beside place) above number index1) → {next : Spot} {child : ℕ} → IsBelow above number index1 next → ChildRead slots number index1 child →
+      IsBesideOf slots
+      root code (suc spot.height) Beside AtEnd (Some (next, child))
   said-some {number = number} stands b reads = record {
     some = λ numbers rows list place p.
-        let w = stands numbers rows list place p in
-        (w.to, w.is, number ∷ w.others, stands-spot p w b, branch-child w.branch reads);
+        let w = stands numbers rows list place p in (w.to, w.is, number ∷ w.others, stands-spot p w b, branch-child w.branch reads);
     none = λ bad. absurd (let no = bad in cc);
   }
 
@@ -116,11 +111,10 @@ module _ {K V : Type 0} {slots : List (Content K V)} {root : ℕ} {spot : Spot} 
   said-none : {Beside AtEnd : ℕ → ℕ → Type 0} → ((numbers rows list place : _) (p : Way numbers rows list place) → AtEnd (top p) (length (parents p))
       → AtEnd place (length list)) → {up found : Option (Spot × ℕ)} → up ≡ None → found ≡ None → IsBesideOf slots root spot.code spot.height Beside AtEnd up
       → IsBesideOf slots root code (suc spot.height) Beside AtEnd found
-  said-none {Beside} {AtEnd} ends nothing is says =
-      subst (IsBesideOf slots root code (suc spot.height) Beside AtEnd) (sym is) record {
-        some = tt;
-        none = λ none numbers rows list place p. ends numbers rows list place p (says.none nothing (drop 1 numbers) (rest p) (parents p) (top p) (over p));
-      }
+  said-none {Beside} {AtEnd} ends nothing is says = subst (IsBesideOf slots root code (suc spot.height) Beside AtEnd) (sym is) record {
+    some = tt;
+    none = λ none numbers rows list place p. ends numbers rows list place p (says.none nothing (drop 1 numbers) (rest p) (parents p) (top p) (over p));
+  }
 
   pub count-asked : There → CountAsked slots node
   count-asked o = count-asks o.4 some (same o.4) index-is
@@ -156,14 +150,13 @@ module _ {K V : Type 0} {slots : List (Content K V)} {root : ℕ} {spot : Spot} 
   -- the child before, of the same node
   module _ (low : 0 < index) where
     pub prev-at : {numbers rows list place : _} (p : Way numbers rows list place) → Stands p (IsBefore place) spot node (index - 1)
-    prev-at {numbers} {place = place} p =
-        record {
-          to = place - 1;
-          is = omega (arith, prev-some p some (same p) index-is low);
-          branch = prev-own p some (same p) index-is low;
-          others = drop 1 numbers;
-          way = its p;
-        }
+    prev-at {numbers} {place = place} p = record {
+      to = place - 1;
+      is = omega (arith, prev-some p some (same p) index-is low);
+      branch = prev-own p some (same p) index-is low;
+      others = drop 1 numbers;
+      way = its p;
+    }
 
     pub prev-said : {next : Spot} {child : ℕ} → IsBelow spot node (index - 1) next → ChildRead slots node (index - 1) child
         → IsPrevOf slots root code (suc spot.height) (Some (next, child))
@@ -185,8 +178,7 @@ module _ {K V : Type 0} {slots : List (Content K V)} {root : ℕ} {spot : Spot} 
 
       module _ {last : ℕ} (says : LastRead slots number last) where
         pub back-at : {numbers rows list place : _} (p : Way numbers rows list place) → Stands p (IsBefore place) above number last
-        back-at {place = place} p =
-            let w = before p in
+        back-at {place = place} p = let w = before p in
             record {
               to = place - 1;
               is = omega (arith, last-some p some (same p) index-is none w.1 w.4 says);

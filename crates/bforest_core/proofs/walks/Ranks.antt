@@ -9,11 +9,9 @@ module _ {K X : Type 0} where
       (fs : List (K × X)) (after2 : List (LevelNode K X)) → before ++ node a es ∷ after ≡ before2 ++ node b fs ∷ after2
       → length before < length before2 → length (flat before) + length es ≤ length (flat before2)
   in-front before a es after [] b fs after2 e low = absurd (omega (arith, low))
-  in-front [] a es after (node m xs ∷ before2) b fs after2 e low =
-      let same : es ≡ xs = cc in omega (arith, ap length same, length-append xs (flat before2))
+  in-front [] a es after (node m xs ∷ before2) b fs after2 e low = let same : es ≡ xs = cc in omega (arith, ap length same, length-append xs (flat before2))
   in-front (node m xs ∷ before) a es after (node q ys ∷ before2) b fs after2 e low =
-      let same : xs ≡ ys = cc in
-      let rest = in-front before a es after before2 b fs after2 (cc) (omega (arith, low)) in
+      let same : xs ≡ ys = cc in let rest = in-front before a es after before2 b fs after2 (cc) (omega (arith, low)) in
       omega (arith, rest, ap length same, length-append xs (flat before), length-append ys (flat before2))
 
   -- as many nodes in front are the same nodes
@@ -22,14 +20,12 @@ module _ {K X : Type 0} where
   front-same [] x after (z ∷ before2) y after2 e low = absurd (omega (arith, low))
   front-same (z ∷ before) x after [] y after2 e low = absurd (omega (arith, low))
   front-same (node m xs ∷ before) x after (node q ys ∷ before2) y after2 e low =
-      let same : xs ≡ ys = cc in
-      let rest = front-same before x after before2 y after2 (cc) (omega (arith, low)) in
+      let same : xs ≡ ys = cc in let rest = front-same before x after before2 y after2 (cc) (omega (arith, low)) in
       omega (arith, rest, ap length same, length-append xs (flat before), length-append ys (flat before2))
 
   -- of two positions in one row, that in the earlier node is earlier
   at-earlier : {row : List (LevelNode K X)} {a i p b j q : ℕ} (x : IsAt row a i p) (y : IsAt row b j q) → length x.before < length y.before → p < q
-  at-earlier {a = a} {b = b} x y low =
-      let ends = in-front x.before a x.entries x.after y.before b y.entries y.after (sym x.row_is ∙ y.row_is) low in
+  at-earlier {a = a} {b = b} x y low = let ends = in-front x.before a x.entries x.after y.before b y.entries y.after (sym x.row_is ∙ y.row_is) low in
       omega (arith, ends, x.within, x.place_is, y.place_is)
 
   -- in one node, that with the lower index

@@ -33,9 +33,7 @@ module _ {K : Type 0} {cmp : K → K → Ordering} (o : IsTotalOrder cmp) where
     pub increasing_split : (xs ys : List (K × X)) → IsIncreasing cmp (xs ++ ys) → IsIncreasing cmp xs × IsIncreasing cmp ys
     unfolding IsStrictlySortedBy
     increasing_split [] ys h = (tt, h)
-    increasing_split (x ∷ xs) ys h =
-        let r = increasing_split xs ys h.1 in
-        ((((all_split _ _ _ h.0).0, r.0)), r.1)
+    increasing_split (x ∷ xs) ys h = let r = increasing_split xs ys h.1 in ((((all_split _ _ _ h.0).0, r.0)), r.1)
 
     pub all_before : (xs : List (K × X)) (y ys : _) → IsIncreasing cmp (xs ++ y ∷ ys) → AllByRecursion (λ k. cmp k y.0 ≡ Less) (keys_of xs)
     unfolding IsStrictlySortedBy
@@ -124,9 +122,7 @@ module _ {K : Type 0} {cmp : K → K → Ordering} (o : IsTotalOrder cmp) where
 
       go : (r : Ordering) → cmp e.0 k ≡ r → Sides es k (child_index cmp ks k) → Sides (e ∷ es) k (child_index cmp (e.0 ∷ ks) k)
       go Less t s = record { l = e ∷ s.l; r = s.r; es_is = cc; i_is = cc (count_up_to-yes cmp e.0 ks k (ap is_gt t)); low = ((λ g. let bad = sym t ∙ g in absurd cc), s.low); high = s.high }
-      go Equal t s =
-          let one = count_up_to-yes cmp e.0 ks k (ap is_gt t) ∙ ap suc (count_up_to-none cmp k ks (behind (ap is_lt t))) in
+      go Equal t s = let one = count_up_to-yes cmp e.0 ks k (ap is_gt t) ∙ ap suc (count_up_to-none cmp k ks (behind (ap is_lt t))) in
           record { l = e ∷ []; r = es; es_is = refl; i_is = sym one; low = ((λ g. let bad = sym t ∙ g in absurd cc), tt); high = behind (ap is_lt t) }
-      go Greater t s =
-          let none = count_up_to-no cmp e.0 ks k (ap is_gt t) ∙ count_up_to-none cmp k ks (behind (ap is_lt t)) in
+      go Greater t s = let none = count_up_to-no cmp e.0 ks k (ap is_gt t) ∙ count_up_to-none cmp k ks (behind (ap is_lt t)) in
           record { l = []; r = e ∷ es; es_is = refl; i_is = sym none; low = tt; high = (t, behind (ap is_lt t)) }

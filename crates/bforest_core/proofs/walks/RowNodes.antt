@@ -60,23 +60,19 @@ module _ {K V X : Type 0} (content : List (K × X) → Content K V) (slots : Lis
         }
 
     pub node-at : (number place : ℕ) → NumberAt (heads row) place number → NodeIn row number place
-    node-at number place m =
-        let c = cut (heads row) place (slice_get_within (heads row) place (m.0, number) m.1) in
-        let same = some_same c.x (m.0, number) (cc (slice_get_at c.l c.x c.r place c.place_is)) in
-        let s = seen half most one row c.l m.0 number c.r fit (cc) in
+    node-at number place m = let c = cut (heads row) place (slice_get_within (heads row) place (m.0, number) m.1) in
+        let same = some_same c.x (m.0, number) (cc (slice_get_at c.l c.x c.r place c.place_is)) in let s = seen half most one row c.l m.0 number c.r fit (cc) in
         node-in _ _ _ _ _ s.row_is (cc)
 
 module _ {K V X : Type 0} {content : List (K × X) → Content K V} {slots most row number place : _} (a : NodeIn content slots most row number place) where
   -- no other node is at that place
   pub node-same : {number1 : ℕ} (b : NodeIn content slots most row number1 place) → number1 ≡ number
-  node-same {number1} b = node-number ((same-cut b.before (node number1 b.entries) b.after a.before (node number a.entries) a.after (cc) (cc)).1)
+  node-same {number1} b = node-number ((same-cut b.before (node number1 b.entries) b.after a.before (node number a.entries) a.after (cc) cc).1)
 
   -- the entries of the node are those in front of the next node's
   pub seam : {number1 place1 : ℕ} (b : NodeIn content slots most row number1 place1) → place1 ≡ suc place
       → length (flat b.before) ≡ length (flat a.before) + length a.entries
-  seam {number1} b next =
-      let k = length b.before in
-      let x = node number a.entries in
+  seam {number1} b next = let k = length b.before in let x = node number a.entries in
       let two = sym (take_at b.before (node number1 b.entries ∷ b.after) k refl) ∙ ap (λ z. take k z) (cc (append_assoc _ _ _))
       ∙ take_at (a.before ++ x ∷ []) a.after k (omega (arith, length-append a.before (x ∷ []))) in
       omega (
@@ -84,28 +80,19 @@ module _ {K V X : Type 0} {content : List (K × X) → Content K V} {slots most 
         ap (λ z. length (flat z)) two,
         ap length (flat-append a.before (x ∷ [])),
         length-append (flat a.before) (a.entries ++ []),
-        length-append
-            a.entries [],
+        length-append a.entries [],
       )
 
   -- the entries of the last node of a row end the row's entries
   pub none-behind : (half : ℕ) → 1 ≤ half → FitRow half most row → suc place ≡ length (heads row)
       → length (flat row) ≡ length (flat a.before) + length a.entries
-  none-behind half one fit last =
-      let x = node number a.entries in
-      let none = nil_from_length a.after (omega (
-        arith,
-        fit_full half most one row fit,
-        ap length a.row_is,
-        length-append a.before
-            (x ∷ a.after),
-      )) in
+  none-behind half one fit last = let x = node number a.entries in
+      let none = nil_from_length a.after (omega (arith, fit_full half most one row fit, ap length a.row_is, length-append a.before (x ∷ a.after))) in
       omega (
         arith,
         ap (λ z. length (flat z)) a.row_is,
         ap length (flat-append a.before (x ∷ a.after)),
-        length-append (flat a.before)
-            (a.entries ++ flat a.after),
+        length-append (flat a.before) (a.entries ++ flat a.after),
         length-append a.entries (flat a.after),
         ap (λ z. length (flat z)) none,
       )

@@ -34,15 +34,11 @@ module _ {K V : Type 0} {cmp : K → K → Ordering} (o : IsTotalOrder cmp) {mos
 
       -- what a search in the leaf tells
       pub narrowed : Narrows cmp leaves key step-leaf.here.at.before (step-leaf.here.at.e ∷ step-leaf.here.at.es)
-      narrowed =
-          let s = step-leaf in
-          let p = placed o capacity s number (place cmp (s.here.at.e ∷ s.here.at.es) key) refl refl in
+      narrowed = let s = step-leaf in let p = placed o capacity s number (place cmp (s.here.at.e ∷ s.here.at.es) key) refl refl in
           record { increasing = s.increasing; place_is = p.place_is; value_is = leaf_value o capacity s; found_is = leaf_found o capacity s; first = p.first }
 
       pub ends-on : {upper numbers : _} {spot : Spot} → IsWay numbers spot upper (length t.before) → EndsOn cmp slots leaves (t.lower ++ upper) key spot number
-      ends-on {upper = upper} {numbers = numbers} {spot = spot} w =
-          let s = step-leaf in
-          let at = s.here.at in
+      ends-on {upper = upper} {numbers = numbers} {spot = spot} w = let s = step-leaf in let at = s.here.at in
           record {
             before = at.before;
             entries = at.e ∷ at.es;
@@ -84,9 +80,7 @@ module _ {K V : Type 0} {cmp : K → K → Ordering} (o : IsTotalOrder cmp) {mos
 
         -- what asking asks whether another search goes to that child too
         pub along-asks : (keys : List K) × (children : List ℕ) × (slice_get slots number ≡ Some (Inner keys children)) × IsStrictlySortedBy cmp keys × (length children ≡ suc (length keys)) × (index ≤ length keys)
-        along-asks =
-            let es = step.here.at.es in
-            let count = length-map es (λ w. w.0) in
+        along-asks = let es = step.here.at.es in let count = length-map es (λ w. w.0) in
             (entry_keys es, entry_items (step.here.at.e ∷ es), step.here.slot_is, increasing_rest o step.here.at.e es step.increasing, omega (arith, item_count (step.here.at.e ∷ es)), omega (arith, to.within))
 
         module _ {upper : Rows K} {numbers : List ℕ} {spot : Spot} (height_is : depth ≡ spot.height) (w : IsWay numbers spot upper (length t.before)) where
@@ -100,7 +94,7 @@ module _ {K V : Type 0} {cmp : K → K → Ordering} (o : IsTotalOrder cmp) {mos
             down = record {
               above = step.here.row ∷ upper;
               numbers = number ∷ numbers;
-              on = one-down _ (cc);
+              on = one-down _ cc;
               way = child-way step.here to.within code parent grand height w to.place_is;
               join = rows-join step.here upper;
             }
@@ -114,8 +108,7 @@ GoesOn {K} {V} cmp most slots key spot number next child =
 abbrev pub search-root : {K V : Type 0} {cmp : K → K → Ordering} {most : ℕ} {table : Table K V} {root key : _}
     (union : IsUnion most table) (is : IsTrue (is_root table.nodes root)) → IsIncreasing cmp (flat (tree_of table.nodes root).leaves)
     → (depth : ℕ) → depth ≡ 0 → SearchThrough cmp most table.nodes (tree_of table.nodes root).leaves key root depth
-search-root {table = table} {root = root} union is increasing depth none =
-    let u = under-root root union is in
+search-root {table = table} {root = root} union is increasing depth none = let u = under-root root union is in
     record { lower = (tree_of table.nodes root).above; before = []; first = u.first; after = []; under = u.under; increasing = increasing; through = all_through _ _ _; low = omega arith }
 
 -- a search from the root on has come to this node, and its spot

@@ -41,10 +41,7 @@ pub record UnderRoot {K V : Type 0} (most : ℕ) (table : Table K V) (root : ℕ
   pub low : length (tree_of table.nodes root).above ≤ 16
 
 pub under-root : {K V : Type 0} {most : ℕ} {table : Table K V} (root : ℕ) → IsUnion most table → IsTrue (is_root table.nodes root) → UnderRoot most table root
-under-root root union is =
-    let w = is-rooted root union is in
-    let u = whole_under w in
-    record { first = u.0; under = u.1; low = w.low }
+under-root root union is = let w = is-rooted root union is in let u = whole_under w in record { first = u.0; under = u.1; low = w.low }
 
 -- the level of a root, and the number of levels of a path in its tree
 pub root-level : {K V : Type 0} (tree : Tree K V) {levels : ℕ} → levels ≡ length (sizes_of tree) → levels - 1 ≡ length tree.above
@@ -57,21 +54,17 @@ path-levels tree is same = omega (arith, length-map tree.above sizes)
 module _ {K V : Type 0} {most : ℕ} {table : Table K V} (root : ℕ) (union : IsUnion most table) (is : IsTrue (is_root table.nodes root)) {levels : ℕ} (levels_is : levels ≡ length (sizes_of (tree_of table.nodes root))) {Side : Heads K → Heads K → Type 0} (side : Side [] []) where
   -- what the descent requires
   pub root-below : HasBelow most table.nodes Side root (levels - 1)
-  root-below =
-      let u = under-root root union is in
+  root-below = let u = under-root root union is in
       ((tree_of table.nodes root).leaves, (tree_of table.nodes root).above, [], u.first, [], side, u.under, root-level (tree_of table.nodes root) levels_is)
 
   pub led-root : (place : Row K V → ℕ) {size path indices path' indices' : _} → size ≡ levels → OnBelow most table.nodes Side root (levels - 1) (λ leaves lower top. Led leaves lower (place leaves) top path indices path' indices') → StandsUnder table.nodes root path' indices' size (place (tree_of table.nodes root).leaves)
-  led-root place size_is leads =
-      let tree = tree_of table.nodes root in
-      let u = under-root root union is in
+  led-root place size_is leads = let tree = tree_of table.nodes root in let u = under-root root union is in
       let d = leads tree.leaves tree.above [] u.first [] side u.under (root-level tree levels_is) in
       record { root_is = is; stands = led_stands _ _ d (path-levels tree levels_is size_is) }
 
 -- a path of one level at the front of a root that is a leaf is on the first entry
 pub on-leaf : {K V : Type 0} {most : ℕ} (table : Table K V) (root : ℕ) (path indices : List ℕ) → IsUnion most table → IsTrue (is_root table.nodes root) → IsLeaf (slot table.nodes root) → get_or path 0 0 ≡ root → get_or indices 0 0 ≡ 0 → StandsUnder table.nodes root path indices 1 0
-on-leaf table root path indices union is leaf node_is index_is =
-    let u = under-root root union is in
+on-leaf table root path indices union is leaf node_is index_is = let u = under-root root union is in
     elim (node_under union.1.capacity _ [] u.first root [] u.under) [
       | inl s ↦ (let d = leaf_led _ _ s _ indices 0 (omega arith) (omega (arith, none_flat _ s.at.before_is)) node_is index_is (λ i ne. refl) (λ i ne. refl) in record { root_is = is; stands = led_stands _ 1 d (sym (ap (λ z. suc (length z)) s.lower_is)) })
       | inr s ↦ absurd (subst IsLeaf (slot-is table.nodes root _ s.slot_is) leaf)
@@ -82,8 +75,7 @@ module _ {K X : Type 0} where
   place_by : (before : Row K X) (n es after index : _) → count n (numbers before) ≡ 0 → place_in (before ++ node n es ∷ after) n index ≡ length (flat before) + index
   place_by [] n es after index none =
       elim (eqb_tells n n) [ inl w ↦ (let z : index ≡ 0 + index = omega arith in (λ j. if w.0 j then index else length es + place_in after n index) ∙ z) | inr w ↦ absurd (w.1 refl) ]
-  place_by (node m xs ∷ before) n es after index none =
-      let ih = place_by before n es after index (omega arith) in
+  place_by (node m xs ∷ before) n es after index none = let ih = place_by before n es after index (omega arith) in
       elim (eqb_tells m n) [
         | inl w ↦ absurd (absent_ne n m _ none (sym w.1))
         | inr w ↦ (λ j. if w.0 j then index else length xs + place_in (before ++ node n es ∷ after) n index) ∙ omega (arith, length-append xs (flat before))
@@ -92,8 +84,7 @@ module _ {K X : Type 0} where
 module _ {K V : Type 0} {n : ℕ} (table : Table K V) (root : ℕ) (path : Path K V n) (place : ℕ) where
   -- the place of a path that stands on an entry is less than the length
   pub on-within : StandsOn table root path place → place < length (list_under table root)
-  on-within on =
-      let at = on.stands.leaf in
+  on-within on = let at = on.stands.leaf in
       omega (arith, ap (λ z. length (flat z)) at.row_is, ap length (flat-append at.before (node (leaf_of path) at.entries ∷ at.after)), length-append (flat at.before) (at.entries ++ flat at.after), length-append at.entries (flat at.after))
 
   -- a path that stands on an entry is at its place
@@ -103,8 +94,7 @@ module _ {K V : Type 0} {n : ℕ} (table : Table K V) (root : ℕ) (path : Path 
   -- a path at a place before the end is on the entry there
   pub at-on : StandsAt table root path place → place < length (list_under table root) → StandsOn table root path place
   at-on s low =
-      let some : path.size ≢ 0 = λ none. omega (arith, low, at_end _ _ _ _ _ none s.at) in
-      record { root_is = s.root_is; stands = at_entry _ _ _ _ _ some s.at }
+      let some : path.size ≢ 0 = λ none. omega (arith, low, at_end _ _ _ _ _ none s.at) in record { root_is = s.root_is; stands = at_entry _ _ _ _ _ some s.at }
 
   -- a path that stands on an entry points to its place
   pub on-points : StandsOn table root path place → PointsTo table root path place
@@ -173,16 +163,11 @@ module _ {K V : Type 0} {n : ℕ} {table : Table K V} (union : IsUnion n table) 
 module _ {K V : Type 0} {n : ℕ} (most : ℕ) (table : Table K V) (root : ℕ) (path : Path K V n) (place : ℕ) (union : IsUnion most table) where
   -- the root of a path that points to a place under a root
   pub points-root : PointsTo table root path place → path_root path ≡ root
-  points-root to =
-      let r = rooted _ _ _ union to.root_is in
-      cc (root-points _ _ _ _ _ _ (omega arith) r.fit to.points)
+  points-root to = let r = rooted _ _ _ union to.root_is in cc (root-points _ _ _ _ _ _ (omega arith) r.fit to.points)
 
   -- a path points to one place only, which is computed from its leaf and its index there
   pub points-spot : PointsTo table root path place → spot table root path ≡ place
-  points-spot to =
-      let tree = tree_of table.nodes root in
-      let at = to.points in
-      let m = leaf_of path in
+  points-spot to = let tree = tree_of table.nodes root in let at = to.points in let m = leaf_of path in
       let none : count m (numbers at.before) ≡ 0 = omega (
         arith,
         (rooted _ _ _ union to.root_is).apart m,

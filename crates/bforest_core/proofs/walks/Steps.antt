@@ -17,7 +17,7 @@ not_less m n past = omega arith
 
 -- a test does not have two outcomes
 pub never : {test : Bool} {A : Type 0} → test ≡ true → test ≡ false → A
-never is not = absurd (false≢true (cc))
+never is not = absurd (false≢true cc)
 
 module _ {K V X : Type 0} (content : List (K × X) → Content K V) (slots : List (Content K V)) (most : ℕ) where
   -- a path in the node at a place of a row, and in the rows above
@@ -58,8 +58,7 @@ module _ {K V : Type 0} where
 
   pub spot : (slots : List (Content K V)) (path indices up size rows list place : _) → Over slots path indices up size rows list place → up ≢ size → Spot slots path indices up size rows list place
   spot slots path indices up size [] list place p other = absurd (other (omega arith))
-  spot slots path indices up size (row ∷ rest) list place p other =
-      let at = p.stands.0 in
+  spot slots path indices up size (row ∷ rest) list place p other = let at = p.stands.0 in
       record {
         row = row;
         rest = rest;

@@ -46,13 +46,10 @@ seen_slot content slots {number = number} at i = (row-split content slots at.bef
 
 module _ {K V : Type 0} {most : ℕ} (capacity : IsLeafCapacity most) {slots : List (Content K V)} {leaves : _} where
   pub node_under : (lower : _) (a first number b : _) → Under most slots leaves lower (a ++ (first, number) ∷ b) → LeafUnder most slots leaves lower a first number b ⊎ InnerUnder most slots leaves lower a first number b
-  node_under [] a first number b u =
-      let at = seen (half_of most) most (some_leaf capacity) leaves a first number b u.leaves_fit u.stacked in
+  node_under [] a first number b u = let at = seen (half_of most) most (some_leaf capacity) leaves a first number b u.leaves_fit u.stacked in
       inl (record { lower_is = refl; at = at; slot_is = seen_slot _ _ at u.leaves_in })
   node_under (r ∷ rs) a first number b u =
-      let z = last_of r rs in
-      let s = stacked_last _ _ _ _ (rw (← z.is) u.stacked) in
-      let i = in_last _ _ _ (rw (← z.is) u.rows_in) in
+      let z = last_of r rs in let s = stacked_last _ _ _ _ (rw (← z.is) u.stacked) in let i = in_last _ _ _ (rw (← z.is) u.rows_in) in
       let at = seen 4 8 (omega arith) z.last a first number b s.1 s.2 in
       inr (record {
         rows = z.init;

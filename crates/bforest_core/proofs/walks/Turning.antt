@@ -31,49 +31,39 @@ module _ {K V : Type 0} (slots : List (Content K V)) (path indices : _) where
   -- the node on a level meets what the test for a child requires
   pub turn-asks : {level size rows list place : _} → Over slots path indices level size rows list place → level ≢ size → size ≤ 17 → (level ≤ 16)
       × ((entries : _) × (slice_get slots (get_or path level 0) ≡ Some (inner_content entries)))
-  turn-asks {level} {size} p other height =
-      let s = spot slots path indices level size _ _ _ p other in
-      (omega arith, (s.entries, s.slot_is))
+  turn-asks {level} {size} p other height = let s = spot slots path indices level size _ _ _ p other in (omega arith, (s.entries, s.slot_is))
 
   -- the rows above the node meet what a search for the turn from there requires
   pub turn-above : {level size rows list place : _} (to : ℕ)
       → Over slots path indices level size rows list place → level ≢ size → to ≡ suc level → HasOver slots path indices to size
-  turn-above {level} {size} to p other is =
-      let s = spot slots path indices level size _ _ _ p other in
-      (s.rest, heads s.row, length s.before, rw is s.over)
+  turn-above {level} {size} to p other is = let s = spot slots path indices level size _ _ _ p other in (s.rest, heads s.row, length s.before, rw is s.over)
 
   -- on one level the path's child is the last, where the test for a further one failed
-  pub here-last : {low high level : _} → low ≡ level → high ≡ suc level → {has : Bool}
-      → ((entries : _) → slice_get slots (get_or path level 0) ≡ Some (inner_content entries)
-      → IsTrue has ↔ (get_or indices level 0 + 1 < length entries)) → has ≡ false → AreLast slots path indices low high
-  here-last low_is high_is test is i low high =
-      subst (LastAt slots path indices) (omega arith)
+  pub here-last : {low high level : _} → low ≡ level → high ≡ suc level → {has : Bool} → ((entries : _) → slice_get slots (get_or path level 0) ≡ Some
+      (inner_content entries) → IsTrue has ↔ (get_or indices level 0 + 1 < length entries)) → has ≡ false → AreLast slots path indices low high
+  here-last low_is high_is test is i low high = subst (LastAt slots path indices) (omega arith)
       (λ entries slot. not_less _ _ (λ more. false≢true (sym is ∙ (test entries slot).1 more)))
 
   -- where each child up to the root is the last, the node is the last of its level
   pub all-last : (steps : ℕ) {level : ℕ} {size rows list place : _} → Over slots path indices (suc level) size rows list place → size ≡ suc level + steps
       → size ≤ 17 → AreLast slots path indices (suc level) size → suc place ≡ length list
   all-last zero p is height last = (only p (omega arith)).1
-  all-last (suc steps) {level} p is height last =
-      last_moves p refl (λ e. omega arith) height (last (suc level) (omega arith) (omega arith))
+  all-last (suc steps) {level} p is height last = last_moves p refl (λ e. omega arith) height (last (suc level) (omega arith) (omega arith))
       (λ rows list place o. all-last steps o (omega arith) height (λ i from to. last i (omega arith) to))
 
   -- where each child up to the root is the first, the node is the first of its level
   pub all-first : (steps : ℕ) {level : ℕ} {size rows list place : _} → Over slots path indices (suc level) size rows list place → size ≡ suc level + steps
       → size ≤ 17 → AreFirst indices (suc level) size → place ≡ 0
   all-first zero p is height first = (only p (omega arith)).0
-  all-first (suc steps) p is height first =
-      first_moves p refl (λ e. omega arith) height
-      (λ rows list place o. all-first steps o (omega arith) height (λ i from to. first i (omega arith) to))
-      (omega arith)
+  all-first (suc steps) p is height first = first_moves p refl (λ e. omega arith) height (λ rows list place o. all-first steps o (omega arith) height (λ i from
+      to. first i (omega arith) to)) (omega arith)
 
   -- the path's node on level `from` has moved, and the path goes on down from it
   module _ {level from : ℕ} (low : level < from) where
     module _ {path1 indices1 size : _} (t : Turned slots path indices path1 indices1 level from size) where
       -- the node meets what going to its first child requires
       pub down-asks : HasOver slots path indices (suc level) size → ChildAt slots path1 (from - 1) 0
-      down-asks w =
-          let o = over-up (from - suc level) (suc (from - 1)) w.3 (omega arith) (omega arith) in
+      down-asks w = let o = over-up (from - suc level) (suc (from - 1)) w.3 (omega arith) (omega arith) in
           turn_asks {up = from} o.3 (omega arith) (λ e. omega arith) t.height (first_turn o.3 (omega arith) (λ e. omega arith)
           t.height (t.ends from (omega arith) (omega arith)) t.moved)
 
@@ -86,15 +76,13 @@ module _ {K V : Type 0} (slots : List (Content K V)) (path indices : _) where
     module _ {path1 indices1 size : _} (t : TurnedBack slots path indices path1 indices1 level from size) (r : ℕ) (wide : 17 ≤ length path1) where
       -- the node meets what reading its last index requires
       pub last-held : HasOver slots path indices (suc level) size → LastAsked slots (get_or path1 from r)
-      last-held w =
-          let o = over-up (from - suc level) (suc (from - 1)) w.3 (omega arith) (omega arith) in
+      last-held w = let o = over-up (from - suc level) (suc (from - 1)) w.3 (omega arith) (omega arith) in
           back_asks o.3 (omega arith) (λ e. omega arith) t.height t.moved r wide
 
       module _ {last : ℕ} (says : LastRead slots (get_or path1 from r) last) where
         -- the node meets what going to its last child requires
         pub last-goes : HasOver slots path indices (suc level) size → ChildAt slots path1 (from - 1) last
-        last-goes w =
-            let o = over-up (from - suc level) (suc (from - 1)) w.3 (omega arith) (omega arith) in
+        last-goes w = let o = over-up (from - suc level) (suc (from - 1)) w.3 (omega arith) (omega arith) in
             turn_asks o.3 (omega arith) (λ e. omega arith) t.height
             (last_turn o.3 (omega arith) (λ e. omega arith) t.height t.moved r wide
             (omega arith) says).1
@@ -115,8 +103,7 @@ module _ {K V : Type 0} (slots : List (Content K V)) (path indices : _) where
 
     module _ (other : turn ≢ size) (more : MoreAt slots path indices turn) where
       pub turn-goes : HasOver slots path indices (suc level) size → ChildAt slots path (turn - 1) (get_or indices turn 0 + 1)
-      turn-goes w =
-          let o = over-up (turn - suc level - 1 + 1) (suc (turn - 1)) w.3 (omega arith) (omega arith) in
+      turn-goes w = let o = over-up (turn - suc level - 1 + 1) (suc (turn - 1)) w.3 (omega arith) (omega arith) in
           turn_asks o.3 (omega arith) other height (next_turn o.3 (omega arith) other height more)
 
       pub turned : {path1 indices1 : _} → Went slots path indices (turn - 1) (get_or indices turn 0 + 1) path1 indices1
@@ -136,8 +123,7 @@ module _ {K V : Type 0} (slots : List (Content K V)) (path indices : _) where
 
     module _ (other : turn ≢ size) (some : 0 < get_or indices turn 0) where
       pub before-goes : HasOver slots path indices (suc level) size → ChildAt slots path (turn - 1) (get_or indices turn 0 - 1)
-      before-goes w =
-          let o = over-up (turn - suc level) (suc (turn - 1)) w.3 (omega arith) (omega arith) in
+      before-goes w = let o = over-up (turn - suc level) (suc (turn - 1)) w.3 (omega arith) (omega arith) in
           turn_asks o.3 (omega arith) other height (before_turn o.3 (omega arith) other height some).1
 
       pub turned-back : {path1 indices1 : _} → Went slots path indices (turn - 1) (get_or indices turn 0 - 1) path1 indices1
@@ -146,7 +132,5 @@ module _ {K V : Type 0} (slots : List (Content K V)) (path indices : _) where
         height = height;
         within = omega arith;
         ends = λ i above below. first i (omega arith) (omega arith);
-        moved = λ rows list place p.
-            let w = before_turn p (omega arith) other height some in
-            (w.0, turn_moves p (omega arith) other height w.1 g);
+        moved = λ rows list place p. let w = before_turn p (omega arith) other height some in (w.0, turn_moves p (omega arith) other height w.1 g);
       }

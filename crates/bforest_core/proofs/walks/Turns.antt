@@ -13,8 +13,7 @@ module _ {K V : Type 0} where
 
   -- the child to which the path goes is the entry's
   abbrev pub Reads : List (Content K V) → List ℕ → List ℕ → ℕ → ℕ → Type 0
-  Reads slots path path' level index =
-      (entries : _) → slice_get slots (get_or path (suc level) 0) ≡ Some (inner_content entries)
+  Reads slots path path' level index = (entries : _) → slice_get slots (get_or path (suc level) 0) ≡ Some (inner_content entries)
       → slice_get (entry_items entries) index ≡ Some (get_or path' level 0)
 
   -- the path went from the node above to its child at an index
@@ -24,9 +23,8 @@ module _ {K V : Type 0} where
     pub entry : get_or indices' (suc level) 0 ≡ index
     pub entries : SameBut (suc level) indices indices'
 
-  pub went : {slots : List (Content K V)} {path indices path' indices' level index : _} → Reads slots path path' level index
-      → SameBut level path path' → get_or indices' (suc level) 0 ≡ index → SameBut (suc level) indices indices'
-      → Went slots path indices level index path' indices'
+  pub went : {slots : List (Content K V)} {path indices path' indices' level index : _} → Reads slots path path' level index → SameBut level path path' → get_or
+      indices' (suc level) 0 ≡ index → SameBut (suc level) indices indices' → Went slots path indices level index path' indices'
   went child nodes entry entries = record { child = child; nodes = nodes; entry = entry; entries = entries }
 
   module _ {slots : List (Content K V)} {path indices : _} {level up : ℕ} {size rows list place : _}
@@ -64,15 +62,10 @@ module _ {K V : Type 0} where
 
       -- the path that went there is at the place
       pub turn_moves : {path' indices' : _} → Went slots path1 indices1 level index path' indices' → Moved path indices path' indices' level rows list to
-      turn_moves {path'} {indices'} g =
-          let w = t.on in
-          let e = read _ _ t.low in
+      turn_moves {path'} {indices'} g = let w = t.on in let e = read _ _ t.low in
           let above = stands-same _ _ _ _ _ _ _ (λ i high. g.nodes i (λ e. omega arith)) (λ i high. g.entries i (λ e. omega arith)) w.stands in
           let at = at_node _ _ _ w.node.row_is (g.nodes up (λ e. omega arith)) (cc) t.low t.to_is in
-          let stands : StandsAbove path' indices' up (here.row ∷ here.rest) to = (
-            at,
-            rw w.node.at above,
-          ) in
+          let stands : StandsAbove path' indices' up (here.row ∷ here.rest) to = (at, rw w.node.at above) in
           record {
             head = e.0;
             head_is = cc (here.flat_is, entry_at w.node.before (get_or path1 up 0) w.node.entries w.node.after index w.node.row_is e.1);
@@ -98,15 +91,14 @@ module _ {K V : Type 0} where
 
     -- the next child
     pub next_turn : MoreAt slots path indices up → Turn path indices (get_or indices up 0 + 1) (suc place)
-    next_turn more =
-        record {
-          at = length here.before;
-          on = stay;
-          nodes_below = λ i low. refl;
-          entries_below = λ i low. refl;
-          low = more here.entries here.slot_is;
-          to_is = omega (arith, here.place_is);
-        }
+    next_turn more = record {
+      at = length here.before;
+      on = stay;
+      nodes_below = λ i low. refl;
+      entries_below = λ i low. refl;
+      low = more here.entries here.slot_is;
+      to_is = omega (arith, here.place_is);
+    }
 
     -- the first child of the first node is the first of the level
     pub first_moves : OnOver slots path indices (suc up) size (λ rows list place. place ≡ 0) → get_or indices up 0 ≤ 0 → place ≡ 0
@@ -115,22 +107,19 @@ module _ {K V : Type 0} where
     -- the last child of the last node is the last of the level
     pub last_moves : LastAt slots path indices up → OnOver slots path indices (suc up) size (λ rows list place. suc place ≡ length list)
         → suc place ≡ length list
-    last_moves past last =
-        omega (
-          arith,
-          here.place_is,
-          here.within,
-          past here.entries here.slot_is,
-          ap length here.flat_is,
-          none-behind stay.node 4 (omega arith) here.fit
-              (last here.rest (heads here.row) (length here.before) here.over),
-        )
+    last_moves past last = omega (
+      arith,
+      here.place_is,
+      here.within,
+      past here.entries here.slot_is,
+      ap length here.flat_is,
+      none-behind stay.node 4 (omega arith) here.fit (last here.rest (heads here.row) (length here.before) here.over),
+    )
 
     -- the first child of the next node
     pub first_turn : {path1 indices1 : _} → LastAt slots path indices up → Advances slots path indices path1 indices1 up size
         → Turn path1 indices1 0 (suc place)
-    first_turn past goes =
-        let m = goes here.rest (heads here.row) (length here.before) here.over in
+    first_turn past goes = let m = goes here.rest (heads here.row) (length here.before) here.over in
         let on = there inner_content slots 8 4 (omega arith) here.row here.fit here.inside m in
         record {
           at = suc (length here.before);
@@ -154,8 +143,7 @@ module _ {K V : Type 0} where
       back_asks = last_asks back_node item_count r (omega (arith, here.over.height))
 
       pub last_turn : get_or indices up 0 ≤ 0 → {last : ℕ} → LastRead slots (get_or path1 up r) last → (0 < place) × Turn path1 indices1 last (place - 1)
-      last_turn none says =
-          let last = last_is back_node item_count r (omega (arith, here.over.height)) says in
+      last_turn none says = let last = last_is back_node item_count r (omega (arith, here.over.height)) says in
           let seam_is = seam back_node.node stay.node (omega (arith, back.0)) in (
             omega (arith, here.place_is),
             record {

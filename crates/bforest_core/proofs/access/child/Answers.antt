@@ -5,8 +5,7 @@ pub node-requires : goal.node-requires
 node-requires g c = (search rules, (search rules, slice_get_within c.args.pool.now.nodes c.args.node (Inner c.requires.0 c.requires.1) c.requires.2))
 
 pub child-requires : goal.child-requires
-child-requires g c =
-    let w = c.requires in
+child-requires g c = let w = c.requires in
     (search rules, read_as c.args.pool.now.nodes c.args.node w.2 c.node.ensures.value (λ z. IsInner z × (c.args.index < entry_count z)) (tt, w.3))
 
 pub returns : goal.returns

@@ -7,8 +7,7 @@ pub node-requires : goal.node-requires
 node-requires g c = (search rules, (search rules, slice_get_within c.args.pool.now.nodes c.args.node (Inner c.requires.inner.0 c.requires.inner.1) c.requires.inner.2))
 
 pub follow-requires : goal.follow-requires
-follow-requires g c =
-    let w = c.requires.inner in
+follow-requires g c = let w = c.requires.inner in
     (search rules, read_as c.args.pool.now.nodes c.args.node w.2 c.node.ensures.value (λ z. IsInner z × IsStrictlySortedBy (g.C.Comparator.order c.args.comp.now) (keys_of z)) (tt, w.3))
 
 pub returns-clause-index : goal.returns-clause-index

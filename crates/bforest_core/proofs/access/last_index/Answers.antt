@@ -6,13 +6,10 @@ node-requires g c = (search rules, (search rules, slice_get_within c.args.pool.n
 
 pub entries-requires : goal.entries-requires
 entries-requires g c =
-    let w = c.requires.some in
-    (search rules, read_as c.args.pool.now.nodes c.args.node w.1 c.node.ensures.value (λ z. ¬ IsFree z) (not_free w.0 w.2))
+    let w = c.requires.some in (search rules, read_as c.args.pool.now.nodes c.args.node w.1 c.node.ensures.value (λ z. ¬ IsFree z) (not_free w.0 w.2))
 
 pub overflow_sub-result : goal.overflow_sub-result
-overflow_sub-result g c =
-    let w = c.requires.some in
-    let is = read_same c.args.pool.now.nodes c.args.node w.0 c.node.result.now w.1 c.node.ensures.value in
+overflow_sub-result g c = let w = c.requires.some in let is = read_same c.args.pool.now.nodes c.args.node w.0 c.node.result.now w.1 c.node.ensures.value in
     omega (arith, w.2, c.entries.ensures.value, ap entry_count is)
 
 pub returns-clause-last : goal.returns-clause-last

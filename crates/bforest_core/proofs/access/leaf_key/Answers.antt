@@ -7,8 +7,7 @@ node-requires g c = (search rules, (search rules, slice_get_within c.args.pool.n
 
 pub leaf_crit_key-requires : goal.leaf_crit_key-requires
 leaf_crit_key-requires g c =
-    let w = c.requires in
-    (search rules, read_as c.args.pool.now.nodes c.args.node w.2 c.node.ensures.value (λ z. IsLeaf z × (0 < entry_count z)) (tt, w.3))
+    let w = c.requires in (search rules, read_as c.args.pool.now.nodes c.args.node w.2 c.node.ensures.value (λ z. IsLeaf z × (0 < entry_count z)) (tt, w.3))
 
 pub returns : goal.returns
 returns g c = λ keys vals slot.

@@ -7,8 +7,7 @@ pub node_mut-requires : goal.node_mut-requires
 node_mut-requires g c = (search rules, (search rules, c.requires.used))
 
 pub put-requires : goal.put-requires
-put-requires g c =
-    let w = c.requires.leaf in
+put-requires g c = let w = c.requires.leaf in
     (search rules, read_as c.args.pool.now.nodes c.args.node w.1 c.node_mut.ensures.value (λ z. IsLeaf z × IsStrictlySortedBy (g.C.Comparator.order c.args.comp.now) (keys_of z)) (tt, w.2))
 
 pub returns-clause-answer : goal.returns-clause-answer

@@ -7,8 +7,7 @@ pub node_mut-requires : goal.node_mut-requires
 node_mut-requires g c = (search rules, (search rules, c.requires.used))
 
 pub try_inner_insert-requires : goal.try_inner_insert-requires
-try_inner_insert-requires g c =
-    let w = c.requires.inner in
+try_inner_insert-requires g c = let w = c.requires.inner in
     (search rules, read_as c.args.pool.now.nodes c.args.node w.2 c.node_mut.ensures.value (λ z. IsInner z × (c.args.index ≤ length (keys_of z))) (tt, w.3))
 
 pub returns-clause-room : goal.returns-clause-room

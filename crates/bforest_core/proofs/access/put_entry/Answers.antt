@@ -6,8 +6,7 @@ pub node_mut-requires : goal.node_mut-requires
 node_mut-requires g c = (search rules, (search rules, c.requires.used))
 
 pub try_leaf_insert-requires : goal.try_leaf_insert-requires
-try_leaf_insert-requires g c =
-    let w = c.requires.leaf in
+try_leaf_insert-requires g c = let w = c.requires.leaf in
     (search rules, read_as c.args.pool.now.nodes c.args.node w.2 c.node_mut.ensures.value (λ z. IsLeaf z × (c.args.index ≤ entry_count z)) (tt, w.3))
 
 pub returns-clause-room : goal.returns-clause-room

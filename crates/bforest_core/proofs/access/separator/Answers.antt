@@ -6,8 +6,7 @@ pub node-requires : goal.node-requires
 node-requires g c = (search rules, (search rules, slice_get_within c.args.pool.now.nodes c.args.node (Inner c.requires.0 c.requires.1) c.requires.2))
 
 pub separator-requires : goal.separator-requires
-separator-requires g c =
-    let w = c.requires in
+separator-requires g c = let w = c.requires in
     (search rules, read_as c.args.pool.now.nodes c.args.node w.2 c.node.ensures.value (λ z. IsInner z × (c.args.index < length (keys_of z))) (tt, w.3))
 
 pub returns : goal.returns

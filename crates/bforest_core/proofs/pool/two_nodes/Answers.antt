@@ -2,8 +2,7 @@ use Rattle.bforest_core.proofs.{Words.{refl, arith, ◌<◌}, table.Lists.{set-f
 use Rattle.bforest_core.proofs.pool.two_nodes.Goals as goal
 
 pub returns-then-left-right : goal.returns-then-left-right
-returns-then-left-right g c =
-    let is = c.split_at_mut-front.ensures.value in
+returns-then-left-right g c = let is = c.split_at_mut-front.ensures.value in
     let len = c.split_at_mut-front.ensures.front_len in (
       ((refl, refl), λ x y. set-front-back _ _ _ _ x y is len (omega arith)),
       record {
@@ -14,9 +13,7 @@ returns-then-left-right g c =
     )
 
 pub returns-else-left-right : goal.returns-else-left-right
-returns-else-left-right g c =
-    let is = c.split_at_mut-front-else-left-right.ensures.value in
-    let len = c.split_at_mut-front-else-left-right.ensures.front_len in
+returns-else-left-right g c = let is = c.split_at_mut-front-else-left-right.ensures.value in let len = c.split_at_mut-front-else-left-right.ensures.front_len in
     let apart = c.requires.apart in
     let below : c.args.right < c.args.left = omega arith in (
       ((refl, refl), λ x y. set-back-front _ _ _ _ x y is len below),

@@ -6,9 +6,7 @@ pub loop-here-init : goal.loop-here-init
 loop-here-init g c = record { under = c.requires.under; ends = λ end leaf on. on }
 
 pub node-requires : goal.node-requires
-node-requires g c =
-    let u = c.loop-here.invariant.under in
-    (search rules, (search rules, node_within c.requires.capacity u.4 u.5 _ u.6 u.8))
+node-requires g c = let u = c.loop-here.invariant.under in (search rules, (search rules, node_within c.requires.capacity u.4 u.5 _ u.6 u.8))
 
 pub below-here-requires-clause-code : goal.below-here-requires-clause-code
 below-here-requires-clause-code g c = (down-low c.requires.capacity c.node.ensures.value (c.is_inner.ensures.inner.0 c.loop-here-test.true) first-turns c.loop-here.invariant.under).0
@@ -23,8 +21,7 @@ pub loop-here-smaller : goal.loop-here-smaller
 loop-here-smaller g c = omega (arith, c.below-here.ensures.height, (down-low c.requires.capacity c.node.ensures.value (c.is_inner.ensures.inner.0 c.loop-here-test.true) first-turns c.loop-here.invariant.under).1)
 
 pub loop-here-preserved : goal.loop-here-preserved
-loop-here-preserved g c =
-    let b = c.below-here.ensures in
+loop-here-preserved g c = let b = c.below-here.ensures in
     record {
       under = down-ask c.requires.capacity c.node.ensures.value (c.is_inner.ensures.inner.0 c.loop-here-test.true) first-turns c.child-first.ensures b.code b.parent b.grand b.height c.loop-here.invariant.under;
       ends = λ end leaf on.

@@ -25,8 +25,7 @@ pub loop-index-smaller : goal.loop-index-smaller
 loop-index-smaller g c = omega (arith, c.below-here.ensures.height, (down-low c.requires.capacity c.node.ensures.value (c.is_inner.ensures.inner.0 c.loop-index-test.true) (last-turns c.requires.capacity c.last_index-index.ensures.last) c.loop-index.invariant.under).1)
 
 pub loop-index-preserved : goal.loop-index-preserved
-loop-index-preserved g c =
-    let b = c.below-here.ensures in
+loop-index-preserved g c = let b = c.below-here.ensures in
     record {
       under = down-ask c.requires.capacity c.node.ensures.value (c.is_inner.ensures.inner.0 c.loop-index-test.true) (last-turns c.requires.capacity c.last_index-index.ensures.last) c.child-last.ensures b.code b.parent b.grand b.height c.loop-index.invariant.under;
       ends = λ end leaf on.

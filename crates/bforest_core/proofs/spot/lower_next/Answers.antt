@@ -10,21 +10,17 @@ below-requires-clause-code g c = let w = c.requires.way in code-low-here c.requi
 
 pub child-requires : goal.child-requires
 child-requires g c =
-    let w = c.requires.way in
-    (search rules, branch-asks (next-at c.requires.index w.2 c.child_count.ensures.value c.if-index-child_count.true w.1.4).branch)
+    let w = c.requires.way in (search rules, branch-asks (next-at c.requires.index w.2 c.child_count.ensures.value c.if-index-child_count.true w.1.4).branch)
 
 pub returns-then-index-child_count : goal.returns-then-index-child_count
 returns-then-index-child_count g c = record {
-  lower = λ root leads.
-      let b = is-below c.below.ensures.code c.below.ensures.parent c.below.ensures.grand c.below.ensures.height in
+  lower = λ root leads. let b = is-below c.below.ensures.code c.below.ensures.parent c.below.ensures.grand c.below.ensures.height in
       let said = next-said c.requires.index leads c.child_count.ensures.value c.if-index-child_count.true b c.child.ensures in
       inl ((c.below.result, c.child.result), refl, said, c.below.ensures.height);
 }
 
 pub returns : goal.returns
 returns g c = record {
-  lower = λ root leads.
-      let w = c.requires.way in
-      let n = count-asked c.requires.index w.2 w.1 in
+  lower = λ root leads. let w = c.requires.way in let n = count-asked c.requires.index w.2 w.1 in
       inr (n.0, n.1, (λ more. absurd (omega (arith, more, c.child_count.ensures.value n.0 n.1, c.if-index-child_count.false))), refl);
 }

@@ -10,15 +10,12 @@ child-requires g c = let w = c.requires.way in (search rules, branch-asks (prev-
 
 pub returns-then-index-gt0 : goal.returns-then-index-gt0
 returns-then-index-gt0 g c = record {
-  lower = λ root leads.
-      let b = is-below c.below.ensures.code c.below.ensures.parent c.below.ensures.grand c.below.ensures.height in
+  lower = λ root leads. let b = is-below c.below.ensures.code c.below.ensures.parent c.below.ensures.grand c.below.ensures.height in
       inl ((c.below.result, c.child.result), refl, prev-said c.requires.index leads c.if-index-gt0.true b c.child.ensures, c.below.ensures.height);
 }
 
 pub returns : goal.returns
 returns g c = record {
-  lower = λ root leads.
-      let w = c.requires.way in
-      let n = count-asked c.requires.index w.2 w.1 in
+  lower = λ root leads. let w = c.requires.way in let n = count-asked c.requires.index w.2 w.1 in
       inr (n.0, n.1, (λ more. absurd (omega (arith, more, c.if-index-gt0.false))), refl);
 }

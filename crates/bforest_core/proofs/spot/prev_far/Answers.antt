@@ -6,44 +6,29 @@ pub loop-here-init : goal.loop-here-init
 loop-here-init g c = rw c.in_ok-here.was at c.turn_back.ensures.some
 
 pub last_index-last-requires : goal.last_index-last-requires
-last_index-last-requires g c =
-    let t = c.loop-here.invariant in
-    let some = turn-more t c.loop-here-test.true in
-    let e = turn-end t some in
+last_index-last-requires g c = let t = c.loop-here.invariant in let some = turn-more t c.loop-here-test.true in let e = turn-end t some in
     (search rules, back-count (omega arith) e.way.leads (omega arith) refl (turn-beside t some) (turn-way e.way some c.requires.over))
 
 pub below-here-requires-clause-code : goal.below-here-requires-clause-code
 below-here-requires-clause-code g c =
-    let t = c.loop-here.invariant in
-    let some = turn-more t c.loop-here-test.true in
-    let e = turn-end t some in
-    let way = turn-way e.way some c.requires.over in
+    let t = c.loop-here.invariant in let some = turn-more t c.loop-here-test.true in let e = turn-end t some in let way = turn-way e.way some c.requires.over in
     let at = back-at (omega arith) e.way.leads (omega arith) refl (turn-beside t some) c.last_index-last.ensures.last way.4 in
     (stands-low (omega arith) e.way.leads way.4 at (turn-high e.way some c.requires.low)).0
 
 pub below-here-requires-clause-index : goal.below-here-requires-clause-index
 below-here-requires-clause-index g c =
-    let t = c.loop-here.invariant in
-    let some = turn-more t c.loop-here-test.true in
-    let e = turn-end t some in
-    let way = turn-way e.way some c.requires.over in
+    let t = c.loop-here.invariant in let some = turn-more t c.loop-here-test.true in let e = turn-end t some in let way = turn-way e.way some c.requires.over in
     let low : c.last_index-last.result < 8 =
     branch-low (back-at (omega arith) e.way.leads (omega arith) refl (turn-beside t some) c.last_index-last.ensures.last way.4).branch in
     omega arith
 
 pub child-before-requires : goal.child-before-requires
 child-before-requires g c =
-    let t = c.loop-here.invariant in
-    let some = turn-more t c.loop-here-test.true in
-    let e = turn-end t some in
-    let way = turn-way e.way some c.requires.over in
+    let t = c.loop-here.invariant in let some = turn-more t c.loop-here-test.true in let e = turn-end t some in let way = turn-way e.way some c.requires.over in
     (search rules, branch-asks (back-at (omega arith) e.way.leads (omega arith) refl (turn-beside t some) c.last_index-last.ensures.last way.4).branch)
 
 pub loop-here-preserved : goal.loop-here-preserved
-loop-here-preserved g c =
-    let t = c.loop-here.invariant in
-    let some = turn-more t c.loop-here-test.true in
-    let e = turn-end t some in
+loop-here-preserved g c = let t = c.loop-here.invariant in let some = turn-more t c.loop-here-test.true in let e = turn-end t some in
     let b = is-below c.below-here.ensures.code c.below-here.ensures.parent c.below-here.ensures.grand c.below-here.ensures.height in
     turn-down t some
     (back-said (omega arith) e.way.leads (omega arith) refl (turn-beside t some) c.last_index-last.ensures.last b c.child-before.ensures)

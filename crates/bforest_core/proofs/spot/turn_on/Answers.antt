@@ -4,34 +4,26 @@ use Rattle.bforest_core.proofs.table.Stored.{some_same}
 use Rattle.bforest_core.proofs.spot.turn_on.Goals as goal
 
 pub loop-left-init : goal.loop-left-init
-loop-left-init g c =
-    let r = c.root-here in
-    (begun c.requires.over r.result r.ensures.code r.ensures.height, turning-none (root-last r.result r.ensures.height))
+loop-left-init g c = let r = c.root-here in (begun c.requires.over r.result r.ensures.code r.ensures.height, turning-none (root-last r.result r.ensures.height))
 
 pub lower_next-next-requires : goal.lower_next-next-requires
-lower_next-next-requires g c =
-    let f = c.loop-left.invariant.0 in
-    let some = c.loop-left-test.true in
+lower_next-next-requires g c = let f = c.loop-left.invariant.0 in let some = c.loop-left-test.true in
     (search rules, (turn-high f some c.requires.low, (omega arith, (c.args.root, turn-way f some c.requires.over, f.leads))))
 
 pub below-here-requires-clause-code : goal.below-here-requires-clause-code
-below-here-requires-clause-code g c =
-    let f = c.loop-left.invariant.0 in
+below-here-requires-clause-code g c = let f = c.loop-left.invariant.0 in
     code-low-here (omega arith) f.leads (turn-way f c.loop-left-test.true c.requires.over) (turn-high f c.loop-left-test.true c.requires.low)
 
 pub child-node-requires : goal.child-node-requires
 child-node-requires g c =
-    let f = c.loop-left.invariant.0 in
-    (search rules, index-asked (omega arith) f.leads (turn-way f c.loop-left-test.true c.requires.over))
+    let f = c.loop-left.invariant.0 in (search rules, index-asked (omega arith) f.leads (turn-way f c.loop-left-test.true c.requires.over))
 
 pub loop-left-preserved : goal.loop-left-preserved
-loop-left-preserved g c =
-    let i = c.loop-left.invariant in
+loop-left-preserved g c = let i = c.loop-left.invariant in
     let b = is-below c.below-here.ensures.code c.below-here.ensures.parent c.below-here.ensures.grand c.below-here.ensures.height in (
       turned i.0 c.loop-left-test.true b c.child-node.ensures,
-      turning-on i.0 c.loop-left-test.true (c.lower_next-next.ensures.lower c.args.root i.0.leads) i.1
-          (λ content slot_is none end. last-said (omega arith) i.0.leads (λ other found. ap entry_count (some_same content other (sym slot_is ∙ found)))
-          (omega arith) refl refl end) b,
+      turning-on i.0 c.loop-left-test.true (c.lower_next-next.ensures.lower c.args.root i.0.leads) i.1 (λ content slot_is none end. last-said (omega arith)
+          i.0.leads (λ other found. ap entry_count (some_same content other (sym slot_is ∙ found))) (omega arith) refl refl end) b,
     )
 
 pub returns : goal.returns

@@ -20,8 +20,7 @@ free_node-requires g t c =
     (search rules, free_asks c.requires.rooted.2 (λ one. c.if-self-eq1.false one) c.entries-count.result c.entries-count.ensures.value c.if-count-gt1.false)
 
 pub collapse_root-requires : goal.collapse_root-requires
-collapse_root-requires g t c κs within =
-    let w = c.requires.rooted in
+collapse_root-requires g t c κs within = let w = c.requires.rooted in
     let next = trim_down w.2 (λ one. c.if-self-eq1.false one) _ c.entries-count.ensures.value c.if-count-gt1.false _ c.child-only.ensures _ c.free_node.ensures.freed in
     let less : c.args.self.now.size - 1 < t = omega arith in
     (less, (within.0, (within.1, ((λ a m. search rules), (search rules, (search rules, (omega arith, (_, w.1, next))))))))
@@ -31,8 +30,5 @@ returns-clause-trimmed g t c = λ rows list u.
     let next = trim_down u (λ one. c.if-self-eq1.false one) _ c.entries-count.ensures.value c.if-count-gt1.false _ c.child-only.ensures _ c.free_node.ensures.freed in
     let r = c.collapse_root.ensures.trimmed _ list next in (
       r.0 ++ c.args.root ∷ [],
-      trim_then u
-          (λ one. c.if-self-eq1.false one) _ c.entries-count.ensures.value c.if-count-gt1.false _
-          c.child-only.ensures _ c.free_node.ensures.freed
-          r.1,
+      trim_then u (λ one. c.if-self-eq1.false one) _ c.entries-count.ensures.value c.if-count-gt1.false _ c.child-only.ensures _ c.free_node.ensures.freed r.1,
     )

@@ -11,15 +11,13 @@ returns-then-level-eq0-clause-descended g t c = λ leaves lower a first b u inc 
     _ _ _ (omega arith) (omega arith) c.set_level.ensures.node c.set_level.ensures.entry
 
 pub follow-index-requires : goal.follow-index-requires
-follow-index-requires g t c =
-    let w = c.requires.under in
+follow-index-requires g t c = let w = c.requires.under in
     let s = inner_step (g.met.C.Comparator.total c.args.comp.now) c.requires.capacity w.6 w.7
     (inner_at c.requires.capacity _ _ _ _ w.5 (λ z. c.if-level-eq0.false (w.8 ∙ z))) in
     (search rules, follow_asks (g.met.C.Comparator.total c.args.comp.now) c.requires.capacity s)
 
 pub descend-requires : goal.descend-requires
-descend-requires g t c κs within =
-    let w = c.requires.under in
+descend-requires g t c κs within = let w = c.requires.under in
     let s = inner_step (g.met.C.Comparator.total c.args.comp.now) c.requires.capacity w.6 w.7
     (inner_at c.requires.capacity _ _ _ _ w.5 (λ z. c.if-level-eq0.false (w.8 ∙ z))) in
     let d = below (g.met.C.Comparator.total c.args.comp.now) c.requires.capacity s c.follow-index.ensures.index c.follow-index.ensures.child in (
@@ -34,16 +32,7 @@ descend-requires g t c κs within =
               within.1.1,
               (
                 search rules,
-                (
-                  search rules,
-                  (
-                    c.requires.capacity,
-                    (
-                      omega arith,
-                      (w.0, s.here.rows, d.front, d.head, d.back, d.under, w.6, d.through, omega arith),
-                    ),
-                  ),
-                ),
+                (search rules, (c.requires.capacity, (omega arith, (w.0, s.here.rows, d.front, d.head, d.back, d.under, w.6, d.through, omega arith)))),
               ),
             ),
           ),
@@ -56,8 +45,7 @@ returns-clause-descended g t c = λ leaves lower a first b u inc through level_i
     let s = inner_step (g.met.C.Comparator.total c.args.comp.now) c.requires.capacity inc through
     (inner_at c.requires.capacity a _ _ b u (λ z. c.if-level-eq0.false (level_is ∙ z))) in
     let d = below (g.met.C.Comparator.total c.args.comp.now) c.requires.capacity s c.follow-index.ensures.index c.follow-index.ensures.child in
-    let r = c.descend.ensures.descended leaves s.here.rows d.front d.head d.back d.under inc d.through (omega arith) in
-    let set = c.set_level-2.ensures in
+    let r = c.descend.ensures.descended leaves s.here.rows d.front d.head d.back d.under inc d.through (omega arith) in let set = c.set_level-2.ensures in
     record {
       leaf_is = r.leaf_is;
       entries = r.entries;

@@ -2,13 +2,10 @@ use Rattle.bforest_core.proofs.{Words.{rules, arith}, walks.Leading.{last-turns,
 use Rattle.bforest_core.proofs.path.Path.+descend_last.Goals as goal
 
 pub last_index-last-requires : goal.last_index-last-requires
-last_index-last-requires g t c =
-    let w = c.requires.under in
-    (search rules, node_held c.requires.capacity w.2 w.3 _ w.4 w.6)
+last_index-last-requires g t c = let w = c.requires.under in (search rules, node_held c.requires.capacity w.2 w.3 _ w.4 w.6)
 
 pub returns-then-level-eq0-clause-led : goal.returns-then-level-eq0-clause-led
-returns-then-level-eq0-clause-led g t c =
-    let set = c.set_level.ensures in
+returns-then-level-eq0-clause-led g t c = let set = c.set_level.ensures in
     led-ends c.requires.capacity (last-turns c.requires.capacity c.last_index-last.ensures.last) c.if-level-eq0.true set.here set.node set.entry
 
 pub child-child-requires : goal.child-child-requires
@@ -42,6 +39,5 @@ descend_last-requires g t c κs within = (
 )
 
 pub returns-clause-led : goal.returns-clause-led
-returns-clause-led g t c =
-    let set = c.set_level.ensures in
+returns-clause-led g t c = let set = c.set_level.ensures in
     led-on c.requires.capacity (last-turns c.requires.capacity c.last_index-last.ensures.last) c.if-level-eq0.false c.child-child.ensures set.here set.node set.entry c.descend_last.ensures.led

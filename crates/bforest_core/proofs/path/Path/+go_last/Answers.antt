@@ -5,18 +5,15 @@ pub returns-then-from-level-clause-moved : goal.returns-then-from-level-clause-m
 returns-then-from-level-clause-moved g t c = λ path indices size turned. subst (λ z. Retreats c.args.pool.now.nodes path indices c.args.self.now.node c.args.self.now.entry z size) c.if-from-level.true turned.moved
 
 pub last_index-last-requires : goal.last_index-last-requires
-last_index-last-requires g t c =
-    let w = c.requires.turned in
+last_index-last-requires g t c = let w = c.requires.turned in
     (search rules, last-held _ _ _ (omega (arith, c.requires.within, c.if-from-level.false)) w.3 c.index-self-from.result (omega arith) w.4)
 
 pub go_to_child-requires : goal.go_to_child-requires
-go_to_child-requires g t c =
-    let w = c.requires.turned in
+go_to_child-requires g t c = let w = c.requires.turned in
     (search rules, (search rules, last-goes _ _ _ (omega (arith, c.requires.within, c.if-from-level.false)) w.3 c.index-self-from.result (omega arith) c.last_index-last.ensures.last w.4))
 
 pub go_last-requires : goal.go_last-requires
-go_last-requires g t c κs within =
-    let w = c.requires.turned in
+go_last-requires g t c κs within = let w = c.requires.turned in
     let w' = c.go_to_child.ensures in (
       omega (arith, c.decreases, c.requires.within, c.if-from-level.false),
       (
@@ -47,6 +44,5 @@ go_last-requires g t c κs within =
     )
 
 pub returns-clause-moved : goal.returns-clause-moved
-returns-clause-moved g t c = λ path indices size turned.
-    let w' = c.go_to_child.ensures in
+returns-clause-moved g t c = λ path indices size turned. let w' = c.go_to_child.ensures in
     c.go_last.ensures.moved path indices size (back-turned _ _ _ (omega (arith, c.requires.within, c.if-from-level.false)) turned c.index-self-from.result (omega arith) c.last_index-last.ensures.last (went w'.child w'.nodes w'.entry w'.entries))

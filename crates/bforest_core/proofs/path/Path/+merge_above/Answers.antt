@@ -3,21 +3,16 @@ use Rattle.bforest_core.proofs.removal.Merge.{loses_child, merge_asks, merge_hea
 use Rattle.bforest_core.proofs.path.Path.+merge_above.Goals as goal
 
 pub merge_above-requires : goal.merge_above-requires
-merge_above-requires g t c κs within =
-    let w = c.requires.pending in
-    let l = c.remove_merged.ensures w in
+merge_above-requires g t c κs within = let w = c.requires.pending in let l = c.remove_merged.ensures w in
     let j = c.rebalance.ensures.joined c.if-rebalance.true (loses_child w.rows l (omega (arith, length-append w.before ((w.x.0, w.y.1) ∷ w.after))) g.row.N) in
-    let size = c.rebalance.ensures.size in
-    let less : c.rebalance.new.self.size - (c.args.up + 1) < t = omega (arith, two_low w) in
+    let size = c.rebalance.ensures.size in let less : c.rebalance.new.self.size - (c.args.up + 1) < t = omega (arith, two_low w) in
     (less, (within.0, (within.1, ((λ a m. search rules), (search rules, (search rules, (omega arith, merge_asks l j _ _ (add-one c.args.up) size)))))))
 
 pub returns-then-rebalance : goal.returns-then-rebalance
 returns-then-rebalance g t c = record {
-  merged = λ w.
-      let l = c.remove_merged.ensures w in
+  merged = λ w. let l = c.remove_merged.ensures w in
       let at : length w.before < length (w.before ++ (w.x.0, w.y.1) ∷ w.after) = omega (arith, length-append w.before ((w.x.0, w.y.1) ∷ w.after)) in
-      let j = c.rebalance.ensures.joined c.if-rebalance.true (loses_child w.rows l at g.row.N) in
-      let size = c.rebalance.ensures.size in
+      let j = c.rebalance.ensures.joined c.if-rebalance.true (loses_child w.rows l at g.row.N) in let size = c.rebalance.ensures.size in
       let r = c.merge_above.ensures.merged (merge_asks l j _ _ (add-one c.args.up) size) in
       (suc r.0, merge_joined w.rows l at _ _ j (omega arith) size r.0 r.1);
   size = c.merge_above.ensures.size ∙ c.rebalance.ensures.size;
@@ -25,8 +20,7 @@ returns-then-rebalance g t c = record {
 
 pub returns-else-rebalance : goal.returns-else-rebalance
 returns-else-rebalance g t c = record {
-  merged = λ w.
-      let l = c.remove_merged.ensures w in
+  merged = λ w. let l = c.remove_merged.ensures w in
       let at : length w.before < length (w.before ++ (w.x.0, w.y.1) ∷ w.after) = omega (arith, length-append w.before ((w.x.0, w.y.1) ∷ w.after)) in
       (0, merge_healed w.rows l at (c.rebalance.ensures.healed c.if-rebalance.false (loses_child w.rows l at g.row.N)));
   size = c.rebalance.ensures.size;
@@ -36,9 +30,7 @@ pub remove_merged-requires : goal.remove_merged-requires
 remove_merged-requires g t c = (search rules, (search rules, (c.requires.height, c.requires.pending)))
 
 pub rebalance-requires : goal.rebalance-requires
-rebalance-requires g t c =
-    let w = c.requires.pending in
-    let l = c.remove_merged.ensures w in
+rebalance-requires g t c = let w = c.requires.pending in let l = c.remove_merged.ensures w in
     (search rules, (search rules, (c.requires.height, loses_child w.rows l (omega (arith, length-append w.before ((w.x.0, w.y.1) ∷ w.after))) g.row.N)))
 
 pub overflow_add-up : goal.overflow_add-up

@@ -12,7 +12,5 @@ next_turn-requires g t c κs within =
     (omega (arith, c.decreases, c.requires.over.3.height, c.if-level-self.false), (within.0, (within.1, ((λ a m. search rules), (search rules, (search rules, (c.requires.height, turn-above _ _ _ (c.args.level + 1) c.requires.over.3 c.if-level-self.false (add-one _))))))))
 
 pub returns-clause-last : goal.returns-clause-last
-returns-clause-last g t c = both c.args.level
-    (c.args.level + 1) c.next_turn.result
-    (here-last c.args.pool.now.nodes c.args.self.now.node c.args.self.now.entry refl
-    (add-one _) c.has_child.ensures.within c.if-has_child.false) c.next_turn.ensures.last
+returns-clause-last g t c = both c.args.level (c.args.level + 1) c.next_turn.result (here-last c.args.pool.now.nodes c.args.self.now.node c.args.self.now.entry
+    refl (add-one _) c.has_child.ensures.within c.if-has_child.false) c.next_turn.ensures.last

@@ -24,16 +24,14 @@ pub free_node-requires : goal.free_node-requires
 free_node-requires g t c = (search rules, (here c.requires.pending c.index-self-up.result (omega arith) c.requires.height).used)
 
 pub remove_emptied-requires : goal.remove_emptied-requires
-remove_emptied-requires g t c κs within =
-    let w = c.requires.pending in
+remove_emptied-requires g t c κs within = let w = c.requires.pending in
     let asked = above_asks w c.index-self-up.result (omega arith) c.requires.height c.entries.result c.entries.ensures.value c.if-entries-eq1.true c.free_node.new.self c.free_node.ensures.freed (c.args.up + 1) (add-one c.args.up) in
     let less = drop_fewer w c.index-self-up.result (omega arith) c.requires.height _ t (add-one c.args.up) c.decreases in
     (less, (within.0, (within.1, ((λ a m. search rules), (search rules, (search rules, (c.requires.height, asked)))))))
 
 pub remove_child-answer-requires : goal.remove_child-answer-requires
 remove_child-answer-requires g t c =
-    let s = here c.requires.pending c.index-self-up.result (omega arith) c.requires.height in
-    (search rules, (s.used, s.child_asks))
+    let s = here c.requires.pending c.index-self-up.result (omega arith) c.requires.height in (search rules, (s.used, s.child_asks))
 
 pub returns-then-entries-eq1 : goal.returns-then-entries-eq1
 returns-then-entries-eq1 g t c = λ w.

@@ -9,8 +9,7 @@ pub entries-requires : goal.entries-requires
 entries-requires g t c = (search rules, (here c.requires.pending c.if-up-self.false c.index-self-up.result (omega arith) c.requires.height).node_asks)
 
 pub separator-requires : goal.separator-requires
-separator-requires g t c =
-    let w = c.requires.pending in
+separator-requires g t c = let w = c.requires.pending in
     (search rules, (here w c.if-up-self.false c.index-self-up.result (omega arith) c.requires.height).key_asks _ _ c.entries.ensures.value c.if-index-entries.true)
 
 pub child-requires : goal.child-requires
@@ -19,14 +18,12 @@ child-requires g t c =
 
 pub right_sibling-requires : goal.right_sibling-requires
 right_sibling-requires g t c κs within =
-    let w = c.requires.pending in
-    let d = above_asks w c.if-up-self.false c.index-self-up.result (omega arith) c.requires.height in
+    let w = c.requires.pending in let d = above_asks w c.if-up-self.false c.index-self-up.result (omega arith) c.requires.height in
     let falls = above_fewer w c.if-up-self.false c.index-self-up.result (omega arith) c.requires.height t c.decreases in
     (falls, (within.0, (within.1, ((λ a' m'. search rules), (search rules, (search rules, (c.requires.height, d)))))))
 
 pub child-requires-in-Some : goal.child-requires-in-Some
-child-requires-in-Some g t c =
-    let w = c.requires.pending in
+child-requires-in-Some g t c = let w = c.requires.pending in
     (search rules, first_asks w c.if-up-self.false c.index-self-up.result (omega arith) c.requires.height _ c.in-Some.next c.in-Some.is c.right_sibling.ensures)
 
 pub returns-then-index-entries : goal.returns-then-index-entries

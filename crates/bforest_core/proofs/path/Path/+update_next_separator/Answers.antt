@@ -2,24 +2,17 @@ use Rattle.bforest_core.proofs.{Words.{rules, arith}, removal.Asked.two_low, rem
 use Rattle.bforest_core.proofs.path.Path.+update_next_separator.Goals as goal
 
 pub overflow_add-index : goal.overflow_add-index
-overflow_add-index g t c =
-    let w = c.requires.pending in
-    omega (arith, (here w c.index-self-up.result (omega arith) c.requires.height).small)
+overflow_add-index g t c = let w = c.requires.pending in omega (arith, (here w c.index-self-up.result (omega arith) c.requires.height).small)
 
 pub entries-requires : goal.entries-requires
-entries-requires g t c =
-    let w = c.requires.pending in
-    (search rules, (here w c.index-self-up.result (omega arith) c.requires.height).node_asks)
+entries-requires g t c = let w = c.requires.pending in (search rules, (here w c.index-self-up.result (omega arith) c.requires.height).node_asks)
 
 pub set_separator-requires : goal.set_separator-requires
-set_separator-requires g t c =
-    let w = c.requires.pending in
-    let s = here w c.index-self-up.result (omega arith) c.requires.height in
+set_separator-requires g t c = let w = c.requires.pending in let s = here w c.index-self-up.result (omega arith) c.requires.height in
     (search rules, (s.used, s.key_asks _ _ c.entries.ensures.value c.if-index-entries.true))
 
 pub update_next_separator-requires : goal.update_next_separator-requires
-update_next_separator-requires g t c κs within =
-    let w = c.requires.pending in
+update_next_separator-requires g t c κs within = let w = c.requires.pending in
     let d = above_asks w c.index-self-up.result (omega arith) c.requires.height c.entries.result c.entries.ensures.value c.if-index-entries.false in
     let falls = above_fewer w c.index-self-up.result (omega arith) c.requires.height t c.decreases in
     (falls, (within.0, (within.1, ((λ a' m'. search rules), (search rules, (search rules, (c.requires.height, d)))))))

@@ -4,29 +4,22 @@ use Rattle.bforest_core.proofs.path.Path.+update_separator.Goals as goal
 
 pub set_separator-requires : goal.set_separator-requires
 set_separator-requires g t c =
-    let w = c.requires.pending in
-    let s = seen w.before w.x w.after w.above c.if-up-self.false c.index-self-up.result (omega arith) c.requires.height in
+    let w = c.requires.pending in let s = seen w.before w.x w.after w.above c.if-up-self.false c.index-self-up.result (omega arith) c.requires.height in
     (search rules, (s.used, s.low_key_asks _ (omega (arith, c.if-index-gt0.true))))
 
 pub update_separator-requires : goal.update_separator-requires
 update_separator-requires g t c κs within =
-    let w = c.requires.pending in
-    let low = c.if-up-self.false in
-    let d = spot w.before w.x w.after w.above low in
-    let u = up_above d in
+    let w = c.requires.pending in let low = c.if-up-self.false in let d = spot w.before w.x w.after w.above low in let u = up_above d in
     let falls : c.args.self.now.size - (c.args.up + 1) < t = omega (arith, c.decreases, low) in
     (falls, (within.0, (within.1, ((λ a' m'. search rules), (search rules, (search rules, (c.requires.height, (record { rows = d.q.rest; before = heads d.q.before; x = (u.0, get_or c.args.self.now.node c.args.up 0); after = heads d.q.after; above = rw add-one u.1 }))))))))
 
 pub returns-then-index-gt0 : goal.returns-then-index-gt0
 returns-then-index-gt0 g t c = λ w.
-    let s = seen w.before w.x w.after w.above c.if-up-self.false c.index-self-up.result (omega arith) c.requires.height in
-    let es = s.d.q.l ++ w.x ∷ s.d.q.r in
+    let s = seen w.before w.x w.after w.above c.if-up-self.false c.index-self-up.result (omega arith) c.requires.height in let es = s.d.q.l ++ w.x ∷ s.d.q.r in
     rekey_parent _ c.args.key s.d c.if-index-gt0.true (rw s.num_is at (c.set_separator.ensures (drop 1 (entry_keys es)) (entry_items es) s.slot_is))
 
 pub returns-else-index-gt0 : goal.returns-else-index-gt0
-returns-else-index-gt0 g t c = λ w.
-    let d = spot w.before w.x w.after w.above c.if-up-self.false in
-    let u = up_above d in
+returns-else-index-gt0 g t c = λ w. let d = spot w.before w.x w.after w.above c.if-up-self.false in let u = up_above d in
     rekey_first _ c.args.key d c.if-index-gt0.false (rw add-one at (c.update_separator.ensures (record { rows = d.q.rest; before = heads d.q.before; x = (u.0, get_or c.args.self.now.node c.args.up 0); after = heads d.q.after; above = rw add-one u.1 })))
 
 pub returns-then-up-self : goal.returns-then-up-self

@@ -6,8 +6,7 @@ pub entry_here-requires : goal.entry_here-requires
 entry_here-requires g c = (search rules, (search rules, here-leaf _ _ _ c.requires.union (c.requires.stands (λ e. omega (arith, e, c.if-self-gt0.true))).on))
 
 pub returns-else-self-gt0 : goal.returns-else-self-gt0
-returns-else-self-gt0 g c =
-    let past = λ (at : Standing c.args.pool.now c.args.self.now). at_end _ _ _ _ _ (omega arith) at.at.at in
+returns-else-self-gt0 g c = let past = λ (at : Standing c.args.pool.now c.args.self.now). at_end _ _ _ _ _ (omega arith) at.at.at in
     record { value = λ at. sym (slice_get_past (list_under c.args.pool.now at.root) at.place (omega (arith, past at))); end = λ none. refl }
 
 pub returns-then-self-gt0 : goal.returns-then-self-gt0

@@ -4,8 +4,7 @@ use Rattle.bforest_nodes.specs.Content.{keys_of}
 use Rattle.bforest_core.proofs.path.Path.entry_here.Goals as goal
 
 pub returns : goal.returns
-returns g c = λ es slot.
-    let content = leaf_is c.args.pool.now.nodes c.args.self.now.node c.index-self-0.result es (omega arith) c.node.ensures.value slot in
+returns g c = λ es slot. let content = leaf_is c.args.pool.now.nodes c.args.self.now.node c.index-self-0.result es (omega arith) c.node.ensures.value slot in
     let i = get_or c.args.self.now.entry 0 0 in
     pair_read es i (ap (λ z. slice_get (keys_of z) i) (sym content) ∙ c.entry.ensures.key) (ap (λ z. slice_get (vals_of z) i) (sym content) ∙ c.entry.ensures.value)
 

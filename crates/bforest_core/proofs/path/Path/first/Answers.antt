@@ -2,9 +2,7 @@ use Rattle.bforest_core.proofs.{Words.{StandsOn, rules, subst, arith}, walks.Nea
 use Rattle.bforest_core.proofs.path.Path.first.Goals as goal
 
 pub entry_here-requires : goal.entry_here-requires
-entry_here-requires g c =
-    let leaf = c.first_leaf.ensures.stands in
-    (search rules, (search rules, (leaf.0, leaf.1.leaf, leaf.1.within)))
+entry_here-requires g c = let leaf = c.first_leaf.ensures.stands in (search rules, (search rules, (leaf.0, leaf.1.leaf, leaf.1.within)))
 
 pub returns : goal.returns
 returns g c =

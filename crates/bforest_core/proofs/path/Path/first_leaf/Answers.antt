@@ -3,8 +3,7 @@ use Rattle.bforest_core.proofs.{walks.TopNode.node_within, walks.Leaves.{leaf-fr
 use Rattle.bforest_core.proofs.path.Path.first_leaf.Goals as goal
 
 pub node-requires : goal.node-requires
-node-requires g c =
-    let u = under-root c.args.root c.requires.union c.requires.root in
+node-requires g c = let u = under-root c.args.root c.requires.union c.requires.root in
     (search rules, (search rules, node_within c.requires.union.1.capacity [] u.first c.args.root [] u.under))
 
 pub returns-then-not-is_inner : goal.returns-then-not-is_inner
@@ -16,8 +15,7 @@ pub overflow_sub-levels : goal.overflow_sub-levels
 overflow_sub-levels g c = omega arith
 
 pub descend_first-requires : goal.descend_first-requires
-descend_first-requires g c =
-    let w = root-below _ c.requires.union c.requires.root c.levels-levels.ensures.value refl in
+descend_first-requires g c = let w = root-below _ c.requires.union c.requires.root c.levels-levels.ensures.value refl in
     (search rules, (search rules, (c.requires.union.1.capacity, (omega (arith, w.7, (under-root _ c.requires.union c.requires.root).low), w))))
 
 pub returns : goal.returns

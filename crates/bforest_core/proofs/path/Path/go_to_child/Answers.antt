@@ -3,8 +3,7 @@ use Rattle.bforest_core.proofs.{Words.{entry_items, entry_keys}, table.Stored.it
 use Rattle.bforest_core.proofs.path.Path.go_to_child.Goals as goal
 
 pub child-child-requires : goal.child-child-requires
-child-child-requires g c =
-    let w = c.requires.inner in
+child-child-requires g c = let w = c.requires.inner in
     (search rules, (drop 1 (entry_keys w.0), entry_items w.0, at_index _ _ c.index-self-level.result (omega (arith, c.requires.within)) (add-one c.args.level) w.1, subst (λ z. c.args.index < z) (sym (item_count w.0)) w.2))
 
 pub returns : goal.returns

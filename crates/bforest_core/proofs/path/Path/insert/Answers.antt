@@ -5,8 +5,7 @@ use Rattle.bforest_core.proofs.path.Path.insert.Goals as goal
 
 pub put_here-requires : goal.put_here-requires
 put_here-requires g c =
-    let w = c.requires.placed in
-    (search rules, (search rules, (tree_of c.args.pool.now.nodes w.root, w.place, placed-under _ _ c.requires.union w.placed)))
+    let w = c.requires.placed in (search rules, (search rules, (tree_of c.args.pool.now.nodes w.root, w.place, placed-under _ _ c.requires.union w.placed)))
 
 -- where the leaf has room, the insertion under any root in whose tree the path stands
 put_at : (g : Over) (c : goal.After-root g) {root place : ℕ} → PlacedUnder c.args.pool.now.nodes root c.args.self.now.node c.args.self.now.entry c.args.self.now.size place →
@@ -14,8 +13,7 @@ put_at : (g : Over) (c : goal.After-root g) {root place : ℕ} → PlacedUnder c
 put_at g c {root} {place} p = put-here c.requires.union p (c.put_here.ensures.inserted c.if-put_here.true _ place (placed-under _ _ c.requires.union p))
 
 pub root-requires : goal.root-requires
-root-requires g c =
-    let w = c.requires.placed in
+root-requires g c = let w = c.requires.placed in
     let put = put-here c.requires.union w.placed (c.put_here.ensures.inserted c.if-put_here.true _ w.place (placed-under _ _ c.requires.union w.placed)) in
     (search rules, (put.some, put.low))
 
@@ -37,9 +35,7 @@ insert_full-requires g c =
     (search rules, (search rules, rw (c.put_here.ensures.pool c.if-put_here.false) (c.requires.union, (c.requires.placed, c.put_here.ensures.full c.if-put_here.false))))
 
 pub returns : goal.returns
-returns g c =
-    let pool_is = c.put_here.ensures.pool c.if-put_here.false in
-    let said = c.insert_full.ensures in
+returns g c = let pool_is = c.put_here.ensures.pool c.if-put_here.false in let said = c.insert_full.ensures in
     record {
       inserted = rw (← pool_is) said.inserted;
       account = rw (← pool_is) said.account;

@@ -16,5 +16,4 @@ returns-clause-past g c = λ yes old tree place l.
     behind_all l c.index-self-0.result (omega arith) c.entries.result c.entries.ensures.value c.right_sibling.result c.is_none.result c.if-self-entries.false c.right_sibling.ensures c.is_none.ensures yes
 
 pub returns-clause-within : goal.returns-clause-within
-returns-clause-within g c = λ no old tree place l.
-    one_follows l c.right_sibling.result c.is_none.result c.right_sibling.ensures c.is_none.ensures no
+returns-clause-within g c = λ no old tree place l. one_follows l c.right_sibling.result c.is_none.result c.right_sibling.ensures c.is_none.ensures no

@@ -6,8 +6,7 @@ pub overflow_sub-height : goal.overflow_sub-height
 overflow_sub-height g c = omega (arith, c.levels-height.ensures.value)
 
 pub descend_last-requires : goal.descend_last-requires
-descend_last-requires g c =
-    let u = under-root c.args.root c.requires.union c.requires.root in
+descend_last-requires g c = let u = under-root c.args.root c.requires.union c.requires.root in
     let w = root-below c.args.root c.requires.union c.requires.root c.levels-height.ensures.value refl in
     (search rules, (search rules, (c.requires.union.1.capacity, (omega (arith, w.7, u.low), w))))
 

@@ -8,8 +8,7 @@ pub returns-clause-value : goal.returns-clause-value
 returns-clause-value g c = λ at. said c.requires.union c.args.self.now at.on c.in-Some.ensures.value
 
 pub returns-clause-stands : goal.returns-clause-stands
-returns-clause-stands g c = λ at.
-    let s = said c.requires.union c.args.self.now at.on c.in-Some.ensures.moved in
+returns-clause-stands g c = λ at. let s = said c.requires.union c.args.self.now at.on c.in-Some.ensures.moved in
     record { root_is = at.on.root_is; at = path-on _ _ _ _ _ (record { leaf = s.leaf; above = s.above; size_is = c.next_entry.ensures.size ∙ s.size_is }) }
 
 pub returns-in_default : goal.returns-in_default

@@ -15,8 +15,7 @@ pub returns-in-Some-clause-moved : goal.returns-in-Some-clause-moved
 returns-in-Some-clause-moved g c = λ tree place fit inside s. next_within c.requires.capacity fit inside s c.in-Some.ensures.value _ c.set_entry.ensures.nodes c.set_entry.ensures.here c.set_entry.ensures.above
 
 pub next_node-requires : goal.next_node-requires
-next_node-requires g c =
-    let w = c.requires.stands in
+next_node-requires g c = let w = c.requires.stands in
     (search rules, (search rules, (c.requires.height, (w.0.above, heads w.0.leaves, length w.4.leaf.before, over_leaves c.requires.capacity w.2 w.3 w.4))))
 
 pub returns-then-not-next_node : goal.returns-then-not-next_node
@@ -29,8 +28,7 @@ returns-then-not-next_node g c = record {
 }
 
 pub entry_here-requires : goal.entry_here-requires
-entry_here-requires g c =
-    let w = c.requires.stands in
+entry_here-requires g c = let w = c.requires.stands in
     let s = next_over c.requires.capacity w.2 w.3 w.4 c.in_default.ensures.value _ (c.next_node.ensures.moved (search rules)) c.set_entry-2.ensures.nodes c.set_entry-2.ensures.here c.set_entry-2.ensures.above in
     (search rules, (search rules, (s.leaf.entries, (leaf_here c.requires.capacity w.2 w.3 s).node.slot_is, s.leaf.within)))
 
@@ -40,6 +38,5 @@ returns-clause-value g c = λ tree place fit inside s.
     sym (entry_read c.requires.capacity fit inside s' c.entry_here.ensures)
 
 pub returns-clause-moved : goal.returns-clause-moved
-returns-clause-moved g c = λ tree place fit inside s. next_over
-    c.requires.capacity fit inside s c.in_default.ensures.value c.set_entry-2.new.self.entry
+returns-clause-moved g c = λ tree place fit inside s. next_over c.requires.capacity fit inside s c.in_default.ensures.value c.set_entry-2.new.self.entry
     (c.next_node.ensures.moved (search rules)) c.set_entry-2.ensures.nodes c.set_entry-2.ensures.here c.set_entry-2.ensures.above

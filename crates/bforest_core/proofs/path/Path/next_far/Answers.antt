@@ -6,17 +6,14 @@ next_turn-turn-requires g c = (search rules, (search rules, (c.requires.height, 
 
 pub returns-then-turn-self-clause-last : goal.returns-then-turn-self-clause-last
 returns-then-turn-self-clause-last g c = λ no.
-    let said = c.next_turn-turn.ensures in
-    far-last _ _ _ c.requires.height said.within c.requires.last said.last c.if-turn-self.true
+    let said = c.next_turn-turn.ensures in far-last _ _ _ c.requires.height said.within c.requires.last said.last c.if-turn-self.true
 
 pub go_to_child-requires : goal.go_to_child-requires
-go_to_child-requires g c =
-    let said = c.next_turn-turn.ensures in
+go_to_child-requires g c = let said = c.next_turn-turn.ensures in
     (search rules, (search rules, turn-goes _ _ _ c.requires.height said.within c.requires.last said.last c.if-turn-self.false (said.turns c.if-turn-self.false) c.requires.over))
 
 pub go_first-requires : goal.go_first-requires
-go_first-requires g c =
-    let said = c.next_turn-turn.ensures in
+go_first-requires g c = let said = c.next_turn-turn.ensures in
     let w' = c.go_to_child.ensures in (
       search rules,
       (
@@ -36,9 +33,7 @@ go_first-requires g c =
     )
 
 pub returns-clause-moved : goal.returns-clause-moved
-returns-clause-moved g c = λ yes.
-    let said = c.next_turn-turn.ensures in
-    let w' = c.go_to_child.ensures in
+returns-clause-moved g c = λ yes. let said = c.next_turn-turn.ensures in let w' = c.go_to_child.ensures in
     c.go_first.ensures.moved c.args.self.now.node c.args.self.now.entry c.args.self.now.size
     (turned c.args.pool.now.nodes c.args.self.now.node c.args.self.now.entry c.requires.height said.within c.requires.last said.last
     c.if-turn-self.false (said.turns c.if-turn-self.false) (went w'.child w'.nodes w'.entry w'.entries))

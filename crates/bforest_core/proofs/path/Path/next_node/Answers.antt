@@ -21,15 +21,14 @@ pub go_to_child-requires : goal.go_to_child-requires
 go_to_child-requires g c = (search rules, (search rules, turn_asks c.requires.over.3 (add-one _) c.if-level-self.false c.requires.height (next_turn c.requires.over.3 (add-one _) c.if-level-self.false c.requires.height (λ entries slot. (c.has_child.ensures.within entries slot).0 c.if-has_child.true))))
 
 pub returns-then-has_child : goal.returns-then-has_child
-returns-then-has_child g c =
-    record {
-      moved = λ yes rows list place p. turn_moves p (add-one _) c.if-level-self.false c.requires.height
-          (next_turn p (add-one _) c.if-level-self.false c.requires.height (λ entries slot. (c.has_child.ensures.within entries slot).0 c.if-has_child.true))
-          (went c.go_to_child.ensures.child c.go_to_child.ensures.nodes c.go_to_child.ensures.entry c.go_to_child.ensures.entries);
-      last = never refl;
-      same = never refl;
-      size = c.go_to_child.ensures.size;
-    }
+returns-then-has_child g c = record {
+  moved = λ yes rows list place p. turn_moves p (add-one _) c.if-level-self.false c.requires.height
+      (next_turn p (add-one _) c.if-level-self.false c.requires.height (λ entries slot. (c.has_child.ensures.within entries slot).0 c.if-has_child.true))
+      (went c.go_to_child.ensures.child c.go_to_child.ensures.nodes c.go_to_child.ensures.entry c.go_to_child.ensures.entries);
+  last = never refl;
+  same = never refl;
+  size = c.go_to_child.ensures.size;
+}
 
 pub next_far-requires : goal.next_far-requires
 next_far-requires g c = (

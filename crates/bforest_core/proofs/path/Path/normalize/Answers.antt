@@ -11,8 +11,7 @@ pub returns-then-has_entry-clause-stands : goal.returns-then-has_entry-clause-st
 returns-then-has_entry-clause-stands g c = λ at. pointed-here c.requires.union c.args.self.now at.to c.has_entry.ensures.within c.if-has_entry.true
 
 pub returns-then-next_node-clause-stands : goal.returns-then-next_node-clause-stands
-returns-then-next_node-clause-stands g c = λ at.
-    pointed-next c.requires.union c.args.self.now at.to c.has_entry.ensures.within c.if-has_entry.false
+returns-then-next_node-clause-stands g c = λ at. pointed-next c.requires.union c.args.self.now at.to c.has_entry.ensures.within c.if-has_entry.false
     c.next_node.new.self c.set_entry.new.self (c.next_node.ensures.moved c.if-next_node.true) c.set_entry.ensures.nodes
     c.set_entry.ensures.here c.set_entry.ensures.above (c.set_entry.ensures.size ∙ c.next_node.ensures.size)
 

@@ -6,8 +6,7 @@ use Rattle.bforest_core.proofs.path.Path.prev.Goals as goal
 module _ {K V : Type 0} {n : ℕ} {table : Table K V} (union : IsUnion n table) {root : ℕ} (old new : Path K V n) {place : ℕ} (at : StandsAt table root old place) where
   -- from the end the previous entry is the last
   end_back : old.size ≡ 0 → (e : K × V) → slice_get (list_under table root) (length (list_under table root) - 1) ≡ Some e → StandsOn table root new (length (list_under table root) - 1) → (Some e ≡ entry_before (list_under table root) place) × StandsOn table root new (place - 1)
-  end_back none e read_is on =
-      let end = at_end _ _ _ _ _ none at.at in
+  end_back none e read_is on = let end = at_end _ _ _ _ _ none at.at in
       (sym read_is ∙ ap (λ z. slice_get (list_under table root) (z - 1)) (sym end) ∙ before_is (list_under table root) place (omega (arith, on-within table root new _ on)), rw end on)
 
   -- the entry read after the move is the previous one
@@ -17,14 +16,12 @@ module _ {K V : Type 0} {n : ℕ} {table : Table K V} (union : IsUnion n table) 
   module _ (some : old.size ≢ 0) where
     -- the path moved to the previous entry
     went_back : new.size ≡ old.size → ((tree : Tree K V) (place : ℕ) → IsFit n tree → IsIn table.nodes tree → Stands old.node old.entry old.size tree place → (0 < place) × Stands new.node new.entry old.size tree (place - 1)) → (0 < place) × StandsOn table root new (place - 1)
-    went_back same says =
-        let r = said union old (some-on table root old place at (omega arith)) says in
+    went_back same says = let r = said union old (some-on table root old place at (omega arith)) says in
         (r.0, record { root_is = at.root_is; stands = subst (λ z. Stands new.node new.entry z (tree_of table.nodes root) (place - 1)) (sym same) r.1 })
 
     -- at the first entry the path stays
     stayed : new ≡ old → ((tree : Tree K V) (place : ℕ) → IsFit n tree → IsIn table.nodes tree → Stands old.node old.entry old.size tree place → place ≡ 0) → (None ≡ entry_before (list_under table root) place) × StandsOn table root new (place - 1)
-    stayed same says =
-        let first = said union old (some-on table root old place at (omega arith)) says in
+    stayed same says = let first = said union old (some-on table root old place at (omega arith)) says in
         (ap (λ z. entry_before (list_under table root) z) (sym first), rw same (subst (λ z. StandsOn table root old z) (omega (arith, first)) (some-on table root old place at (omega (arith, some)))))
 
 pub returns-then-self-eq0 : goal.returns-then-self-eq0
@@ -44,8 +41,7 @@ entry_here-requires g c =
 
 pub returns-then-prev_entry : goal.returns-then-prev_entry
 returns-then-prev_entry g c = record {
-  value = λ t.
-      let back = went_back c.requires.union _ _ t.at c.if-self-eq0.false c.prev_entry.ensures.size (c.prev_entry.ensures.moved c.if-prev_entry.true) in
+  value = λ t. let back = went_back c.requires.union _ _ t.at c.if-self-eq0.false c.prev_entry.ensures.size (c.prev_entry.ensures.moved c.if-prev_entry.true) in
       read_back c.requires.union _ _ t.at back _ c.entry_here.ensures;
   stands = λ t. (went_back c.requires.union _ _ t.at c.if-self-eq0.false c.prev_entry.ensures.size (c.prev_entry.ensures.moved c.if-prev_entry.true)).1;
 }

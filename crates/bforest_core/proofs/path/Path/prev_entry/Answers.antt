@@ -3,18 +3,16 @@ use Rattle.bforest_core.proofs.walks.Steps.{never}
 use Rattle.bforest_core.proofs.path.Path.prev_entry.Goals as goal
 
 pub returns-then-here-gt0 : goal.returns-then-here-gt0
-returns-then-here-gt0 g c =
-    record {
-      moved = λ yes tree place fit inside s. back_within c.requires.capacity fit inside s c.set_entry.new.self.entry c.set_entry.ensures.nodes
-          c.if-here-gt0.true c.set_entry.ensures.here c.set_entry.ensures.above;
-      first = never refl;
-      same = never refl;
-      size = c.set_entry.ensures.size;
-    }
+returns-then-here-gt0 g c = record {
+  moved = λ yes tree place fit inside s. back_within c.requires.capacity fit inside s c.set_entry.new.self.entry c.set_entry.ensures.nodes
+      c.if-here-gt0.true c.set_entry.ensures.here c.set_entry.ensures.above;
+  first = never refl;
+  same = never refl;
+  size = c.set_entry.ensures.size;
+}
 
 pub prev_node-moved-requires : goal.prev_node-moved-requires
-prev_node-moved-requires g c =
-    let w = c.requires.stands in
+prev_node-moved-requires g c = let w = c.requires.stands in
     (search rules, (search rules, (c.requires.height, (w.0.above, heads w.0.leaves, length w.4.leaf.before, over_leaves c.requires.capacity w.2 w.3 w.4))))
 
 pub last_index-last-requires : goal.last_index-last-requires
@@ -22,13 +20,10 @@ last_index-last-requires g c =
     (search rules, back_asks c.requires.capacity c.requires.stands.2 c.requires.stands.3 c.requires.stands.4 (c.prev_node-moved.ensures.moved c.if-moved.true) c.index-self-0.result (omega arith))
 
 pub returns-then-moved : goal.returns-then-moved
-returns-then-moved g c =
-    let new = c.set_entry-then-moved.new.self in
-    let set = c.set_entry-then-moved.ensures in
+returns-then-moved g c = let new = c.set_entry-then-moved.new.self in let set = c.set_entry-then-moved.ensures in
     record {
       moved = λ yes tree place fit inside s. back_over c.requires.capacity fit inside s (c.prev_node-moved.ensures.moved c.if-moved.true) c.index-self-0.result
-          (omega arith) new.entry c.last_index-last.ensures.last set.nodes c.if-here-gt0.false set.here
-          set.above;
+          (omega arith) new.entry c.last_index-last.ensures.last set.nodes c.if-here-gt0.false set.here set.above;
       first = never c.if-moved.true;
       same = never c.if-moved.true;
       size = set.size ∙ c.prev_node-moved.ensures.size;

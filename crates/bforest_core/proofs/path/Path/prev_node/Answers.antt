@@ -14,13 +14,11 @@ pub overflow_sub-index : goal.overflow_sub-index
 overflow_sub-index g c = c.prev_turn-turn.ensures.turns c.if-turn-self.false
 
 pub go_to_child-requires : goal.go_to_child-requires
-go_to_child-requires g c =
-    let said = c.prev_turn-turn.ensures in
+go_to_child-requires g c = let said = c.prev_turn-turn.ensures in
     (search rules, (search rules, before-goes c.args.pool.now.nodes c.args.self.now.node c.args.self.now.entry c.requires.height said.within said.first c.if-turn-self.false (said.turns c.if-turn-self.false) c.requires.over))
 
 pub go_last-requires : goal.go_last-requires
-go_last-requires g c =
-    let said = c.prev_turn-turn.ensures in
+go_last-requires g c = let said = c.prev_turn-turn.ensures in
     let w' = c.go_to_child.ensures in (
       search rules,
       (
@@ -40,9 +38,7 @@ go_last-requires g c =
     )
 
 pub returns-clause-moved : goal.returns-clause-moved
-returns-clause-moved g c = λ yes.
-    let said = c.prev_turn-turn.ensures in
-    let w' = c.go_to_child.ensures in
+returns-clause-moved g c = λ yes. let said = c.prev_turn-turn.ensures in let w' = c.go_to_child.ensures in
     c.go_last.ensures.moved c.args.self.now.node c.args.self.now.entry c.args.self.now.size
     (turned-back c.args.pool.now.nodes c.args.self.now.node c.args.self.now.entry c.requires.height said.within said.first
     c.if-turn-self.false (said.turns c.if-turn-self.false) (went w'.child w'.nodes w'.entry w'.entries))

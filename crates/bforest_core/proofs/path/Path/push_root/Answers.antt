@@ -4,12 +4,8 @@ use Rattle.bforest_core.proofs.path.Path.push_root.Goals as goal
 
 pub returns : goal.returns
 returns g c = λ w is.
-    let ms = c.args.self.now.node in
-    let js = c.args.self.now.entry in
-    let size = c.args.self.now.size in
-    let root = c.inner_node-root.result in
-    let t = c.args.pool.now in
-    let content = Inner (c.args.half.key ∷ []) (c.args.left ∷ c.args.half.node ∷ []) in
+    let ms = c.args.self.now.node in let js = c.args.self.now.entry in let size = c.args.self.now.size in let root = c.inner_node-root.result in
+    let t = c.args.pool.now in let content = Inner (c.args.half.key ∷ []) (c.args.left ∷ c.args.half.node ∷ []) in
     let low : root < length t.nodes = omega (arith, ap (λ z. length z.nodes) c.inner_node-root.ensures.table, length-with_front t t.chain content) in
     settle_root _ _ _ _ _ _ _ _ _ _ _ w.above
     (rw is (takes t c.inner_node-root.new.self root content c.inner_node-root.ensures.node c.inner_node-root.ensures.table low))

@@ -2,13 +2,10 @@ use Rattle.bforest_core.proofs.{Words.{rules, arith}, insertion.HalvingLeaf.{put
 use Rattle.bforest_core.proofs.path.Path.put_here.Goals as goal
 
 pub put_entry-requires : goal.put_entry-requires
-put_entry-requires g c =
-    let w = c.requires.placed in
-    (search rules, put_asks w.2 c.index-self-0.result (omega arith))
+put_entry-requires g c = let w = c.requires.placed in (search rules, put_asks w.2 c.index-self-0.result (omega arith))
 
 pub returns : goal.returns
-returns g c =
-    let w = c.requires.placed in
+returns g c = let w = c.requires.placed in
     record {
       inserted = λ done tree place p. put_inserts p c.index-self-0.result (omega arith) c.put_entry.new.pool c.args.key c.args.value c.put_entry.result
           c.put_entry.ensures.room c.put_entry.ensures.node done;

@@ -32,14 +32,12 @@ pub returns-in-None-clause-healed : goal.returns-in-None-clause-healed
 returns-in-None-clause-healed g c = λ same w. last_heals w c.index-self-level.result (omega arith) c.requires.height c.in-None.ensures
 
 pub returns-in-Some-balance_nodes-clause-healed : goal.returns-in-Some-balance_nodes-clause-healed
-returns-in-Some-balance_nodes-clause-healed g c = λ same w.
-    rekey_heals w _ (omega arith) c.requires.height _ c.entries-left.ensures.value c.if-left-least.false c.in-Some.is c.right_sibling.ensures
-    c.balance_nodes.ensures.balanced c.in-Some-balance_nodes.is _ c.update_next_separator.ensures
+returns-in-Some-balance_nodes-clause-healed g c = λ same w. rekey_heals w _ (omega arith) c.requires.height _ c.entries-left.ensures.value c.if-left-least.false
+    c.in-Some.is c.right_sibling.ensures c.balance_nodes.ensures.balanced c.in-Some-balance_nodes.is _ c.update_next_separator.ensures
 
 pub returns-in-None-balance_nodes-clause-joined : goal.returns-in-None-balance_nodes-clause-joined
-returns-in-None-balance_nodes-clause-joined g c = λ same w.
-    free_joins w _ (omega arith) c.requires.height _ c.entries-left.ensures.value c.if-left-least.false c.in-Some.is c.right_sibling.ensures
-    c.balance_nodes.ensures.balanced c.in-None-balance_nodes.is _ c.free_node.ensures.freed
+returns-in-None-balance_nodes-clause-joined g c = λ same w. free_joins w _ (omega arith) c.requires.height _ c.entries-left.ensures.value c.if-left-least.false
+    c.in-Some.is c.right_sibling.ensures c.balance_nodes.ensures.balanced c.in-None-balance_nodes.is _ c.free_node.ensures.freed
 
 pub offset_bounds-self-level : goal.offset_bounds-self-level
 offset_bounds-self-level g c = omega arith

@@ -25,17 +25,14 @@ entries-requires g c = (search rules, (here c.requires.pending c.index-self-up.r
 
 pub separator-key-requires : goal.separator-key-requires
 separator-key-requires g c =
-    let w = c.requires.pending in
-    (search rules, key_asks w _ (omega arith) c.requires.height _ c.entries.ensures.value c.if-index-entries.true _ (omega arith))
+    let w = c.requires.pending in (search rules, key_asks w _ (omega arith) c.requires.height _ c.entries.ensures.value c.if-index-entries.true _ (omega arith))
 
 pub set_separator-requires : goal.set_separator-requires
-set_separator-requires g c =
-    let s = here c.requires.pending c.index-self-up.result (omega arith) c.requires.height in
+set_separator-requires g c = let s = here c.requires.pending c.index-self-up.result (omega arith) c.requires.height in
     (search rules, (s.used, s.key_asks _ _ c.entries.ensures.value c.if-index-entries.true))
 
 pub remove_child-answer-requires : goal.remove_child-answer-requires
-remove_child-answer-requires g c =
-    let w = c.requires.pending in
+remove_child-answer-requires g c = let w = c.requires.pending in
     (search rules, remove_asks w _ (omega arith) c.requires.height _ c.entries.ensures.value c.if-index-entries.true _ _ c.set_separator.ensures)
 
 pub overflow_sub-index : goal.overflow_sub-index
@@ -46,30 +43,23 @@ separator-key-requires-else-index-entries g c =
     (search rules, last_key_asks c.requires.pending _ (omega arith) c.requires.height _ c.entries.ensures.value c.if-index-entries.false)
 
 pub update_next_separator-requires : goal.update_next_separator-requires
-update_next_separator-requires g c =
-    let w = c.requires.pending in
+update_next_separator-requires g c = let w = c.requires.pending in
     (search rules, (search rules, (c.requires.height, rekey_asks w c.index-self-up.result (omega arith) c.requires.height c.entries.result c.entries.ensures.value c.if-index-entries.false (c.args.up + 1) (add-one c.args.up))))
 
 pub remove_child-answer-requires-else-index-entries : goal.remove_child-answer-requires-else-index-entries
-remove_child-answer-requires-else-index-entries g c =
-    let w = c.requires.pending in (
-      search rules,
-      remove_last_asks w _
-          (omega arith) c.requires.height _ c.entries.ensures.value c.if-index-entries.false _
-          (add-one c.args.up) _ _ c.update_next_separator.ensures,
-    )
+remove_child-answer-requires-else-index-entries g c = let w = c.requires.pending in (
+  search rules,
+  remove_last_asks w _ (omega arith) c.requires.height _ c.entries.ensures.value c.if-index-entries.false _
+      (add-one c.args.up) _ _ c.update_next_separator.ensures,
+)
 
 pub returns-then-index-entries : goal.returns-then-index-entries
-returns-then-index-entries g c = λ w.
-    same_parent w c.index-self-up.result
-    (omega arith) c.requires.height c.entries.result c.entries.ensures.value c.if-index-entries.true c.set_separator.new.pool
-    c.separator-key.result c.set_separator.ensures c.remove_child-answer.new.pool c.saturating_sub.result c.saturating_sub.ensures
-    c.separator-key.ensures c.remove_child-answer.ensures.node
+returns-then-index-entries g c = λ w. same_parent w c.index-self-up.result (omega arith) c.requires.height c.entries.result c.entries.ensures.value
+    c.if-index-entries.true c.set_separator.new.pool c.separator-key.result c.set_separator.ensures c.remove_child-answer.new.pool c.saturating_sub.result
+    c.saturating_sub.ensures c.separator-key.ensures c.remove_child-answer.ensures.node
 
 pub returns-else-index-entries : goal.returns-else-index-entries
-returns-else-index-entries g c = λ w.
-    next_parent w c.index-self-up.result
-    (omega arith) c.requires.height c.entries.result c.entries.ensures.value c.if-index-entries.false (c.args.up + 1)
-    (add-one c.args.up) c.update_next_separator.new.pool c.separator-key-else-index-entries.result c.update_next_separator.ensures
-    c.remove_child-answer-else-index-entries.new.pool c.separator-key-else-index-entries.ensures
+returns-else-index-entries g c = λ w. next_parent w c.index-self-up.result (omega arith) c.requires.height c.entries.result c.entries.ensures.value
+    c.if-index-entries.false (c.args.up + 1) (add-one c.args.up) c.update_next_separator.new.pool c.separator-key-else-index-entries.result
+    c.update_next_separator.ensures c.remove_child-answer-else-index-entries.new.pool c.separator-key-else-index-entries.ensures
     c.remove_child-answer-else-index-entries.ensures.node

@@ -5,13 +5,11 @@ pub returns-then-self-gt0 : goal.returns-then-self-gt0
 returns-then-self-gt0 g c = λ old tree place s h. behind s _ (get_or_default c.args.self.now.node 0 0 0 (omega arith)) h c.if-self-gt0.true
 
 pub leaf_key-key-requires : goal.leaf_key-key-requires
-leaf_key-key-requires g c =
-    let w = c.requires.taken in
+leaf_key-key-requires g c = let w = c.requires.taken in
     (search rules, first_asks w.3 _ (get_or_default c.args.self.now.node 0 c.index-self-0.result 0 (omega arith)) w.4 c.if-self-gt0.false)
 
 pub update_separator-requires : goal.update_separator-requires
-update_separator-requires g c =
-    let w = c.requires.taken in
+update_separator-requires g c = let w = c.requires.taken in
     (search rules, (search rules, (omega arith, above_asks w.3 _ (get_or_default c.args.self.now.node 0 c.index-self-0.result 0 (omega arith)) w.4 c.if-self-gt0.false)))
 
 pub returns : goal.returns

@@ -17,17 +17,13 @@ pub follow-child-requires : goal.follow-child-requires
 follow-child-requires g t c = (search rules, asks (g.met.C.Comparator.total c.args.comp.now) c.requires.capacity c.requires.through.1 c.node.ensures.value (c.is_inner.ensures.inner.0 c.if-not-is_inner.false))
 
 pub value_below-requires : goal.value_below-requires
-value_below-requires g t c κs within =
-    let on = c.requires.through.1 in
+value_below-requires g t c κs within = let on = c.requires.through.1 in
     let low = deeper-low (g.met.C.Comparator.total c.args.comp.now) c.requires.capacity on c.node.ensures.value (c.is_inner.ensures.inner.0 c.if-not-is_inner.false) in
-    let down = one-down (g.met.C.Comparator.total c.args.comp.now) c.requires.capacity on c.node.ensures.value
-    (c.is_inner.ensures.inner.0 c.if-not-is_inner.false) c.follow-child.result.0 c.follow-child.ensures.index
-    c.follow-child.ensures.child (c.args.depth + 1) (omega arith) in
+    let down = one-down (g.met.C.Comparator.total c.args.comp.now) c.requires.capacity on c.node.ensures.value (c.is_inner.ensures.inner.0
+    c.if-not-is_inner.false) c.follow-child.result.0 c.follow-child.ensures.index c.follow-child.ensures.child (c.args.depth + 1) (omega arith) in
     (omega (arith, c.decreases, low), (within.0, (within.1.0, ((λ a m. search rules), (within.1.1, (search rules, (c.requires.capacity, (c.requires.through.0, down))))))))
 
 pub returns : goal.returns
-returns g t c = λ leaves on.
-    c.value_below.ensures leaves
-    (one-down (g.met.C.Comparator.total c.args.comp.now) c.requires.capacity on c.node.ensures.value
+returns g t c = λ leaves on. c.value_below.ensures leaves (one-down (g.met.C.Comparator.total c.args.comp.now) c.requires.capacity on c.node.ensures.value
     (c.is_inner.ensures.inner.0 c.if-not-is_inner.false) c.follow-child.result.0 c.follow-child.ensures.index
     c.follow-child.ensures.child (c.args.depth + 1) (omega arith))

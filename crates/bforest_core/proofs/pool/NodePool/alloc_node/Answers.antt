@@ -3,9 +3,7 @@ use Rattle.bforest_core.proofs.table.Allocating.{err_iff, err_is, reserved-free,
 use Rattle.bforest_core.proofs.pool.NodePool.alloc_node.Goals as goal
 
 pub returns-in_err-reserve : goal.returns-in_err-reserve
-returns-in_err-reserve g c =
-    let e = err_is _ _ c.from_residual.ensures.1 in
-    let said = c.in_err-reserve.ensures in
+returns-in_err-reserve g c = let e = err_is _ _ c.from_residual.ensures.1 in let said = c.in_err-reserve.ensures in
     record {
       node = rw e tt;
       ok = rw e tt;
@@ -27,8 +25,7 @@ pub returns-clause-node : goal.returns-clause-node
 returns-clause-node g c = ap (λ z. front_of z.chain) (sym c.in_ok-reserve.ensures.ok) ∙ c.take_slot-node.ensures.node
 
 pub returns-clause-ok : goal.returns-clause-ok
-returns-clause-ok g c = taken_is _
-    c.take_slot-node.ensures.node c.take_slot-node.ensures.table c.leaf.ensures.node
+returns-clause-ok g c = taken_is _ c.take_slot-node.ensures.node c.take_slot-node.ensures.table c.leaf.ensures.node
     ∙ ap (λ z. with_front z z.chain (Leaf (c.args.key ∷ []) (c.args.value ∷ []))) c.in_ok-reserve.ensures.ok
 
 pub returns-clause-used : goal.returns-clause-used
@@ -41,5 +38,4 @@ pub returns-clause-memory : goal.returns-clause-memory
 returns-clause-memory g c = λ is. absurd cc
 
 pub returns-clause-planted : goal.returns-clause-planted
-returns-clause-planted g c = λ union.
-    planted-alloc _ _ _ _ union (returns-clause-node g c) (returns-clause-ok g c)
+returns-clause-planted g c = λ union. planted-alloc _ _ _ _ union (returns-clause-node g c) (returns-clause-ok g c)

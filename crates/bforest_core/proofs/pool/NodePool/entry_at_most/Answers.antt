@@ -6,10 +6,8 @@ find-leaf-requires g c = (search rules, (c.requires.union, (c.requires.root, c.r
 
 pub entry_in_leaf-requires : goal.entry_in_leaf-requires
 entry_in_leaf-requires g c =
-    let s = c.find-leaf.ensures.leaf in
-    (search rules, (c.requires.union.1.capacity, (s.leaf.entries, s.leaf.slot_is, s.tells.increasing)))
+    let s = c.find-leaf.ensures.leaf in (search rules, (c.requires.union.1.capacity, (s.leaf.entries, s.leaf.slot_is, s.tells.increasing)))
 
 pub returns : goal.returns
-returns g c =
-    let s = c.find-leaf.ensures.leaf in
+returns g c = let s = c.find-leaf.ensures.leaf in
     record { entry = c.entry_in_leaf.ensures s.leaf.entries s.leaf.slot_is ∙ up-to-narrowed (g.met.C.Comparator.total c.args.comp.now) _ s.leaf.after s.leaf.leaves_are s.tells }

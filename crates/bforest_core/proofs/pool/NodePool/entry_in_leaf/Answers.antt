@@ -19,7 +19,5 @@ returns-then-index-eq0 g c = λ es slot.
     none-in-front (g.C.Comparator.order c.args.comp.now) es c.args.key (c.look_up-index.ensures.value es slot) (c.look_up-index.ensures.place es slot) (sym c.is_some.ensures ∙ c.if-is_some.false) c.if-index-eq0.true
 
 pub returns : goal.returns
-returns g c = λ es slot.
-    entry-in-front (g.C.Comparator.order c.args.comp.now) es c.args.key
-    (c.look_up-index.ensures.value es slot) (c.look_up-index.ensures.place es slot)
-    (sym c.is_some.ensures ∙ c.if-is_some.false) c.if-index-eq0.false (c.leaf_entry-2.ensures.value es slot)
+returns g c = λ es slot. entry-in-front (g.C.Comparator.order c.args.comp.now) es c.args.key (c.look_up-index.ensures.value es slot)
+    (c.look_up-index.ensures.place es slot) (sym c.is_some.ensures ∙ c.if-is_some.false) c.if-index-eq0.false (c.leaf_entry-2.ensures.value es slot)

@@ -3,15 +3,11 @@ use Rattle.bforest_core.proofs.{union.Roots.uprooted-union, walks.Standing.under
 use Rattle.bforest_core.proofs.pool.NodePool.free_tree.Goals as goal
 
 pub free_below-requires : goal.free_below-requires
-free_below-requires g c =
-    let tree = tree_of c.args.self.now.nodes c.args.root in
-    let u = under-root c.args.root c.requires.union c.requires.root in
+free_below-requires g c = let tree = tree_of c.args.self.now.nodes c.args.root in let u = under-root c.args.root c.requires.union c.requires.root in
     (search rules, (c.requires.union.1.capacity, (tree.leaves, tree.above, u.first, u.under, (rooted g.row.N c.args.self.now c.args.root c.requires.union c.requires.root).apart, omega (arith, u.low))))
 
 pub returns : goal.returns
-returns g c =
-    let tree = tree_of c.args.self.now.nodes c.args.root in
-    let u = under-root c.args.root c.requires.union c.requires.root in
+returns g c = let tree = tree_of c.args.self.now.nodes c.args.root in let u = under-root c.args.root c.requires.union c.requires.root in
     let all = c.free_below.ensures _ _ u.first u.under (rooted g.row.N c.args.self.now c.args.root c.requires.union c.requires.root).apart in
     let gone = uprooted-union g.row.N c.args.root c.requires.union c.requires.root all.frees all.counted in
     let given = numbers_down c.args.self.now.nodes (length tree.above) c.args.root in

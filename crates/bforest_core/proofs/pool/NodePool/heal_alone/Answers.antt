@@ -2,9 +2,7 @@ use Rattle.bforest_core.proofs.{Words.{rules, refl, subst, sym, IsUsed}, removal
 use Rattle.bforest_core.proofs.pool.NodePool.heal_alone.Goals as goal
 
 pub entries-requires : goal.entries-requires
-entries-requires g c =
-    let w = c.requires.taken in
-    (search rules, counted_asks w.4 c.args.root (leaf_is_root w.4 refl))
+entries-requires g c = let w = c.requires.taken in (search rules, counted_asks w.4 c.args.root (leaf_is_root w.4 refl))
 
 pub returns-then-entries-gt0 : goal.returns-then-entries-gt0
 returns-then-entries-gt0 g c = record {
@@ -12,9 +10,7 @@ returns-then-entries-gt0 g c = record {
 }
 
 pub free_node-requires : goal.free_node-requires
-free_node-requires g c =
-    let w = c.requires.taken in
-    (search rules, subst (λ n. IsUsed c.args.self.now n) (sym (leaf_is_root w.4 refl)) (leaf_used w.4))
+free_node-requires g c = let w = c.requires.taken in (search rules, subst (λ n. IsUsed c.args.self.now n) (sym (leaf_is_root w.4 refl)) (leaf_used w.4))
 
 pub returns : goal.returns
 returns g c = record {

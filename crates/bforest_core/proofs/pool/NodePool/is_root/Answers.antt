@@ -18,9 +18,7 @@ module _ {K V : Type 0} where
   -- a used slot that no node names is a root
   root_if : (slots : List (Content K V)) (n : ℕ) (content : Content K V) (free child : Bool) → slice_get slots n ≡ Some content → (IsTrue free ↔ IsFree content) → (IsTrue child ↔ (0 < count n (flat_map children_of slots))) → not free ≡ true → not child ≡ is_root slots n
   unfolding is_root
-  root_if slots n content free child found f c used =
-      let b = none_named _ _ c in
-      rw ((ap is_used (slot-is _ n _ found) ∙ used_of _ _ f ∙ used), b) refl
+  root_if slots n content free child found f c used = let b = none_named _ _ c in rw ((ap is_used (slot-is _ n _ found) ∙ used_of _ _ f ∙ used), b) refl
 
   -- a free or absent slot is no root
   unused_root : (slots : List (Content K V)) (n : ℕ) → is_used (slot slots n) ≡ false → false ≡ is_root slots n

@@ -4,16 +4,11 @@ use Rattle.bforest_core.proofs.pool.NodePool.path_value_mut.Goals as goal
 
 pub value_mut-requires : goal.value_mut-requires
 value_mut-requires g c =
-    let ms = c.args.path.now.node in
-    let here : get_or ms 0 c.index-path-0.result ≡ get_or ms 0 0 = get_or_default ms 0 c.index-path-0.result 0 (omega arith) in
-    let r = entry-used _ _ _ _ _ _ _ c.requires.union c.requires.stands.on in
-    (search rules, (rw here r.0, rw here r.1))
+    let ms = c.args.path.now.node in let here : get_or ms 0 c.index-path-0.result ≡ get_or ms 0 0 = get_or_default ms 0 c.index-path-0.result 0 (omega arith) in
+    let r = entry-used _ _ _ _ _ _ _ c.requires.union c.requires.stands.on in (search rules, (rw here r.0, rw here r.1))
 
 pub returns : goal.returns
-returns g c =
-    let ms = c.args.path.now.node in
-    let js = c.args.path.now.entry in
-    let table = c.args.self.now in
+returns g c = let ms = c.args.path.now.node in let js = c.args.path.now.entry in let table = c.args.self.now in
     let here = get_or_default ms 0 c.index-path-0.result 0 (omega arith) in (
       (refl, λ w. ap (λ z. with_value_at table z (get_or js 0 0) w) here),
       record {

@@ -4,14 +4,12 @@ use Rattle.bforest_core.proofs.table.Allocating.{has_room, lacks_room, finds_roo
 use Rattle.bforest_core.proofs.pool.NodePool.reserve.Goals as goal
 
 pub invariant_of-self : goal.invariant_of-self
-invariant_of-self g c =
-    let size : vec_len c.self.inside.nodes ≡ length c.self.inside.nodes.items = omega arith in
+invariant_of-self g c = let size : vec_len c.self.inside.nodes ≡ length c.self.inside.nodes.items = omega arith in
     let grown = IsPool-grown _ _ _ _ (c.args.n - c.self.inside.free) c.args.n (omega arith) (omega arith) c.self.invariant in
     rw (c.in-Ok.ensures.ok, c.in-Ok.ensures.first, size) grown.0
 
 pub returns-in-Ok-clause-ok : goal.returns-in-Ok-clause-ok
-returns-in-Ok-clause-ok g c =
-    let size : vec_len c.self.inside.nodes ≡ length c.self.inside.nodes.items = omega arith in
+returns-in-Ok-clause-ok g c = let size : vec_len c.self.inside.nodes ≡ length c.self.inside.nodes.items = omega arith in
     let grown = IsPool-grown _ _ _ _ (c.args.n - c.self.inside.free) c.args.n (omega arith) (omega arith) c.self.invariant in
     rw (← c.self.view_is, c.in-Ok.ensures.ok, c.in-Ok.ensures.first, size, c.self.invariant.counted, front_of-is _ _ _ c.self.invariant.linked, grown.1)
 
@@ -32,8 +30,7 @@ pub returns-in-Ok-clause-trees : goal.returns-in-Ok-clause-trees
 returns-in-Ok-clause-trees g c = λ union. reserved-keeps _ _ _ (returns-in-Ok-clause-ok g c) union
 
 pub returns-then-n-self : goal.returns-then-n-self
-returns-then-n-self g c =
-    let ok = stays_reserved _ _ _ _ _ c.self.view_is c.self.invariant.counted refl c.if-n-self.true in
+returns-then-n-self g c = let ok = stays_reserved _ _ _ _ _ c.self.view_is c.self.invariant.counted refl c.if-n-self.true in
     record {
       ok = ok;
       err = tt;

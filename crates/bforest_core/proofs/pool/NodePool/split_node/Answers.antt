@@ -3,17 +3,14 @@ use Rattle.bforest_core.proofs.{table.Lists.refilled_two, table.Pools.{IsPool-se
 use Rattle.bforest_core.proofs.pool.NodePool.split_node.Goals as goal
 
 pub split-requires : goal.split-requires
-split-requires g c =
-    let was : slice_get c.args.self.now.nodes c.args.left ≡ Some c.two_nodes-rhs.result.1.now =
-    rw (
-      ← nodes-without_front c.args.self.now c.args.self.now.chain,
-      ← c.take_slot-right.ensures.table,
-      ← c.self.view_is,
-      ← c.number-2.ensures.value,
-      ← c.as_mut_slice.ensures.value,
-    ) c.two_nodes-rhs.ensures.right in
-    let full = rw was at c.requires.full in
-    (search rules, (full.0, full.1))
+split-requires g c = let was : slice_get c.args.self.now.nodes c.args.left ≡ Some c.two_nodes-rhs.result.1.now = rw (
+  ← nodes-without_front c.args.self.now c.args.self.now.chain,
+  ← c.take_slot-right.ensures.table,
+  ← c.self.view_is,
+  ← c.number-2.ensures.value,
+  ← c.as_mut_slice.ensures.value,
+) c.two_nodes-rhs.ensures.right in
+    let full = rw was at c.requires.full in (search rules, (full.0, full.1))
 
 pub invariant_of-self : goal.invariant_of-self
 invariant_of-self g c =
@@ -37,12 +34,10 @@ returns g c =
         all = c.split.ensures.all_entries;
         cut = c.split.ensures.cut;
         after = rw (
-          with_front-is c.args.self.now c.args.self.now.chain c.split.new.rhs
-              c.take_slot-right.ensures.node,
+          with_front-is c.args.self.now c.args.self.now.chain c.split.new.rhs c.take_slot-right.ensures.node,
           ← c.take_slot-right.ensures.table,
           c.as_mut_slice.ensures.value,
-          refilled_two c.self.inside.nodes.items c.number.result c.number-2.result c.split.new.rhs c.split.new.self
-              (vec_len c.self.inside.nodes) (omega arith),
+          refilled_two c.self.inside.nodes.items c.number.result c.number-2.result c.split.new.rhs c.split.new.self (vec_len c.self.inside.nodes) (omega arith),
           pair.1,
           ← c.self.view_is,
           c.number.ensures.value,

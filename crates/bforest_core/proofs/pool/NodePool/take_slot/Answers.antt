@@ -28,9 +28,7 @@ module _ {K V : Type 0} {n : ℕ} {nodes : List (Content K V)} {first : Option �
 
       module _ (next : Option ℕ) (next_is : content ≡ Free next) where
         taken : IsPool n nodes next (free - 1) limit × (chain_from nodes free first ≡ number ∷ chain_from nodes (free - 1) next) × (list_any (nat_eq number) (chain_from nodes (free - 1) next) ≡ false)
-        taken =
-            let w = IsPool-taken next free some here (reads within ∙ ap Some next_is) in
-            (w.0, ap (λ z. chain_from nodes free z) first_is ∙ w.1, w.2)
+        taken = let w = IsPool-taken next free some here (reads within ∙ ap Some next_is) in (w.0, ap (λ z. chain_from nodes free z) first_is ∙ w.1, w.2)
 
 pub unwrap-node-requires : goal.unwrap-node-requires
 unwrap-node-requires g c = rw c.expand.ensures.value (first_some _ _ (some c.self.invariant _ c.self.view_is c.requires.room) c.self.invariant)
@@ -42,8 +40,7 @@ index-requires g c =
 pub next_free-self-inside-requires : goal.next_free-self-inside-requires
 next_free-self-inside-requires g c = (
   search rules,
-  is_free c.self.invariant
-      _ c.self.view_is c.requires.room c.number.result _ _ c.expand.ensures.value c.unwrap-node.ensures c.number.ensures.value
+  is_free c.self.invariant _ c.self.view_is c.requires.room c.number.result _ _ c.expand.ensures.value c.unwrap-node.ensures c.number.ensures.value
       c.index.result.now (λ low. slice_get_read c.self.inside.nodes.items
       (length c.self.inside.nodes.items) c.number.result c.index.result.now refl low c.index.ensures),
 )
@@ -52,18 +49,14 @@ pub overflow_sub-self : goal.overflow_sub-self
 overflow_sub-self g c = omega (arith, some c.self.invariant _ c.self.view_is c.requires.room)
 
 pub invariant_of-self : goal.invariant_of-self
-invariant_of-self g c =
-    (taken c.self.invariant _ c.self.view_is
-    c.requires.room _ _ _ c.expand.ensures.value c.unwrap-node.ensures c.number.ensures.value _
-    (λ low. slice_get_read c.self.inside.nodes.items
-    (length c.self.inside.nodes.items) c.number.result c.index.result.now refl low c.index.ensures) _
+invariant_of-self g c = (taken c.self.invariant _ c.self.view_is c.requires.room _ _ _ c.expand.ensures.value c.unwrap-node.ensures c.number.ensures.value _ (λ
+    low. slice_get_read c.self.inside.nodes.items (length c.self.inside.nodes.items) c.number.result c.index.result.now refl low c.index.ensures) _
     c.next_free-self-inside.ensures).0
 
 pub returns : goal.returns
 returns g c =
-    let after = taken c.self.invariant _ c.self.view_is c.requires.room _ _ _ c.expand.ensures.value c.unwrap-node.ensures c.number.ensures.value
-    _ (λ low. slice_get_read c.self.inside.nodes.items
-    (length c.self.inside.nodes.items) c.number.result c.index.result.now refl low c.index.ensures) _
+    let after = taken c.self.invariant _ c.self.view_is c.requires.room _ _ _ c.expand.ensures.value c.unwrap-node.ensures c.number.ensures.value _ (λ low.
+    slice_get_read c.self.inside.nodes.items (length c.self.inside.nodes.items) c.number.result c.index.result.now refl low c.index.ensures) _
     c.next_free-self-inside.ensures in
     let inside = within c.self.invariant _ c.self.view_is c.requires.room _ _ _ c.expand.ensures.value c.unwrap-node.ensures c.number.ensures.value in
     record {

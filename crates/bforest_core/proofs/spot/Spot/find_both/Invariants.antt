@@ -2,8 +2,7 @@ use Rattle.bforest_core.proofs.{Words.{is_gt, ◌-◌, ◌≡◌, false}, walks.
 use Rattle.bforest_core.proofs.spot.Spot.find_both.Given as goal
 
 abbrev pub invariant-loop-index : goal.invariant-loop-index
-invariant-loop-index g l =
-    CameTo (g.C.Comparator.order l.comp) g.row.N l.pool l.fn.root l.from l.here l.node
+invariant-loop-index g l = CameTo (g.C.Comparator.order l.comp) g.row.N l.pool l.fn.root l.from l.here l.node
     × (is_gt (g.C.Comparator.order l.comp l.from l.to) ≡ false → CameTo (g.C.Comparator.order l.comp) g.row.N l.pool l.fn.root l.to l.here l.node)
 
 abbrev pub decreases-loop-index : goal.decreases-loop-index

@@ -2,8 +2,7 @@ use Rattle.bforest_core.proofs.{Words.{refl, rules, sym, ◌∙◌, false≢true
 use Rattle.bforest_core.proofs.spot.Spot.first.Goals as goal
 
 pub node-requires : goal.node-requires
-node-requires g c =
-    let held = root-held c.requires.union c.args.root c.requires.root in
+node-requires g c = let held = root-held c.requires.union c.args.root c.requires.root in
     (search rules, (search rules, slice_get_within c.args.pool.now.nodes c.args.root held.0 held.1))
 
 pub returns-then-not-is_inner : goal.returns-then-not-is_inner
@@ -15,6 +14,5 @@ pub first_below-requires : goal.first_below-requires
 first_below-requires g c = (search rules, (c.requires.union.1.capacity, root-under c.requires.union c.requires.root c.root-2.ensures.code c.root-2.ensures.height refl))
 
 pub returns : goal.returns
-returns g c =
-    let r = first-of c.requires.union c.requires.root c.root-2.ensures.code c.root-2.ensures.height c.first_below.ensures.first in
+returns g c = let r = first-of c.requires.union c.requires.root c.root-2.ensures.code c.root-2.ensures.height c.first_below.ensures.first in
     record { spot = r.0; leaf = r.1 }

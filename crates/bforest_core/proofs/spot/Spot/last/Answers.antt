@@ -2,8 +2,7 @@ use Rattle.bforest_core.proofs.{Words.{refl, rules, sym, ◌∙◌, false≢true
 use Rattle.bforest_core.proofs.spot.Spot.last.Goals as goal
 
 pub node-requires : goal.node-requires
-node-requires g c =
-    let held = root-held c.requires.union c.args.root c.requires.root in
+node-requires g c = let held = root-held c.requires.union c.args.root c.requires.root in
     (search rules, (search rules, slice_get_within c.args.pool.now.nodes c.args.root held.0 held.1))
 
 pub returns-else-is_inner : goal.returns-else-is_inner
@@ -16,5 +15,4 @@ last_below-requires g c = (search rules, (c.requires.union.1.capacity, root-unde
 
 pub returns-then-is_inner : goal.returns-then-is_inner
 returns-then-is_inner g c =
-    let r = last-of c.requires.union c.requires.root c.root.ensures.code c.root.ensures.height c.last_below.ensures.last in
-    record { spot = r.0; leaf = r.1 }
+    let r = last-of c.requires.union c.requires.root c.root.ensures.code c.root.ensures.height c.last_below.ensures.last in record { spot = r.0; leaf = r.1 }

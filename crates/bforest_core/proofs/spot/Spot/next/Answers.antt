@@ -5,9 +5,7 @@ pub has_next-requires : goal.has_next-requires
 has_next-requires g c = (search rules, (search rules, λ some. record { root = c.args.root; place = (c.requires.spot some).0; is = (c.requires.spot some).1 }))
 
 pub next_sibling-requires : goal.next_sibling-requires
-next_sibling-requires g c =
-    let h = c.has_next.ensures.next c.if-has_next.true in
-    let s = c.requires.spot (λ none. omega arith) in
+next_sibling-requires g c = let h = c.has_next.ensures.next c.if-has_next.true in let s = c.requires.spot (λ none. omega arith) in
     (search rules, (search rules, ((record { root = c.args.root; place = s.0; is = s.1 }), h)))
 
 pub returns-then-has_next : goal.returns-then-has_next

@@ -2,9 +2,7 @@ use Rattle.bforest_core.proofs.{Words.{rules, refl, arith}, walks.Cousins.first-
 use Rattle.bforest_core.proofs.spot.Spot.prev.Goals as goal
 
 pub prev_sibling-requires : goal.prev_sibling-requires
-prev_sibling-requires g c =
-    let h = c.has_prev.ensures.prev c.if-has_prev.true in
-    let s = c.requires.spot (λ none. omega arith) in
+prev_sibling-requires g c = let h = c.has_prev.ensures.prev c.if-has_prev.true in let s = c.requires.spot (λ none. omega arith) in
     (search rules, (search rules, ((record { root = c.args.root; place = s.0; is = s.1 }), h)))
 
 pub returns-then-has_prev : goal.returns-then-has_prev

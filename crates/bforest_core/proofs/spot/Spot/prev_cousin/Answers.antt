@@ -3,30 +3,27 @@ use Rattle.bforest_core.proofs.walks.Cousins.{cousin-before, cousin-before-asks,
 use Rattle.bforest_core.proofs.spot.Spot.prev_cousin.Goals as goal
 
 pub prev_far-requires : goal.prev_far-requires
-prev_far-requires g c =
-    let s = c.requires.spot.1 in (
-      search rules,
-      (
-        spot-height c.requires.union s,
-        (
-          s.numbers,
-          (tree_of c.args.pool.now.nodes c.args.root).above,
-          heads (tree_of c.args.pool.now.nodes c.args.root).leaves,
-          c.requires.spot.0,
-          spot-over c.requires.union s,
-        ),
-      ),
-    )
+prev_far-requires g c = let s = c.requires.spot.1 in (
+  search rules,
+  (
+    spot-height c.requires.union s,
+    (
+      s.numbers,
+      (tree_of c.args.pool.now.nodes c.args.root).above,
+      heads (tree_of c.args.pool.now.nodes c.args.root).leaves,
+      c.requires.spot.0,
+      spot-over c.requires.union s,
+    ),
+  ),
+)
 
 pub returns-in_err-far-clause-none : goal.returns-in_err-far-clause-none
-returns-in_err-far-clause-none g c = λ none place s. c.prev_far.ensures.before.none c.in_err-far.was s.numbers
-    (tree_of c.args.pool.now.nodes c.args.root).above (heads (tree_of c.args.pool.now.nodes c.args.root).leaves) place
-    (spot-over c.requires.union s)
+returns-in_err-far-clause-none g c = λ none place s. c.prev_far.ensures.before.none c.in_err-far.was s.numbers (tree_of c.args.pool.now.nodes c.args.root).above
+    (heads (tree_of c.args.pool.now.nodes c.args.root).leaves) place (spot-over c.requires.union s)
 
 pub returns-clause-some : goal.returns-clause-some
 returns-clause-some g c = λ place s.
-    let r = far-before c.requires.union (rw c.in_ok-far.was at c.prev_far.ensures.before) place s in
-    (r.0, same-spot s r.1 refl refl refl refl, r.2)
+    let r = far-before c.requires.union (rw c.in_ok-far.was at c.prev_far.ensures.before) place s in (r.0, same-spot s r.1 refl refl refl refl, r.2)
 
 pub child-parent-requires : goal.child-parent-requires
 child-parent-requires g c = (search rules, parent-before-asks c.requires.union c.requires.spot.1 c.requires.deep c.requires.first c.if-index-gt0.true)
@@ -34,8 +31,7 @@ child-parent-requires g c = (search rules, parent-before-asks c.requires.union c
 pub last_index-last-requires : goal.last_index-last-requires
 last_index-last-requires g c = (
   search rules,
-  cousin-last-asks c.requires.union c.requires.spot.1 c.requires.deep c.requires.first c.if-index-gt0.true
-      c.child-parent.ensures,
+  cousin-last-asks c.requires.union c.requires.spot.1 c.requires.deep c.requires.first c.if-index-gt0.true c.child-parent.ensures,
 )
 
 pub child-leaf-requires : goal.child-leaf-requires
