@@ -2,7 +2,7 @@
 ghost use Rattle.bforest_core.specs.Leaves.{SearchEndsAt};
 ghost use Rattle.bforest_core.specs.Place.{entry_before};
 ghost use Rattle.bforest_core.specs.Spots.{IsSpotAt, leaf_place};
-ghost use Rattle.bforest_core.specs.Trees.{IsUnion};
+ghost use Rattle.bforest_core.specs.Trees.{IsUnion, is_root};
 ghost use Rattle.bforest_nodes.specs.Entries.{IsIncreasing, place, value_for};
 ghost use Rattle.bforest_trees.specs.Forest.{Forest, IsLive, list_of};
 ghost use Rattle.bforest_trees.specs.Looks.{AtLook, Holds, HoldsPlace, IsBehind, IsLook, IsPaired, LeafFrom, LeafUpTo};
@@ -141,16 +141,45 @@ impl<'a, K: Copy, V: Copy> Look<'a, K, V> {
         ensures look { IsLook pool.now handle self.new 0 }
     {
         match handle.expand() {
-            Some(root) => {
-                let (spot, leaf) = Spot::first(root, pool);
-                *self = Look::enter(spot, leaf, pool);
-                Some(self.here())
-            }
+            Some(root) => Some(self.enter_under(root, pool)),
             None => {
                 *self = Look::end();
                 None
             }
         }
+    }
+
+    // Goes to the first entry under a root and returns it. A tree of one leaf has a way of its own, which is shorter.
+    #[inline(always)]
+    fn enter_under<const N: usize>(&mut self, root: Node, pool: &'a NodePool<K, V, N>) -> (K, V)
+        requires union { IsUnion N pool.now }
+        requires root { IsTrue (is_root pool.now.nodes root) }
+        ensures value { Some result ≡ slice_get (list_of pool.now (Some root)) 0 }
+        ensures look { IsLook pool.now (Some root) self.new 0 }
+    {
+        if !pool.node(root).is_inner() {
+            return self.enter_leaf(Spot::root(root), root, pool);
+        }
+        let (spot, leaf) = Spot::first(root, pool);
+        self.enter_leaf(spot, leaf, pool)
+    }
+
+    // Goes to the first entry of a leaf and returns it.
+    #[inline(always)]
+    fn enter_leaf<const N: usize>(
+        &mut self,
+        spot: Spot,
+        leaf: Node,
+        pool: &'a NodePool<K, V, N>,
+    ) -> (K, V)
+        requires leaf { (handle : Option ℕ) × (start : ℕ) × LeafFrom pool.now handle spot leaf start }
+        ensures value { (handle : Option ℕ) (start : ℕ) → LeafFrom pool.now handle spot leaf start
+            → Some result ≡ slice_get (list_of pool.now handle) start }
+        ensures look { (handle : Option ℕ) (start : ℕ) → LeafFrom pool.now handle spot leaf start
+            → IsLook pool.now handle self.new start }
+    {
+        *self = Look::enter(spot, leaf, pool);
+        self.here()
     }
 
     /// Goes to the next entry and returns it. From the last entry it goes to the end, where it returns `None` from then on.
