@@ -6,6 +6,7 @@ use Rattle.bforest_trees.specs.declared.look.Look.{Look}
 use Rattle.bforest_core.proofs.rows.LevelRows.{flat-append}
 use Rattle.bforest_core.proofs.table.Lists.{slice_get-append_left}
 use Rattle.bforest_core.proofs.table.Stored.{read_as, read_same, some_same}
+use Rattle.bforest_core.proofs.walks.CodesDown.{first-here, first-of}
 use Rattle.bforest_core.proofs.walks.Cousins.{place-is}
 use Rattle.bforest_core.proofs.walks.Entered.{pair_read}
 use Rattle.bforest_core.proofs.walks.LeafSearch.{looked}
@@ -16,13 +17,13 @@ use Rattle.bforest_core.specs.Paths.{list_under}
 use Rattle.bforest_core.specs.Place.{entry_before, entry_items, entry_keys, leaf_content}
 use Rattle.bforest_core.specs.Spots.{HasNoParent, IsLeafAt, IsSpotAt, leaf_count, leaf_place}
 use Rattle.bforest_core.specs.Table.{Table}
-use Rattle.bforest_core.specs.Trees.{tree_of}
+use Rattle.bforest_core.specs.Trees.{IsUnion, is_root, tree_of}
 use Rattle.bforest_core.specs.declared.spot.Spot.{Spot}
 use Rattle.bforest_nodes.proofs.Seams.{slice_get-append-add}
-use Rattle.bforest_nodes.specs.Content.{Content, IsLeaf, Leaf, keys_of, vals_of}
+use Rattle.bforest_nodes.specs.Content.{Content, IsInner, IsLeaf, Leaf, keys_of, vals_of}
 use Rattle.bforest_nodes.specs.Entries.{place, value_for}
 use Rattle.bforest_nodes.specs.Search.{search_of}
-use Rattle.std.proofs.Common.{Bool, Err, IfSome, List, None, Ok, Option, Some, [], ap, append_assoc, arith, false, inl, inr, length, length-append, min, refl, slice_get, subst, suc, sym, take, true, ◌+◌, ◌++◌, ◌-◌, ◌<◌, ◌==◌, ◌∙◌, ◌∷◌, ◌≡◌, ◌≤◌, ℕ}
+use Rattle.std.proofs.Common.{Bool, Err, IfSome, IsTrue, List, None, Ok, Option, Some, [], ap, append_assoc, arith, false, inl, inr, length, length-append, min, refl, slice_get, subst, suc, sym, take, true, ◌+◌, ◌++◌, ◌-◌, ◌<◌, ◌==◌, ◌∙◌, ◌∷◌, ◌≡◌, ◌≤◌, ℕ}
 use Rattle.std.proofs.Math.Seq.{take-length}
 use Rattle.std.proofs.lemmas.Bool.{cases_lt, false≢true}
 use Rattle.std.proofs.lemmas.Bool.Decides.{eqb_tells}
@@ -385,6 +386,12 @@ holds-leaf {number = number} f found is = record { number = number; from = f; ke
 -- the first leaf begins the list
 pub from-first : {K V : Type 0} {table : Table K V} {handle : Option ℕ} {root number : ℕ} {spot : Spot} → handle ≡ Some root → IsSpotAt table root spot 0 → IsLeafAt table root 0 number → LeafFrom table handle spot number 0
 from-first {root = root} is on leaf = record { root = root; handle_is = is; place = 0; on = on; leaf = leaf; start_is = refl }
+
+-- the only leaf of a tree, whose root is no inner node
+pub from-only : {K V : Type 0} {n : ℕ} {table : Table K V} {root : ℕ} {content : Content K V} → IsUnion n table → IsTrue (is_root table.nodes root) → slice_get table.nodes root ≡ Some content → (IsInner content → ⊥) → (spot : Spot) → spot.code ≡ 0 → spot.height ≡ 0 → LeafFrom table (Some root) spot root 0
+from-only union is read other spot code height =
+    let alone = first-of union is code height (first-here union.1.capacity read other spot) in
+    from-first refl alone.0 alone.1
 
 -- an empty list has one place
 pub empty-place : {K V : Type 0} (cmp : K → K → Ordering) (table : Table K V) (handle : Option ℕ) (key : K) → handle ≡ None → length (list_of table handle) ≡ place cmp (list_of table handle) key

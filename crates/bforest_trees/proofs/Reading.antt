@@ -233,10 +233,6 @@ module _ {K V : Type 0} (table : Table K V) where
           same = keys ∙ sym vals;
         }
 
--- the first leaf of a tree opens all its entries
-pub opens-all : {K V : Type 0} {n : ℕ} {table : Table K V} {root number : ℕ} {spot : Spot} → IsUnion n table → IsSpotAt table root spot 0 → IsLeafAt table root 0 number → Opens n table (list_under table root) root spot number
-opens-all union on leaf = record { union = union; place = 0; on = on; leaf = leaf; left_is = refl }
-
 -- an iterator that yields the first of the entries left makes progress
 pub progress : {A P : Type 0} (ready : P) (old new : List A) (o : Option A) → YieldsFirst (λ (entries : List A). entries) old o new → MakesProgress (λ (entries : List A). P) (item_count (λ (entries : List A). entries)) old o new
 progress ready old new (Some entry) steps = record { on = λ fin. (ready, tt, omega (arith, ap length steps)); keeps = ready; rests = λ fin. tt }

@@ -42,7 +42,7 @@ impl<'a, K: Copy, V: Copy, const N: usize> Reader<'a, K, V, N> {
         }
     }
 
-    // A reader of all entries of the tree under a root. A tree of one leaf has a way of its own, which is shorter.
+    // A reader of all entries of the tree under a root.
     #[inline(always)]
     fn of(root: Node, pool: &'a NodePool<K, V, N>) -> Reader<'a, K, V, N>
         requires union { IsUnion N pool.now }
@@ -50,9 +50,6 @@ impl<'a, K: Copy, V: Copy, const N: usize> Reader<'a, K, V, N> {
         ensures left { left_of pool.now result ≡ list_under pool.now root }
         ensures reader { IsReader pool.now result }
     {
-        if !pool.node(root).is_inner() {
-            return Reader::at(root, Spot::root(root), root, pool);
-        }
         let (spot, leaf) = Spot::first(root, pool);
         Reader::at(root, spot, leaf, pool)
     }

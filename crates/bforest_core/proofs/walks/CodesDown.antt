@@ -153,9 +153,5 @@ module _ {K V : Type 0} {n : ℕ} {table : Table K V} (union : IsUnion n table) 
   pub first-of : {end : Spot} {leaf : ℕ} → OnUnder n table.nodes IsFirst spot root (FirstSaid end leaf) → IsSpotAt table root end 0 × IsLeafAt table root 0 leaf
   first-of {end} {leaf} says = let r = said-root refl (FirstSaid end leaf) says in (way-spot table root is r.1, leaf-at union root is r.2)
 
-  -- a root that is no inner node is the first leaf
-  pub first-alone : {content : Content K V} → slice_get table.nodes root ≡ Some content → (IsInner content → ⊥) → IsSpotAt table root spot 0 × IsLeafAt table root 0 root
-  first-alone read other = first-of (first-here union.1.capacity read other spot)
-
   pub last-of : {end : Spot} {leaf : ℕ} → OnUnder n table.nodes IsLast spot root (LastSaid end leaf) → IsSpotAt table root end (leaf_count table root - 1) × IsLeafAt table root (leaf_count table root - 1) leaf
   last-of {end} {leaf} says = let r = said-root refl (LastSaid end leaf) says in (way-spot table root is r.1, leaf-at union root is r.2)
