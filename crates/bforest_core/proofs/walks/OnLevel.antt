@@ -1,4 +1,4 @@
--- The node beside the one at which the way of a code ends, one level further down: each answer of `next_below` and `prev_below` is one of these.
+-- The node beside the one at which the way of a code ends, one level further down: what `turn_on`, `turn_back`, `next_far` and `prev_far` find there.
 use Rattle.bforest_core.proofs.Words.{CodedOver, HasWay, IsBefore, IsBehind, IsBesideOf, IsNextOf, IsPrevOf, IsWay, Leads, NumberAt, OnWay, ◌≡◌, ◌≢◌, ℕ, suc}
 use Rattle.bforest_core.proofs.Words.{◌+◌, ◌-◌, ◌*◌, ◌/◌, ◌%◌, ◌≤◌, ◌<◌, List, ◌∷◌, drop, length, Some, None, Option, refl, sym, subst, ◌∙◌, arith, Heads, Rows}
 use Rattle.bforest_core.proofs.walks.Branches.{Branch, branch-asks, branch-child, branch-way, count-asks, first-of, last-asks, last-of, last-some, next-own}

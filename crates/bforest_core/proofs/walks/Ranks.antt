@@ -1,6 +1,7 @@
 -- The codes of a tree's leaves are in the leaves' order.
-use Rattle.bforest_core.proofs.Words.{Coded, IsSpotAt, ◌≡◌, ℕ, ◌+◌, ◌/◌, ◌%◌, ◌≤◌, ◌<◌, List, [], ◌∷◌, ◌++◌, drop, length, refl, sym, ap, ◌∙◌, arith}
+use Rattle.bforest_core.proofs.Words.{Coded, IsSpotAt, place_by, ◌≡◌, ℕ, ◌+◌, ◌/◌, ◌%◌, ◌≤◌, ◌<◌, List, [], ◌∷◌, ◌++◌, drop, length, refl, sym, ap, ◌∙◌, arith}
 use Rattle.bforest_core.proofs.Words.{length-append, inl, inr, IsAt, LevelNode, Table, cases_lt, flat, node, tree_of}
+use Rattle.bforest_core.proofs.{walks.Cousins.coded-place, walks.RowNodes.same-cut}
 use Rattle.bforest_core.specs.declared.spot.Spot.{Spot}
 
 module _ {K X : Type 0} where
@@ -14,15 +15,6 @@ module _ {K X : Type 0} where
       let same : xs ≡ ys = cc in let rest = in-front before a es after before2 b fs after2 (cc) (omega (arith, low)) in
       omega (arith, rest, ap length same, length-append xs (flat before), length-append ys (flat before2))
 
-  -- as many nodes in front are the same nodes
-  front-same : (before : List (LevelNode K X)) (x : LevelNode K X) (after before2 : List (LevelNode K X)) (y : LevelNode K X) (after2 : List (LevelNode K X)) → before ++ x ∷ after ≡ before2 ++ y ∷ after2 → length before ≡ length before2 → length (flat before) ≡ length (flat before2)
-  front-same [] x after [] y after2 e low = refl
-  front-same [] x after (z ∷ before2) y after2 e low = absurd (omega (arith, low))
-  front-same (z ∷ before) x after [] y after2 e low = absurd (omega (arith, low))
-  front-same (node m xs ∷ before) x after (node q ys ∷ before2) y after2 e low =
-      let same : xs ≡ ys = cc in let rest = front-same before x after before2 y after2 (cc) (omega (arith, low)) in
-      omega (arith, rest, ap length same, length-append xs (flat before), length-append ys (flat before2))
-
   -- of two positions in one row, that in the earlier node is earlier
   at-earlier : {row : List (LevelNode K X)} {a i p b j q : ℕ} (x : IsAt row a i p) (y : IsAt row b j q) → length x.before < length y.before → p < q
   at-earlier {a = a} {b = b} x y low = let ends = in-front x.before a x.entries x.after y.before b y.entries y.after (sym x.row_is ∙ y.row_is) low in
@@ -30,7 +22,8 @@ module _ {K X : Type 0} where
 
   -- in one node, that with the lower index
   at-index : {row : List (LevelNode K X)} {a i p b j q : ℕ} (x : IsAt row a i p) (y : IsAt row b j q) → length x.before ≡ length y.before → length (flat x.before) ≡ length (flat y.before)
-  at-index {a = a} {b = b} x y same = front-same x.before (node a x.entries) x.after y.before (node b y.entries) y.after (sym x.row_is ∙ y.row_is) same
+  at-index {a = a} {b = b} x y same =
+      ap (λ z. length (flat z)) (same-cut x.before (node a x.entries) x.after y.before (node b y.entries) y.after (sym x.row_is ∙ y.row_is) same).0
 
 -- the quotient or else the last digit is less
 lower-digits : (c d : ℕ) → c < d → c / 8 ≡ d / 8 → c % 8 < d % 8
@@ -42,10 +35,7 @@ lower-quotient c d low = omega (arith, low)
 module _ {K : Type 0} where
   -- one code has one place
   code-same : (m n : List ℕ) (rows : List (List (LevelNode K ℕ))) (c d p q : ℕ) → Coded m rows c p → Coded n rows d q → c ≡ d → p ≡ q
-  code-same m n [] c d p q x y e = x.1 ∙ sym y.1
-  code-same m n (row ∷ rows) c d p q x y e =
-      let same = code-same (drop 1 m) (drop 1 n) rows (c / 8) (d / 8) (length x.0.before) (length y.0.before) x.1 y.1 (ap (λ z. z / 8) e) in
-      omega (arith, at-index x.0 y.0 same, x.0.place_is, y.0.place_is, ap (λ z. z % 8) e)
+  code-same m n rows c d p q x y e = sym (coded-place m rows c p x) ∙ ap (place_by rows) e ∙ coded-place n rows d q y
 
   -- a lower code has an earlier place
   code-less : (m n : List ℕ) (rows : List (List (LevelNode K ℕ))) (c d p q : ℕ) → Coded m rows c p → Coded n rows d q → c < d → p < q

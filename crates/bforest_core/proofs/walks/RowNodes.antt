@@ -21,7 +21,7 @@ entry_at before n es after i {x = x} row_is found =
     cc (row_is, flat-append before (node n es ∷ after), slice_get-append-add (flat before) (es ++ flat after) i, slice_get-append_left es (flat after) i x found)
 
 -- a list cut at one place is cut into the same parts
-same-cut : {A : Type 0} (b1 : List A) (x1 : A) (a1 b2 : List A) (x2 : A) (a2 : List A) → b1 ++ x1 ∷ a1 ≡ b2 ++ x2 ∷ a2 → length b1 ≡ length b2 → (b1 ≡ b2)
+pub same-cut : {A : Type 0} (b1 : List A) (x1 : A) (a1 b2 : List A) (x2 : A) (a2 : List A) → b1 ++ x1 ∷ a1 ≡ b2 ++ x2 ∷ a2 → length b1 ≡ length b2 → (b1 ≡ b2)
     × (x1 ≡ x2)
 same-cut [] x1 a1 [] x2 a2 e l = (refl, cc)
 same-cut [] x1 a1 (y ∷ b2) x2 a2 e l = absurd (omega arith)

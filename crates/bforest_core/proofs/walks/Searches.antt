@@ -1,4 +1,4 @@
--- The way down to the leaf in which a search ends: each answer of `value_below`, `entry_below` and, as a spot, `find_below` is one of these.
+-- The way down to the leaf in which a search ends: each answer of `value_below` and, as a spot, of `find_below` is one of these.
 use Rattle.bforest_core.proofs.Words.{entry_items, entry_keys, IsSpotAt, IsWay, leaf_place, length-map, ◌≡◌, ℕ, suc, ◌+◌, ◌*◌, ◌≤◌, ◌<◌, List, [], ◌∷◌, ◌++◌}
 use Rattle.bforest_core.proofs.Words.{IsTrue, length, slice_get, Some, refl, sym, subst, arith, Row, Rows, Content, EndsOn, Inner, IsInner, IsIncreasing}
 use Rattle.bforest_core.proofs.Words.{IsTotalOrder, IsStrictlySortedBy, IsUnion, Narrows, SearchEndsAt, SearchThrough, Table, child_index, flat, is_root}
