@@ -206,35 +206,35 @@ module _ {K X : Type 0} (most : ℕ) (cmp : K → K → Ordering) (f : Forest K 
         absent_handle = λ is. refl;
       }
 
-module _ {K X : Type 0} (most : ℕ) (cmp : K → K → Ordering) (f : Forest K X) (n : ℕ) (k : K) (live : list_at f n ≢ []) (increasing : IsIncreasing cmp (list_at f n)) where
+module _ {K X : Type 0} {most : ℕ} {cmp : K → K → Ordering} {f : Forest K X} {n : ℕ} {k : K} (live : list_at f n ≢ []) (increasing : IsIncreasing cmp (list_at f n))
+    {path indices : List ℕ} {size : ℕ} {found : Option (ℕ × X)} {mid : Forest K X} (t : TakesFromLeaf cmp f n k most path indices size found mid) where
   abbrev at : ℕ
   at = place cmp (list_under f n) k
 
   list : list_at f n ≡ list_under f n
   list = list-root f n (live-root f n live)
 
-  module _ {path indices : List ℕ} {size : ℕ} {found : Option (ℕ × X)} {mid : Forest K X} (t : TakesFromLeaf cmp f n k most path indices size found mid) where
-    -- the key is absent, and the table is the old one
-    pub removes-absent : found ≡ None → Removes most cmp f (Some n) k None mid (Some n)
-    removes-absent is =
-        let none : value_for cmp (list_at f n) k ≡ None = ap (λ z. value_for cmp z k) list ∙ sym t.value ∙ ap (option_map (λ e. e.1)) is in
-        rw (t.absent is) (removes-none most cmp f (Some n) k live increasing none)
+  value-is : value_for cmp (list_at f n) k ≡ option_map (λ e. e.1) found
+  value-is = ap (λ z. value_for cmp z k) list ∙ sym t.value
 
-    module _ (e : ℕ × X) (is : found ≡ Some e) where
-      -- the path stood on the key's entry, which its leaf lost
-      pub lost : EntryTaken most f mid n at path (set indices 0 e.0) size
-      lost = rw is at t.taken
+  -- the key is absent, and the table is the old one
+  pub removes-absent : found ≡ None → Removes most cmp f (Some n) k None mid (Some n)
+  removes-absent is = rw (t.absent is) (removes-none most cmp f (Some n) k live increasing (value-is ∙ ap (option_map (λ e. e.1)) is))
 
-      module _ (f' : Forest K X) (path' : List ℕ) (o : Option ℕ) (s : Shrinks most f f' path' n at o) where
-        left : IsTaken most f f' (Some n) at o
-        left = let l = lost in shrunk most f f' n at l.stood.root_is (place_low path (set indices 0 e.0) size (tree_of f.nodes n) at l.stood.stands) path' o s
+  module _ {e : ℕ × X} (is : found ≡ Some e) where
+    -- the path stood on the key's entry, which its leaf lost
+    pub lost : EntryTaken most f mid n at path (set indices 0 e.0) size
+    lost = rw is at t.taken
 
-        -- the trees are a union again
-        pub removed-union : IsUnion most f'
-        removed-union = left.union
+    module _ {f' : Forest K X} {path' : List ℕ} {o : Option ℕ} (s : Shrinks most f f' path' n at o) where
+      left : IsTaken most f f' (Some n) at o
+      left = let l = lost in shrunk most f f' n at l.stood.root_is (place_low path (set indices 0 e.0) size (tree_of f.nodes n) at l.stood.stands) path' o s
 
-        -- the effect of the removal
-        pub removes-present : Removes most cmp f (Some n) k (Some e.1) f' o
-        removes-present =
-            let value : value_for cmp (list_at f n) k ≡ Some e.1 = ap (λ z. value_for cmp z k) list ∙ sym t.value ∙ ap (option_map (λ w. w.1)) is in
-            removes most cmp f (Some n) k live increasing f' o e.1 value (subst (λ (l : List (K × X)). IsTaken most f f' (Some n) (place cmp l k) o) (sym list) left)
+      -- the trees are a union again
+      pub removed-union : IsUnion most f'
+      removed-union = left.union
+
+      -- the effect of the removal
+      pub removes-present : Removes most cmp f (Some n) k (Some e.1) f' o
+      removes-present = removes most cmp f (Some n) k live increasing f' o e.1 (value-is ∙ ap (option_map (λ w. w.1)) is)
+          (subst (λ (l : List (K × X)). IsTaken most f f' (Some n) (place cmp l k) o) (sym list) left)

@@ -31,32 +31,6 @@ module _ {K X : Type 0} (most : ℕ) (cmp : K → K → Ordering) (f : Forest K 
   root : IsTrue (is_root f.nodes n)
   root = live-root f n live
 
-  -- where a leaf was written with one search, the value was replaced or the key inserted
-  module _ (f' : Forest K X) (total : IsTotalOrder cmp) (up : IsIncreasing cmp (list_at f n)) (x : X) (path indices : List ℕ) (size : ℕ) (answer : Result (Option X) ℕ) (p : PutsInLeaf cmp f n k most x path indices size answer f') where
-    replaced : (old : X) → answer ≡ Ok (Some old) → Inserts most cmp f (Some n) k x (Ok (Some old)) f' (Some n)
-    replaced old is =
-        let value : value_for cmp (list_under f n) k ≡ Some old = sym (rw is at p.ok) in
-        let here = present-some cmp (list_under f n) k old value in
-        inserts-ok most cmp f k x n f' n (Some old) (subst (λ (l : List (K × X)). value_for cmp l k ≡ Some old) (sym (list-root f n root)) value)
-        (put-here most cmp f n k root here f' x (p.written old is) p.slots p.chain) (IsIncreasing-put cmp total _ k x up) (λ low. let few = rw (need-present most cmp f n k root here) at low in omega (arith, few))
-
-    entered : answer ≡ Ok None → Inserts most cmp f (Some n) k x (Ok None) f' (Some n)
-    entered is =
-        let value : value_for cmp (list_under f n) k ≡ None = sym (rw is at p.ok) in
-        let gone = absent-none cmp (list_under f n) k value in
-        inserts-ok most cmp f k x n f' n None (subst (λ (l : List (K × X)). value_for cmp l k ≡ None) (sym (list-root f n root)) value)
-        (put-new most cmp f n k root gone f' n x (p.inserted is) (p.takes is) (λ same. p.levels is, λ same. refl)) (IsIncreasing-put cmp total _ k x up) (λ low. let few = rw (need-absent most cmp f n k root gone, p.room is) at low in omega (arith, few))
-
-    -- what the call says where it answers
-    pub leaf-put : (old : Option X) → answer ≡ Ok old → Inserts most cmp f (Some n) k x (Ok old) f' (Some n)
-    leaf-put None is = entered is
-    leaf-put (Some old) is = replaced old is
-
-    -- the trees stay a union
-    pub leaf-union : (old : Option X) → answer ≡ Ok old → IsUnion most f'
-    leaf-union None is = (p.inserted is).union
-    leaf-union (Some old) is = (p.written old is).union
-
   module _ (path : Path K X most) (found : Option X) (value : found ≡ value_for cmp (list_under f n) k) where
     -- the key is present, and the path stands on its entry
     module _ (present : is_present cmp (list_under f n) k ≡ true → StandsOn f n path at) (old : X) (is : found ≡ Some old) where
@@ -117,8 +91,38 @@ module _ {K X : Type 0} (most : ℕ) (cmp : K → K → Ordering) (f : Forest K 
       pub old-spot : (path' : Path K X most) → StandsAt f n path' at → IsSpot f (Some n) path' (place cmp (list_at f n) k)
       old-spot path' stands = rw (list-root f n root) stands
 
+-- where a leaf was written with one search, the value was replaced or the key inserted
+module _ {K X : Type 0} {most : ℕ} {cmp : K → K → Ordering} (total : IsTotalOrder cmp) {f f' : Forest K X} {n : ℕ} (live : list_at f n ≢ []) (up : IsIncreasing cmp (list_at f n)) {k : K} {x : X}
+    {path indices : List ℕ} {size : ℕ} {answer : Result (Option X) ℕ} (p : PutsInLeaf cmp f n k most x path indices size answer f') where
+  its-root : IsTrue (is_root f.nodes n)
+  its-root = live-root f n live
+
+  replaced : (old : X) → answer ≡ Ok (Some old) → Inserts most cmp f (Some n) k x (Ok (Some old)) f' (Some n)
+  replaced old is =
+      let value : value_for cmp (list_under f n) k ≡ Some old = sym (rw is at p.ok) in
+      let here = present-some cmp (list_under f n) k old value in
+      inserts-ok most cmp f k x n f' n (Some old) (subst (λ (l : List (K × X)). value_for cmp l k ≡ Some old) (sym (list-root f n its-root)) value)
+      (put-here most cmp f n k its-root here f' x (p.written old is) p.slots p.chain) (IsIncreasing-put cmp total _ k x up) (λ low. let few = rw (need-present most cmp f n k its-root here) at low in omega (arith, few))
+
+  entered : answer ≡ Ok None → Inserts most cmp f (Some n) k x (Ok None) f' (Some n)
+  entered is =
+      let value : value_for cmp (list_under f n) k ≡ None = sym (rw is at p.ok) in
+      let gone = absent-none cmp (list_under f n) k value in
+      inserts-ok most cmp f k x n f' n None (subst (λ (l : List (K × X)). value_for cmp l k ≡ None) (sym (list-root f n its-root)) value)
+      (put-new most cmp f n k its-root gone f' n x (p.inserted is) (p.takes is) (λ same. p.levels is, λ same. refl)) (IsIncreasing-put cmp total _ k x up) (λ low. let few = rw (need-absent most cmp f n k its-root gone, p.room is) at low in omega (arith, few))
+
+  -- what the call says where it answers
+  pub leaf-put : (old : Option X) → answer ≡ Ok old → Inserts most cmp f (Some n) k x (Ok old) f' (Some n)
+  leaf-put None is = entered is
+  leaf-put (Some old) is = replaced old is
+
+  -- the trees stay a union
+  pub leaf-union : (old : Option X) → answer ≡ Ok old → IsUnion most f'
+  leaf-union None is = (p.inserted is).union
+  leaf-union (Some old) is = (p.written old is).union
+
 -- a search at a root that is a leaf ends there
-pub ends-at-root : {K X : Type 0} (most : ℕ) (cmp : K → K → Ordering) → IsTotalOrder cmp → (p f : Forest K X) (n : ℕ) (k : K) → p ≡ f → IsUnion most p → list_at f n ≢ [] → IsLeaf (slot f.nodes n) → IsIncreasing cmp (list_at f n) → EndsIn cmp p n k n (lone n) (lone 0) 1
-ends-at-root {K} {X} most cmp total p f n k is union live leaf up =
-    let root = live-root p n (subst (λ (z : Forest K X). list_at z n ≢ []) (sym is) live) in
-    ends-alone cmp total p n k union root (subst (λ (z : Forest K X). IsLeaf (slot z.nodes n)) (sym is) leaf) (subst (IsIncreasing cmp) (list-root p n root) (subst (λ (z : Forest K X). IsIncreasing cmp (list_at z n)) (sym is) up))
+pub ends-at-root : {K X : Type 0} {most : ℕ} {cmp : K → K → Ordering} → IsTotalOrder cmp → {p f : Forest K X} → p ≡ f → IsUnion most p → {n : ℕ} → list_at f n ≢ [] → IsLeaf (slot f.nodes n) → {k : K} → IsIncreasing cmp (list_at f n) → EndsIn cmp p n k n (lone n) (lone 0) 1
+ends-at-root {X = X} {cmp = cmp} total {p} is union {n} live leaf {k} up =
+    let root = live-root p n (rw is live) in
+    ends-alone cmp total p n k union root (rw is leaf) (subst (IsIncreasing cmp) (list-root p n root) (rw is up))

@@ -7,88 +7,40 @@ use Rattle.bforest_nodes.specs.Entries.{place}
 use Rattle.std.proofs.Common.{rules, set}
 
 pub take_from_leaf-requires : goal.take_from_leaf-requires
-take_from_leaf-requires g c = (
-  search rules,
-  (
-    c.self.invariant,
-    (
-      c.args.root,
-      lone c.args.root,
-      lone 0,
-      1,
-      (ends-at-root g.row.N (g.C.Comparator.order c.args.comp.now)
-          (g.met.C.Comparator.total c.args.comp.now) c.self.inside.pool c.args.self.now c.args.root c.args.key c.self.view_is c.self.invariant
-          c.requires.live c.requires.leaf c.requires.increasing),
-    ),
-  ),
-)
+take_from_leaf-requires g c = (search rules, (c.self.invariant, (c.args.root, lone c.args.root, lone 0, 1,
+    ends-at-root (g.met.C.Comparator.total c.args.comp.now) c.self.view_is c.self.invariant c.requires.live c.requires.leaf c.requires.increasing)))
 
 pub heal_alone-requires : goal.heal_alone-requires
-heal_alone-requires g c = (
-  search rules,
-  (
-    c.self.inside.pool,
-    place (g.C.Comparator.order c.args.comp.now) (list_under c.self.inside.pool c.args.root) c.args.key,
-    lone c.args.root,
-    set (lone 0) 0 c.in_ok-taken.taken.0,
-    lost g.row.N (g.C.Comparator.order c.args.comp.now) c.self.inside.pool c.args.root c.args.key
-        (rw (← c.self.view_is) at c.requires.live) (rw (← c.self.view_is) at c.requires.increasing)
-        (c.take_from_leaf.ensures.taken c.args.root
-        _ _ _ (ends-at-root g.row.N (g.C.Comparator.order c.args.comp.now)
-        (g.met.C.Comparator.total c.args.comp.now) c.self.inside.pool c.args.self.now c.args.root c.args.key c.self.view_is c.self.invariant
-        c.requires.live c.requires.leaf c.requires.increasing)) c.in_ok-taken.taken c.in_ok-taken.was,
-  ),
-)
+heal_alone-requires g c =
+    let ends = ends-at-root (g.met.C.Comparator.total c.args.comp.now) c.self.view_is c.self.invariant c.requires.live c.requires.leaf c.requires.increasing in
+    let took = c.take_from_leaf.ensures.taken c.args.root _ _ _ ends in
+    (search rules, (c.self.inside.pool, place (g.C.Comparator.order c.args.comp.now) (list_under c.self.inside.pool c.args.root) c.args.key, lone c.args.root,
+    set (lone 0) 0 c.in_ok-taken.taken.0, lost (rw (← c.self.view_is) at c.requires.live) (rw (← c.self.view_is) at c.requires.increasing) took c.in_ok-taken.was))
 
 pub invariant_of-self : goal.invariant_of-self
-invariant_of-self g c = rw
-    ((c.take_from_leaf.ensures.taken c.args.root (lone c.args.root) (lone 0) 1
-    (ends-at-root g.row.N (g.C.Comparator.order c.args.comp.now)
-    (g.met.C.Comparator.total c.args.comp.now) c.self.inside.pool c.args.self.now c.args.root c.args.key c.self.view_is c.self.invariant
-    c.requires.live c.requires.leaf c.requires.increasing)).absent c.in_err-taken.was) c.self.invariant
+invariant_of-self g c =
+    let ends = ends-at-root (g.met.C.Comparator.total c.args.comp.now) c.self.view_is c.self.invariant c.requires.live c.requires.leaf c.requires.increasing in
+    rw ((c.take_from_leaf.ensures.taken c.args.root _ _ _ ends).absent c.in_err-taken.was) c.self.invariant
 
 pub returns-in_err-taken : goal.returns-in_err-taken
-returns-in_err-taken g c = rw (c.requires.root, c.from_residual.ensures, ← c.self.view_is)
-    (removes-absent g.row.N (g.C.Comparator.order c.args.comp.now) c.self.inside.pool c.args.root c.args.key
-    (rw (← c.self.view_is) at c.requires.live) (rw (← c.self.view_is) at c.requires.increasing)
-    (c.take_from_leaf.ensures.taken c.args.root (lone c.args.root) (lone 0) 1
-    (ends-at-root g.row.N (g.C.Comparator.order c.args.comp.now)
-    (g.met.C.Comparator.total c.args.comp.now) c.self.inside.pool c.args.self.now c.args.root c.args.key c.self.view_is c.self.invariant
-    c.requires.live c.requires.leaf c.requires.increasing)) c.in_err-taken.was)
+returns-in_err-taken g c =
+    let ends = ends-at-root (g.met.C.Comparator.total c.args.comp.now) c.self.view_is c.self.invariant c.requires.live c.requires.leaf c.requires.increasing in
+    rw (c.requires.root, c.from_residual.ensures, ← c.self.view_is) (removes-absent (rw (← c.self.view_is) at c.requires.live)
+    (rw (← c.self.view_is) at c.requires.increasing) (c.take_from_leaf.ensures.taken c.args.root _ _ _ ends) c.in_err-taken.was)
 
 pub invariant_of-self-2 : goal.invariant_of-self-2
-invariant_of-self-2 g c = removed-union g.row.N (g.C.Comparator.order c.args.comp.now) c.self.inside.pool c.args.root c.args.key
-    (rw (← c.self.view_is) at c.requires.live) (rw (← c.self.view_is) at c.requires.increasing)
-    (c.take_from_leaf.ensures.taken c.args.root (lone c.args.root) (lone 0) 1
-    (ends-at-root g.row.N (g.C.Comparator.order c.args.comp.now)
-    (g.met.C.Comparator.total c.args.comp.now) c.self.inside.pool c.args.self.now c.args.root c.args.key c.self.view_is c.self.invariant
-    c.requires.live c.requires.leaf c.requires.increasing)) c.in_ok-taken.taken c.in_ok-taken.was c.heal_alone.new.self
-    (lone c.args.root) c.heal_alone.result
-    (c.heal_alone.ensures.healed c.self.inside.pool
-    (place (g.C.Comparator.order c.args.comp.now) (list_under c.self.inside.pool c.args.root) c.args.key) (lone c.args.root)
-    (set (lone 0) 0 c.in_ok-taken.taken.0)
-    (lost g.row.N (g.C.Comparator.order c.args.comp.now) c.self.inside.pool c.args.root c.args.key
-    (rw (← c.self.view_is) at c.requires.live) (rw (← c.self.view_is) at c.requires.increasing)
-    (c.take_from_leaf.ensures.taken c.args.root (lone c.args.root) (lone 0) 1
-    (ends-at-root g.row.N (g.C.Comparator.order c.args.comp.now)
-    (g.met.C.Comparator.total c.args.comp.now) c.self.inside.pool c.args.self.now c.args.root c.args.key c.self.view_is c.self.invariant
-    c.requires.live c.requires.leaf c.requires.increasing)) c.in_ok-taken.taken c.in_ok-taken.was))
+invariant_of-self-2 g c =
+    let ends = ends-at-root (g.met.C.Comparator.total c.args.comp.now) c.self.view_is c.self.invariant c.requires.live c.requires.leaf c.requires.increasing in
+    let took = c.take_from_leaf.ensures.taken c.args.root _ _ _ ends in
+    let live = rw (← c.self.view_is) at c.requires.live in
+    let increasing = rw (← c.self.view_is) at c.requires.increasing in
+    removed-union live increasing took c.in_ok-taken.was (c.heal_alone.ensures.healed _ _ _ _ (lost live increasing took c.in_ok-taken.was))
 
 pub returns : goal.returns
-returns g c = rw (c.packed.ensures, ← c.self.view_is)
-    (removes-present g.row.N (g.C.Comparator.order c.args.comp.now) c.self.inside.pool c.args.root c.args.key
-    (rw (← c.self.view_is) at c.requires.live) (rw (← c.self.view_is) at c.requires.increasing)
-    (c.take_from_leaf.ensures.taken c.args.root (lone c.args.root) (lone 0) 1
-    (ends-at-root g.row.N (g.C.Comparator.order c.args.comp.now)
-    (g.met.C.Comparator.total c.args.comp.now) c.self.inside.pool c.args.self.now c.args.root c.args.key c.self.view_is c.self.invariant
-    c.requires.live c.requires.leaf c.requires.increasing)) c.in_ok-taken.taken c.in_ok-taken.was c.heal_alone.new.self
-    (lone c.args.root) c.heal_alone.result
-    (c.heal_alone.ensures.healed c.self.inside.pool
-    (place (g.C.Comparator.order c.args.comp.now) (list_under c.self.inside.pool c.args.root) c.args.key) (lone c.args.root)
-    (set (lone 0) 0 c.in_ok-taken.taken.0)
-    (lost g.row.N (g.C.Comparator.order c.args.comp.now) c.self.inside.pool c.args.root c.args.key
-    (rw (← c.self.view_is) at c.requires.live) (rw (← c.self.view_is) at c.requires.increasing)
-    (c.take_from_leaf.ensures.taken c.args.root (lone c.args.root) (lone 0) 1
-    (ends-at-root g.row.N (g.C.Comparator.order c.args.comp.now)
-    (g.met.C.Comparator.total c.args.comp.now) c.self.inside.pool c.args.self.now c.args.root c.args.key c.self.view_is c.self.invariant
-    c.requires.live c.requires.leaf c.requires.increasing)) c.in_ok-taken.taken c.in_ok-taken.was)))
+returns g c =
+    let ends = ends-at-root (g.met.C.Comparator.total c.args.comp.now) c.self.view_is c.self.invariant c.requires.live c.requires.leaf c.requires.increasing in
+    let took = c.take_from_leaf.ensures.taken c.args.root _ _ _ ends in
+    let live = rw (← c.self.view_is) at c.requires.live in
+    let increasing = rw (← c.self.view_is) at c.requires.increasing in
+    rw (c.packed.ensures, ← c.self.view_is)
+    (removes-present live increasing took c.in_ok-taken.was (c.heal_alone.ensures.healed _ _ _ _ (lost live increasing took c.in_ok-taken.was)))

@@ -12,51 +12,31 @@ find_leaf-leaf-requires g c =
     (search rules, (search rules, (c.self.invariant, (root, (rw (← c.self.view_is, list-root p c.args.root root) at c.requires.increasing)))))
 
 pub heal-requires : goal.heal-requires
-heal-requires g c = (
-  search rules,
-  (
-    search rules,
-    (
-      c.self.inside.pool,
-      place (g.C.Comparator.order c.args.comp.now) (list_under c.self.inside.pool c.args.root) c.args.key,
-      rw (c.set_index.ensures.node, c.set_index.ensures.entry, c.set_index.ensures.size)
-          (lost g.row.N (g.C.Comparator.order c.args.comp.now) c.self.inside.pool c.args.root c.args.key
-          (rw (← c.self.view_is) at c.requires.live) (rw (← c.self.view_is) at c.requires.increasing)
-          (c.take_from_leaf.ensures.taken c.args.root _ _ _ c.find_leaf-leaf.ensures) c.in_ok-taken.taken c.in_ok-taken.was),
-    ),
-  ),
-)
+heal-requires g c =
+    let took = c.take_from_leaf.ensures.taken c.args.root _ _ _ c.find_leaf-leaf.ensures in
+    let lost = lost (rw (← c.self.view_is) at c.requires.live) (rw (← c.self.view_is) at c.requires.increasing) took c.in_ok-taken.was in
+    (search rules, (search rules, (c.self.inside.pool, place (g.C.Comparator.order c.args.comp.now) (list_under c.self.inside.pool c.args.root) c.args.key,
+    rw (c.set_index.ensures.node, c.set_index.ensures.entry, c.set_index.ensures.size) lost)))
 
 pub invariant_of-self : goal.invariant_of-self
 invariant_of-self g c = rw ((c.take_from_leaf.ensures.taken c.args.root _ _ _ c.find_leaf-leaf.ensures).absent c.in_err-taken.was) c.self.invariant
 
 pub returns-in_err-taken : goal.returns-in_err-taken
-returns-in_err-taken g c = rw (c.requires.root, c.from_residual.ensures, ← c.self.view_is)
-    (removes-absent g.row.N (g.C.Comparator.order c.args.comp.now) c.self.inside.pool c.args.root c.args.key
-    (rw (← c.self.view_is) at c.requires.live) (rw (← c.self.view_is) at c.requires.increasing)
-    (c.take_from_leaf.ensures.taken c.args.root _ _ _ c.find_leaf-leaf.ensures) c.in_err-taken.was)
+returns-in_err-taken g c = rw (c.requires.root, c.from_residual.ensures, ← c.self.view_is) (removes-absent (rw (← c.self.view_is) at c.requires.live)
+    (rw (← c.self.view_is) at c.requires.increasing) (c.take_from_leaf.ensures.taken c.args.root _ _ _ c.find_leaf-leaf.ensures) c.in_err-taken.was)
 
 pub invariant_of-self-2 : goal.invariant_of-self-2
-invariant_of-self-2 g c = removed-union g.row.N (g.C.Comparator.order c.args.comp.now) c.self.inside.pool c.args.root c.args.key
-    (rw (← c.self.view_is) at c.requires.live) (rw (← c.self.view_is) at c.requires.increasing)
-    (c.take_from_leaf.ensures.taken c.args.root _ _ _ c.find_leaf-leaf.ensures) c.in_ok-taken.taken c.in_ok-taken.was c.heal.new.pool
-    (nodes_of c.set_index.new.self) c.heal.result
-    (c.heal.ensures.healed c.self.inside.pool
-    (place (g.C.Comparator.order c.args.comp.now) (list_under c.self.inside.pool c.args.root) c.args.key)
-    (rw (c.set_index.ensures.node, c.set_index.ensures.entry, c.set_index.ensures.size)
-    (lost g.row.N (g.C.Comparator.order c.args.comp.now) c.self.inside.pool c.args.root c.args.key
-    (rw (← c.self.view_is) at c.requires.live) (rw (← c.self.view_is) at c.requires.increasing)
-    (c.take_from_leaf.ensures.taken c.args.root _ _ _ c.find_leaf-leaf.ensures) c.in_ok-taken.taken c.in_ok-taken.was)))
+invariant_of-self-2 g c =
+    let took = c.take_from_leaf.ensures.taken c.args.root _ _ _ c.find_leaf-leaf.ensures in
+    let live = rw (← c.self.view_is) at c.requires.live in
+    let increasing = rw (← c.self.view_is) at c.requires.increasing in
+    removed-union live increasing took c.in_ok-taken.was (c.heal.ensures.healed _ _
+    (rw (c.set_index.ensures.node, c.set_index.ensures.entry, c.set_index.ensures.size) (lost live increasing took c.in_ok-taken.was)))
 
 pub returns : goal.returns
-returns g c = rw (c.packed.ensures, ← c.self.view_is)
-    (removes-present g.row.N (g.C.Comparator.order c.args.comp.now) c.self.inside.pool c.args.root c.args.key
-    (rw (← c.self.view_is) at c.requires.live) (rw (← c.self.view_is) at c.requires.increasing)
-    (c.take_from_leaf.ensures.taken c.args.root _ _ _ c.find_leaf-leaf.ensures) c.in_ok-taken.taken c.in_ok-taken.was c.heal.new.pool
-    (nodes_of c.set_index.new.self) c.heal.result
-    (c.heal.ensures.healed c.self.inside.pool
-    (place (g.C.Comparator.order c.args.comp.now) (list_under c.self.inside.pool c.args.root) c.args.key)
-    (rw (c.set_index.ensures.node, c.set_index.ensures.entry, c.set_index.ensures.size)
-    (lost g.row.N (g.C.Comparator.order c.args.comp.now) c.self.inside.pool c.args.root c.args.key
-    (rw (← c.self.view_is) at c.requires.live) (rw (← c.self.view_is) at c.requires.increasing)
-    (c.take_from_leaf.ensures.taken c.args.root _ _ _ c.find_leaf-leaf.ensures) c.in_ok-taken.taken c.in_ok-taken.was))))
+returns g c =
+    let took = c.take_from_leaf.ensures.taken c.args.root _ _ _ c.find_leaf-leaf.ensures in
+    let live = rw (← c.self.view_is) at c.requires.live in
+    let increasing = rw (← c.self.view_is) at c.requires.increasing in
+    rw (c.packed.ensures, ← c.self.view_is) (removes-present live increasing took c.in_ok-taken.was (c.heal.ensures.healed _ _
+    (rw (c.set_index.ensures.node, c.set_index.ensures.entry, c.set_index.ensures.size) (lost live increasing took c.in_ok-taken.was))))
