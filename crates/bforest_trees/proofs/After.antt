@@ -18,11 +18,6 @@ not-ok (Ok a) x e is = absurd (cc)
 not-ok (Err y) x e is = absurd (cc)
 
 module _ {K X : Type 0} where
-  -- a tree that was planted becomes the list of its number
-  pub planted : {E : Type 0} (most : ℕ) (f f' : Forest K X) (r : Result ℕ E) (es : List (K × X)) (ss : List (List ℕ)) → IfOk r (λ n. Changes most f f' n n es ss) → IfOk r (λ n. ¬ IsTrue (is_root f.nodes n)) → IfOk r (λ n. Becomes f None f' (Some n) es)
-  planted most f f' (Ok n) es ss h new = becomes-new most f f' n es ss new h
-  planted most f f' (Err x) es ss h new = tt
-
   -- reserving slots keeps the limit
   pub limit-reserved : {A E : Type 0} (f f' : Forest K X) (n : ℕ) (r : Result A E) → OnOk r (f' ≡ reserved f n) → OnErr r (f' ≡ f) → f'.limit ≡ f.limit
   limit-reserved f f' n (Ok a) ok err = ap (λ z. z.limit) ok

@@ -202,10 +202,6 @@ module _ {K V : Type 0} (table : Table K V) where
     pub over : (old new : Reader K V n) → IsReader table old → left_of table old ≡ [] → new ≡ old → Over old new
     over old new r none is = subst (λ (z : Reader K V n). Over old z) (sym is) (record { left = (none, none); reader = r })
 
-    -- a reader with no leaf
-    pub leafless : (reader : Reader K V n) → IsUnion n table → reader.keys.now ≡ [] → reader.vals.now ≡ [] → reader.index ≡ 0 → HasNoParent reader.spot → IsReader table reader
-    leafless reader union keys vals index none = record { union = union; entries = []; within = omega (arith, index); leaf = λ some. absurd (omega (arith, some)); none = λ e. none; keys = keys; vals = vals }
-
     -- a reader that holds the leaf which a spot opens
     pub entered : (left : List (K × V)) (root : ℕ) (at : Spot) (leaf : ℕ) (content : Content K V) (new : Reader K V n)
         → Opens n table left root at leaf → slice_get table.nodes leaf ≡ Some content → content ≡ Leaf new.keys.now new.vals.now
