@@ -5,12 +5,17 @@ use Rattle.bforest_core.proofs.table.Chains.{length-down_from, length-fresh_node
 use Rattle.bforest_core.specs.Change.{Changes}
 use Rattle.bforest_core.specs.Table.{down_from, free_count, fresh_nodes, front_of, reserved, slot_count, with_slots}
 use Rattle.bforest_core.specs.Trees.{is_root}
-use Rattle.std.proofs.Common.{Err, IfOk, IsOk, IsTrue, List, None, Ok, OnErr, OnOk, Result, Some, ap, append-nil, arith, length-append, ◌+◌, ◌-◌, ◌∙◌, ◌≡◌, ◌≤◌, ℕ}
+use Rattle.std.proofs.lemmas.Result.{err_from_is_err_and}
+use Rattle.std.proofs.Common.{Err, IfOk, IsErrAnd, IsOk, IsTrue, List, None, Ok, OnErr, OnOk, Result, Some, ap, append-nil, arith, length-append, ◌+◌, ◌-◌, ◌∙◌, ◌≡◌, ◌≤◌, ℕ}
 
 -- a fact that is stated for `Ok` holds of an answer that is `Ok`
 pub ok-then : {A E P : Type 0} (r : Result A E) → IsOk r → OnOk r P → P
 ok-then (Ok a) is h = h
 ok-then (Err x) is h = absurd (cc)
+
+-- an answer that hands an error on is that error
+pub handed-on : {A E : Type 0} {r : Result A E} {e : E} → IsErrAnd r (λ y. y ≡ e) → r ≡ Err e
+handed-on {r = r} is = let w = err_from_is_err_and r is in w.1 ∙ ap Err w.2
 
 -- an answer that is `Err` is not `Ok`
 pub not-ok : {A E : Type 0} (r : Result A E) (x : E) → r ≡ Err x → IsOk r → ⊥

@@ -1,13 +1,15 @@
 -- What an insertion at a handle answers and leaves, as one record.
 use Rattle.bforest_core.proofs.table.Stored.{some_same}
+use Rattle.bforest_core.specs.Change.{Plants}
 use Rattle.bforest_core.specs.declared.pool.OutOfMemory.TheVariants.{Full, Memory}
 use Rattle.bforest_core.specs.declared.pool.OutOfMemory.{OutOfMemory}
 use Rattle.bforest_nodes.specs.Entries.{IsIncreasing, put, value_for}
-use Rattle.bforest_trees.proofs.Increasing.{IsIncreasing-one}
+use Rattle.bforest_trees.proofs.Changed.{becomes-new, sizes-new, takes}
+use Rattle.bforest_trees.proofs.Increasing.{IsIncreasing-one, alone}
 use Rattle.bforest_trees.proofs.Putting.{IsPut, present-told, sizes-kept}
 use Rattle.bforest_trees.specs.Calls.{Inserts}
 use Rattle.bforest_trees.specs.Forest.{Becomes, Forest, IsTooMany, NeedsGrowth, Takes, free_of, list_at, list_of, need_of, sizes_at}
-use Rattle.std.proofs.Common.{Err, None, Ok, Option, Some, [], ap, length, refl, subst, sym, ◌∙◌, ◌∷◌, ◌↔◌, ◌≡◌, ◌≤◌, ℕ}
+use Rattle.std.proofs.Common.{Err, IsOk, None, Ok, Option, Result, Some, [], ap, length, refl, subst, sym, ◌∙◌, ◌∷◌, ◌↔◌, ◌≡◌, ◌≤◌, ℕ}
 use Rattle.std.proofs.lemmas.Bool.{false≢true}
 use Rattle.std.specs.Option.{is_some}
 use Rattle.std.specs.declared.cmp.Ordering.{Ordering}
@@ -72,3 +74,14 @@ module _ {K X : Type 0} (most : ℕ) (cmp : K → K → Ordering) (f : Forest K 
     refused_forest = tt;
     refused_handle = tt;
   }
+
+module _ {K X : Type 0} {most : ℕ} {f : Forest K X} {k : K} {x : X} (cmp : K → K → Ordering) where
+  -- the first entry of an empty handle, in a new leaf
+  pub inserts-planted : {f' : Forest K X} {n : ℕ} → Plants most f f' n (k, x) → ¬ IsTooMany 1 f → Inserts most cmp f None k x (Ok None) f' (Some n)
+  inserts-planted {f'} {n} p low = inserts-first most cmp f k x f' n (becomes-new most f f' n _ _ p.fresh p.changes) (sizes-new most f f' n n _ _ p.changes) (takes 1 f f' p.takes) low
+
+  -- or no node could be had for it
+  pub inserts-none : {refused : OutOfMemory} → (◌≡◌ {A = Result ℕ OutOfMemory} (Err refused) (Err Full)) ↔ IsTooMany 1 f
+      → (◌≡◌ {A = Result ℕ OutOfMemory} (Err refused) (Err Memory) → NeedsGrowth 1 f) → (1 ≤ free_of f → IsOk {T = ℕ} (Err refused)) → Inserts most cmp f None k x (Err refused) f None
+  inserts-none {refused} full memory enough = inserts-err most cmp f k x None refused (alone cmp None) refl (λ e. full.0 (ap Err e), λ low. let same = full.1 low in cc)
+      (λ e. memory (ap Err e)) (λ low. false≢true (enough low))

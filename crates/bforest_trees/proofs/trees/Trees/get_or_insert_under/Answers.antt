@@ -1,11 +1,10 @@
+use Rattle.bforest_trees.proofs.After.{handed-on}
 use Rattle.bforest_trees.proofs.Changed.{list-root, live-root}
 use Rattle.bforest_trees.proofs.Ensuring.{found-there, was-inserted, was-refused, was-there}
 use Rattle.bforest_trees.proofs.Entering.{added, at-key, refused}
-use Rattle.bforest_trees.proofs.trees.Trees.get_or_insert_under.Given.{Over}
 use Rattle.bforest_trees.proofs.trees.Trees.get_or_insert_under.Goals as goal
 use Rattle.bforest_core.specs.Paths.{list_under}
 use Rattle.std.proofs.Common.{Err, Some, ap, rules, ◌∙◌, ◌≡◌}
-use Rattle.std.proofs.lemmas.Result.{err_from_is_err_and}
 
 pub find-requires : goal.find-requires
 find-requires g c =
@@ -26,12 +25,6 @@ insert-requires g c =
     let live = rw (← c.self.view_is) at c.requires.live in
     (search rules, (search rules, (c.self.invariant, at-key g.row.N (g.C.Comparator.order c.args.comp.now) _ _ c.args.key live _ _ c.find.ensures.value c.find.ensures.absent c.in_default.is)))
 
--- the error is that of the insertion
-err_at : (g : Over) (c : goal.After-from_residual g) → c.from_residual.result ≡ Err c.in_err-root.field-0.0
-err_at g c =
-    let e = err_from_is_err_and c.from_residual.result c.from_residual.ensures.1 in
-    e.1 ∙ ap Err e.2
-
 pub returns-in_err-root : goal.returns-in_err-root
 returns-in_err-root g c =
     let p = c.self.inside.pool in
@@ -39,7 +32,7 @@ returns-in_err-root g c =
     let live = rw (← c.self.view_is) at c.requires.live in
     let up = rw (← c.self.view_is) at c.requires.increasing in
     let e = at-key g.row.N cmp _ _ c.args.key live _ _ c.find.ensures.value c.find.ensures.absent c.in_default.is in
-    rw (err_at g c, c.requires.root, c.in_err-root.ensures.refused_pool, ← c.self.view_is)
+    rw (handed-on c.from_residual.ensures.1, c.requires.root, c.in_err-root.ensures.refused_pool, ← c.self.view_is)
     (was-refused g.row.N cmp p (Some c.args.root) c.args.key c.args.value c.in_err-root.field-0.0 p (Some c.args.root) live
     (refused g.row.N cmp _ _ c.args.key live _ _ c.find.ensures.value c.find.ensures.absent c.in_default.is c.insert.result (c.insert.ensures.full e) up c.args.value c.in_err-root.field-0.0 c.in_err-root.was (c.insert.ensures.memory e) (c.insert.ensures.enough e)))
 

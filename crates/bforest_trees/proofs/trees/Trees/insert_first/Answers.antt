@@ -1,58 +1,25 @@
-use Rattle.bforest_trees.proofs.Changed.{becomes-new, sizes-new, takes}
-use Rattle.bforest_trees.proofs.Increasing.{alone}
-use Rattle.bforest_trees.proofs.Inserting.{inserts-err, inserts-first}
+use Rattle.bforest_trees.proofs.After.{handed-on}
+use Rattle.bforest_trees.proofs.Inserting.{inserts-none, inserts-planted}
 use Rattle.bforest_core.proofs.walks.Standing.{on-at}
-use Rattle.bforest_trees.proofs.trees.Trees.insert_first.Given.{Over}
 use Rattle.bforest_trees.proofs.trees.Trees.insert_first.Goals as goal
-use Rattle.std.proofs.Common.{Err, List, None, [], ap, refl, rules, ◌∙◌, ◌∷◌, ◌≡◌}
-use Rattle.std.proofs.lemmas.Bool.{false≢true}
-use Rattle.std.proofs.lemmas.Result.{err_from_is_err_and}
+use Rattle.std.proofs.Common.{refl, rules}
 
 pub first-requires : goal.first-requires
-first-requires g c =
-    let at = c.in_ok-root.ensures.planted c.self.invariant in
-    (search rules, (search rules, (at.changes.union, at.changes.root_is)))
+first-requires g c = let at = c.in_ok-root.ensures.planted c.self.invariant in (search rules, (search rules, (at.changes.union, at.changes.root_is)))
 
 pub invariant_of-self-2 : goal.invariant_of-self-2
-invariant_of-self-2 g c =
-    let at = c.in_ok-root.ensures.planted c.self.invariant in
-    at.changes.union
+invariant_of-self-2 g c = (c.in_ok-root.ensures.planted c.self.invariant).changes.union
 
 pub returns-clause-inserted : goal.returns-clause-inserted
-returns-clause-inserted g c = λ order.
-    let p = c.self.inside.pool in
-    let new = c.alloc_node.new.self in
-    let es : List (g.row.K.Denot × g.row.V.Denot) = (c.args.key, c.args.value) ∷ [] in
-    let at = c.in_ok-root.ensures.planted c.self.invariant in
-    rw (c.some.ensures.node, ← c.self.view_is)
-    (inserts-first g.row.N order p c.args.key c.args.value new c.in_ok-root.root
-    (becomes-new g.row.N p new c.in_ok-root.root es ((1 ∷ []) ∷ []) at.fresh at.changes)
-    (sizes-new g.row.N p new c.in_ok-root.root c.in_ok-root.root es ((1 ∷ []) ∷ []) at.changes)
-    (takes 1 p new at.takes)
-    (λ low. let bad = c.in_ok-root.ensures.full.1 low in cc))
+returns-clause-inserted g c = λ order. rw (c.some.ensures.node, ← c.self.view_is)
+    (inserts-planted order (c.in_ok-root.ensures.planted c.self.invariant) (λ low. let bad = c.in_ok-root.ensures.full.1 low in cc))
 
 pub returns-clause-spot : goal.returns-clause-spot
-returns-clause-spot g c =
-    let new = c.alloc_node.new.self in
-    let path = c.first.new.self in
-    let at = c.in_ok-root.ensures.planted c.self.invariant in
-    rw c.some.ensures.node (on-at new c.in_ok-root.root path 0 c.first.ensures.stands)
-
--- the error of an insertion is that of the new node
-err_at : (g : Over) (c : goal.After-from_residual g) → c.from_residual.result ≡ Err c.in_err-root.field-0.0
-err_at g c =
-    let e = err_from_is_err_and c.from_residual.result c.from_residual.ensures.1 in
-    e.1 ∙ ap Err e.2
+returns-clause-spot g c = rw c.some.ensures.node (on-at c.alloc_node.new.self c.in_ok-root.root c.first.new.self 0 c.first.ensures.stands)
 
 pub returns-in_err-root-clause-inserted : goal.returns-in_err-root-clause-inserted
-returns-in_err-root-clause-inserted g c = λ order.
-    let p = c.self.inside.pool in
-    let told = c.in_err-root.ensures in
-    rw (err_at g c, c.requires.empty, told.err, ← c.self.view_is)
-    (inserts-err g.row.N order p c.args.key c.args.value None c.in_err-root.field-0.0 (alone order None) refl
-    (λ e. told.full.0 (ap Err e), λ low. let same = told.full.1 low in cc)
-    (λ e. told.memory (ap Err e))
-    (λ low. false≢true (told.enough low)))
+returns-in_err-root-clause-inserted g c = λ order. let told = c.in_err-root.ensures in
+    rw (handed-on c.from_residual.ensures.1, c.requires.empty, told.err, ← c.self.view_is) (inserts-none order told.full told.memory told.enough)
 
 pub returns-in_err-root-clause-spot : goal.returns-in_err-root-clause-spot
 returns-in_err-root-clause-spot g c = rw c.requires.empty (c.requires.stands, refl)

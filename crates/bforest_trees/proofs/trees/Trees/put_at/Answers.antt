@@ -1,27 +1,20 @@
+use Rattle.bforest_trees.proofs.After.{handed-on}
 use Rattle.bforest_trees.proofs.Entering.{added, refused}
-use Rattle.bforest_trees.proofs.trees.Trees.put_at.Given.{Over}
 use Rattle.bforest_trees.proofs.trees.Trees.put_at.Goals as goal
 use Rattle.bforest_core.specs.Paths.{Placing, list_under}
 use Rattle.bforest_nodes.specs.Entries.{place}
 use Rattle.std.proofs.Common.{Err, None, Ok, ap, refl, rules, sym, ◌∙◌, ◌≡◌}
-use Rattle.std.proofs.lemmas.Result.{err_from_is_err_and}
 
 pub insert_full-requires : goal.insert_full-requires
 insert_full-requires g c =
     let e : Placing c.self.inside.pool c.args.path.now = record { root = c.requires.placed.0; place = c.requires.placed.1; placed = rw (← c.self.view_is) at c.requires.placed.3 } in
     (search rules, (search rules, (c.self.invariant, (e, rw (← c.self.view_is) at c.requires.full))))
 
--- the error is that of the insertion at the path
-err_at : (g : Over) (c : goal.After-from_residual g) → c.from_residual.result ≡ Err c.in_err-root.field-0.0
-err_at g c =
-    let e = err_from_is_err_and c.from_residual.result c.from_residual.ensures.1 in
-    e.1 ∙ ap Err e.2
-
 pub returns-in_err-root : goal.returns-in_err-root
 returns-in_err-root g c =
     let p = c.self.inside.pool in
     let told = c.in_err-root.ensures in
-    rw (err_at g c, told.refused_pool, ← c.self.view_is)
+    rw (handed-on c.from_residual.ensures.1, told.refused_pool, ← c.self.view_is)
     (λ root order is live total up none placed.
     let e : Placing p c.args.path.now = record { root = root; place = place order (list_under p root) c.args.key; placed = placed } in
     rw is
