@@ -3,8 +3,11 @@ use Rattle.bforest_trees.specs.Forest.{Becomes, Forest, IsLive, Keeps, Takes, li
 use Rattle.bforest_core.proofs.union.Unions.{rooted}
 use Rattle.bforest_core.specs.Change.{Changes, KeepsTrees, TakesNodes}
 use Rattle.bforest_core.specs.Levels.{flat, sizes_of as tree_sizes}
+use Rattle.bforest_core.specs.Paths.{list_under}
 use Rattle.bforest_core.specs.Trees.{IsUnion, is_root, tree_of}
+use Rattle.bforest_nodes.specs.Entries.{IsIncreasing}
 use Rattle.std.proofs.Common.{Bool, IsTrue, List, None, Option, Some, [], ap, arith, false, if◌then◌else◌, length, refl, subst, sym, true, ◌∙◌, ◌∷◌, ◌≡◌, ◌≢◌, ◌≤◌, ◌↔◌, ℕ}
+use Rattle.std.specs.declared.cmp.Ordering.{Ordering}
 
 module _ {K X : Type 0} where
   -- the list of a root is that of its tree
@@ -136,9 +139,17 @@ module _ {K X : Type 0} where
     pub list : flat (tree_of p.nodes n).leaves ≡ list_of f h
     pub sizes : tree_sizes (tree_of p.nodes n) ≡ sizes_of f h
 
-  pub seen-as : (p f : Forest K X) (h : Option ℕ) (n : ℕ) → p ≡ f → h ≡ Some n → IsLive f h → SeenAs p f h n
-  seen-as p f None n is e live = absurd (cc)
-  seen-as p f (Some m) n is e live =
+  pub seen-as : {p f : Forest K X} {h : Option ℕ} {n : ℕ} → p ≡ f → h ≡ Some n → IsLive f h → SeenAs p f h n
+  seen-as {h = None} is e live = absurd (cc)
+  seen-as {p} {f} {h = Some m} {n} is e live =
       let same : m ≡ n = cc in
       let s = seen p f n is (subst (λ (z : ℕ). list_at f z ≢ []) same live) in
       record { root = s.root; list = s.list ∙ ap (λ z. list_at f z) (sym same); sizes = s.sizes ∙ ap (λ z. sizes_at f z) (sym same) }
+
+  -- what a search under the root of a live handle asks
+  pub seen-asks : {p f : Forest K X} {h : Option ℕ} {n : ℕ} (cmp : K → K → Ordering) → SeenAs p f h n → IsIncreasing cmp (list_of f h) → IsTrue (is_root p.nodes n) × IsIncreasing cmp (list_under p n)
+  seen-asks cmp s increasing = (s.root, subst (IsIncreasing cmp) (sym s.list) increasing)
+
+  -- or under a root
+  pub search-asks : {p f : Forest K X} (n : ℕ) (cmp : K → K → Ordering) → p ≡ f → list_at f n ≢ [] → IsIncreasing cmp (list_at f n) → IsTrue (is_root p.nodes n) × IsIncreasing cmp (list_under p n)
+  search-asks {p} {f} n cmp is live increasing = let s = seen p f n is live in (s.root, subst (IsIncreasing cmp) (sym s.list) increasing)

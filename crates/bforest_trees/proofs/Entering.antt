@@ -9,6 +9,8 @@ use Rattle.bforest_trees.specs.Place.{IsSpot}
 use Rattle.bforest_core.proofs.walks.Standing.{on-at, placed-points}
 use Rattle.bforest_core.specs.Change.{Changes, TakesNodes}
 use Rattle.bforest_core.proofs.walks.Alone.{ends-alone, lone}
+use Rattle.bforest_core.proofs.walks.CodesDown.{root-held}
+use Rattle.bforest_core.proofs.walks.Leaves.{root-leaf}
 use Rattle.bforest_core.specs.Leaves.{EndsIn, PutsInLeaf}
 use Rattle.bforest_core.specs.Paths.{IsPlaced, OnEntry, Placing, Pointing, StandsAt, StandsOn, list_under, sizes_under}
 use Rattle.bforest_core.specs.Sizes.{growth, need}
@@ -18,10 +20,11 @@ use Rattle.bforest_core.specs.declared.path.Path.{Path}
 use Rattle.bforest_core.specs.declared.pool.OutOfMemory.TheVariants.{Full, Memory}
 use Rattle.bforest_core.specs.declared.pool.OutOfMemory.{OutOfMemory}
 use Rattle.bforest_nodes.proofs.Ordered.{IsIncreasing-put}
-use Rattle.bforest_nodes.specs.Content.{IsLeaf}
+use Rattle.bforest_nodes.specs.Content.{Content, IsInner, IsLeaf}
+use Rattle.std.proofs.lemmas.Option.{slice_get_within}
 use Rattle.bforest_nodes.specs.Entries.{IsIncreasing, is_present, place, value_for, with_value}
 use Rattle.std.specs.Cmp.{IsTotalOrder}
-use Rattle.std.proofs.Common.{Err, IsOk, IsTrue, List, [], None, Ok, Option, Result, Some, ap, arith, false, insert, length, refl, subst, sym, true, ◌∙◌, ◌≡◌, ◌≢◌, ◌≤◌, ◌↔◌, ℕ}
+use Rattle.std.proofs.Common.{Err, IsOk, IsTrue, List, [], None, Ok, Option, Result, Some, ap, arith, false, insert, length, refl, slice_get, subst, sym, true, ◌<◌, ◌∙◌, ◌≡◌, ◌≢◌, ◌≤◌, ◌↔◌, ℕ}
 use Rattle.std.specs.declared.cmp.Ordering.{Ordering}
 
 module _ {K X : Type 0} (most : ℕ) (cmp : K → K → Ordering) (f : Forest K X) (n : ℕ) (k : K) (live : list_at f n ≢ []) where
@@ -120,6 +123,14 @@ module _ {K X : Type 0} {most : ℕ} {cmp : K → K → Ordering} (total : IsTot
   pub leaf-union : (old : Option X) → answer ≡ Ok old → IsUnion most f'
   leaf-union None is = (p.inserted is).union
   leaf-union (Some old) is = (p.written old is).union
+
+-- a root lies in the slots, and is a leaf where it is no inner node
+module _ {K X : Type 0} {most : ℕ} {p f : Forest K X} (is : p ≡ f) (union : IsUnion most p) (n : ℕ) (live : list_at f n ≢ []) where
+  pub root-within : n < length p.nodes
+  root-within = let held = root-held union n (live-root p n (rw is live)) in slice_get_within p.nodes n held.0 held.1
+
+  pub root-only : {content : Content K X} → slice_get p.nodes n ≡ Some content → (IsInner content → ⊥) → IsLeaf (slot f.nodes n)
+  root-only read other = rw (← is) (root-leaf union n _ (live-root p n (rw is live)) read other)
 
 -- a search at a root that is a leaf ends there
 pub ends-at-root : {K X : Type 0} {most : ℕ} {cmp : K → K → Ordering} → IsTotalOrder cmp → {p f : Forest K X} → p ≡ f → IsUnion most p → {n : ℕ} → list_at f n ≢ [] → IsLeaf (slot f.nodes n) → {k : K} → IsIncreasing cmp (list_at f n) → EndsIn cmp p n k n (lone n) (lone 0) 1

@@ -5,7 +5,7 @@ use Rattle.std.proofs.Common.{List, Some, slice_get, subst, sym, ◌∙◌, ◌�
 
 pub returns-clause-value : goal.returns-clause-value
 returns-clause-value g c =
-    let s = seen-as c.self.inside.pool c.args.self.now c.args.handle c.in_ok-root.root c.self.view_is (sym c.expand.ensures.value ∙ c.in_ok-root.was) c.requires.live in
+    let s = seen-as c.self.view_is (sym c.expand.ensures.value ∙ c.in_ok-root.was) c.requires.live in
     sym (subst (λ (es : List (g.row.K.Denot × g.row.V.Denot)). slice_get es 0 ≡ Some c.first.result) s.list c.first.ensures.value)
 
 pub returns-clause-computed : goal.returns-clause-computed

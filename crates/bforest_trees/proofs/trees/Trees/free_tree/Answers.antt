@@ -8,7 +8,7 @@ use Rattle.std.proofs.Common.{List, Some, [], ap, length, map, refl, rules, subs
 
 pub free_tree-requires : goal.free_tree-requires
 free_tree-requires g c =
-    let s = seen-as c.self.inside.pool c.args.self.now c.args.handle.now c.in-Some.root c.self.view_is (sym c.take.ensures.value ∙ c.in-Some.is) c.requires.live in
+    let s = seen-as c.self.view_is (sym c.take.ensures.value ∙ c.in-Some.is) c.requires.live in
     (search rules, (c.self.invariant, s.root))
 
 pub returns-in-Some : goal.returns-in-Some
@@ -16,7 +16,7 @@ returns-in-Some g c =
     let p = c.self.inside.pool in
     let n : ℕ = c.in-Some.root in
     let handle : c.args.handle.now ≡ Some n = sym c.take.ensures.value ∙ c.in-Some.is in
-    let s = seen-as p p (Some n) n refl refl (rw (← c.self.view_is, handle) at c.requires.live) in
+    let s = seen-as {h = Some n} refl refl (rw (← c.self.view_is, handle) at c.requires.live) in
     let new = c.free_tree.new.self in
     rw (handle, c.take.ensures.after, ← c.self.view_is) (record {
       handle = refl;

@@ -1,5 +1,5 @@
 use Rattle.bforest_trees.proofs.After.{handed-on}
-use Rattle.bforest_trees.proofs.Changed.{list-root, live-root}
+use Rattle.bforest_trees.proofs.Changed.{list-root, live-root, search-asks}
 use Rattle.bforest_trees.proofs.Ensuring.{found-there, was-inserted, was-refused, was-there}
 use Rattle.bforest_trees.proofs.Entering.{added, at-key, refused}
 use Rattle.bforest_trees.proofs.trees.Trees.get_or_insert_under.Goals as goal
@@ -8,9 +8,7 @@ use Rattle.std.proofs.Common.{Err, Some, ap, rules, ◌∙◌, ◌≡◌}
 
 pub find-requires : goal.find-requires
 find-requires g c =
-    let p = c.self.inside.pool in
-    let root = live-root p c.args.root (rw (← c.self.view_is) at c.requires.live) in
-    (search rules, (search rules, (c.self.invariant, (root, (rw (← c.self.view_is, list-root p c.args.root root) at c.requires.increasing)))))
+    (search rules, (search rules, (c.self.invariant, search-asks _ _ c.self.view_is c.requires.live c.requires.increasing)))
 
 pub returns-in-Some : goal.returns-in-Some
 returns-in-Some g c =

@@ -1,5 +1,5 @@
 use Rattle.bforest_trees.proofs.Spots.{computed}
-use Rattle.bforest_trees.proofs.Changed.{seen-as}
+use Rattle.bforest_trees.proofs.Changed.{seen-as, seen-asks}
 use Rattle.bforest_trees.proofs.Spots.{found-points, spot-empty}
 use Rattle.bforest_trees.proofs.trees.Trees.goto.Goals as goal
 use Rattle.bforest_trees.specs.Forest.{Forest, list_of}
@@ -23,8 +23,8 @@ returns-in_err-root g c =
 pub find-value-requires : goal.find-value-requires
 find-value-requires g c =
     let cmp = g.C.Comparator.order c.args.comp.now in
-    let s = seen-as c.self.inside.pool c.args.self.now c.args.handle c.in_ok-root.root c.self.view_is (sym c.expand.ensures.value ∙ c.in_ok-root.was) c.requires.live in
-    (search rules, (search rules, (c.self.invariant, (s.root, subst (IsIncreasing cmp) (sym s.list) c.requires.increasing))))
+    let s = seen-as c.self.view_is (sym c.expand.ensures.value ∙ c.in_ok-root.was) c.requires.live in
+    (search rules, (search rules, (c.self.invariant, seen-asks _ s c.requires.increasing)))
 
 pub normalize-requires : goal.normalize-requires
 normalize-requires g c =
@@ -37,7 +37,7 @@ normalize-requires g c =
 pub returns-clause-value : goal.returns-clause-value
 returns-clause-value g c =
     let cmp = g.C.Comparator.order c.args.comp.now in
-    let s = seen-as c.self.inside.pool c.args.self.now c.args.handle c.in_ok-root.root c.self.view_is (sym c.expand.ensures.value ∙ c.in_ok-root.was) c.requires.live in
+    let s = seen-as c.self.view_is (sym c.expand.ensures.value ∙ c.in_ok-root.was) c.requires.live in
     subst (λ (es : List (g.row.K.Denot × g.row.V.Denot)). c.find-value.result ≡ value_for cmp es c.args.key) s.list c.find-value.ensures.value
 
 pub returns-clause-spot : goal.returns-clause-spot
@@ -47,7 +47,7 @@ returns-clause-spot g c =
     let n = c.in_ok-root.root in
     let new = c.normalize.new.self in
     let handle : c.args.handle ≡ Some n = sym c.expand.ensures.value ∙ c.in_ok-root.was in
-    let s = seen-as p c.args.self.now c.args.handle n c.self.view_is handle c.requires.live in
+    let s = seen-as c.self.view_is handle c.requires.live in
     let points = found-points cmp p n c.find-value.new.self c.args.key c.find-value.ensures.present c.find-value.ensures.absent in
     let at = c.normalize.ensures.stands (record { root = n; place = place cmp (flat (tree_of p.nodes n).leaves) c.args.key; to = points }) in
     subst (λ (z : Forest g.row.K.Denot g.row.V.Denot). IsSpot z c.args.handle new (place cmp (list_of c.args.self.now c.args.handle) c.args.key)) c.self.view_is

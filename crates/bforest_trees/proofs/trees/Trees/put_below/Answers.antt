@@ -1,4 +1,4 @@
-use Rattle.bforest_trees.proofs.Changed.{list-root, live-root}
+use Rattle.bforest_trees.proofs.Changed.{search-asks}
 use Rattle.bforest_trees.proofs.Entering.{leaf-put, leaf-union}
 use Rattle.bforest_trees.proofs.trees.Trees.put_below.Goals as goal
 use Rattle.bforest_core.specs.Paths.{list_under}
@@ -7,9 +7,7 @@ use Rattle.std.proofs.Common.{rules}
 
 pub find_leaf-leaf-requires : goal.find_leaf-leaf-requires
 find_leaf-leaf-requires g c =
-    let p = c.self.inside.pool in
-    let root = live-root p c.args.root (rw (← c.self.view_is) at c.requires.live) in
-    (search rules, (search rules, (c.self.invariant, (root, (rw (← c.self.view_is, list-root p c.args.root root) at c.requires.increasing)))))
+    (search rules, (search rules, (c.self.invariant, search-asks _ _ c.self.view_is c.requires.live c.requires.increasing)))
 
 pub invariant_of-self : goal.invariant_of-self
 invariant_of-self g c = leaf-union (g.met.C.Comparator.total c.args.comp.now) (rw (← c.self.view_is) at c.requires.live)

@@ -7,7 +7,7 @@ use Rattle.std.proofs.Common.{List, Some, refl, rules, subst, sym, ◌∙◌, �
 pub retain-requires : goal.retain-requires
 retain-requires g c =
     let handle : c.args.handle.now ≡ Some c.in-Some.root = sym c.expand.ensures.value ∙ c.in-Some.is in
-    let s = seen-as c.self.inside.pool c.args.self.now c.args.handle.now c.in-Some.root c.self.view_is handle c.requires.live in
+    let s = seen-as c.self.view_is handle c.requires.live in
     (search rules, (c.self.invariant, (s.root, subst (λ (l : List (g.row.K.Denot × g.row.V.Denot)). MayAskEach g.P.Predicate.step g.P.Predicate.may c.args.predicate l) (sym s.list) c.requires.callable)))
 
 pub invariant_of-self : goal.invariant_of-self
@@ -19,5 +19,5 @@ returns-in-Some g c =
     let p = c.self.inside.pool in
     let n : ℕ = c.in-Some.root in
     let handle : c.args.handle.now ≡ Some n = sym c.expand.ensures.value ∙ c.in-Some.is in
-    let s = seen-as p p (Some n) n refl refl (rw (← c.self.view_is, handle) at c.requires.live) in
+    let s = seen-as {h = Some n} refl refl (rw (← c.self.view_is, handle) at c.requires.live) in
     rw (c.packed.ensures, handle, ← c.self.view_is) (filters g.P.Predicate.step g.row.N p c.retain.new.pool n c.args.predicate c.retain.result s.list s.sizes c.retain.ensures.retained c.retain.ensures.ended)
