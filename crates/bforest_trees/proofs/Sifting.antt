@@ -87,9 +87,10 @@ module _ {F K X : Type 0} (most : ℕ) (step : F → K → X → Bool → X → 
     pub same : root ≡ first → length (sizes_under now root) ≡ length (sizes_under old first)
     pub gone : root ≢ first → (0 < count first now.chain) × (length (sizes_under now root) < length (sizes_under old first))
 
+module _ {F K X : Type 0} {most : ℕ} {step : F → K → X → Bool → X → F → Type 0} {may : F → K → X → Type 0} {old : Table K X} {first : ℕ} {f₀ : F} where
   -- before the first step no entry is asked
-  pub sifting-first : (path : Path K X most) → IsUnion most old → StandsOn old first path 0 → MayAskEach step may f₀ (list_under old first) → Sifting old first f₀ path
-  sifting-first path union s ready = record {
+  pub sifting-first : {path : Path K X most} → IsUnion most old → StandsOn old first path 0 → MayAskEach step may f₀ (list_under old first) → Sifting most step may old first f₀ old first f₀ path
+  sifting-first {path} union s ready = record {
     place = 0;
     changes = changes-none most old first union s.root_is;
     at = on-at old first path 0 s;
@@ -101,7 +102,7 @@ module _ {F K X : Type 0} (most : ℕ) (step : F → K → X → Bool → X → 
     gone = λ ne. absurd (ne refl);
   }
 
-  module _ (now : Table K X) (root : ℕ) (f : F) (path : Path K X most) (s : Sifting now root f path) where
+  module _ {now : Table K X} {root : ℕ} {f : F} {path : Path K X most} (s : Sifting most step may old first f₀ now root f path) where
     -- after the last step all entries are asked
     pub sifting-last : None ≡ slice_get (list_under now root) s.place → Retained most step old now first root f₀
     sifting-last e =
@@ -118,7 +119,11 @@ module _ {F K X : Type 0} (most : ℕ) (step : F → K → X → Bool → X → 
           same_root = (s.same, λ e. elim (eqb_tells root first) [ inl w ↦ w.1 | inr w ↦ absurd (let n = s.gone w.1 in omega (arith, n.1, e)) ]);
         }
 
-    module _ (k : K) (v : X) (here : Some (k, v) ≡ slice_get (list_under now root) s.place) where
+    -- the number of entries that are left to be asked
+    pub sifting-left : length (entries_from now path) ≡ length (list_under now root) - s.place
+    sifting-left = ap length (left-at now root path s.place s.changes.union s.at) ∙ length-drop s.place (list_under now root)
+
+    module _ {k : K} {v : X} (here : Some (k, v) ≡ slice_get (list_under now root) s.place) where
       todo : drop s.place (list_under now root) ≡ (k, v) ∷ drop (suc s.place) (list_under now root)
       todo = drop-read (list_under now root) s.place (k, v) (sym here)
 
@@ -153,8 +158,22 @@ module _ {F K X : Type 0} (most : ℕ) (step : F → K → X → Bool → X → 
       ready_on : (stays : Bool) (w : X) (f' : F) → step f k v stays w f' → (xs : List (K × X)) → xs ≡ drop (suc s.place) (list_under now root) → MayAskEach step may f' xs
       ready_on stays w f' t xs same = record { at = λ before after u q x is r. ready.at ((k, v) ∷ before) after u q x (ap (λ m. (k, v) ∷ m) (sym same ∙ is)) (f', (stays, w, t), r) }
 
+      -- a step that removes the only entry ends the loop with no entry kept
+      pub sifting-none : {new : Table K X} {f' : F} → SteppedLast most step now new root f f' (list_under now root) (sizes_under now root) s.place k v → RetainedNone most step old new first f₀
+      sifting-none {new} {f'} t =
+          let low = slice_get_within (list_under now root) s.place (k, v) (sym here) in
+          let zero_is : s.place ≡ 0 = omega (arith, low, t.last) in
+          let none : drop (suc s.place) (list_under now root) ≡ [] = drop_all (suc s.place) (list_under now root) (omega (arith, t.last)) in
+          let last : Sifts step most f s.place ((k, v) ∷ []) (sizes_under now root) [] [] = (false, t.left, f', [], t.stepped, (refl, sym t.none_left), refl) in
+          record {
+            retains = retains step most f₀ (list_under old first) (sizes_under old first) [] [] (subst (λ (l : List (K × X)). Sifts step most f₀ 0 (list_under old first) (sizes_under old first) l []) (ap (λ z. take z (list_under now root) ++ []) zero_is)
+                (s.rest [] [] (subst (λ (l : List (K × X)). Sifts step most f s.place l (sizes_under now root) [] []) (ap (λ z. (k, v) ∷ z) (sym none) ∙ sym todo) last)));
+            ended = ends-both most old now new first root (list_under now root) (sizes_under now root) s.changes t.ended;
+            gives = gives-both most old now new (sizes_under old first) (sizes_under now root) [] s.gives (subst (λ (z : List (List ℕ)). GivesNodes (sizes_under now root) z now new) t.none_left t.gives);
+          }
+
       -- the next state of the loop, whatever the predicate answers
-      module _ (new : Table K X) (root' : ℕ) (f' : F) (path' : Path K X most) where
+      module _ {new : Table K X} {root' : ℕ} {f' : F} {path' : Path K X most} where
         next_at : (stays : Bool) (w : X) → step f k v stays w f' → (place' : ℕ) (es : List (K × X)) (us : List (List ℕ))
             → place' ≡ (if stays then suc s.place else s.place)
             → us ≡ (if stays then sizes_under now root else shrink most s.place (sizes_under now root))
@@ -162,7 +181,7 @@ module _ {F K X : Type 0} (most : ℕ) (step : F → K → X → Bool → X → 
             drop place' es ≡ drop (suc s.place) (list_under now root) → ((ks : List (K × X)) → take place' es ++ ks ≡ take s.place (list_under now root) ++ (if stays then (k, w) ∷ ks else ks)) →
             Changes most now new root root' es us → GivesNodes (sizes_under now root) us now new → StandsAt new root' path' place'
             → (root' ≡ root) ↔ (length us ≡ length (sizes_under now root)) → (root' ≢ root → 0 < count root new.chain)
-            → length es - place' < length (list_under now root) - s.place → (n : Sifting new root' f' path')
+            → length es - place' < length (list_under now root) - s.place → (n : Sifting most step may old first f₀ new root' f' path')
             × (length (list_under new root') - n.place < length (list_under now root) - s.place)
         next_at stays w t place' es us place_is us_is few same front ch gv at level freed less =
             let list_is = ch.list_is in
@@ -204,7 +223,7 @@ module _ {F K X : Type 0} (most : ℕ) (step : F → K → X → Bool → X → 
             )
 
         -- a step at the entry here leads to the next state of the loop
-        pub sifting-next : Stepped most step now new root root' path' f f' (list_under now root) (sizes_under now root) s.place k v → (n : Sifting new root' f' path') × (length (list_under new root') - n.place < length (list_under now root) - s.place)
+        pub sifting-next : Stepped most step now new root root' path' f f' (list_under now root) (sizes_under now root) s.place k v → (n : Sifting most step may old first f₀ new root' f' path') × (length (list_under new root') - n.place < length (list_under now root) - s.place)
         sifting-next t = go t.stays t.left t.stepped t.changes t.gives t.at t.same_root t.freed_root
           where
             low : s.place < length (list_under now root)
@@ -214,7 +233,7 @@ module _ {F K X : Type 0} (most : ℕ) (step : F → K → X → Bool → X → 
                 GivesNodes (sizes_under now root) (if stays then sizes_under now root else shrink most s.place (sizes_under now root)) now
                 new → StandsAt new root' path' (if stays then suc s.place else s.place)
                 → (root' ≡ root) ↔ (length (if stays then sizes_under now root else shrink most s.place (sizes_under now root)) ≡ length
-                (sizes_under now root)) → (root' ≢ root → 0 < count root new.chain) → (n : Sifting new root' f' path')
+                (sizes_under now root)) → (root' ≢ root → 0 < count root new.chain) → (n : Sifting most step may old first f₀ new root' f' path')
                 × (length (list_under new root') - n.place < length (list_under now root) - s.place)
             go true w st ch gv at level freed = next_at true w st (suc s.place) (with_value (list_under now root) s.place w)
                 (sizes_under now root) refl refl (omega arith) (drop_written (list_under now root) s.place w)
@@ -225,22 +244,3 @@ module _ {F K X : Type 0} (most : ℕ) (step : F → K → X → Bool → X → 
                 (drop_remove (list_under now root) s.place low)
                 (λ ks. take_remove (list_under now root) s.place low ks) ch gv at level freed
                 (omega (arith, low, length_remove (list_under now root) s.place low))
-
-        -- a step that removes the only entry ends the loop with no entry kept
-        pub sifting-none : SteppedLast most step now new root f f' (list_under now root) (sizes_under now root) s.place k v → RetainedNone most step old new first f₀
-        sifting-none t =
-            let low = slice_get_within (list_under now root) s.place (k, v) (sym here) in
-            let zero_is : s.place ≡ 0 = omega (arith, low, t.last) in
-            let none : drop (suc s.place) (list_under now root) ≡ [] = drop_all (suc s.place) (list_under now root) (omega (arith, t.last)) in
-            let last : Sifts step most f s.place ((k, v) ∷ []) (sizes_under now root) [] [] = (false, t.left, f', [], t.stepped, (refl, sym t.none_left), refl) in
-            record {
-              retains = retains step most f₀ (list_under old first) (sizes_under old first) [] [] (subst (λ (l : List (K × X)). Sifts step most f₀ 0 (list_under old first) (sizes_under old first) l []) (ap (λ z. take z (list_under now root) ++ []) zero_is)
-                  (s.rest [] [] (subst (λ (l : List (K × X)). Sifts step most f s.place l (sizes_under now root) [] []) (ap (λ z. (k, v) ∷ z) (sym none) ∙ sym todo) last)));
-              ended = ends-both most old now new first root (list_under now root) (sizes_under now root) s.changes t.ended;
-              gives = gives-both most old now new (sizes_under old first) (sizes_under now root) [] s.gives (subst (λ (z : List (List ℕ)). GivesNodes (sizes_under now root) z now new) t.none_left t.gives);
-            }
-
-  module _ (now : Table K X) (root : ℕ) (f : F) (path : Path K X most) (s : Sifting now root f path) where
-    -- the number of entries that are left to be asked
-    pub sifting-left : length (entries_from now path) ≡ length (list_under now root) - s.place
-    sifting-left = ap length (left-at now root path s.place s.changes.union s.at) ∙ length-drop s.place (list_under now root)

@@ -6,7 +6,7 @@ use Rattle.bforest_core.specs.Trees.{tree_of}
 use Rattle.std.proofs.Common.{arith, length, refl, rules, sym, ◌<◌, ◌∙◌}
 
 pub loop-entry-init : goal.loop-entry-init
-loop-entry-init g c = sifting-first g.row.N g.P.Predicate.step g.P.Predicate.may c.args.pool.now c.args.root c.args.predicate c.first.new.self c.requires.union c.first.ensures.stands c.requires.callable
+loop-entry-init g c = sifting-first c.requires.union c.first.ensures.stands c.requires.callable
 
 pub entry-requires : goal.entry-requires
 entry-requires g c =
@@ -39,15 +39,7 @@ retain_step-requires g c =
         search rules,
         ((
           s.changes.union,
-          (
-            (
-              s.place,
-              sifting-stands g.row.N g.P.Predicate.step g.P.Predicate.may c.args.pool.now c.args.root c.args.predicate c.loop-entry.pool
-                  c.loop-entry.root c.loop-entry.predicate c.loop-entry.path s c.in-Some.entry.0 c.in-Some.entry.1 here,
-            ),
-            sifting-may g.row.N g.P.Predicate.step g.P.Predicate.may c.args.pool.now c.args.root c.args.predicate c.loop-entry.pool
-                c.loop-entry.root c.loop-entry.predicate c.loop-entry.path s c.in-Some.entry.0 c.in-Some.entry.1 here,
-          ),
+          ((s.place, sifting-stands s here), sifting-may s here),
         )),
       ),
     )
@@ -57,26 +49,16 @@ returns-in_err-root-clause-ended g c = λ none.
     let s = c.loop-entry.invariant in
     let value = c.entry.ensures.value (record { root = c.loop-entry.root; place = s.place; at = s.at }) in
     let here = sym c.in-Some.is ∙ value in
-    sifting-none g.row.N g.P.Predicate.step g.P.Predicate.may c.args.pool.now c.args.root c.args.predicate c.loop-entry.pool
-    c.loop-entry.root c.loop-entry.predicate c.loop-entry.path s c.in-Some.entry.0 c.in-Some.entry.1 here c.retain_step.new.pool
-    c.args.root c.retain_step.new.predicate c.retain_step.new.path
-    (c.in_err-root.ensures.ended refl s.place
-    (sifting-stands g.row.N g.P.Predicate.step g.P.Predicate.may c.args.pool.now c.args.root c.args.predicate c.loop-entry.pool
-    c.loop-entry.root c.loop-entry.predicate c.loop-entry.path s c.in-Some.entry.0 c.in-Some.entry.1 here))
+    sifting-none s here (c.in_err-root.ensures.ended refl s.place (sifting-stands s here))
 
 pub loop-entry-smaller : goal.loop-entry-smaller
 loop-entry-smaller g c =
     let s = c.loop-entry.invariant in
     let value = c.entry.ensures.value (record { root = c.loop-entry.root; place = s.place; at = s.at }) in
     let here = sym c.in-Some.is ∙ value in
-    let next = sifting-next g.row.N g.P.Predicate.step g.P.Predicate.may c.args.pool.now c.args.root c.args.predicate c.loop-entry.pool
-    c.loop-entry.root c.loop-entry.predicate c.loop-entry.path s c.in-Some.entry.0 c.in-Some.entry.1 here c.retain_step.new.pool
-    c.in_ok-root.root c.retain_step.new.predicate c.retain_step.new.path
-    (c.in_ok-root.ensures.stepped s.place
-    (sifting-stands g.row.N g.P.Predicate.step g.P.Predicate.may c.args.pool.now c.args.root c.args.predicate c.loop-entry.pool
-    c.loop-entry.root c.loop-entry.predicate c.loop-entry.path s c.in-Some.entry.0 c.in-Some.entry.1 here)) in
-    let before = sifting-left g.row.N g.P.Predicate.step g.P.Predicate.may c.args.pool.now c.args.root c.args.predicate c.loop-entry.pool c.loop-entry.root c.loop-entry.predicate c.loop-entry.path s in
-    let after = sifting-left g.row.N g.P.Predicate.step g.P.Predicate.may c.args.pool.now c.args.root c.args.predicate c.retain_step.new.pool c.in_ok-root.root c.retain_step.new.predicate c.retain_step.new.path next.0 in
+    let next = sifting-next s here (c.in_ok-root.ensures.stepped s.place (sifting-stands s here)) in
+    let before = sifting-left s in
+    let after = sifting-left next.0 in
     let less : length (entries_from c.retain_step.new.pool c.retain_step.new.path) < length (entries_from c.loop-entry.pool c.loop-entry.path) = omega (arith, before, after, next.1) in
     less
 
@@ -85,16 +67,10 @@ loop-entry-preserved g c =
     let s = c.loop-entry.invariant in
     let value = c.entry.ensures.value (record { root = c.loop-entry.root; place = s.place; at = s.at }) in
     let here = sym c.in-Some.is ∙ value in
-    let next = sifting-next g.row.N g.P.Predicate.step g.P.Predicate.may c.args.pool.now c.args.root c.args.predicate c.loop-entry.pool
-    c.loop-entry.root c.loop-entry.predicate c.loop-entry.path s c.in-Some.entry.0 c.in-Some.entry.1 here c.retain_step.new.pool
-    c.in_ok-root.root c.retain_step.new.predicate c.retain_step.new.path
-    (c.in_ok-root.ensures.stepped s.place
-    (sifting-stands g.row.N g.P.Predicate.step g.P.Predicate.may c.args.pool.now c.args.root c.args.predicate c.loop-entry.pool
-    c.loop-entry.root c.loop-entry.predicate c.loop-entry.path s c.in-Some.entry.0 c.in-Some.entry.1 here)) in
-    next.0
+    (sifting-next s here (c.in_ok-root.ensures.stepped s.place (sifting-stands s here))).0
 
 pub returns-clause-retained : goal.returns-clause-retained
 returns-clause-retained g c =
     let s = c.loop-entry.invariant in
     let value = c.entry.ensures.value (record { root = c.loop-entry.root; place = s.place; at = s.at }) in
-    sifting-last g.row.N g.P.Predicate.step g.P.Predicate.may c.args.pool.now c.args.root c.args.predicate c.loop-entry.pool c.loop-entry.root c.loop-entry.predicate c.loop-entry.path s (sym c.in_default.is ∙ value)
+    sifting-last s (sym c.in_default.is ∙ value)

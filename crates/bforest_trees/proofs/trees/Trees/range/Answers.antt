@@ -5,32 +5,20 @@ use Rattle.bforest_trees.specs.Bounds.{end_place, start_place}
 use Rattle.bforest_trees.specs.Forest.{list_of}
 use Rattle.std.proofs.Common.{sym, ◌∙◌}
 
-pub returns-in-Some-clause-left : goal.returns-in-Some-clause-left
-returns-in-Some-clause-left g c =
+pub returns-in-Some : goal.returns-in-Some
+returns-in-Some g c =
     let cmp = g.C.Comparator.order c.args.comp.now in
     let list = list_of c.args.self.now c.args.handle in
     let b = c.args.bounds in
     let looks = rw c.in-Some.is at c.ends_at.ensures.some in
-    (c.clear_crossed.ensures.runs c.args.self.now c.args.handle (start_place cmp b.0 list) (end_place cmp b.1 list) c.requires.live looks.0 looks.1).left
-    ∙ sym (slice-between cmp (g.met.C.Comparator.total c.args.comp.now) b.0 b.1 list c.requires.increasing)
+    let runs = c.clear_crossed.ensures.runs c.args.self.now c.args.handle (start_place cmp b.0 list) (end_place cmp b.1 list) c.requires.live looks.0 looks.1 in
+    record { left = runs.left ∙ sym (slice-between cmp (g.met.C.Comparator.total c.args.comp.now) b.0 b.1 list c.requires.increasing); range = runs.range }
 
-pub returns-in-Some-clause-range : goal.returns-in-Some-clause-range
-returns-in-Some-clause-range g c =
-    let cmp = g.C.Comparator.order c.args.comp.now in
-    let list = list_of c.args.self.now c.args.handle in
-    let b = c.args.bounds in
-    let looks = rw c.in-Some.is at c.ends_at.ensures.some in
-    (c.clear_crossed.ensures.runs c.args.self.now c.args.handle (start_place cmp b.0 list) (end_place cmp b.1 list) c.requires.live looks.0 looks.1).range
-
-pub returns-in-None-clause-left : goal.returns-in-None-clause-left
-returns-in-None-clause-left g c =
-    let f = c.args.self.now in
-    let h = c.args.handle in
-    none-left f h c.requires.live (record { front = c.end.result; back = c.end-in-None.result }) (c.end.ensures.look f h)
-    (c.end-in-None.ensures.look f h) ∙ sym (c.ends_at.ensures.none c.in-None.is)
-
-pub returns-in-None-clause-range : goal.returns-in-None-clause-range
-returns-in-None-clause-range g c =
-    let f = c.args.self.now in
-    let h = c.args.handle in
-    (made f h c.requires.live (record { front = c.end.result; back = c.end-in-None.result }) (c.end.ensures.look f h) (c.end-in-None.ensures.look f h)).range
+pub returns-in-None : goal.returns-in-None
+returns-in-None g c =
+    let front = c.end.ensures.look c.args.self.now c.args.handle in
+    let back = c.end-in-None.ensures.look c.args.self.now c.args.handle in
+    record {
+      left = none-left _ _ c.requires.live (record { front = c.end.result; back = c.end-in-None.result }) front back ∙ sym (c.ends_at.ensures.none c.in-None.is);
+      range = (made _ _ c.requires.live (record { front = c.end.result; back = c.end-in-None.result }) front back).range;
+    }

@@ -8,16 +8,7 @@ entry-entry-requires g c = record { paired = paired c.requires.range.front }
 pub returns-then-is_empty-clause-steps : goal.returns-then-is_empty-clause-steps
 returns-then-is_empty-clause-steps g c = let none = (c.is_empty.ensures.none c.args.self.now c.args.handle c.requires.range).0 c.if-is_empty.true in (none, none)
 
-pub returns-clause-steps : goal.returns-clause-steps
-returns-clause-steps g c =
-    let f = c.args.self.now in
-    let h = c.args.handle in
-    let r = c.requires.range in
-    (range-next f h c.args.ends.now r c.is_empty.result (c.is_empty.ensures.none f h r) c.if-is_empty.false c.entry-entry.result c.next.new.self (c.entry-entry.ensures.value f h _ r.front) c.next.ensures.look).1
-
-pub returns-clause-range : goal.returns-clause-range
-returns-clause-range g c =
-    let f = c.args.self.now in
-    let h = c.args.handle in
-    let r = c.requires.range in
-    (range-next f h c.args.ends.now r c.is_empty.result (c.is_empty.ensures.none f h r) c.if-is_empty.false c.entry-entry.result c.next.new.self (c.entry-entry.ensures.value f h _ r.front) c.next.ensures.look).0
+pub returns : goal.returns
+returns g c = let r = c.requires.range in let next = range-next c.args.self.now c.args.handle c.args.ends.now r c.is_empty.result (c.is_empty.ensures.none _ _ r)
+    c.if-is_empty.false c.entry-entry.result c.next.new.self (c.entry-entry.ensures.value _ _ _ r.front) c.next.ensures.look in
+    record { steps = next.1; range = next.0 }
