@@ -27,72 +27,87 @@ use Rattle.std.specs.Cmp.{IsTotalOrder}
 use Rattle.std.proofs.Common.{Err, IsOk, IsTrue, List, [], None, Ok, Option, Result, Some, ap, arith, false, insert, length, refl, slice_get, subst, sym, true, ◌<◌, ◌∙◌, ◌≡◌, ◌≢◌, ◌≤◌, ◌↔◌, ℕ}
 use Rattle.std.specs.declared.cmp.Ordering.{Ordering}
 
-module _ {K X : Type 0} (most : ℕ) (cmp : K → K → Ordering) (f : Forest K X) (n : ℕ) (k : K) (live : list_at f n ≢ []) where
+module _ {K X : Type 0} {most : ℕ} (cmp : K → K → Ordering) (f : Forest K X) (n : ℕ) (k : K) (path : Path K X most) where
+  -- the key has this value in the list of a root, and the path stands on its entry
+  pub record OnKey (old : X) : Type 0 where
+    pub live : list_at f n ≢ []
+    pub value : value_for cmp (list_under f n) k ≡ Some old
+    pub on : StandsOn f n path (place cmp (list_under f n) k)
+
+  -- the key is absent, and the path is placed for it
+  pub record AtGap : Type 0 where
+    pub live : list_at f n ≢ []
+    pub none : value_for cmp (list_under f n) k ≡ None
+    pub placed : IsPlaced f n path (place cmp (list_under f n) k)
+
+module _ {K X : Type 0} {most : ℕ} (cmp : K → K → Ordering) {f : Forest K X} {n : ℕ} (k : K) {path : Path K X most} (live : list_at f n ≢ []) {found : Option X} (value : found ≡ value_for cmp (list_under f n) k) where
+  -- where a search for the key ended
+  pub key-found : (is_present cmp (list_under f n) k ≡ true → StandsOn f n path (place cmp (list_under f n) k)) → {old : X} → found ≡ Some old → OnKey cmp f n k path old
+  key-found present {old} is = let has = sym value ∙ is in record { live = live; value = has; on = present (present-some cmp (list_under f n) k old has) }
+
+  pub key-missed : (is_present cmp (list_under f n) k ≡ false → IsPlaced f n path (place cmp (list_under f n) k)) → found ≡ None → AtGap cmp f n k path
+  key-missed absent is = let has = sym value ∙ is in record { live = live; none = has; placed = absent (absent-none cmp (list_under f n) k has) }
+
+module _ {K X : Type 0} {most : ℕ} {cmp : K → K → Ordering} {f : Forest K X} {n : ℕ} {k : K} {path : Path K X most} {old : X} (s : OnKey cmp f n k path old) where
+  abbrev pub on-key : OnEntry f path
+  on-key = record { root = n; place = place cmp (list_under f n) k; on = s.on }
+
+  -- `insert` replaces the value of a key that is present
+  pub overwritten : IsTotalOrder cmp → IsIncreasing cmp (list_at f n) → {x : X} {f' : Forest K X} → Changes most f f' n n (with_value (list_under f n) (place cmp (list_under f n) k) x) (sizes_under f n) → slot_count f' ≡ slot_count f → f'.chain ≡ f.chain
+      → Inserts most cmp f (Some n) k x (Ok (Some old)) f' (Some n)
+  overwritten total up {x} {f'} written slots chain = let root = live-root f n s.live in let here = present-some cmp (list_under f n) k old s.value in
+      inserts-ok most cmp f k x n f' n (Some old) (subst (λ (l : List (K × X)). value_for cmp l k ≡ Some old) (sym (list-root f n root)) s.value)
+      (put-here most cmp f n k root here f' x written slots chain) (IsIncreasing-put cmp total _ k x up) (λ low. let few = rw (need-present most cmp f n k root here) at low in omega (arith, few))
+
+  -- after the value was replaced, the path stands at the key's place
+  pub key-spot : (f' : Forest K X) → StandsOn f' n path (place cmp (list_under f n) k) → IsSpot f' (Some n) path (place cmp (list_at f n) k)
+  key-spot f' on = rw (list-root f n (live-root f n s.live)) (on-at f' n path _ on)
+
+module _ {K X : Type 0} {most : ℕ} {cmp : K → K → Ordering} {f : Forest K X} {n : ℕ} {k : K} {path : Path K X most} (s : AtGap cmp f n k path) where
   abbrev at : ℕ
   at = place cmp (list_under f n) k
 
   root : IsTrue (is_root f.nodes n)
-  root = live-root f n live
+  root = live-root f n s.live
 
-  module _ (path : Path K X most) (found : Option X) (value : found ≡ value_for cmp (list_under f n) k) where
-    -- the key is present, and the path stands on its entry
-    module _ (present : is_present cmp (list_under f n) k ≡ true → StandsOn f n path at) (old : X) (is : found ≡ Some old) where
-      pub here : is_present cmp (list_under f n) k ≡ true
-      here = present-some cmp (list_under f n) k old (sym value ∙ is)
+  gone : is_present cmp (list_under f n) k ≡ false
+  gone = absent-none cmp (list_under f n) k s.none
 
-      abbrev pub on-key : OnEntry f path
-      on-key = record { root = n; place = at; on = present here }
+  none : value_for cmp (list_at f n) k ≡ None
+  none = subst (λ (l : List (K × X)). value_for cmp l k ≡ None) (sym (list-root f n root)) s.none
 
-      -- `insert` replaces the value of a key that is present
-      pub overwritten : IsTotalOrder cmp → IsIncreasing cmp (list_at f n) → (x : X) (f' : Forest K X) → Changes most f f' n n (with_value (list_under f n) at x) (sizes_under f n) → slot_count f' ≡ slot_count f → f'.chain ≡ f.chain → Inserts most cmp f (Some n) k x (Ok (Some old)) f' (Some n)
-      overwritten total up x f' written slots chain =
-          inserts-ok most cmp f k x n f' n (Some old) (subst (λ (l : List (K × X)). value_for cmp l k ≡ Some old) (sym (list-root f n root)) (sym value ∙ is))
-          (put-here most cmp f n k root here f' x written slots chain) (IsIncreasing-put cmp total _ k x up) (λ low. let few = rw (need-present most cmp f n k root here) at low in omega (arith, few))
+  needs : need_of most cmp f (Some n) k ≡ need most at (sizes_under f n)
+  needs = need-absent most cmp f n k root gone
 
-      -- after the value was replaced, the path stands at the key's place
-      pub key-spot : (f' : Forest K X) → StandsOn f' n path at → IsSpot f' (Some n) path (place cmp (list_at f n) k)
-      key-spot f' on = rw (list-root f n root) (on-at f' n path at on)
+  abbrev pub at-key : Placing f path
+  at-key = record { root = n; place = at; placed = s.placed }
 
-    -- the key is absent, and the path is placed for it
-    module _ (absent : is_present cmp (list_under f n) k ≡ false → IsPlaced f n path at) (is : found ≡ None) where
-      pub gone : is_present cmp (list_under f n) k ≡ false
-      gone = absent-none cmp (list_under f n) k (sym value ∙ is)
+  -- the path points to the key's place where nothing has changed
+  abbrev pub to-key : {f' : Forest K X} {path' : Path K X most} → f' ≡ f → path' ≡ path → Pointing f' path'
+  to-key same is = record { root = n; place = at; to = rw (same, is) (placed-points f n path at s.placed) }
 
-      none : value_for cmp (list_at f n) k ≡ None
-      none = subst (λ (l : List (K × X)). value_for cmp l k ≡ None) (sym (list-root f n root)) (sym value ∙ is)
+  module _ {result : Result ℕ OutOfMemory} (full : (result ≡ Err Full) ↔ IsTooMany (need most at (sizes_under f n)) f) where
+    -- `insert` of an absent key that was refused
+    pub refused : IsIncreasing cmp (list_at f n) → {x : X} {err : OutOfMemory} → result ≡ Err err → (result ≡ Err Memory → NeedsGrowth (need most at (sizes_under f n)) f) → (need most at (sizes_under f n) ≤ free_of f → IsOk result) → Inserts most cmp f (Some n) k x (Err err) f (Some n)
+    refused up {x} {err} said memory enough =
+        inserts-err most cmp f k x (Some n) err up none
+        (λ e. rw needs (full.0 (said ∙ ap Err e)), λ low. let same = full.1 (rw needs at low) in cc)
+        (λ e. rw needs (memory (said ∙ ap Err e)))
+        (λ low. not-ok result err said (enough (rw needs at low)))
 
-      needs : need_of most cmp f (Some n) k ≡ need most at (sizes_under f n)
-      needs = need-absent most cmp f n k root gone
+    -- `insert` of an absent key that succeeded
+    pub added : IsTotalOrder cmp → IsIncreasing cmp (list_at f n) → {x : X} {root' : ℕ} → result ≡ Ok root' → {f' : Forest K X} → Changes most f f' n root' (insert (list_under f n) at (k, x)) (growth most at (sizes_under f n)) → TakesNodes (need most at (sizes_under f n)) f f' →
+        (root' ≡ n) ↔ (length (growth most at (sizes_under f n)) ≡ length (sizes_under f n)) → Inserts most cmp f (Some n) k x (Ok None) f' (Some root')
+    added total up {x} {root'} said {f'} changes takes same =
+        inserts-ok most cmp f k x n f' root' None none (put-new most cmp f n k root gone f' root' x changes takes same) (IsIncreasing-put cmp total _ k x up) (λ low. let bad = full.1 (rw needs at low) in cc)
 
-      abbrev pub at-key : Placing f path
-      at-key = record { root = n; place = at; placed = absent gone }
+  -- after an insertion the path stands at the key's place
+  pub new-spot : (f' : Forest K X) {root' : ℕ} {path' : Path K X most} → StandsOn f' root' path' at → IsSpot f' (Some root') path' (place cmp (list_at f n) k)
+  new-spot f' {root'} {path'} on = rw (list-root f n root) (on-at f' root' path' at on)
 
-      -- the path points to the key's place where nothing has changed
-      abbrev pub to-key : (f' : Forest K X) (path' : Path K X most) → f' ≡ f → path' ≡ path → Pointing f' path'
-      to-key f' path' same is = record { root = n; place = at; to = rw (same, is) (placed-points f n path at (absent gone)) }
-
-      module _ (result : Result ℕ OutOfMemory) (full : (result ≡ Err Full) ↔ IsTooMany (need most at (sizes_under f n)) f) where
-        -- `insert` of an absent key that was refused
-        pub refused : IsIncreasing cmp (list_at f n) → (x : X) (err : OutOfMemory) → result ≡ Err err → (result ≡ Err Memory → NeedsGrowth (need most at (sizes_under f n)) f) → (need most at (sizes_under f n) ≤ free_of f → IsOk result) → Inserts most cmp f (Some n) k x (Err err) f (Some n)
-        refused up x err said memory enough =
-            inserts-err most cmp f k x (Some n) err up none
-            (λ e. rw needs (full.0 (said ∙ ap Err e)), λ low. let same = full.1 (rw needs at low) in cc)
-            (λ e. rw needs (memory (said ∙ ap Err e)))
-            (λ low. not-ok result err said (enough (rw needs at low)))
-
-        -- `insert` of an absent key that succeeded
-        pub added : IsTotalOrder cmp → IsIncreasing cmp (list_at f n) → (x : X) (root' : ℕ) → result ≡ Ok root' → (f' : Forest K X) → Changes most f f' n root' (insert (list_under f n) at (k, x)) (growth most at (sizes_under f n)) → TakesNodes (need most at (sizes_under f n)) f f' →
-            (root' ≡ n) ↔ (length (growth most at (sizes_under f n)) ≡ length (sizes_under f n)) → Inserts most cmp f (Some n) k x (Ok None) f' (Some root')
-        added total up x root' said f' changes takes same =
-            inserts-ok most cmp f k x n f' root' None none (put-new most cmp f n k root gone f' root' x changes takes same) (IsIncreasing-put cmp total _ k x up) (λ low. let bad = full.1 (rw needs at low) in cc)
-
-      -- after an insertion the path stands at the key's place
-      pub new-spot : (f' : Forest K X) (root' : ℕ) (path' : Path K X most) → StandsOn f' root' path' at → IsSpot f' (Some root') path' (place cmp (list_at f n) k)
-      new-spot f' root' path' on = rw (list-root f n root) (on-at f' root' path' at on)
-
-      -- after a refusal the path stands at the key's place
-      pub old-spot : (path' : Path K X most) → StandsAt f n path' at → IsSpot f (Some n) path' (place cmp (list_at f n) k)
-      old-spot path' stands = rw (list-root f n root) stands
+  -- after a refusal the path stands at the key's place
+  pub old-spot : {path' : Path K X most} → StandsAt f n path' at → IsSpot f (Some n) path' (place cmp (list_at f n) k)
+  old-spot stands = rw (list-root f n root) stands
 
 -- where a leaf was written with one search, the value was replaced or the key inserted
 module _ {K X : Type 0} {most : ℕ} {cmp : K → K → Ordering} (total : IsTotalOrder cmp) {f f' : Forest K X} {n : ℕ} (live : list_at f n ≢ []) (up : IsIncreasing cmp (list_at f n)) {k : K} {x : X}

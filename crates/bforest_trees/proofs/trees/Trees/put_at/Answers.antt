@@ -1,5 +1,5 @@
 use Rattle.bforest_trees.proofs.After.{handed-on}
-use Rattle.bforest_trees.proofs.Entering.{added, refused}
+use Rattle.bforest_trees.proofs.Entering.{AtGap, added, at-key, refused}
 use Rattle.bforest_trees.proofs.trees.Trees.put_at.Goals as goal
 use Rattle.bforest_core.specs.Paths.{Placing, list_under}
 use Rattle.bforest_nodes.specs.Entries.{place}
@@ -11,14 +11,10 @@ insert_full-requires g c =
     (search rules, (search rules, (c.self.invariant, (e, rw (← c.self.view_is) at c.requires.full))))
 
 pub returns-in_err-root : goal.returns-in_err-root
-returns-in_err-root g c =
-    let p = c.self.inside.pool in
-    let told = c.in_err-root.ensures in
-    rw (handed-on c.from_residual.ensures.1, told.refused_pool, ← c.self.view_is)
-    (λ root order is live total up none placed.
-    let e : Placing p c.args.path.now = record { root = root; place = place order (list_under p root) c.args.key; placed = placed } in
-    rw is
-    (refused g.row.N order p root c.args.key live c.args.path.now None (sym none) (λ gone. placed) refl (Err c.in_err-root.field-0.0) (told.full e) up c.args.value c.in_err-root.field-0.0 refl (told.memory e) (told.enough e)))
+returns-in_err-root g c = let told = c.in_err-root.ensures in
+    rw (handed-on c.from_residual.ensures.1, told.refused_pool, ← c.self.view_is) (λ root order is live total up none placed.
+    let s : AtGap order c.self.inside.pool root c.args.key c.args.path.now = record { live = live; none = none; placed = placed } in
+    rw is (refused s (told.full (at-key s)) up refl (told.memory (at-key s)) (told.enough (at-key s))))
 
 pub invariant_of-self-2 : goal.invariant_of-self-2
 invariant_of-self-2 g c =
@@ -26,10 +22,7 @@ invariant_of-self-2 g c =
     (c.in_ok-root.ensures.inserted e).union
 
 pub returns : goal.returns
-returns g c =
-    let p = c.self.inside.pool in
-    let told = c.in_ok-root.ensures in
-    rw (c.some.ensures.node, ← c.self.view_is)
-    (λ root order is live total up none placed.
-    let e : Placing p c.args.path.now = record { root = root; place = place order (list_under p root) c.args.key; placed = placed } in
-    added g.row.N order p root c.args.key live c.args.path.now None (sym none) (λ gone. placed) refl (Ok c.in_ok-root.root) (told.full e) total up c.args.value c.in_ok-root.root refl c.insert_full.new.pool (told.inserted e) (told.account e) (told.same_root e))
+returns g c = let told = c.in_ok-root.ensures in
+    rw (c.some.ensures.node, ← c.self.view_is) (λ root order is live total up none placed.
+    let s : AtGap order c.self.inside.pool root c.args.key c.args.path.now = record { live = live; none = none; placed = placed } in
+    added s (told.full (at-key s)) total up refl (told.inserted (at-key s)) (told.account (at-key s)) (told.same_root (at-key s)))
