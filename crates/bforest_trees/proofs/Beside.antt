@@ -1,5 +1,6 @@
 -- Two looks into one list: whether they are at one place, and which of them is behind the other.
-use Rattle.bforest_trees.proofs.Looking.{from-behind, from-spot, held-count, held-within, keyless, look-within, start-is}
+use Rattle.bforest_trees.proofs.Held.{from-behind, from-spot, held-count, held-within, keyless, start-is}
+use Rattle.bforest_trees.proofs.Looking.{look-within}
 use Rattle.bforest_trees.specs.Forest.{list_of}
 use Rattle.bforest_trees.specs.Looks.{Holds, IsLook, IsOnEntry, start_of}
 use Rattle.bforest_trees.specs.declared.look.Look.{Look}

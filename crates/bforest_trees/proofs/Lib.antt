@@ -4,13 +4,18 @@ pub mod Putting
 pub mod Measures
 pub mod After
 pub mod Reading
+pub mod Readers
+pub mod Held
 pub mod Looking
+pub mod Crossing
 pub mod Inserting
 pub mod Entering
 pub mod Reserving
 pub mod Accounts
 pub mod Cutting
+pub mod Removing
 pub mod Following
+pub mod Sifted
 pub mod Sifting
 pub mod Retaining
 pub mod Spots
@@ -19,6 +24,7 @@ pub mod Answered
 pub mod Stepping
 pub mod Writing
 pub mod Taking
+pub mod Slices
 pub mod Between
 pub mod Beside
 pub mod Ranging

@@ -1,4 +1,5 @@
 -- What the loop of `retain` keeps.
+use Rattle.bforest_trees.proofs.Sifted.{drop_written, length_written, shrink-fewer, take_written}
 use Rattle.bforest_trees.proofs.Cutting.{changes-none, gives-none}
 use Rattle.bforest_trees.proofs.Following.{chained-no-root, changes-both, ends-both, gives-both}
 use Rattle.bforest_trees.proofs.Reading.{left-at}
@@ -11,68 +12,16 @@ use Rattle.bforest_core.proofs.walks.Standing.{at-on, on-at}
 use Rattle.bforest_core.specs.Change.{Changes, GivesNodes}
 use Rattle.bforest_core.specs.Paths.{StandsAt, StandsOn, list_under, sizes_under}
 use Rattle.bforest_core.specs.Place.{count}
-use Rattle.bforest_core.specs.Sizes.{loss, loss_above, shrink, trimmed}
+use Rattle.bforest_core.specs.Sizes.{shrink}
 use Rattle.bforest_core.specs.Table.{Table}
 use Rattle.bforest_core.specs.Trees.{IsUnion, is_root}
 use Rattle.bforest_core.specs.declared.path.Path.{Path}
 use Rattle.bforest_nodes.specs.Entries.{with_value}
-use Rattle.std.proofs.Common.{Bool, IfSome, IsTrue, List, None, Option, Some, [], ap, append-nil, arith, drop, false, if◌then◌else◌, inl, inr, length, refl, remove, slice_get, subst, suc, sym, take, true, zero, ◌++◌, ◌-◌, ◌<◌, ◌∙◌, ◌∷◌, ◌≡◌, ◌≢◌, ◌≤◌, ◌↔◌, ℕ}
+use Rattle.std.proofs.Common.{Bool, IsTrue, List, None, Some, [], ap, append-nil, arith, drop, false, if◌then◌else◌, inl, inr, length, refl, remove, slice_get, subst, suc, sym, take, true, ◌++◌, ◌-◌, ◌<◌, ◌∙◌, ◌∷◌, ◌≡◌, ◌≢◌, ◌≤◌, ◌↔◌, ℕ}
 use Rattle.std.proofs.lemmas.Bool.Decides.{eqb_tells}
 use Rattle.std.proofs.lemmas.Bool.{cases_lt}
 use Rattle.std.proofs.lemmas.List.{drop_all, length-drop, take_all}
 use Rattle.std.proofs.lemmas.Option.{slice_get_within}
-
-module _ {K X : Type 0} where
-  length_written : (xs : List (K × X)) (p : ℕ) (w : X) → length (with_value xs p w) ≡ length xs
-  length_written [] p w = refl
-  length_written (e ∷ xs) zero w = refl
-  length_written (e ∷ xs) (suc p) w = ap suc (length_written xs p w)
-
-  drop_written : (xs : List (K × X)) (p : ℕ) (w : X) → drop (suc p) (with_value xs p w) ≡ drop (suc p) xs
-  drop_written [] p w = refl
-  drop_written (e ∷ xs) zero w = refl
-  drop_written (e ∷ xs) (suc p) w = drop_written xs p w
-
-  take_written : (xs : List (K × X)) (p : ℕ) (w : X) (e : K × X) → Some e ≡ slice_get xs p → (ks : List (K × X)) → take (suc p) (with_value xs p w) ++ ks ≡ take p xs ++ (e.0, w) ∷ ks
-  take_written [] zero w e here ks = absurd (cc)
-  take_written [] (suc p) w e here ks = absurd (cc)
-  take_written (x ∷ xs) zero w e here ks = let same : x ≡ e = cc in ap (λ z. (z.0, w) ∷ ks) same
-  take_written (x ∷ xs) (suc p) w e here ks = ap (λ l. x ∷ l) (take_written xs p w e here ks)
-
--- trimming levels adds none
-trimmed_fewer : (levels : List (List ℕ)) → length (trimmed levels) ≤ length levels
-trimmed_fewer [] = omega arith
-trimmed_fewer ([] ∷ levels) = omega arith
-trimmed_fewer ((s ∷ []) ∷ levels) = omega arith
-trimmed_fewer ((s ∷ (r ∷ after)) ∷ levels) = omega (arith, trimmed_fewer levels)
-
-loss_fewer : (k : Option ℕ) (levels : List (List ℕ)) → length (loss_above k levels) ≤ length levels
-loss_fewer None levels = omega arith
-loss_fewer (Some p) [] = omega arith
-loss_fewer (Some p) (level ∷ levels) = omega (arith, loss_fewer (loss 8 p level).0 levels)
-
--- a removal adds no level
-pub shrink-fewer : (n p : ℕ) (sizes : List (List ℕ)) → length (shrink n p sizes) ≤ length sizes
-shrink-fewer n p [] = omega arith
-shrink-fewer n p (leaves ∷ levels) = omega (arith, trimmed_fewer ((loss n p leaves).1 ∷ loss_above (loss n p leaves).0 levels), loss_fewer (loss n p leaves).0 levels)
-
--- a step that removed an entry answered false
-pub sifted-out : {F K X : Type 0} (most : ℕ) (step : F → K → X → Bool → X → F → Type 0) (old new : Table K X) (root : ℕ)
-    (path' : Path K X most) (f f' : F) (list : List (K × X)) (sizes : List (List ℕ)) (place : ℕ) (k : K) (v w : X) → step f k v false w f'
-    → (o : Option ℕ) → IfSome o (λ root'. Changes most old new root root' (remove list place) (shrink most place sizes))
-    → GivesNodes sizes (shrink most place sizes) old new →
-    IfSome o (λ root'. StandsAt new root' path' place) → IfSome o (λ root'. (root' ≡ root) ↔ (length (shrink most place sizes) ≡ length sizes)) → (o ≢ Some root → 0 < count root new.chain) → IfSome o (λ root'. Stepped most step old new root root' path' f f' list sizes place k v)
-sifted-out most step old new root path' f f' list sizes place k v w t None ch gv at level freed = tt
-sifted-out most step old new root path' f f' list sizes place k v w t (Some root') ch gv at level freed = record {
-  stays = false;
-  left = w;
-  stepped = t;
-  changes = ch;
-  gives = gv;
-  at = at;
-  same_root = level;
-  freed_root = λ ne. freed (λ e. ne (cc));
-}
 
 module _ {F K X : Type 0} (most : ℕ) (step : F → K → X → Bool → X → F → Type 0) (may : F → K → X → Type 0) (old : Table K X) (first : ℕ) (f₀ : F) where
   -- the entries in front of the path's place are asked, and the rest is as before

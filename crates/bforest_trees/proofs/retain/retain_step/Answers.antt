@@ -1,4 +1,4 @@
-use Rattle.bforest_trees.proofs.Sifting.{sifted-out}
+use Rattle.bforest_trees.proofs.Sifted.{sifted-out}
 use Rattle.bforest_trees.proofs.retain.retain_step.Goals as goal
 use Rattle.bforest_core.specs.Paths.{OnEntry, list_under, sizes_under}
 use Rattle.std.proofs.Common.{[], arith, refl, rules, subst, true, ℕ}

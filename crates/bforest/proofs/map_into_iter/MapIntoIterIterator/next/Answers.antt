@@ -1,4 +1,4 @@
-use Rattle.bforest_trees.proofs.Reading.{progress}
+use Rattle.bforest_trees.proofs.Readers.{progress}
 use Rattle.bforest.proofs.map_into_iter.MapIntoIterIterator.next.Goals as goal
 
 pub returns-clause-steps : goal.returns-clause-steps

@@ -1,5 +1,5 @@
 use Rattle.std.proofs.Common.{sym}
-use Rattle.bforest_trees.proofs.Reading.{progress}
+use Rattle.bforest_trees.proofs.Readers.{progress}
 use Rattle.bforest.proofs.map_iter.MapIterIterator.next.Goals as goal
 
 pub returns-clause-steps : goal.returns-clause-steps

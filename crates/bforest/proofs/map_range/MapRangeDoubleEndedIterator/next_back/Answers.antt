@@ -1,4 +1,4 @@
-use Rattle.bforest_trees.proofs.Reading.{progress-back}
+use Rattle.bforest_trees.proofs.Readers.{progress-back}
 use Rattle.bforest.proofs.map_range.MapRangeDoubleEndedIterator.next_back.Goals as goal
 
 pub returns-clause-steps : goal.returns-clause-steps

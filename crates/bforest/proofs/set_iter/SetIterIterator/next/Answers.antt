@@ -1,6 +1,6 @@
 use Rattle.std.proofs.Common.{sym}
 use Rattle.bforest.proofs.Sets.{yields-key}
-use Rattle.bforest_trees.proofs.Reading.{progress}
+use Rattle.bforest_trees.proofs.Readers.{progress}
 use Rattle.bforest_trees.specs.Layout.{left_of}
 use Rattle.bforest.proofs.set_iter.SetIterIterator.next.Goals as goal
 

@@ -1,5 +1,5 @@
 use Rattle.bforest.proofs.Sets.{yields-last-key}
-use Rattle.bforest_trees.proofs.Reading.{progress-back}
+use Rattle.bforest_trees.proofs.Readers.{progress-back}
 use Rattle.bforest_trees.specs.Range.{left_in}
 use Rattle.bforest.proofs.set_range.SetRangeDoubleEndedIterator.next_back.Goals as goal
 use Rattle.std.proofs.Common.{sym}

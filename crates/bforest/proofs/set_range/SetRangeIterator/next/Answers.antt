@@ -1,5 +1,5 @@
 use Rattle.bforest.proofs.Sets.{yields-key}
-use Rattle.bforest_trees.proofs.Reading.{progress}
+use Rattle.bforest_trees.proofs.Readers.{progress}
 use Rattle.bforest_trees.specs.Range.{left_in}
 use Rattle.bforest.proofs.set_range.SetRangeIterator.next.Goals as goal
 use Rattle.std.proofs.Common.{sym}

@@ -1,6 +1,6 @@
 use Rattle.std.proofs.Common.{rules}
 use Rattle.std.proofs.lemmas.Option.{slice_get_within}
-use Rattle.bforest_trees.proofs.Looking.{count-read, holds-leaf, leaf-read}
+use Rattle.bforest_trees.proofs.Held.{count-read, holds-leaf, leaf-read}
 use Rattle.bforest_trees.proofs.look.Look.enter.Goals as goal
 
 pub node-requires : goal.node-requires

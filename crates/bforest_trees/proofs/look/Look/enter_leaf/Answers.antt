@@ -1,4 +1,5 @@
-use Rattle.bforest_trees.proofs.Looking.{entry-there, first-within, on-first, paired}
+use Rattle.bforest_trees.proofs.Held.{first-within, on-first}
+use Rattle.bforest_trees.proofs.Looking.{entry-there, paired}
 use Rattle.bforest_trees.proofs.look.Look.enter_leaf.Goals as goal
 
 pub here-requires : goal.here-requires

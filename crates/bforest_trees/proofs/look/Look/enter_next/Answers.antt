@@ -1,5 +1,5 @@
 use Rattle.std.proofs.Common.{refl, rules, subst, sym}
-use Rattle.bforest_trees.proofs.Looking.{first-within, on-first}
+use Rattle.bforest_trees.proofs.Held.{first-within, on-first}
 use Rattle.bforest_trees.specs.Looks.{IsLook}
 use Rattle.bforest_trees.proofs.look.Look.enter_next.Goals as goal
 

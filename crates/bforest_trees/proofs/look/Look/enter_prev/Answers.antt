@@ -1,5 +1,5 @@
 use Rattle.std.proofs.Common.{arith, refl, rules}
-use Rattle.bforest_trees.proofs.Looking.{last-behind, last-look, last-some, stays}
+use Rattle.bforest_trees.proofs.Crossing.{last-behind, last-look, last-some, stays}
 use Rattle.bforest_trees.proofs.look.Look.enter_prev.Goals as goal
 
 pub enter-requires : goal.enter-requires

@@ -2,7 +2,7 @@ use Rattle.std.proofs.Common.{Some, refl, rules, sym, ◌∙◌}
 use Rattle.std.proofs.lemmas.Bool.{false≢true}
 use Rattle.std.proofs.lemmas.Option.{slice_get_within}
 use Rattle.bforest_core.proofs.walks.CodesDown.{root-held}
-use Rattle.bforest_trees.proofs.Looking.{from-first, from-only}
+use Rattle.bforest_trees.proofs.Held.{from-first, from-only}
 use Rattle.bforest_trees.specs.Looks.{LeafFrom}
 use Rattle.bforest_trees.proofs.look.Look.enter_under.Goals as goal
 

@@ -1,6 +1,7 @@
 use Rattle.std.proofs.Common.{Option, rules, subst, sym, ◌∙◌, ℕ}
 use Rattle.bforest_trees.proofs.Changed.{live-root}
-use Rattle.bforest_trees.proofs.Looking.{last-up-to, look-none, none-tested, prev-asks, prev-none, prev-some, some-tested}
+use Rattle.bforest_trees.proofs.Crossing.{last-up-to, prev-asks, prev-none, prev-some}
+use Rattle.bforest_trees.proofs.Looking.{look-none, none-tested, some-tested}
 use Rattle.bforest_trees.specs.Forest.{IsLive}
 use Rattle.bforest_trees.proofs.look.Look.leaf_before.Goals as goal
 

@@ -1,5 +1,6 @@
 use Rattle.std.proofs.Common.{rules, sym, ◌∙◌}
-use Rattle.bforest_trees.proofs.Looking.{behind-none, next-asks, next-none, next-some}
+use Rattle.bforest_trees.proofs.Crossing.{next-asks, next-none, next-some}
+use Rattle.bforest_trees.proofs.Looking.{behind-none}
 use Rattle.bforest_trees.proofs.look.Look.next_leaf.Goals as goal
 
 pub returns-in_err-root-clause-none : goal.returns-in_err-root-clause-none

@@ -1,6 +1,6 @@
 use Rattle.std.proofs.Common.{refl, rules}
 use Rattle.std.proofs.lemmas.Option.{slice_get_within}
-use Rattle.bforest_trees.proofs.Reading.{entered, held-leaf}
+use Rattle.bforest_trees.proofs.Readers.{entered, held-leaf}
 use Rattle.bforest_trees.proofs.reader.Reader.at.Goals as goal
 
 pub node-requires : goal.node-requires

@@ -1,7 +1,7 @@
 use Rattle.std.proofs.lemmas.Bool.{false≢true}
 use Rattle.std.proofs.Common.{refl, rules, sym}
 use Rattle.bforest_trees.specs.Layout.{left_of}
-use Rattle.bforest_trees.proofs.Reading.{held-same, none-left, opens-next, stands}
+use Rattle.bforest_trees.proofs.Readers.{held-same, none-left, opens-next, stands}
 use Rattle.bforest_trees.proofs.reader.Reader.is_left.Goals as goal
 
 pub next-requires : goal.next-requires

@@ -1,5 +1,5 @@
 use Rattle.std.proofs.Common.{rules, ◌∙◌}
-use Rattle.bforest_trees.proofs.Reading.{over, taken}
+use Rattle.bforest_trees.proofs.Readers.{over, taken}
 use Rattle.bforest_trees.proofs.reader.Reader.next.Goals as goal
 
 pub take_first-requires : goal.take_first-requires

@@ -1,4 +1,4 @@
-use Rattle.bforest_trees.proofs.Cutting.{removes-none}
+use Rattle.bforest_trees.proofs.Removing.{removes-none}
 use Rattle.bforest_trees.proofs.trees.Trees.remove.Goals as goal
 use Rattle.bforest_trees.specs.Forest.{list_of}
 use Rattle.bforest_nodes.specs.Entries.{value_for}
