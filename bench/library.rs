@@ -19,7 +19,9 @@ unsafe extern "C" {
     fn bench_std_set_mixture(sets: u32, calls: u32, looks: u32, walks: u32, is_cleared: bool) -> u64;
 }
 
-/// Makes a run on maps and sets of `bforest`, or of the toolchain. The time includes the drop, which frees one table.
+/// Makes a run on maps and sets of `bforest`, or of the toolchain. The time includes the drop, which frees one table. Inlined like the
+/// runs of the other sides: a call in their midst moves values of their loops to memory.
+#[inline(always)]
 pub fn run(work: Work, is_toolchain: bool) -> (u64, Duration) {
     let start = Instant::now();
     let Work { size, looks, walks, turns, .. } = work;

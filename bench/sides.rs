@@ -11,23 +11,29 @@ use std::hint::black_box;
 use std::time::Duration;
 
 /// The implementation that a run uses.
-#[derive(Clone, Copy, Debug)]
+#[derive(Clone, Copy)]
 pub enum Side {
+    #[cfg(library)]
     Bforest,
     Std,
+    #[cfg(original)]
     Original,
     Vecs,
     OneMap,
+    #[cfg(library)]
     Toolchain, // maps and sets of the toolchain's standard library, which are proved too
 }
 
 /// The sides by their names in a table.
-pub const SIDES: [(&str, Side); 6] = [
+pub const SIDES: &[(&str, Side)] = &[
+    #[cfg(library)]
     ("bforest", Side::Bforest),
     ("BTreeMap", Side::Std),
+    #[cfg(original)]
     ("original", Side::Original),
     ("Vec", Side::Vecs),
     ("one-map", Side::OneMap),
+    #[cfg(library)]
     ("toolchain", Side::Toolchain),
 ];
 
@@ -44,8 +50,6 @@ pub fn run(side: Side, work: Work, is_kept: bool) -> (u64, Duration) {
         Side::OneMap => run_on::<OneMap<u32>, OneMap<()>, OneMap<u32>>(black_box(work), is_kept),
         #[cfg(library)]
         Side::Toolchain => library::run(black_box(work), true),
-        #[cfg(not(all(library, original)))]
-        _ => panic!("{side:?} is not built"),
     }
 }
 
