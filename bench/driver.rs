@@ -1,11 +1,14 @@
 //! `driver SIDE KIND SIZE LOOKS WALKS TURNS [REPEATS]` makes a run, and prints its checksum and the most memory that the process held; or, with
 //! REPEATS, makes it so often in a row, and prints its checksum and its average time. `bench/run` chooses runs, and makes tables of them.
 
+#[cfg(library)]
+mod library;
 mod others;
 mod runs;
-mod sets;
+mod sides;
 
-use runs::{run, Kind, Side, Work};
+use runs::{Kind, Work};
+use sides::{run, SIDES};
 use std::time::Duration;
 
 // The most memory that this process has held, in bytes.
@@ -18,13 +21,13 @@ fn most_memory() -> Option<u64> {
 // Makes the run of these words, and prints what it tells.
 fn tell(words: &[String]) -> Option<()> {
     let [side, kind, numbers @ ..] = words else { return None };
-    let (side, kind) = (Side::named(side)?, Kind::named(kind)?);
+    let (_, side) = *SIDES.iter().find(|(name, _)| name == side)?;
+    let kind = Kind::named(kind)?;
     let numbers: Vec<u32> = numbers.iter().map(|word| word.parse().ok()).collect::<Option<_>>()?;
     let [size, looks, walks, turns, repeats @ ..] = numbers.as_slice() else { return None };
     let work = Work { kind, size: *size, looks: *looks, walks: *walks, turns: *turns };
     let Some(repeats) = repeats.first() else {
-        println!("sum {}", run(side, work, true).0);
-        println!("memory {}", most_memory()?);
+        println!("sum {}\nmemory {}", run(side, work, true).0, most_memory()?);
         return Some(());
     };
     let (mut sum, mut whole) = (0, Duration::ZERO);
@@ -32,8 +35,7 @@ fn tell(words: &[String]) -> Option<()> {
         let (found, time) = run(side, work, false);
         (sum, whole) = (found, whole + time);
     }
-    println!("sum {sum}");
-    println!("nanoseconds {}", whole.as_nanos() as f64 / f64::from(*repeats));
+    println!("sum {sum}\nnanoseconds {}", whole.as_nanos() as f64 / f64::from(*repeats));
     Some(())
 }
 

@@ -1,76 +1,32 @@
-//! Runs of equal work on maps and sets of `bforest` (if its static library is present), of `std`, of the Rust original (if present), and of
-//! `others`.
+//! Runs of equal work on many maps, on many sets, and on live ranges, of any side.
 
-use crate::others::{OneMap, Vecs};
-use crate::sets;
-use std::collections::BTreeMap;
 use std::hint::black_box;
 use std::time::{Duration, Instant};
 
-// Nothing is passed for the parameter `alloc` of these functions: a `Global` takes no bytes.
-#[cfg(library)]
-unsafe extern "C" {
-    fn bench_mixture(maps: u32, calls: u32, looks: u32, walks: u32, is_cleared: bool) -> u64;
-    fn bench_indexed(maps: u32, calls: u32, is_cleared: bool) -> u64;
-    fn bench_large(size: u32, is_mixed: bool, looks: u32, walks: u32, is_emptied: bool) -> u64;
-    fn bench_large_cursor(size: u32, is_mixed: bool, walks: u32, turns: u32) -> u64;
-    fn bench_edges(blocks: u32, walks: u32, turns: u32) -> u64;
-    fn bench_edges_cursor(blocks: u32, walks: u32) -> u64;
-    fn bench_set_mixture(sets: u32, calls: u32, looks: u32, walks: u32, is_cleared: bool) -> u64;
-    fn bench_large_set(size: u32, is_mixed: bool, looks: u32, walks: u32, edits: u32) -> u64;
-    fn bench_ranges(size: u32, looks: u32, spans: u32, is_split: bool) -> u64;
-    fn bench_std_mixture(maps: u32, calls: u32, looks: u32, walks: u32, is_cleared: bool) -> u64;
-    fn bench_std_edges(blocks: u32, walks: u32, turns: u32) -> u64;
-    fn bench_std_set_mixture(sets: u32, calls: u32, looks: u32, walks: u32, is_cleared: bool) -> u64;
-}
-
 /// The subject of a run.
-#[derive(Clone, Copy, PartialEq)]
+#[derive(Clone, Copy, Debug, PartialEq)]
 pub enum Kind {
-    /// Many small maps.
-    Mixture,
-    /// The maps of `Mixture`, by an index.
-    Indexed,
-    /// One map, whose keys are inserted in no order.
-    Random,
-    /// One map, whose keys are inserted in ascending order.
-    Ascending,
-    /// The map of `Random`, read by cursors.
-    RandomCursor,
-    /// The map of `Ascending`, read by cursors.
-    AscendingCursor,
-    /// A map of predecessors for each block of a control flow graph.
-    Edges,
-    /// The maps of `Edges`, read by cursors.
-    EdgesCursor,
-    /// Many small sets.
-    SetMixture,
-    /// One set, whose keys are inserted in no order.
-    RandomSet,
-    /// One set, whose keys are inserted in ascending order.
-    AscendingSet,
-    /// Live ranges in one map.
-    Ranges,
+    Mixture,         // many small maps
+    Indexed,         // the maps of `Mixture`, by an index
+    Random,          // one map, whose keys are inserted in no order
+    Ascending,       // one map, whose keys are inserted in ascending order
+    RandomCursor,    // the map of `Random`, read by cursors
+    AscendingCursor, // the map of `Ascending`, read by cursors
+    Edges,           // a map of predecessors for each block of a control flow graph
+    EdgesCursor,     // the maps of `Edges`, read by cursors
+    SetMixture,      // many small sets
+    RandomSet,       // one set, whose keys are inserted in no order
+    AscendingSet,    // one set, whose keys are inserted in ascending order
+    Ranges,          // live ranges in one map
 }
 
 impl Kind {
     /// The kind of this name.
     pub fn named(name: &str) -> Option<Kind> {
-        Some(match name {
-            "Mixture" => Kind::Mixture,
-            "Indexed" => Kind::Indexed,
-            "Random" => Kind::Random,
-            "Ascending" => Kind::Ascending,
-            "RandomCursor" => Kind::RandomCursor,
-            "AscendingCursor" => Kind::AscendingCursor,
-            "Edges" => Kind::Edges,
-            "EdgesCursor" => Kind::EdgesCursor,
-            "SetMixture" => Kind::SetMixture,
-            "RandomSet" => Kind::RandomSet,
-            "AscendingSet" => Kind::AscendingSet,
-            "Ranges" => Kind::Ranges,
-            _ => return None,
-        })
+        use Kind::*;
+        let maps = [Mixture, Indexed, Random, Ascending, RandomCursor, AscendingCursor, Edges, EdgesCursor];
+        let others = [SetMixture, RandomSet, AscendingSet, Ranges];
+        maps.into_iter().chain(others).find(|kind| format!("{kind:?}") == name)
     }
 }
 
@@ -88,71 +44,34 @@ pub struct Work {
 }
 
 impl Work {
-    /// The number of calls that fill the maps of a mixture.
+    /// The number of calls that fill the maps or sets of a mixture.
     pub fn calls(self) -> u32 {
         self.size.saturating_mul(30)
     }
 }
 
-/// The implementation that a run uses.
-#[derive(Clone, Copy)]
-pub enum Side {
-    #[cfg(library)]
-    Bforest,
-    Std,
-    #[cfg(original)]
-    Original,
-    Vecs,
-    OneMap,
-    /// Maps and sets of the toolchain's standard library, which are proved too.
-    #[cfg(library)]
-    Toolchain,
-}
-
-impl Side {
-    /// The side of this name in a table.
-    pub fn named(name: &str) -> Option<Side> {
-        Some(match name {
-            #[cfg(library)]
-            "bforest" => Side::Bforest,
-            "BTreeMap" => Side::Std,
-            #[cfg(original)]
-            "original" => Side::Original,
-            "Vec" => Side::Vecs,
-            "one-map" => Side::OneMap,
-            #[cfg(library)]
-            "toolchain" => Side::Toolchain,
-            _ => return None,
-        })
-    }
-}
-
 // A generator of numbers, equal to that of `bforest_workloads_bench`.
-pub struct Random {
-    pub state: u64,
+struct Random {
+    state: u64,
 }
 
 impl Random {
-    fn next(&mut self) -> u32 {
+    fn below(&mut self, bound: u32) -> u32 {
         let mut x = self.state;
         x ^= x << 13;
         x ^= x >> 7;
         x ^= x << 17;
         self.state = x;
-        (x >> 32) as u32
-    }
-
-    pub fn below(&mut self, bound: u32) -> u32 {
-        let x = self.next();
+        let number = (x >> 32) as u32;
         if bound == 0 {
             0
         } else {
-            x % bound
+            number % bound
         }
     }
 }
 
-pub fn mixed(index: u32) -> u32 {
+fn mixed(index: u32) -> u32 {
     let mut x = index;
     x ^= x >> 16;
     x = x.wrapping_mul(0x85eb_ca6b);
@@ -165,141 +84,64 @@ pub fn added(sum: u64, x: u32) -> u64 {
     sum.wrapping_mul(31).wrapping_add(x as u64)
 }
 
-/// Many maps, named by their numbers.
-pub trait Maps {
+/// Many maps, named by their numbers. A set is a map to `()`.
+pub trait Many<V> {
     fn new(count: u32) -> Self;
-    fn insert(&mut self, map: u32, key: u32, value: u32) -> Option<u32>;
-    fn get(&self, map: u32, key: u32) -> Option<u32>;
-    fn remove(&mut self, map: u32, key: u32) -> Option<u32>;
-    fn walk(&self, map: u32, sum: u64) -> u64;
-    /// Adds each entry to a checksum, from the first on, by a cursor.
-    fn read_on(&self, map: u32, sum: u64) -> u64;
-    /// Adds each entry to a checksum, from the last back, by a cursor.
-    fn read_back(&self, map: u32, sum: u64) -> u64;
+    fn insert(&mut self, map: u32, key: u32, value: V) -> Option<V>;
+    fn get(&self, map: u32, key: u32) -> Option<V>;
+    fn remove(&mut self, map: u32, key: u32) -> Option<V>;
+    /// Empties a map, and gives its memory back.
     fn clear(&mut self, map: u32);
 }
 
-struct StdMaps {
-    maps: Vec<BTreeMap<u32, u32>>,
+/// What maps do beside. Each of these calls adds all entries of a map to a checksum.
+pub trait Maps: Many<u32> {
+    fn walk(&self, map: u32, sum: u64) -> u64;
+    /// From the first entry on, by a cursor.
+    fn read_on(&self, map: u32, sum: u64) -> u64;
+    /// From the last entry back, by a cursor.
+    fn read_back(&self, map: u32, sum: u64) -> u64;
 }
 
-impl Maps for StdMaps {
-    fn new(count: u32) -> Self {
-        StdMaps { maps: (0..count).map(|_| BTreeMap::new()).collect() }
-    }
-
-    fn insert(&mut self, map: u32, key: u32, value: u32) -> Option<u32> {
-        self.maps.get_mut(map as usize)?.insert(key, value)
-    }
-
-    fn get(&self, map: u32, key: u32) -> Option<u32> {
-        self.maps.get(map as usize)?.get(&key).copied()
-    }
-
-    fn remove(&mut self, map: u32, key: u32) -> Option<u32> {
-        self.maps.get_mut(map as usize)?.remove(&key)
-    }
-
-    fn walk(&self, map: u32, sum: u64) -> u64 {
-        let mut sum = sum;
-        if let Some(map) = self.maps.get(map as usize) {
-            for (key, value) in map {
-                sum = added(sum, key ^ value);
-            }
-        }
-        sum
-    }
-
-    fn read_on(&self, map: u32, sum: u64) -> u64 {
-        let mut sum = sum;
-        if let Some(map) = self.maps.get(map as usize) {
-            for (key, value) in map.range(..) {
-                sum = added(sum, key.wrapping_add(*value));
-            }
-        }
-        sum
-    }
-
-    fn read_back(&self, map: u32, sum: u64) -> u64 {
-        let mut sum = sum;
-        if let Some(map) = self.maps.get(map as usize) {
-            for (key, value) in map.range(..).rev() {
-                sum = added(sum, key.wrapping_add(*value));
-            }
-        }
-        sum
-    }
-
-    fn clear(&mut self, map: u32) {
-        if let Some(map) = self.maps.get_mut(map as usize) {
-            map.clear();
-        }
-    }
+/// What sets do beside.
+pub trait Sets: Many<()> {
+    /// Adds each key to a checksum.
+    fn walk(&self, set: u32, sum: u64) -> u64;
+    /// Inserts `EDITED` keys beside one another, removes as many from the first on, and counts both.
+    fn edit(&mut self, set: u32, first: u32) -> u32;
 }
 
-#[cfg(original)]
-struct OriginalMaps {
-    forest: cranelift_bforest::MapForest<u32, u32>,
-    maps: Vec<cranelift_bforest::Map<u32, u32>>,
+pub const EDITED: u32 = 5;
+
+/// Ranges by the point where each begins.
+pub trait Ranges {
+    fn new() -> Self;
+    /// Inserts ranges, in order, and counts the new ones.
+    fn put(&mut self, entries: &[(u32, u32)]) -> u32;
+    /// The end of the last range that begins at a point or before.
+    fn end_at(&self, point: u32) -> Option<u32>;
+    /// The first and the last range that begin within these points.
+    fn ends(&self, from: u32, to: u32) -> [Option<(u32, u32)>; 2];
 }
 
-#[cfg(original)]
-impl Maps for OriginalMaps {
-    fn new(count: u32) -> Self {
-        OriginalMaps {
-            forest: cranelift_bforest::MapForest::new(),
-            maps: (0..count).map(|_| cranelift_bforest::Map::new()).collect(),
+// Adds to `$sum` what so many rounds tell.
+macro_rules! rounds {
+    ($sum:ident, $count:expr, |$at:pat_param| $told:expr) => {
+        for $at in 0..$count {
+            $sum = $sum.wrapping_add($told);
         }
-    }
+    };
+}
 
-    fn insert(&mut self, map: u32, key: u32, value: u32) -> Option<u32> {
-        self.maps.get_mut(map as usize)?.insert(key, value, &mut self.forest, &())
-    }
-
-    fn get(&self, map: u32, key: u32) -> Option<u32> {
-        self.maps.get(map as usize)?.get(key, &self.forest, &())
-    }
-
-    fn remove(&mut self, map: u32, key: u32) -> Option<u32> {
-        self.maps.get_mut(map as usize)?.remove(key, &mut self.forest, &())
-    }
-
-    fn walk(&self, map: u32, sum: u64) -> u64 {
-        let mut sum = sum;
-        if let Some(map) = self.maps.get(map as usize) {
-            for (key, value) in map.iter(&self.forest) {
-                sum = added(sum, key ^ value);
-            }
+// The checksum of what so many calls tell.
+macro_rules! checksum {
+    ($count:expr, |$at:pat_param| $told:expr) => {{
+        let mut sum = 0u64;
+        for $at in 0..$count {
+            sum = added(sum, $told);
         }
         sum
-    }
-
-    fn read_on(&self, map: u32, sum: u64) -> u64 {
-        let Some(map) = self.maps.get(map as usize) else { return sum };
-        let mut cursor = map.cursor(&self.forest, &());
-        let (Some(value), Some(key)) = (cursor.goto_first(), cursor.key()) else { return sum };
-        let mut sum = added(sum, key.wrapping_add(value));
-        while let Some((key, value)) = cursor.next() {
-            sum = added(sum, key.wrapping_add(value));
-        }
-        sum
-    }
-
-    fn read_back(&self, map: u32, sum: u64) -> u64 {
-        let Some(map) = self.maps.get(map as usize) else { return sum };
-        let mut cursor = map.cursor(&self.forest, &());
-        let mut sum = sum;
-        while let Some((key, value)) = cursor.prev() {
-            sum = added(sum, key.wrapping_add(value));
-        }
-        sum
-    }
-
-    fn clear(&mut self, map: u32) {
-        if let Some(map) = self.maps.get_mut(map as usize) {
-            map.clear(&mut self.forest);
-        }
-    }
+    }};
 }
 
 fn walk_all<M: Maps>(maps: &M, count: u32) -> u64 {
@@ -309,28 +151,20 @@ fn walk_all<M: Maps>(maps: &M, count: u32) -> u64 {
 fn mixture<M: Maps>(maps: &mut M, work: Work) -> u64 {
     let (count, calls) = (work.size, work.calls());
     let mut random = Random { state: 88172645463325252 };
-    let mut sum = 0u64;
-    for _ in 0..calls {
+    let mut sum = checksum!(calls, |_| {
         let (map, key, choice) = (random.below(count), random.below(20), random.below(4));
         let found = match choice {
             0 | 1 => maps.insert(map, key, choice),
             2 => maps.get(map, key),
             _ => maps.remove(map, key),
         };
-        sum = added(sum, found.unwrap_or(7));
-    }
-    for _ in 0..work.looks {
+        found.unwrap_or(7)
+    });
+    rounds!(sum, work.looks, |_| {
         let mut random = Random { state: 12345 };
-        let mut round = 0u64;
-        for _ in 0..calls {
-            let (map, key) = (random.below(count), random.below(20));
-            round = added(round, maps.get(map, key).unwrap_or(7));
-        }
-        sum = sum.wrapping_add(round);
-    }
-    for _ in 0..work.walks {
-        sum = sum.wrapping_add(walk_all(maps, count));
-    }
+        checksum!(calls, |_| maps.get(random.below(count), random.below(20)).unwrap_or(7))
+    });
+    rounds!(sum, work.walks, |_| walk_all(maps, count));
     if work.turns > 0 {
         for map in 0..count {
             maps.clear(map);
@@ -347,24 +181,16 @@ fn large<M: Maps>(maps: &mut M, work: Work, is_mixed: bool) -> u64 {
             sum = sum.wrapping_add(1);
         }
     }
-    for _ in 0..work.looks {
+    rounds!(sum, work.looks, |_| {
         let mut random = Random { state: 99 };
-        let mut round = 0u64;
-        for count in 0..work.size {
+        checksum!(work.size, |count| {
             let index = if is_mixed { random.below(work.size) } else { count };
-            round = added(round, maps.get(0, key_at(index)).unwrap_or(7));
-        }
-        sum = sum.wrapping_add(round);
-    }
-    for _ in 0..work.walks {
-        sum = sum.wrapping_add(maps.walk(0, 0));
-    }
+            maps.get(0, key_at(index)).unwrap_or(7)
+        })
+    });
+    rounds!(sum, work.walks, |_| maps.walk(0, 0));
     if work.turns > 0 {
-        let mut round = 0u64;
-        for index in 0..work.size {
-            round = added(round, maps.remove(0, key_at(index)).unwrap_or(7));
-        }
-        sum = sum.wrapping_add(round);
+        sum = sum.wrapping_add(checksum!(work.size, |index| maps.remove(0, key_at(index)).unwrap_or(7)));
     }
     sum
 }
@@ -372,12 +198,8 @@ fn large<M: Maps>(maps: &mut M, work: Work, is_mixed: bool) -> u64 {
 // A large map, read by a cursor from the first entry on and from the last one back. A checksum that starts at 1 counts a first entry of zeros too.
 fn large_cursor<M: Maps>(maps: &mut M, work: Work, is_mixed: bool) -> u64 {
     let mut sum = large(maps, Work { walks: 0, turns: 0, ..work }, is_mixed);
-    for _ in 0..work.walks {
-        sum = sum.wrapping_add(maps.read_on(0, 1));
-    }
-    for _ in 0..work.turns {
-        sum = sum.wrapping_add(maps.read_back(0, 1));
-    }
+    rounds!(sum, work.walks, |_| maps.read_on(0, 1));
+    rounds!(sum, work.turns, |_| maps.read_back(0, 1));
     sum
 }
 
@@ -393,12 +215,9 @@ fn edges<M: Maps>(maps: &mut M, work: Work) -> u64 {
         }
     }
     let mut sum = 0u64;
-    for _ in 0..work.walks {
-        sum = sum.wrapping_add(walk_all(maps, blocks));
-    }
-    for turn in 0..work.turns {
-        let mut random = start();
-        let mut round = 0u64;
+    rounds!(sum, work.walks, |_| walk_all(maps, blocks));
+    rounds!(sum, work.turns, |turn| {
+        let (mut random, mut round) = (start(), 0);
         for block in 0..blocks {
             for count in 0..=random.below(4) {
                 let first = random.below(blocks);
@@ -407,16 +226,98 @@ fn edges<M: Maps>(maps: &mut M, work: Work) -> u64 {
                 round = added(round, found.unwrap_or(7));
             }
         }
-        sum = sum.wrapping_add(round);
-    }
+        round
+    });
     sum
 }
 
 // The maps of `edges`, read by cursors.
 fn edges_cursor<M: Maps>(maps: &mut M, work: Work) -> u64 {
     let mut sum = edges(maps, Work { walks: 0, turns: 0, ..work });
-    for _ in 0..work.walks {
-        sum = sum.wrapping_add((0..work.size).fold(1, |sum, map| maps.read_on(map, sum)));
+    rounds!(sum, work.walks, |_| (0..work.size).fold(1, |sum, map| maps.read_on(map, sum)));
+    sum
+}
+
+fn set_mixture<S: Sets>(sets: &mut S, work: Work) -> u64 {
+    let (count, calls) = (work.size, work.calls());
+    let mut random = Random { state: 88172645463325252 };
+    let mut sum = checksum!(calls, |_| {
+        let (set, key, choice) = (random.below(count), random.below(20), random.below(4));
+        let told = match choice {
+            0 | 1 => sets.insert(set, key, ()).is_none(),
+            2 => sets.get(set, key).is_some(),
+            _ => sets.remove(set, key).is_some(),
+        };
+        u32::from(told)
+    });
+    rounds!(sum, work.looks, |_| {
+        let mut random = Random { state: 12345 };
+        checksum!(calls, |_| u32::from(sets.get(random.below(count), random.below(20)).is_some()))
+    });
+    rounds!(sum, work.walks, |_| (0..count).fold(0, |sum, set| sets.walk(set, sum)));
+    if work.turns > 0 {
+        for set in 0..count {
+            sets.clear(set);
+        }
+    }
+    sum
+}
+
+fn large_set<S: Sets>(sets: &mut S, work: Work) -> u64 {
+    let is_mixed = work.kind == Kind::RandomSet;
+    let key_at = |index: u32| if is_mixed { mixed(index) } else { index };
+    let mut sum = 0u64;
+    rounds!(sum, work.size, |index| u64::from(sets.insert(0, key_at(index), ()).is_some()));
+    rounds!(sum, work.looks, |_| {
+        let mut random = Random { state: 99 };
+        checksum!(work.size, |count| {
+            let index = if is_mixed { random.below(work.size) } else { count };
+            u32::from(sets.get(0, key_at(index)).is_some())
+        })
+    });
+    rounds!(sum, work.walks, |_| sets.walk(0, 0));
+    rounds!(sum, work.turns, |_| {
+        let mut random = Random { state: 3141 };
+        checksum!(work.size / 10, |_| sets.edit(0, key_at(random.below(work.size))))
+    });
+    sum
+}
+
+// The number of ranges that one cursor inserts, and the number of points from the beginning of one to that of the next.
+const BATCH: u32 = 8;
+const STEP: u32 = 4;
+
+// Inserts `size` ranges, batch by batch, each `offset` points behind the beginning of a step.
+fn put_all<R: Ranges>(ranges: &mut R, size: u32, offset: u32) -> u64 {
+    let range = |index: u32| {
+        let point = index.wrapping_mul(STEP).wrapping_add(offset);
+        (point, point.wrapping_add(STEP - 1))
+    };
+    (0..size / BATCH).fold(0, |sum, batch| {
+        let entries: [(u32, u32); BATCH as usize] = std::array::from_fn(|at| range(batch * BATCH + at as u32));
+        added(sum, ranges.put(&entries))
+    })
+}
+
+fn live_ranges<R: Ranges>(ranges: &mut R, work: Work) -> u64 {
+    let mut sum = put_all(ranges, work.size, 0);
+    rounds!(sum, work.looks, |_| {
+        let mut random = Random { state: 99 };
+        checksum!(work.size, |_| ranges.end_at(random.below(work.size.wrapping_mul(STEP))).unwrap_or(7))
+    });
+    rounds!(sum, work.walks, |_| {
+        let (mut random, mut round) = (Random { state: 4711 }, 0);
+        for _ in 0..work.size {
+            let from = random.below(work.size.wrapping_mul(STEP));
+            let found = ranges.ends(from, from.saturating_add(BATCH * STEP));
+            for entry in found.map(|entry| entry.unwrap_or((7, 7))) {
+                round = added(round, entry.0 ^ entry.1);
+            }
+        }
+        round
+    });
+    if work.turns > 0 {
+        sum = sum.wrapping_add(put_all(ranges, work.size, STEP / 2));
     }
     sum
 }
@@ -433,8 +334,8 @@ fn timed<M>(new: impl FnOnce() -> M, run: impl FnOnce(&mut M) -> u64, is_kept: b
     (sum, time)
 }
 
-// Makes a run on maps and sets of one side.
-fn run_on<M: Maps, S: sets::Sets, R: sets::Ranges>(work: Work, is_kept: bool) -> (u64, Duration) {
+/// Makes a run on maps, sets and ranges of one side.
+pub fn run_on<M: Maps, S: Sets, R: Ranges>(work: Work, is_kept: bool) -> (u64, Duration) {
     let size = work.size;
     match work.kind {
         Kind::Mixture | Kind::Indexed => timed(|| M::new(size), |maps| mixture(maps, work), is_kept),
@@ -444,65 +345,8 @@ fn run_on<M: Maps, S: sets::Sets, R: sets::Ranges>(work: Work, is_kept: bool) ->
         Kind::AscendingCursor => timed(|| M::new(1), |maps| large_cursor(maps, work, false), is_kept),
         Kind::Edges => timed(|| M::new(size), |maps| edges(maps, work), is_kept),
         Kind::EdgesCursor => timed(|| M::new(size), |maps| edges_cursor(maps, work), is_kept),
-        Kind::SetMixture => timed(|| S::new(size), |sets| sets::mixture(sets, work), is_kept),
-        Kind::RandomSet | Kind::AscendingSet => timed(|| S::new(1), |sets| sets::large(sets, work), is_kept),
-        Kind::Ranges => timed(R::new, |ranges| sets::ranges(ranges, work), is_kept),
-    }
-}
-
-// Makes a run on maps and sets of `bforest`. The time includes the drop, which frees one table.
-#[cfg(library)]
-fn run_bforest(work: Work) -> (u64, Duration) {
-    let start = Instant::now();
-    let Work { size, looks, walks, turns, .. } = work;
-    // SAFETY: numbers alone are passed, and the program's `malloc`, `realloc` and `free` are the C library's.
-    let sum = unsafe {
-        match work.kind {
-            Kind::Mixture => bench_mixture(size, work.calls(), looks, walks, turns > 0),
-            Kind::Indexed => bench_indexed(size, work.calls(), turns > 0),
-            Kind::Random => bench_large(size, true, looks, walks, turns > 0),
-            Kind::Ascending => bench_large(size, false, looks, walks, turns > 0),
-            Kind::RandomCursor => bench_large_cursor(size, true, walks, turns),
-            Kind::AscendingCursor => bench_large_cursor(size, false, walks, turns),
-            Kind::Edges => bench_edges(size, walks, turns),
-            Kind::EdgesCursor => bench_edges_cursor(size, walks),
-            Kind::SetMixture => bench_set_mixture(size, work.calls(), looks, walks, turns > 0),
-            Kind::RandomSet => bench_large_set(size, true, looks, walks, turns),
-            Kind::AscendingSet => bench_large_set(size, false, looks, walks, turns),
-            Kind::Ranges => bench_ranges(size, looks, walks, turns > 0),
-        }
-    };
-    (sum, start.elapsed())
-}
-
-// Makes a run on maps and sets of the toolchain's standard library, as `run_bforest` does.
-#[cfg(library)]
-fn run_toolchain(work: Work) -> (u64, Duration) {
-    let start = Instant::now();
-    let Work { size, looks, walks, turns, .. } = work;
-    // SAFETY: numbers alone are passed, and the program's `malloc`, `realloc` and `free` are the C library's.
-    let sum = unsafe {
-        match work.kind {
-            Kind::Edges => bench_std_edges(size, walks, turns),
-            Kind::SetMixture => bench_std_set_mixture(size, work.calls(), looks, walks, turns > 0),
-            _ => bench_std_mixture(size, work.calls(), looks, walks, turns > 0),
-        }
-    };
-    (sum, start.elapsed())
-}
-
-/// Makes a run, and returns its checksum and its time.
-#[inline(never)]
-pub fn run(side: Side, work: Work, is_kept: bool) -> (u64, Duration) {
-    match side {
-        #[cfg(library)]
-        Side::Bforest => run_bforest(black_box(work)),
-        Side::Std => run_on::<StdMaps, sets::StdSets, sets::StdRanges>(black_box(work), is_kept),
-        #[cfg(original)]
-        Side::Original => run_on::<OriginalMaps, sets::OriginalSets, sets::OriginalRanges>(black_box(work), is_kept),
-        Side::Vecs => run_on::<Vecs<u32>, Vecs<()>, Vecs<u32>>(black_box(work), is_kept),
-        Side::OneMap => run_on::<OneMap<u32>, OneMap<()>, OneMap<u32>>(black_box(work), is_kept),
-        #[cfg(library)]
-        Side::Toolchain => run_toolchain(black_box(work)),
+        Kind::SetMixture => timed(|| S::new(size), |sets| set_mixture(sets, work), is_kept),
+        Kind::RandomSet | Kind::AscendingSet => timed(|| S::new(1), |sets| large_set(sets, work), is_kept),
+        Kind::Ranges => timed(R::new, |ranges| live_ranges(ranges, work), is_kept),
     }
 }
