@@ -150,6 +150,6 @@ module _ {K X : Type 0} where
   pub seen-asks : {p f : Forest K X} {h : Option ℕ} {n : ℕ} (cmp : K → K → Ordering) → SeenAs p f h n → IsIncreasing cmp (list_of f h) → IsTrue (is_root p.nodes n) × IsIncreasing cmp (list_under p n)
   seen-asks cmp s increasing = (s.root, subst (IsIncreasing cmp) (sym s.list) increasing)
 
-  -- or under a root
+  -- what a search under a root with entries asks
   pub search-asks : {p f : Forest K X} (n : ℕ) (cmp : K → K → Ordering) → p ≡ f → list_at f n ≢ [] → IsIncreasing cmp (list_at f n) → IsTrue (is_root p.nodes n) × IsIncreasing cmp (list_under p n)
   search-asks {p} {f} n cmp is live increasing = let s = seen p f n is live in (s.root, subst (IsIncreasing cmp) (sym s.list) increasing)

@@ -80,7 +80,7 @@ module _ {K X : Type 0} {most : ℕ} {f : Forest K X} {k : K} {x : X} (cmp : K �
   pub inserts-planted : {f' : Forest K X} {n : ℕ} → Plants most f f' n (k, x) → ¬ IsTooMany 1 f → Inserts most cmp f None k x (Ok None) f' (Some n)
   inserts-planted {f'} {n} p low = inserts-first most cmp f k x f' n (becomes-new most f f' n _ _ p.fresh p.changes) (sizes-new most f f' n n _ _ p.changes) (takes 1 f f' p.takes) low
 
-  -- or no node could be had for it
+  -- an insertion at an empty handle that is refused
   pub inserts-none : {refused : OutOfMemory} → (◌≡◌ {A = Result ℕ OutOfMemory} (Err refused) (Err Full)) ↔ IsTooMany 1 f
       → (◌≡◌ {A = Result ℕ OutOfMemory} (Err refused) (Err Memory) → NeedsGrowth 1 f) → (1 ≤ free_of f → IsOk {T = ℕ} (Err refused)) → Inserts most cmp f None k x (Err refused) f None
   inserts-none {refused} full memory enough = inserts-err most cmp f k x None refused (alone cmp None) refl (λ e. full.0 (ap Err e), λ low. let same = full.1 low in cc)
