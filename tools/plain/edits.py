@@ -69,7 +69,7 @@ RANGE = [
     (r"^use std::ops::Bound;", "use std::ops::RangeBounds;", 1),
     (r"pub fn range<'a, C: Comparator<K>>\(", "pub fn range<'a, R: RangeBounds<K>, C: Comparator<K>>(", 1),
     (r"bounds: \(Bound<K>, Bound<K>\),", "bounds: R,", 1),
-    (r"((?:Map|Set)Range::new\(self, )bounds", r"\1(bounds.start_bound().cloned(), bounds.end_bound().cloned())", 1),
+    (r"(trees\.range\(root, )bounds", r"\1(bounds.start_bound().cloned(), bounds.end_bound().cloned())", 1),
 ]
 # What is met where a call was made on a handle that was not live.
 MISUSED = 'panic!("an earlier call was made on a handle that was not live: the trees of this forest share nodes")'
@@ -196,8 +196,6 @@ CLONED = {
 # Types whose fields `rust.rs` reads.
 OPENED = {
     "bforest/map_cursor.rt": ["MapCursor"],
-    "bforest/map_range.rt": ["MapRange"],
-    "bforest/set_range.rt": ["SetRange"],
     "bforest_indexed/maps.rt": ["Maps"],
     "bforest_indexed/sets.rt": ["Sets"],
 }
@@ -251,6 +249,7 @@ PROGRAM = [
     (r"\.push_reserved\(", ".push("),
     (r"\.extend_from_slice\(", ".try_extend("),
     (r"\btrait Named \{", "trait Named: Sized {"),
+    (r"\btype Answer: fmt::Display \+ Drop;", "type Answer: fmt::Display;"),
     (r"<W: fmt::Write>\(", "("),
     (r"\bfmt::Formatter<W>", "fmt::Formatter<'_>"),
 ]

@@ -1,6 +1,8 @@
 -- A writing cursor that moves, or changes its list.
 use Rattle.bforest.specs.Calls.{Inserts, RemovesAt}
-use Rattle.bforest.specs.Cursor.{Goes, IsCursor, LooksIn, Moves, StandsIn, Writes, comparator, entries, forest_loan, forest_now, map_loan, map_now, spot, with_value_here}
+use Rattle.bforest.specs.Cursor.{Cursor, Goes, IsCursor, LooksIn, Moves, StandsIn, Writes, comparator, entries, forest_loan, forest_now, map_loan, map_now}
+use Rattle.bforest.specs.Cursor.{spot, with_value_here}
+use Rattle.bforest.specs.Forest.{IsSearchable}
 use Rattle.bforest.specs.declared.map_cursor_mut.MapCursorMut.{MapCursorMut}
 use Rattle.bforest_core.proofs.walks.Backward.{at_end, at_entry}
 use Rattle.bforest_core.proofs.walks.Standing.{on-within, path-ended}
@@ -13,10 +15,10 @@ use Rattle.bforest_nodes.proofs.Ordered.{IsIncreasing-remove}
 use Rattle.bforest_nodes.specs.Entries.{IsIncreasing, value_at_place, with_value}
 use Rattle.bforest_trees.proofs.Changed.{list-root, live-root}
 use Rattle.bforest_trees.proofs.Cutting.{becomes-same}
-use Rattle.bforest_trees.proofs.Looking.{look-stands}
+use Rattle.bforest_trees.proofs.Looking.{look-place-is, look-stands}
 use Rattle.bforest_trees.specs.Forest.{Becomes, Forest, IsLive, list_of}
-use Rattle.bforest_trees.specs.Looks.{IsLook}
-use Rattle.bforest_trees.specs.Place.{AtSpot, IsComputed, IsSpot, IsWritten, spot_of}
+use Rattle.bforest_trees.specs.Looks.{AtLook, IsLook, look_place}
+use Rattle.bforest_trees.specs.Place.{IsComputed, IsSpot, IsWritten, OnSpot, spot_of}
 use Rattle.bforest_trees.specs.declared.look.Look.{Look}
 use Rattle.std.proofs.Common.{Err, List, None, Ok, Option, Result, Some, [], ap, arith, false, if◌then◌else◌, inl, inr, length, option_map, refl, subst, suc, sym, true, zero, ◌<◌, ◌==◌, ◌∙◌, ◌∷◌, ◌≡◌, ◌≤◌, ◌↔◌, ℕ}
 use Rattle.std.proofs.lemmas.Bool.Decides.{eqb_tells}
@@ -26,51 +28,42 @@ use Rattle.std.specs.Map.{keys_of}
 use Rattle.std.specs.Option.{IsNone}
 use Rattle.std.specs.declared.cmp.Ordering.{Ordering}
 
-module _ {K X C : Type 0} (order : C → K → K → Ordering) (c c' : MapCursorMut K X C) (p : ℕ) where
+module _ {K X : Type 0} {most : ℕ} {f : Forest K X} {h : Option ℕ} {path : Path K X most} {p : ℕ} where
+  -- a path at a place of a list that increases stands where `spot_of` says
+  pub stands-at : {cmp : K → K → Ordering} → IsSearchable cmp f h → IsSpot f h path p × IsComputed most f h → StandsIn cmp f h path × (spot_of f h path ≡ p)
+  stands-at ordered at =
+      let here = at.1 path p at.0 in
+      (record { live = ordered.live; increasing = ordered.increasing; stands = subst (λ (z : ℕ). IsSpot f h path z) (sym here) at.0 }, here)
+
+module _ {K X C : Type 0} {order : C → K → K → Ordering} {c c' : MapCursorMut K X C} {p : ℕ} where
   -- c' stands at p of a list that increases
   pub goes-on : map_loan c' ≡ map_loan c → forest_loan c' ≡ forest_loan c → comparator c' ≡ comparator c
-      → IsLive (forest_now c') (map_now c') → IsIncreasing (order (comparator c)) (entries c')
-      → IsSpot (forest_now c') (map_now c') c'.path p → IsComputed 7 (forest_now c') (map_now c') → Goes order c c' p
-  goes-on same same' comp live up at computed =
-      let here = computed c'.path p at in
-      record {
-        map_loan = same;
-        forest_loan = same';
-        comparator = comp;
-        spot = here;
-        valid = record {
-          live = live;
-          increasing = subst (λ x. IsIncreasing (order x) (entries c')) (sym comp) up;
-          stands = subst (λ (z : ℕ). IsSpot (forest_now c') (map_now c') c'.path z) (sym here) at;
-        };
-      }
+      → IsSearchable (order (comparator c)) (forest_now c') (map_now c')
+      → IsSpot (forest_now c') (map_now c') c'.path p × IsComputed 7 (forest_now c') (map_now c') → Goes order c c' p
+  goes-on same same' comp ordered at =
+      let w = stands-at (subst (λ x. IsSearchable (order x) (forest_now c') (map_now c')) (sym comp) ordered) at in
+      record { map_loan = same; forest_loan = same'; comparator = comp; spot = w.1; valid = w.0 }
 
--- a valid path stands at the place that `spot_of` computes
-pub standing : {K X : Type 0} {n : ℕ} (cmp : K → K → Ordering) (f : Forest K X) (h : Option ℕ) (path : Path K X n) → StandsIn cmp f h path → AtSpot f h path
-standing cmp f h path v = record { place = spot_of f h path; spot = v.stands }
-
-module _ {K X C : Type 0} (order : C → K → K → Ordering) (c c' : MapCursorMut K X C) (p : ℕ) where
   -- c' stands at p of the same list
-  pub moves-on : map_loan c' ≡ map_loan c → forest_loan c' ≡ forest_loan c → comparator c' ≡ comparator c → forest_now c' ≡ forest_now c → map_now c' ≡ map_now c → IsCursor order c → IsSpot (forest_now c) (map_now c) c'.path p → IsComputed 7 (forest_now c) (map_now c) → Moves order c c' p
-  moves-on same same' comp forest map v at computed = record {
-    goes = goes-on order c c' p same same' comp (rw (forest, map) v.live) (rw (forest, map) v.increasing) (rw (forest, map) at) (rw (forest, map) computed);
-    forest = forest;
-    map = map;
-  }
+  pub moves-on : map_loan c' ≡ map_loan c → forest_loan c' ≡ forest_loan c → comparator c' ≡ comparator c → forest_now c' ≡ forest_now c
+      → map_now c' ≡ map_now c → IsCursor order c → IsSpot (forest_now c) (map_now c) c'.path p × IsComputed 7 (forest_now c) (map_now c) → Moves order c c' p
+  moves-on same same' comp forest map v at =
+      let ordered : IsSearchable (order (comparator c)) (forest_now c) (map_now c) = record { live = v.live; increasing = v.increasing } in
+      record { goes = goes-on same same' comp (rw (forest, map) ordered) (rw (forest, map) at); forest = forest; map = map }
 
-module _ {K X : Type 0} where
-  -- the handle is live after an insertion
-  pub inserts-live : (most : ℕ) (cmp : K → K → Ordering) (f : Forest K X) (h : Option ℕ) (k : K) (x : X) (r : Result (Option X) OutOfMemory) (f' : Forest K X) (h' : Option ℕ) → IsLive f h → Inserts most cmp f h k x r f' h' → IsLive f' h'
-  inserts-live most cmp f h k x (Ok old) f' h' live i = i.put.live
-  inserts-live most cmp f h k x (Err e) f' h' live i = rw (i.refused_forest, i.refused_handle) live
+module _ {K X : Type 0} {most : ℕ} {cmp : K → K → Ordering} {f f' : Forest K X} {h h' : Option ℕ} where
+  -- a handle can be searched after an insertion
+  pub inserts-ordered : {k : K} {x : X} {r : Result (Option X) OutOfMemory} → IsLive f h → Inserts most cmp f h k x r f' h' → IsSearchable cmp f' h'
+  inserts-ordered {r = Ok old} live i = record { live = i.put.live; increasing = i.increasing }
+  inserts-ordered {r = Err e} live i = record { live = rw (i.refused_forest, i.refused_handle) live; increasing = i.increasing }
 
   -- a list that increases still does after a removal
-  pub removes-increasing : (most : ℕ) (cmp : K → K → Ordering) (f : Forest K X) (h : Option ℕ) (p : ℕ) (f' : Forest K X) (h' : Option ℕ) → IsIncreasing cmp (list_of f h) → RemovesAt most f h p f' h' → IsIncreasing cmp (list_of f' h')
-  removes-increasing most cmp f h p f' h' up r = rw r.removed.list (IsIncreasing-remove cmp (list_of f h) p up)
+  pub removes-ordered : {p : ℕ} → IsIncreasing cmp (list_of f h) → RemovesAt most f h p f' h' → IsSearchable cmp f' h'
+  removes-ordered {p} up r = record { live = r.removed.live; increasing = rw r.removed.list (IsIncreasing-remove cmp (list_of f h) p up) }
 
 module _ {K X : Type 0} {n : ℕ} (f : Forest K X) (path : Path K X n) where
   -- a path with no node is at the end of a list
-  pub end-spot : (h : Option ℕ) → IsLive f h → IsAtEnd path → IsSpot f h path (spot_of f h path) × (spot_of f h path ≡ length (list_of f h))
+  end-spot : (h : Option ℕ) → IsLive f h → IsAtEnd path → IsSpot f h path (spot_of f h path) × (spot_of f h path ≡ length (list_of f h))
   end-spot None live end = ((end, refl), refl)
   end-spot (Some root) live end =
       let is = live-root f root live in
@@ -80,6 +73,13 @@ module _ {K X : Type 0} {n : ℕ} (f : Forest K X) (path : Path K X n) where
         record { root_is = is; at = path-ended path.node path.entry (tree_of f.nodes root) (spot_of f (Some root) path) path.size end last },
         last ∙ sym (ap length list),
       )
+
+  -- the same, of a list that increases
+  pub end-stands : {cmp : K → K → Ordering} {h : Option ℕ} → IsSearchable cmp f h → IsAtEnd path
+      → StandsIn cmp f h path × (spot_of f h path ≡ length (list_of f h))
+  end-stands {h = h} ordered end =
+      let at = end-spot h ordered.live end in
+      (record { live = ordered.live; increasing = ordered.increasing; stands = at.0 }, at.1)
 
   -- a path with no node that stands at a place stands at the list's length
   pub end-place : (h : Option ℕ) (p : ℕ) → IsSpot f h path p → IsAtEnd path → p ≡ length (list_of f h)
@@ -119,15 +119,22 @@ module _ {K X C : Type 0} (order : C → K → K → Ordering) (c : MapCursorMut
   -- what a write through a cursor leaves
   pub writes : (c' : MapCursorMut K X C) (w : X) → map_loan c' ≡ map_loan c → forest_loan c' ≡ forest_loan c → comparator c' ≡ comparator c → map_now c' ≡ map_now c → c'.path ≡ c.path → IsWritten (forest_now c) (forest_now c') (map_now c) c.path (spot c) w → Writes order c c' w
   writes c' w same same' comp map path told =
-      let at = told.spot in
+      let up = IsIncreasing-with_value (order (comparator c)) (entries c) (spot c) w v.increasing in
+      let ordered : IsSearchable (order (comparator c)) (forest_now c') (map_now c) =
+      record { live = told.becomes.live; increasing = rw told.becomes.list up } in
+      let at : IsSpot (forest_now c') (map_now c) c.path (spot c) × IsComputed 7 (forest_now c') (map_now c) = (told.spot, told.computed) in
       record {
-        goes = goes-on order c c' (spot c) same same' comp (rw map told.becomes.live) (rw map (rw told.becomes.list (IsIncreasing-with_value (order (comparator c)) (entries c) (spot c) w v.increasing))) (rw (map, path) at) (rw map told.computed);
+        goes = goes-on same same' comp (rw map ordered) (rw (map, path) at);
         becomes = told.becomes;
         map = map;
         sizes = told.sizes;
         slots = told.slots;
         free = told.free;
       }
+
+  -- a cursor that is not at the end stands on an entry
+  abbrev pub on-entry : (¬ IsAtEnd c.path) → OnSpot (forest_now c) (map_now c) c.path
+  on-entry some = record { place = spot c; spot = v.stands; within = on-spot-of (forest_now c) c.path (map_now c) (spot c) v.stands some }
 
   module _ (end : IsAtEnd c.path) where
     -- a cursor at the end has no value
@@ -153,9 +160,24 @@ module _ {K X C : Type 0} (order : C → K → K → Ordering) (c : MapCursorMut
         } in
         subst (λ d. Writes order c d w) same stays
 
--- a look in the list of a live handle that increases
-pub looks-in : {K X : Type 0} {cmp : K → K → Ordering} {f : Forest K X} {h : Option ℕ} {look : Look K X} {p : ℕ} → IsLive f h → IsIncreasing cmp (list_of f h) → IsLook f h look p → LooksIn cmp f h look
-looks-in live increasing at = record { live = live; increasing = increasing; stands = look-stands at }
+module _ {K X : Type 0} {cmp : K → K → Ordering} {f : Forest K X} {h : Option ℕ} {look : Look K X} where
+  -- a look in a list stands at some place
+  abbrev pub look-at : LooksIn cmp f h look → AtLook f h look
+  look-at v = record { place = _; is = v.stands }
+
+  -- another look in the same list
+  pub looks-in : {look' : Look K X} {p : ℕ} → LooksIn cmp f h look → IsLook f h look' p → LooksIn cmp f h look'
+  looks-in v at = record { live = v.live; increasing = v.increasing; stands = look-stands at }
+
+-- a reading cursor whose look stands at a place
+pub reads-at : {K X C : Type 0} {f : Forest K X} {h : Option ℕ} {look : Look K X} {comp : C} {p : ℕ} → IsLook f h look p
+    → ◌≡◌ {A = Cursor K X C} (record { entries = list_of f h; spot = look_place f h look; comparator = comp })
+    (record { entries = list_of f h; spot = p; comparator = comp })
+reads-at {f = f} {h} {comp = comp} at = ap (λ (z : ℕ). record { entries = list_of f h; spot = z; comparator = comp }) (look-place-is at)
+
+-- the parts of a pair that was read from an option
+pub parts-read : {A B : Type 0} {o : Option (A × B)} {a : A} {b : B} {x : A × B} → o ≡ Some (a, b) → o ≡ Some x → (x.0 ≡ a) × (x.1 ≡ b)
+parts-read is read = (cc, cc)
 
 -- a live handle is empty exactly if its list is
 pub empty-live : {K X : Type 0} (f : Forest K X) (h : Option ℕ) → IsLive f h → IsNone h ↔ (list_of f h ≡ [])

@@ -19,7 +19,7 @@ use crate::map_into_iter::MapIntoIter;
 use crate::map_iter::MapIter;
 use crate::map_range::MapRange;
 use crate::room::most_nodes;
-use bforest_core::{Comparator, OutOfMemory, PackedNode};
+use bforest_core::{Comparator, OutOfMemory, PackedNode, Path};
 use bforest_trees::Asked;
 use std::cmp::Ordering;
 use std::default::Default;
@@ -348,7 +348,13 @@ impl<K: Copy, V: Copy> Map<K, V> {
             ≡ entries_between (C.order comp.now) bounds.0 bounds.1 (list_of forest.now self.now) }
         ensures fits { MapsFitInMemory K.row V.row }
     {
-        MapRange::new(self, bounds, forest, comp)
+        let (trees, root) = (&forest.trees, self.root);
+        MapRange {
+            trees,
+            root,
+            ends: trees.range(root, bounds, comp),
+            mark: PhantomData,
+        }
     }
 
     /// Returns a cursor that reads. It stands at the end, behind the last entry. Constant time.
@@ -382,7 +388,12 @@ impl<K: Copy, V: Copy> Map<K, V> {
         ensures valid { IsCursor C.order result }
         ensures fits { MapsFitInMemory K.row V.row }
     {
-        MapCursorMut::new(self, forest, comp)
+        MapCursorMut {
+            map: self,
+            forest,
+            comp,
+            path: Path::default(),
+        }
     }
 
     /// Returns whether each key is less than the next under the comparator, which each call that compares asks.

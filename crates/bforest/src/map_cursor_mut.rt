@@ -1,7 +1,6 @@
 //! Cursors that read and write a map.
 ghost use Rattle.bforest.specs.Calls.{Inserts, RemovesAt};
-ghost use Rattle.bforest.specs.Cursor.{Goes, IsCursor, Moves, Writes, comparator, entries, forest_loan, forest_now, map_loan, map_now, spot, with_value_here};
-ghost use Rattle.bforest.specs.Forest.{IsSearchable, list_of};
+ghost use Rattle.bforest.specs.Cursor.{Goes, IsCursor, Moves, Writes, comparator, entries, forest_now, map_now, spot, with_value_here};
 ghost use Rattle.bforest.specs.Lending.{lends_here, lends_value};
 ghost use Rattle.bforest.specs.Memory.{MapsFitInMemory};
 ghost use Rattle.bforest_core.specs.Paths.{IsAtEnd};
@@ -23,37 +22,13 @@ use bforest_core::{Comparator, OutOfMemory, Path};
 /// as its last call left them. The map's keys increase under the cursor's comparator throughout.
 #[derive(Drop)]
 pub struct MapCursorMut<'a, K: Copy, V: Copy, C: Comparator<K>> {
-    map: &'a mut Map<K, V>,
-    forest: &'a mut MapForest<K, V>,
-    comp: &'a C,
-    path: Path<K, V, MAP_LEAF>,
+    pub(crate) map: &'a mut Map<K, V>,
+    pub(crate) forest: &'a mut MapForest<K, V>,
+    pub(crate) comp: &'a C,
+    pub(crate) path: Path<K, V, MAP_LEAF>,
 }
 
 impl<'a, K: Copy, V: Copy, C: Comparator<K>> MapCursorMut<'a, K, V, C> {
-    /// Returns a cursor at the end of a map.
-    pub(crate) fn new(
-        map: &'a mut Map<K, V>,
-        forest: &'a mut MapForest<K, V>,
-        comp: &'a C,
-    ) -> MapCursorMut<'a, K, V, C>
-        requires { IsSearchable (C.order comp.now) forest.old map.old }
-        ensures map_loan { map_loan result ≡ map.entry.ghost_name }
-        ensures forest_loan { forest_loan result ≡ forest.entry.ghost_name }
-        ensures comparator { comparator result ≡ comp.now }
-        ensures forest { forest_now result ≡ forest.old }
-        ensures map { map_now result ≡ map.old }
-        ensures spot { spot result ≡ length (list_of forest.old map.old) }
-        ensures valid { IsCursor C.order result }
-        ensures fits { MapsFitInMemory K.row V.row }
-    {
-        MapCursorMut {
-            map,
-            forest,
-            comp,
-            path: Path::default(),
-        }
-    }
-
     /// Returns whether the map is empty. Constant time.
     pub fn is_empty(&self) -> bool
         requires valid { IsCursor C.order self.now }

@@ -20,7 +20,7 @@ use crate::set_cursor::SetCursor;
 use crate::set_forest::{SET_LEAF, SetForest};
 use crate::set_iter::SetIter;
 use crate::set_range::SetRange;
-use bforest_core::{Comparator, OutOfMemory, PackedNode, SetValue};
+use bforest_core::{Comparator, OutOfMemory, PackedNode, Path, SetValue};
 use std::default::Default;
 use std::marker::{Model, PhantomData};
 use std::ops::Bound;
@@ -308,7 +308,13 @@ impl<K: Copy> Set<K> {
             ≡ keys_of (entries_between (C.order comp.now) bounds.0 bounds.1 (list_of forest.now self.now)) }
         ensures fits { SetsFitInMemory K.row }
     {
-        SetRange::new(self, bounds, forest, comp)
+        let (trees, root) = (&forest.trees, self.root);
+        SetRange {
+            trees,
+            root,
+            ends: trees.range(root, bounds, comp),
+            mark: PhantomData,
+        }
     }
 
     /// Returns a cursor that reads and writes. It stands at the end, behind the last key. Constant time.
@@ -327,7 +333,12 @@ impl<K: Copy> Set<K> {
         ensures valid { IsCursor C.order result }
         ensures fits { SetsFitInMemory K.row }
     {
-        SetCursor::new(self, forest, comp)
+        SetCursor {
+            set: self,
+            forest,
+            comp,
+            path: Path::default(),
+        }
     }
 
     /// Returns whether each key is less than the next under the comparator, which each call that compares asks.

@@ -1,9 +1,8 @@
 //! Cursors that read and write a set.
 ghost use Rattle.bforest.specs.Calls.{Inserts, RemovesAt};
-ghost use Rattle.bforest.specs.Forest.{IsSearchable, list_of};
 ghost use Rattle.bforest.specs.Memory.{SetsFitInMemory};
 ghost use Rattle.bforest.specs.Set.{as_put, the_value};
-ghost use Rattle.bforest.specs.SetCursor.{Goes, IsCursor, Moves, comparator, entries, forest_loan, forest_now, keys, set_loan, set_now, spot};
+ghost use Rattle.bforest.specs.SetCursor.{Goes, IsCursor, Moves, comparator, entries, forest_now, keys, set_now, spot};
 ghost use Rattle.bforest_core.specs.Place.{entry_before};
 ghost use Rattle.bforest_nodes.specs.Entries.{is_present, place};
 ghost use Rattle.std.specs.Prelude.{IsTrue, [], length, min, slice_get, ◌+◌, ◌-◌, ◌≡◌, ◌≤◌, ◌↔◌};
@@ -19,37 +18,13 @@ use bforest_core::{Comparator, OutOfMemory, Path, SetValue};
 /// as its last call left them. The set's keys increase under the cursor's comparator throughout.
 #[derive(Drop)]
 pub struct SetCursor<'a, K: Copy, C: Comparator<K>> {
-    set: &'a mut Set<K>,
-    forest: &'a mut SetForest<K>,
-    comp: &'a C,
-    path: Path<K, SetValue, SET_LEAF>,
+    pub(crate) set: &'a mut Set<K>,
+    pub(crate) forest: &'a mut SetForest<K>,
+    pub(crate) comp: &'a C,
+    pub(crate) path: Path<K, SetValue, SET_LEAF>,
 }
 
 impl<'a, K: Copy, C: Comparator<K>> SetCursor<'a, K, C> {
-    /// Returns a cursor at the end of a set.
-    pub(crate) fn new(
-        set: &'a mut Set<K>,
-        forest: &'a mut SetForest<K>,
-        comp: &'a C,
-    ) -> SetCursor<'a, K, C>
-        requires { IsSearchable (C.order comp.now) forest.old set.old }
-        ensures set_loan { set_loan result ≡ set.entry.ghost_name }
-        ensures forest_loan { forest_loan result ≡ forest.entry.ghost_name }
-        ensures comparator { comparator result ≡ comp.now }
-        ensures forest { forest_now result ≡ forest.old }
-        ensures set { set_now result ≡ set.old }
-        ensures spot { spot result ≡ length (list_of forest.old set.old) }
-        ensures valid { IsCursor C.order result }
-        ensures fits { SetsFitInMemory K.row }
-    {
-        SetCursor {
-            set,
-            forest,
-            comp,
-            path: Path::default(),
-        }
-    }
-
     /// Returns whether the set is empty. Constant time.
     pub fn is_empty(&self) -> bool
         requires valid { IsCursor C.order self.now }

@@ -1,6 +1,7 @@
 //! The runs of `bforest_workloads_bench` for a caller in another language: `bench/driver.rs`, which makes equal runs on other maps.
 #![tactic(auto)]
 
+use bforest_workloads_bench::Rounds;
 use std::alloc::Global;
 
 /// Calls of all kinds on many small maps: `bforest_workloads_bench::run_mixture`.
@@ -13,13 +14,18 @@ pub extern "C" fn bench_mixture(
     walks: u32,
     is_cleared: bool,
 ) -> u64 {
-    bforest_workloads_bench::run_mixture(alloc, maps, calls, looks, walks, is_cleared)
+    bforest_workloads_bench::run_mixture(
+        alloc,
+        maps,
+        calls,
+        rounds(looks, walks, is_cleared as u32),
+    )
 }
 
 /// Calls of all kinds on many small maps that are named by an index: `bforest_workloads_bench::run_indexed`.
 #[unsafe(no_mangle)]
 pub extern "C" fn bench_indexed(alloc: Global, maps: u32, calls: u32, is_cleared: bool) -> u64 {
-    bforest_workloads_bench::run_indexed(alloc, maps, calls, is_cleared)
+    bforest_workloads_bench::run_indexed(alloc, maps, calls, rounds(0, 0, is_cleared as u32))
 }
 
 /// One map of many entries: `bforest_workloads_bench::run_large`.
@@ -32,7 +38,12 @@ pub extern "C" fn bench_large(
     walks: u32,
     is_emptied: bool,
 ) -> u64 {
-    bforest_workloads_bench::run_large(alloc, size, is_mixed, looks, walks, is_emptied)
+    bforest_workloads_bench::run_large(
+        alloc,
+        size,
+        is_mixed,
+        rounds(looks, walks, is_emptied as u32),
+    )
 }
 
 /// One map of many entries, read by cursors: `bforest_workloads_bench::run_large_cursor`.
@@ -44,19 +55,19 @@ pub extern "C" fn bench_large_cursor(
     walks: u32,
     turns: u32,
 ) -> u64 {
-    bforest_workloads_bench::run_large_cursor(alloc, size, is_mixed, walks, turns)
+    bforest_workloads_bench::run_large_cursor(alloc, size, is_mixed, rounds(0, walks, turns))
 }
 
 /// The predecessors of blocks: `bforest_workloads_bench::run_edges`.
 #[unsafe(no_mangle)]
 pub extern "C" fn bench_edges(alloc: Global, blocks: u32, walks: u32, turns: u32) -> u64 {
-    bforest_workloads_bench::run_edges(alloc, blocks, walks, turns)
+    bforest_workloads_bench::run_edges(alloc, blocks, rounds(0, walks, turns))
 }
 
 /// The predecessors of blocks, read by cursors: `bforest_workloads_bench::run_edges_cursor`.
 #[unsafe(no_mangle)]
 pub extern "C" fn bench_edges_cursor(alloc: Global, blocks: u32, walks: u32) -> u64 {
-    bforest_workloads_bench::run_edges_cursor(alloc, blocks, walks)
+    bforest_workloads_bench::run_edges_cursor(alloc, blocks, rounds(0, walks, 0))
 }
 
 /// Calls of all kinds on many small sets: `bforest_workloads_bench::run_set_mixture`.
@@ -69,7 +80,12 @@ pub extern "C" fn bench_set_mixture(
     walks: u32,
     is_cleared: bool,
 ) -> u64 {
-    bforest_workloads_bench::run_set_mixture(alloc, sets, calls, looks, walks, is_cleared)
+    bforest_workloads_bench::run_set_mixture(
+        alloc,
+        sets,
+        calls,
+        rounds(looks, walks, is_cleared as u32),
+    )
 }
 
 /// One set of many keys: `bforest_workloads_bench::run_large_set`.
@@ -82,7 +98,7 @@ pub extern "C" fn bench_large_set(
     walks: u32,
     edits: u32,
 ) -> u64 {
-    bforest_workloads_bench::run_large_set(alloc, size, is_mixed, looks, walks, edits)
+    bforest_workloads_bench::run_large_set(alloc, size, is_mixed, rounds(looks, walks, edits))
 }
 
 /// Live ranges: `bforest_workloads_bench::run_ranges`.
@@ -94,7 +110,7 @@ pub extern "C" fn bench_ranges(
     spans: u32,
     is_split: bool,
 ) -> u64 {
-    bforest_workloads_bench::run_ranges(alloc, size, looks, spans, is_split)
+    bforest_workloads_bench::run_ranges(alloc, size, rounds(looks, spans, is_split as u32))
 }
 
 /// Small maps of the toolchain's standard library: `bforest_workloads_bench::run_std_mixture`.
@@ -107,13 +123,18 @@ pub extern "C" fn bench_std_mixture(
     walks: u32,
     is_cleared: bool,
 ) -> u64 {
-    bforest_workloads_bench::run_std_mixture(alloc, maps, calls, looks, walks, is_cleared)
+    bforest_workloads_bench::run_std_mixture(
+        alloc,
+        maps,
+        calls,
+        rounds(looks, walks, is_cleared as u32),
+    )
 }
 
 /// Predecessors in maps of the toolchain's standard library: `bforest_workloads_bench::run_std_edges`.
 #[unsafe(no_mangle)]
 pub extern "C" fn bench_std_edges(alloc: Global, blocks: u32, walks: u32, turns: u32) -> u64 {
-    bforest_workloads_bench::run_std_edges(alloc, blocks, walks, turns)
+    bforest_workloads_bench::run_std_edges(alloc, blocks, rounds(0, walks, turns))
 }
 
 /// Small sets of the toolchain's standard library: `bforest_workloads_bench::run_std_set_mixture`.
@@ -126,5 +147,19 @@ pub extern "C" fn bench_std_set_mixture(
     walks: u32,
     is_cleared: bool,
 ) -> u64 {
-    bforest_workloads_bench::run_std_set_mixture(alloc, sets, calls, looks, walks, is_cleared)
+    bforest_workloads_bench::run_std_set_mixture(
+        alloc,
+        sets,
+        calls,
+        rounds(looks, walks, is_cleared as u32),
+    )
+}
+
+// Rounds, from their numbers.
+fn rounds(looks: u32, walks: u32, turns: u32) -> Rounds {
+    Rounds {
+        looks,
+        walks,
+        turns,
+    }
 }

@@ -3,7 +3,7 @@
 #![tactic(auto)]
 
 use bforest_workloads_bench::{
-    run_edges, run_edges_cursor, run_indexed, run_large, run_large_cursor, run_large_set,
+    Rounds, run_edges, run_edges_cursor, run_indexed, run_large, run_large_cursor, run_large_set,
     run_mixture, run_ranges, run_set_mixture,
 };
 use std::io;
@@ -45,14 +45,6 @@ impl Kind {
     }
 }
 
-/// The numbers of rounds that a run reads and removes, after the phase that fills its maps.
-#[derive(Clone, Copy)]
-struct Rounds {
-    looks: u32,
-    walks: u32,
-    turns: u32,
-}
-
 /// No rounds: the maps are filled, and no more.
 const FILLED: Rounds = Rounds {
     looks: 0,
@@ -80,29 +72,26 @@ const TAKEN: Rounds = Rounds {
 
 /// Makes a run and writes its line.
 fn show(rt: HostRuntime, kind: Kind, size: u32, rounds: Rounds) -> io::Result<()> {
+    let alloc = rt.alloc();
+    let sum = match kind {
+        Kind::Mixture => run_mixture(alloc, size, size.saturating_mul(30), rounds),
+        Kind::Indexed => run_indexed(alloc, size, size.saturating_mul(30), rounds),
+        Kind::Random => run_large(alloc, size, true, rounds),
+        Kind::Ascending => run_large(alloc, size, false, rounds),
+        Kind::RandomCursor => run_large_cursor(alloc, size, true, rounds),
+        Kind::AscendingCursor => run_large_cursor(alloc, size, false, rounds),
+        Kind::Edges => run_edges(alloc, size, rounds),
+        Kind::EdgesCursor => run_edges_cursor(alloc, size, rounds),
+        Kind::SetMixture => run_set_mixture(alloc, size, size.saturating_mul(30), rounds),
+        Kind::RandomSet => run_large_set(alloc, size, true, rounds),
+        Kind::AscendingSet => run_large_set(alloc, size, false, rounds),
+        Kind::Ranges => run_ranges(alloc, size, rounds),
+    };
     let Rounds {
         looks,
         walks,
         turns,
     } = rounds;
-    let is_taken = turns > 0;
-    let alloc = rt.alloc();
-    let sum = match kind {
-        Kind::Mixture => run_mixture(alloc, size, size.saturating_mul(30), looks, walks, is_taken),
-        Kind::Indexed => run_indexed(alloc, size, size.saturating_mul(30), is_taken),
-        Kind::Random => run_large(alloc, size, true, looks, walks, is_taken),
-        Kind::Ascending => run_large(alloc, size, false, looks, walks, is_taken),
-        Kind::RandomCursor => run_large_cursor(alloc, size, true, walks, turns),
-        Kind::AscendingCursor => run_large_cursor(alloc, size, false, walks, turns),
-        Kind::Edges => run_edges(alloc, size, walks, turns),
-        Kind::EdgesCursor => run_edges_cursor(alloc, size, walks),
-        Kind::SetMixture => {
-            run_set_mixture(alloc, size, size.saturating_mul(30), looks, walks, is_taken)
-        }
-        Kind::RandomSet => run_large_set(alloc, size, true, looks, walks, turns),
-        Kind::AscendingSet => run_large_set(alloc, size, false, looks, walks, turns),
-        Kind::Ranges => run_ranges(alloc, size, looks, walks, is_taken),
-    };
     println!(rt;
         "{} {} {} {} {} {}",
         kind.name(),

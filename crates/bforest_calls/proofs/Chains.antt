@@ -109,8 +109,14 @@ pub shows-all : {A S K V E P : Type 0} (goes : S → A → Seen K V → S → Ty
     → IfOk r (λ given. Shows list given × P)
 shows-all goes old new steps list r chain tells p = IfOk-weaker r _ _ (λ given w. ((w.0, w.1, tells w.0.items w.2), p)) chain
 
+-- the answer of steps from the ends of a range, which has these entries at first
+pub shows-taken : {S K V E P : Type 0} (es : S → List (K × V)) {old : S} (new : S) {ends asked : List Side} {list : List (K × V)} (r : Result (Answer K V) E)
+    → IfOk r (Chained (TakesFrom es) old ends new) → es old ≡ list → ends ≡ asked → P → IfOk r (λ given. Shows (all_taken list asked) given × P)
+shows-taken es {old} new {ends} r chain has is p =
+    shows-all (TakesFrom es) old new ends _ r chain (λ sights h. taken-of es old ends sights new h ∙ (λ j. all_taken (has j) (is j))) p
+
 -- all steps of a writing cursor, or none where memory for their answers was refused
-module _ {S K V E : Type 0} (most : ℕ) (odd : most % 2 ≡ 1) (view : View S K V) (first last : S) (steps : List (Act K V)) (r : Result (Answer K V) E)
+module _ {S K V E : Type 0} (most : ℕ) (odd : most % 2 ≡ 1) (view : View S K V) {first last : S} (steps : List (Act K V)) (r : Result (Answer K V) E)
     (chain : IfOk r (Chained (ActsBy most view) first steps last)) (err : OnErr r (last ≡ first)) where
   pub loans-stay : (view.handle_loan last ≡ view.handle_loan first) × (view.forest_loan last ≡ view.forest_loan first)
   loans-stay = by r chain err
@@ -120,25 +126,24 @@ module _ {S K V E : Type 0} (most : ℕ) (odd : most % 2 ≡ 1) (view : View S K
       by (Ok given) h e = let s = script-of most odd view first steps h.0.items last h.2 in (s.handle_loan, s.forest_loan)
       by (Err why) h e = (ap view.handle_loan e, ap view.forest_loan e)
 
-  module _ (old new : Held K V) (forest : (view.held first).forest ≡ old.forest) (number : (view.held first).number ≡ old.number)
-      (forest' : new.forest ≡ (view.held last).forest) (number' : new.number ≡ (view.held last).number) where
-    begins : view.held first ≡ old
-    begins j = record { forest = forest j; number = number j }
-
-    ends : view.held last ≡ new
-    ends j = record { forest = sym forest' j; number = sym number' j }
-
-    pub all-edits : (order : K → K → Ordering) → view.order first ≡ order → view.spot first ≡ length (entries old)
-        → (asked : List (Act K V)) → steps ≡ asked
-        → IfOk r (λ given. (sights : Vec (Seen K V) Global) × (given ≡ answer.Script sights) × Edits most order asked sights.items old new)
-    all-edits order same place asked is = IfOk-weaker r _ _ (λ given w.
-        let s = script-of most odd view first steps w.0.items last w.2 in
-        let made = edits-of most order (view.order first) old (view.held first) (view.held last) new (view.spot first) (view.spot last)
-        steps w.0.items s.script same begins place ends in
-        (w.0, w.1, subst (λ all. Edits most order all w.0.items old new) is made)) chain
-
-    pub none-edits : OnErr r (new ≡ old)
-    none-edits = on_err_weaker r (λ e. sym ends ∙ ap view.held e ∙ begins) err
+  -- the edit of a handle's list, where the cursor was made of what the handle held, and leaves what it holds
+  pub edited : (old new : Held K V) {order : K → K → Ordering} {asked : List (Act K V)} → (view.held first).forest ≡ old.forest
+      → (view.held first).number ≡ old.number → new.forest ≡ (view.held last).forest → new.number ≡ (view.held last).number
+      → view.order first ≡ order → view.spot first ≡ length (entries old) → steps ≡ asked
+      → IfOk r (λ given. (sights : Vec (Seen K V) Global) × (given ≡ answer.Script sights) × Edits most order asked sights.items old new)
+      × OnErr r (new.forest ≡ old.forest) × OnErr r (new.number ≡ old.number)
+  edited old new {order} forest number forest' number' same place is =
+      let begins : view.held first ≡ old = λ j. record { forest = forest j; number = number j } in
+      let ends : view.held last ≡ new = λ j. record { forest = sym forest' j; number = sym number' j } in
+      let none : OnErr r (new ≡ old) = on_err_weaker r (λ e. sym ends ∙ ap view.held e ∙ begins) err in (
+        IfOk-weaker r _ _ (λ given w.
+            let s = script-of most odd view first steps w.0.items last w.2 in
+            let made = edits-of most order (view.order first) old (view.held first) (view.held last) new (view.spot first) (view.spot last)
+            steps w.0.items s.script same begins place ends in
+            (w.0, w.1, subst (λ all. Edits most order all w.0.items old new) is made)) chain,
+        on_err_weaker r (ap (λ s. s.forest)) none,
+        on_err_weaker r (ap (λ s. s.number)) none,
+      )
 
 -- a push within the capacity appends the element
 pub pushed : {X : Type 0} (ok : Bool) (with without new : X) → ok ≡ true → new ≡ (if ok then with else without) → new ≡ with

@@ -1,6 +1,7 @@
 -- The handle and the comparator at an index, and changes that change nothing.
 use Rattle.bforest.specs.Forest.{Becomes, Forest, IsLive, list_of}
 use Rattle.bforest_calls.specs.Machine.{order_at}
+use Rattle.bforest_calls.specs.State.{WritesAt}
 use Rattle.bforest_nodes.specs.Entries.{value_at_place, with_value}
 use Rattle.std.proofs.Common.{List, None, Option, Some, [], ap, false, get_or, length, map, refl, subst, suc, sym, true, zero, ◌<◌, ◌∙◌, ◌≡◌, ◌∷◌, ℕ}
 use Rattle.std.proofs.lemmas.List.{get_or-map, get_or_default, length-map}
@@ -65,3 +66,8 @@ module _ {K V : Type 0} where
     others_sizes = λ n ne ne'. refl;
     limit = refl;
   }
+
+  -- a write that changes nothing
+  pub writes-nothing : {f : Forest K V} {h : Option ℕ} {p : ℕ} {v : V} → IsLive f h → list_of f h ≡ with_value (list_of f h) p v
+      → WritesAt (record { forest = f; number = h }) p v (record { forest = f; number = h })
+  writes-nothing {f} {h} live same = record { becomes = becomes_same f h _ live same; number = refl; sizes = refl; slots = refl; free = refl }

@@ -1,7 +1,5 @@
 -- The keys of a set as entries.
-use Rattle.bforest.specs.Forest.{Becomes, Forest, IsLive, list_of}
 use Rattle.bforest.specs.Set.{as_removed}
-use Rattle.bforest_calls.proofs.Indexed.{becomes_same}
 use Rattle.bforest_calls.specs.Looks.{with_each}
 use Rattle.bforest_core.specs.Place.{entry_before}
 use Rattle.bforest_nodes.specs.Entries.{is_present, value_at_place, value_for, with_value}
@@ -73,12 +71,21 @@ module _ {K : Type 0} where
   key-at (e ∷ es) zero = refl
   key-at (e ∷ es) (suc p) = key-at es p
 
-  pub entry-at : (es : List (K × Unit {0})) (p : ℕ) → option_map (λ k. (k, tt)) (slice_get (keys_of es) p) ≡ slice_get es p
+  entry-at : (es : List (K × Unit {0})) (p : ℕ) → option_map (λ k. (k, tt)) (slice_get (keys_of es) p) ≡ slice_get es p
   entry-at es p = ap (option_map (λ k. (k, tt))) (key-at es p) ∙ as-entry (slice_get es p)
 
-  pub entry-before : (es : List (K × Unit {0})) (p : ℕ) → option_map (λ k. (k, tt)) (entry_before (keys_of es) p) ≡ entry_before es p
-  entry-before es zero = refl
-  entry-before es (suc p) = entry-at es p
+  before-at : (es : List (K × Unit {0})) (p : ℕ) → option_map (λ k. (k, tt)) (entry_before (keys_of es) p) ≡ entry_before es p
+  before-at es zero = refl
+  before-at es (suc p) = entry-at es p
+
+  -- the entry of a key that was read
+  pub entry-read : (es : List (K × Unit {0})) (p : ℕ) {k : Option K} {e : Option (K × Unit {0})} → e ≡ option_map (λ k. (k, tt)) k
+      → k ≡ slice_get (keys_of es) p → e ≡ slice_get es p
+  entry-read es p is key = is ∙ ap (option_map (λ k. (k, tt))) key ∙ entry-at es p
+
+  pub entry-before : (es : List (K × Unit {0})) (p : ℕ) {k : Option K} {e : Option (K × Unit {0})} → e ≡ option_map (λ k. (k, tt)) k
+      → k ≡ entry_before (keys_of es) p → e ≡ entry_before es p
+  entry-before es p is key = is ∙ ap (option_map (λ k. (k, tt))) key ∙ before-at es p
 
   some-key : (o : Option (K × Unit {0})) → is_some (option_map (λ e. e.0) o) ≡ is_some o
   some-key None = refl
@@ -95,14 +102,11 @@ module _ {K : Type 0} where
   count-keys [] = refl
   count-keys (e ∷ es) = ap suc (count-keys es)
 
-  same-value : (es : List (K × Unit {0})) (p : ℕ) (v : Unit {0}) → es ≡ with_value es p v
+  -- writing the unit changes nothing
+  pub same-value : (es : List (K × Unit {0})) (p : ℕ) (v : Unit {0}) → es ≡ with_value es p v
   same-value [] p v = refl
   same-value (e ∷ es) zero v = refl
   same-value (e ∷ es) (suc p) v = ap (λ z. e ∷ z) (same-value es p v)
-
-  -- writing the unit changes nothing
-  pub becomes-written : (f : Forest K (Unit {0})) (h : Option ℕ) (p : ℕ) (v : Unit {0}) → IsLive f h → Becomes f h f h (with_value (list_of f h) p v)
-  becomes-written f h p v live = becomes_same f h _ live (same-value (list_of f h) p v)
 
   -- a step of a range of keys, as one of entries
   pub each-first : (old new : List K) (r : Option K) → YieldsFirst (λ (ks : List K). ks) old r new → option_map (λ k. (k, tt)) r ≡ slice_get (with_each old) 0

@@ -6,6 +6,8 @@ use Rattle.bforest_run.specs.Shown.{refusal_text}
 use Rattle.bforest_run.specs.Words.{Word}
 use Rattle.bforest_run.specs.declared.book_line.BookLine.TheVariants.{At, Book, Cancel}
 use Rattle.bforest_run.specs.declared.book_line.BookLine.{BookLine}
+use Rattle.bforest_run.specs.declared.shown_books.BookAnswer.TheVariants as answer
+use Rattle.bforest_run.specs.declared.shown_books.BookAnswer.{BookAnswer}
 use Rattle.interval_books.specs.Books.{Books, Cancelled, Recorded, at_moment, bookings, node_sizes, resource_count, table}
 use Rattle.interval_books.specs.declared.book_error.BookError.TheVariants as why
 use Rattle.interval_books.specs.declared.book_error.BookError.{BookError}
@@ -61,6 +63,11 @@ abbrev pub held_text : Result (Option (ℕ × ℕ)) BookError → List ℕ
 held_text (Ok (Some x)) = interval_text x.0 x.1
 held_text (Ok None) = codes "none"
 held_text (Err reason) = why_text reason
+
+abbrev pub book_text : BookAnswer → List ℕ
+book_text (answer.Booked result) = booked_text result
+book_text (answer.Cancelled result) = cancelled_text result
+book_text (answer.Held result) = held_text result
 
 -- The text of the answer to a line, from the books before it to those after it.
 abbrev pub TellsBooks : Books → BookLine → List ℕ → Books → Type 0

@@ -60,10 +60,13 @@ abbrev pub keyed_of : List Word → Option (ℕ × ℕ × ℕ)
 keyed_of (H ∷ O ∷ K ∷ []) = all3 (handle_of H) (order_of O) (number_of K)
 keyed_of words = None
 
--- the handle, the order, the key and the value of the words `H O K V`
-abbrev pub entry_of : List Word → Option (ℕ × ℕ × ℕ × ℕ)
-entry_of (H ∷ O ∷ K ∷ V ∷ []) = all4 (handle_of H) (order_of O) (number_of K) (number_of V)
-entry_of words = None
+-- the handle, the order, the key and the value of the words `H O K V` of maps, or `H O K` of sets
+abbrev pub inserted_map_of : List Word → Option (ℕ × ℕ × ℕ × ℕ)
+inserted_map_of (H ∷ O ∷ K ∷ V ∷ []) = all4 (handle_of H) (order_of O) (number_of K) (number_of V)
+inserted_map_of words = None
+
+abbrev pub inserted_set_of : List Word → Option (ℕ × ℕ × ℕ × Unit {0})
+inserted_set_of words = option_map (λ at. (at.0, at.1, at.2, tt)) (keyed_of words)
 
 -- the handles of the words `I J`
 abbrev pub pair_of : List Word → Option (ℕ × ℕ)
@@ -84,14 +87,13 @@ abbrev pub script_of : {X : Type 0} → (Word → Option X) → List Word → Op
 script_of named (H ∷ O ∷ step ∷ steps) = all3 (handle_of H) (order_of O) (all_of named (step ∷ steps))
 script_of named words = None
 
--- the handle, the order, the value and the keys of the words `H O V K ..`
+-- the handle, the order, the value and the keys of the words `H O V K ..` of maps, or `H O K ..` of sets
 abbrev pub retained_map_of : List Word → Option (ℕ × ℕ × Option ℕ × List ℕ)
 retained_map_of (H ∷ O ∷ V ∷ keys) = all4 (handle_of H) (order_of O) (put_of V) (all_of number_of keys)
 retained_map_of words = None
 
--- the handle, the order and the keys of the words `H O K ..`
-abbrev pub retained_set_of : List Word → Option (ℕ × ℕ × List ℕ)
-retained_set_of (H ∷ O ∷ keys) = all3 (handle_of H) (order_of O) (all_of number_of keys)
+abbrev pub retained_set_of : List Word → Option (ℕ × ℕ × Option (Unit {0}) × List ℕ)
+retained_set_of (H ∷ O ∷ keys) = all4 (handle_of H) (order_of O) (Some None) (all_of number_of keys)
 retained_set_of words = None
 
 -- the words for steps of a reading cursor without a part behind `=`
@@ -173,37 +175,39 @@ module _ {V : Type 0} where
   SaysEdit act_of words line =
       (h c : ℕ) × (steps : Vec (Act ℕ V) Global) × (script_of act_of words ≡ Some (h, c, steps.items)) × (line ≡ Made (call.Edit h c steps))
 
+  -- the line is `retain H O V K ..` of maps, or `retain H O K ..` of sets
+  abbrev pub SaysRetain : (List Word → Option (ℕ × ℕ × Option V × List ℕ)) → List Word → Line V → Type 0
+  SaysRetain retained_of words line =
+      (h c : ℕ) × (put : Option V) × (keys : Vec ℕ Global)
+      × (retained_of words ≡ Some (h, c, put, keys.items)) × (line ≡ Made (call.Retain h c keys put))
+
 -- the line is `read H O STEP ..`
 abbrev pub SaysRead : List Word → Line ℕ → Type 0
 SaysRead words line =
     (h c : ℕ) × (steps : Vec (Look ℕ) Global) × (script_of look_of words ≡ Some (h, c, steps.items)) × (line ≡ Made (call.Read h c steps))
 
--- the line is `retain H O V K ..` of maps, or `retain H O K ..` of sets
-abbrev pub SaysRetainMap : List Word → Line ℕ → Type 0
-SaysRetainMap words line =
-    (h c : ℕ) × (put : Option ℕ) × (keys : Vec ℕ Global)
-    × (retained_map_of words ≡ Some (h, c, put, keys.items)) × (line ≡ Made (call.Retain h c keys put))
+-- sets have no reading cursors
+abbrev pub SaysNone : List Word → Line (Unit {0}) → Type 0
+SaysNone words line = ⊥
 
-abbrev pub SaysRetainSet : List Word → Line (Unit {0}) → Type 0
-SaysRetainSet words line =
-    (h c : ℕ) × (keys : Vec ℕ Global) × (retained_set_of words ≡ Some (h, c, keys.items)) × (line ≡ Made (call.Retain h c keys None))
+-- The line that the words behind its verb spell, given what they spell where maps and sets differ: an entry, the line of a reading cursor,
+-- a step of a writing one, and what is retained.
+module _ {V : Type 0} (inserted_of : List Word → Option (ℕ × ℕ × ℕ × V)) (SaysRead : List Word → Line V → Type 0) (act_of : Word → Option (Act ℕ V))
+    (retained_of : List Word → Option (ℕ × ℕ × Option V × List ℕ)) where
+  abbrev pub Says : Verb → List Word → Line V → Type 0
+  Says verb.Insert words line = option_map (λ at. Made (call.Insert at.0 at.1 at.2 at.3)) (inserted_of words) ≡ Some line
+  Says verb.Range words line = SaysRange words line
+  Says verb.Read words line = SaysRead words line
+  Says verb.Edit words line = SaysEdit act_of words line
+  Says verb.Retain words line = SaysRetain retained_of words line
+  Says simple words line = simple_of simple words ≡ Some line
 
--- the line that the words behind its verb spell, for maps
+-- both, for maps and for sets
 abbrev pub SaysMap : Verb → List Word → Line ℕ → Type 0
-SaysMap verb.Insert words line = option_map (λ at. Made (call.Insert at.0 at.1 at.2 at.3)) (entry_of words) ≡ Some line
-SaysMap verb.Range words line = SaysRange words line
-SaysMap verb.Read words line = SaysRead words line
-SaysMap verb.Edit words line = SaysEdit map_act_of words line
-SaysMap verb.Retain words line = SaysRetainMap words line
-SaysMap simple words line = simple_of simple words ≡ Some line
+SaysMap = Says inserted_map_of SaysRead map_act_of retained_map_of
 
--- the line that the words behind its verb spell, for sets
 abbrev pub SaysSet : Verb → List Word → Line (Unit {0}) → Type 0
-SaysSet verb.Insert words line = option_map (λ at. Made (call.Insert at.0 at.1 at.2 tt)) (keyed_of words) ≡ Some line
-SaysSet verb.Range words line = SaysRange words line
-SaysSet verb.Edit words line = SaysEdit set_act_of words line
-SaysSet verb.Retain words line = SaysRetainSet words line
-SaysSet simple words line = simple_of simple words ≡ Some line
+SaysSet = Says inserted_set_of SaysNone set_act_of retained_set_of
 
 -- the line that words spell, given what the words behind the verb spell
 module _ {V : Type 0} (Says : Verb → List Word → Line V → Type 0) where

@@ -20,7 +20,7 @@ module _ {S : Type 0} (tells : S → List Word → List ℕ → S → Type 0) (i
   -- the reply to a line, and what the line leaves
   abbrev pub Replies : S → List ℕ → Reply → S → Type 0
   Replies old line Skipped new = (words_of line ≡ []) × (new ≡ old)
-  Replies old line (Told text) new = tells old (words_of line) (string_bytes text) new
+  Replies old line (Told text) new = (said : List ℕ) × (string_bytes text ≡ said ++ codes "\n") × tells old (words_of line) said new
   Replies old line Bad new = IsBad line × (new ≡ old)
 
   -- A line without words has no answer; the answer of any other line is a text and a line feed.

@@ -4,6 +4,8 @@ use Rattle.bforest_calls.specs.declared.call.Answer.{Answer}
 use Rattle.bforest_calls.specs.declared.call.Seen.TheVariants as seen
 use Rattle.bforest_calls.specs.declared.call.Seen.{Seen}
 use Rattle.bforest.specs.Refusal.{Full, Memory, OutOfMemory}
+use Rattle.bforest_run.specs.declared.shown_answer.Told.TheVariants as told
+use Rattle.bforest_run.specs.declared.shown_answer.Told.{Told}
 use Rattle.std.specs.Fmt.{decimal}
 use Rattle.std.specs.Prelude.{Bool, Err, List, None, Ok, Option, Result, Some, [], codes, false, true, ◌++◌, ◌∷◌, ℕ}
 
@@ -66,6 +68,12 @@ module _ {V : Type 0} (value_text : Option V → List ℕ) (entry_text : ℕ × 
   answer_text answer.Dead = codes "dead"
   answer_text answer.Unordered = codes "unordered"
   answer_text answer.NotOffered = codes "not offered"
+
+  -- the text of what a line is answered
+  abbrev pub told_text : Told V → List ℕ
+  told_text (told.Answer given) = answer_text given
+  told_text (told.Truth so) = truth_text so
+  told_text (told.Counts counts) = counts_text counts.levels counts.slots counts.free
 
 -- Texts for maps: an entry is its key and its value, with a colon between them.
 abbrev pub entry_text : ℕ × ℕ → List ℕ

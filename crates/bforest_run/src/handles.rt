@@ -2,17 +2,17 @@
 ghost use Rattle.bforest.specs.Forest.{IsLive, free_of, sizes_of, slots_of};
 ghost use Rattle.bforest_calls.specs.Machine.{Live, State, Step, number_at};
 ghost use Rattle.bforest_run.specs.Answers.{IsBadBy, Tells, TellsBy, all_orders};
-ghost use Rattle.bforest_run.specs.Grammar.{Spells};
-ghost use Rattle.bforest_run.specs.Shown.{answer_text};
+ghost use Rattle.bforest_run.specs.Grammar.{Says, Spells};
+ghost use Rattle.bforest_run.specs.Shown.{answer_text, told_text};
 ghost use Rattle.bforest_run.specs.declared.line.Line.TheVariants.{Stat};
-ghost use Rattle.std.specs.Prelude.{IfOk, IsTrue, None, length, string_bytes, ◌↔◌, ◌≡◌, ℕ};
+ghost use Rattle.std.specs.Prelude.{IfOk, IsTrue, None, length, ◌↔◌, ◌≡◌, ℕ};
 
 use crate::engine::Engine;
 use crate::line::Line;
 use crate::order::ORDERS;
 use crate::parse::{Spelled, line};
-use crate::shown::{Counts, Truth};
-use crate::shown_answer::Shown;
+use crate::shown::Counts;
+use crate::shown_answer::Told;
 use crate::word::HANDLE_COUNT;
 use bforest_calls::{Answer, Call, Collection, make};
 use std::alloc::{AllocError, Global};
@@ -49,18 +49,15 @@ impl<V: Spelled, T: Handle<V>> Model for Handles<V, T> {
 }
 
 impl<V: Spelled, T: Handle<V>> Handles<V, T> {
-    /// The text of the answer to a line.
-    fn tell(&mut self, alloc: Global, line: Line<V>) -> Result<String, AllocError>
-        ensures { IfOk result (λ text. Tells T.most T.READS (answer_text V.value_text V.entry_text V.old_text)
-            self.old line (string_bytes text) self.new) }
+    /// The answer to a line.
+    fn tell(&mut self, alloc: Global, line: Line<V>) -> Result<Told<V>, AllocError>
+        ensures { IfOk result (λ told. Tells T.most T.READS (answer_text V.value_text V.entry_text V.old_text)
+            self.old line (told_text V.value_text V.entry_text V.old_text told) self.new) }
     {
         match line {
-            Line::Made(call) => {
-                let answer = self.make(alloc, call)?;
-                format!(in alloc; "{}", Shown(&answer))
-            }
-            Line::Holds(h) => format!(in alloc; "{}", Truth(self.holds(h))),
-            Line::Stat(h) => self.stat(alloc, h),
+            Line::Made(call) => Ok(Told::Answer(self.make(alloc, call)?)),
+            Line::Holds(h) => Ok(Told::Truth(self.holds(h))),
+            Line::Stat(h) => Ok(self.stat(h)),
         }
     }
 
@@ -79,14 +76,14 @@ impl<V: Spelled, T: Handle<V>> Handles<V, T> {
     }
 
     /// The levels of a handle's tree, and the counts of the table.
-    fn stat(&self, alloc: Global, h: usize) -> Result<String, AllocError>
-        ensures { IfOk result (λ text. Tells T.most T.READS (answer_text V.value_text V.entry_text V.old_text)
-            self.now (Stat h) (string_bytes text) self.now) }
+    fn stat(&self, h: usize) -> Told<V>
+        ensures { Tells T.most T.READS (answer_text V.value_text V.entry_text V.old_text)
+            self.now (Stat h) (told_text V.value_text V.entry_text V.old_text result) self.now }
     {
         if !self.holds(h) {
-            return format!(in alloc; "dead");
+            return Told::Answer(Answer::Dead);
         }
-        format!(in alloc; "{}", self.handle(h).counts(&self.forest))
+        Told::Counts(self.handle(h).counts(&self.forest))
     }
 
     /// The handle with this index. A handle past the last one is empty.
@@ -101,11 +98,14 @@ impl<V: Spelled, T: Handle<V>> Handles<V, T> {
 }
 
 impl<V: Spelled, T: Handle<V>> Engine for Handles<V, T> {
-    ghost tells = { TellsBy T.most T.READS (answer_text V.value_text V.entry_text V.old_text) (Spells V.says) };
+    type Answer = Told<V>;
 
-    ghost is_bad = { IsBadBy (Spells V.says) };
+    ghost tells = { TellsBy T.most T.READS (answer_text V.value_text V.entry_text V.old_text)
+        (Spells (Says V.inserted_of V.says_read V.act_of V.retained_of)) };
 
-    fn answer(&mut self, alloc: Global, words: &[&str]) -> Result<Option<String>, AllocError> {
+    ghost is_bad = { IsBadBy (Spells (Says V.inserted_of V.says_read V.act_of V.retained_of)) };
+
+    fn answer(&mut self, alloc: Global, words: &[&str]) -> Result<Option<Told<V>>, AllocError> {
         let Some(line) = line(alloc, words)? else {
             return Ok(None);
         };

@@ -1,5 +1,6 @@
 //! Values that a word names.
 ghost use Rattle.bforest_run.specs.Grammar.{all_of, colon_pair_of, look_of, look_with, map_act_of, map_act_with, set_act_of, set_act_with};
+ghost use Rattle.bforest_calls.specs.declared.call.Act.{Act};
 ghost use Rattle.bforest_run.specs.Numbers.{number_of};
 ghost use Rattle.bforest_run.specs.Words.{cut_at};
 ghost use Rattle.std.specs.Prelude.{IfOk, List, Option, map, option_map, ◌≡◌, ℕ};
@@ -64,10 +65,28 @@ impl Named for Look<u32> {
     }
 }
 
-impl Named for Act<u32, u32> {
-    ghost named = { map_act_of };
+/// The value of an entry, as the steps of a writing cursor spell it.
+pub(crate) trait Acted: Copy {
+    /// The step that a word names, if it names one.
+    ghost act_of: { List ℕ → Option (Act ℕ Self) };
 
-    fn from_word(word: &str) -> Option<Act<u32, u32>> {
+    /// The step that the word names, if there is one.
+    fn act(word: &str) -> Option<Act<u32, Self>>
+        ensures { result ≡ act_of word.now };
+}
+
+impl<V: Acted> Named for Act<u32, V> {
+    ghost named = { V.act_of };
+
+    fn from_word(word: &str) -> Option<Act<u32, V>> {
+        V::act(word)
+    }
+}
+
+impl Acted for u32 {
+    ghost act_of = { map_act_of };
+
+    fn act(word: &str) -> Option<Act<u32, u32>> {
         match word {
             "empty" => Some(Act::Empty),
             "next" => Some(Act::Next),
@@ -84,10 +103,10 @@ impl Named for Act<u32, u32> {
     }
 }
 
-impl Named for Act<u32, ()> {
-    ghost named = { set_act_of };
+impl Acted for () {
+    ghost act_of = { set_act_of };
 
-    fn from_word(word: &str) -> Option<Act<u32, ()>> {
+    fn act(word: &str) -> Option<Act<u32, ()>> {
         match word {
             "empty" => Some(Act::Empty),
             "next" => Some(Act::Next),

@@ -1,15 +1,15 @@
 //! The lines that words spell.
-ghost use Rattle.bforest_run.specs.Grammar.{Reads, SaysEdit, SaysMap, SaysRange, SaysRead, SaysRetainMap, SaysRetainSet, SaysSet, Spells};
-ghost use Rattle.bforest_run.specs.Grammar.{all_of, entry_of, keyed_of, lone_of, map_act_of, set_act_of, pair_of, range_of, retained_map_of, retained_set_of, script_of, side_of, simple_of, verbs};
+ghost use Rattle.bforest_run.specs.Grammar.{Reads, Says, SaysEdit, SaysNone, SaysRange, SaysRead, SaysRetain, Spells};
+ghost use Rattle.bforest_run.specs.Grammar.{all_of, inserted_map_of, inserted_set_of, keyed_of, lone_of, pair_of, range_of, retained_map_of, retained_set_of};
+ghost use Rattle.bforest_run.specs.Grammar.{script_of, side_of, simple_of, verbs};
 ghost use Rattle.bforest_calls.specs.declared.call.Call.TheVariants as call;
 ghost use Rattle.bforest_run.specs.Words.{Word, row_of};
 ghost use Rattle.bforest_run.specs.declared.line.Line.TheVariants.{Made};
 ghost use Rattle.bforest_run.specs.declared.line.Line.{Line};
-ghost use Rattle.bforest_run.specs.declared.line.Verb.{Verb};
-ghost use Rattle.std.specs.Prelude.{IfOk, IfSome, List, map, option_map, ◌<◌, ◌≡◌};
+ghost use Rattle.std.specs.Prelude.{IfOk, List, Option, map, option_map, ◌≡◌, ℕ};
 
 use crate::line::{Line, Verb};
-use crate::named::{Named, all_named};
+use crate::named::{Acted, Named, all_named};
 use crate::shown_answer::Shows;
 use crate::word::{bound_named, handle_named, number, order_named, put_named};
 use bforest_calls::{Act, Call, Look, Side};
@@ -183,178 +183,170 @@ fn side_named(letter: u8) -> Option<Side>
     }
 }
 
-/// The value of an entry, as lines spell it: a number for maps, and nothing for sets.
-pub(crate) trait Spelled: Shows {
-    // The line that the words behind its verb spell.
-    ghost says: { Verb → List Word → Line Self → Type 0 };
+/// The handle, the order, the value that each entry first gets, and the keys that stay.
+type Retained<V> = (usize, usize, Option<V>, Vec<u32>);
 
-    /// The line that the words behind its verb spell, or `None` where it is bad.
-    fn line_of(alloc: Global, verb: Verb, words: &[&str]) -> Result<Option<Line<Self>>, AllocError>
-        ensures { IfOk result (Reads (says verb (map (λ w. w.now) words.now))) };
+/// The value of an entry, as lines spell it: a number for maps, and nothing for sets.
+pub(crate) trait Spelled: Shows + Acted {
+    // What words spell: an entry, the line of a reading cursor, and what is retained.
+    ghost inserted_of: { List Word → Option (ℕ × ℕ × ℕ × Self) };
+
+    ghost says_read: { List Word → Line Self → Type 0 };
+
+    ghost retained_of: { List Word → Option (ℕ × ℕ × Option Self × List ℕ) };
+
+    /// The handle, the order, the key and the value of the words.
+    fn inserted(words: &[&str]) -> Option<(usize, usize, u32, Self)>
+        ensures { result ≡ inserted_of (map (λ w. w.now) words.now) };
+
+    /// The line of a reading cursor that the words spell.
+    fn reading(alloc: Global, words: &[&str]) -> Result<Option<Line<Self>>, AllocError>
+        ensures { IfOk result (Reads (says_read (map (λ w. w.now) words.now))) };
+
+    /// What the words retain.
+    fn retained(alloc: Global, words: &[&str]) -> Result<Option<Retained<Self>>, AllocError>
+        ensures { IfOk result (λ o. option_map (λ r. (r.0, r.1, r.2, r.3.items)) o
+            ≡ retained_of (map (λ w. w.now) words.now)) };
 }
 
 /// The line that the words spell, or `None` where it is bad.
 pub(crate) fn line<V: Spelled>(alloc: Global, words: &[&str]) -> Result<Option<Line<V>>, AllocError>
-    ensures { IfOk result (Reads (Spells V.says (map (λ w. w.now) words.now))) }
+    ensures { IfOk result (Reads (Spells (Says V.inserted_of V.says_read V.act_of V.retained_of)
+        (map (λ w. w.now) words.now))) }
 {
     let [verb, words @ ..] = words else {
         return Ok(None);
     };
     match verb_named(verb) {
-        Some(verb) => V::line_of(alloc, verb, words),
+        Some(verb) => line_of(alloc, verb, words),
         None => Ok(None),
     }
 }
 
-impl Spelled for u32 {
-    ghost says = { SaysMap };
-
-    fn line_of(alloc: Global, verb: Verb, words: &[&str]) -> Result<Option<Line<u32>>, AllocError> {
-        match verb {
-            Verb::Insert => Ok(map_insertion(words)),
-            Verb::Range => ranging(alloc, words),
-            Verb::Read => reading(alloc, words),
-            Verb::Edit => map_editing(alloc, words),
-            Verb::Retain => map_retaining(alloc, words),
-            _ => Ok(simple(verb, words)),
-        }
+/// The line that the words behind its verb spell, or `None` where it is bad.
+fn line_of<V: Spelled>(
+    alloc: Global,
+    verb: Verb,
+    words: &[&str],
+) -> Result<Option<Line<V>>, AllocError>
+    ensures { IfOk result (Reads (Says V.inserted_of V.says_read V.act_of V.retained_of verb
+        (map (λ w. w.now) words.now))) }
+{
+    match verb {
+        Verb::Insert => Ok(insertion(words)),
+        Verb::Range => ranging(alloc, words),
+        Verb::Read => V::reading(alloc, words),
+        Verb::Edit => editing(alloc, words),
+        Verb::Retain => retaining(alloc, words),
+        _ => Ok(simple(verb, words)),
     }
 }
 
-/// The line `insert H O K V`.
-fn map_insertion(words: &[&str]) -> Option<Line<u32>>
+/// The line of an insertion.
+fn insertion<V: Spelled>(words: &[&str]) -> Option<Line<V>>
     ensures { result ≡ option_map (λ at. Made (call.Insert at.0 at.1 at.2 at.3))
-        (entry_of (map (λ w. w.now) words.now)) }
+        (V.inserted_of (map (λ w. w.now) words.now)) }
 {
-    let [handle, order, key, value] = words else {
-        return None;
-    };
-    Some(Line::Made(Call::Insert {
-        h: handle_named(handle)?,
-        c: order_named(order)?,
-        k: number(key)?,
-        v: number(value)?,
-    }))
+    let (h, c, k, v) = V::inserted(words)?;
+    Some(Line::Made(Call::Insert { h, c, k, v }))
 }
 
-/// The line `read H O STEP ..`.
-fn reading(alloc: Global, words: &[&str]) -> Result<Option<Line<u32>>, AllocError>
-    ensures { IfOk result (Reads (SaysRead (map (λ w. w.now) words.now))) }
+/// The line `edit H O STEP ..`.
+fn editing<V: Spelled>(alloc: Global, words: &[&str]) -> Result<Option<Line<V>>, AllocError>
+    ensures { IfOk result (Reads (SaysEdit V.act_of (map (λ w. w.now) words.now))) }
 {
-    let Some((h, c, steps)) = script::<Look<u32>>(alloc, words)? else {
-        return Ok(None);
-    };
-    Ok(Some(Line::Made(Call::Read { h, c, steps })))
-}
-
-/// The line `edit H O STEP ..` of maps.
-fn map_editing(alloc: Global, words: &[&str]) -> Result<Option<Line<u32>>, AllocError>
-    ensures { IfOk result (Reads (SaysEdit map_act_of (map (λ w. w.now) words.now))) }
-{
-    let Some((h, c, steps)) = script::<Act<u32, u32>>(alloc, words)? else {
+    let Some((h, c, steps)) = script::<Act<u32, V>>(alloc, words)? else {
         return Ok(None);
     };
     Ok(Some(Line::Made(Call::Edit { h, c, steps })))
 }
 
-/// The line `edit H O STEP ..` of sets.
-fn set_editing(alloc: Global, words: &[&str]) -> Result<Option<Line<()>>, AllocError>
-    ensures { IfOk result (Reads (SaysEdit set_act_of (map (λ w. w.now) words.now))) }
+/// The line of what is retained.
+fn retaining<V: Spelled>(alloc: Global, words: &[&str]) -> Result<Option<Line<V>>, AllocError>
+    ensures { IfOk result (Reads (SaysRetain V.retained_of (map (λ w. w.now) words.now))) }
 {
-    let Some((h, c, steps)) = script::<Act<u32, ()>>(alloc, words)? else {
-        return Ok(None);
-    };
-    Ok(Some(Line::Made(Call::Edit { h, c, steps })))
-}
-
-/// The handle, the order, the value and the keys of the words `H O V K ..`.
-fn map_retained(
-    alloc: Global,
-    words: &[&str],
-) -> Result<Option<(usize, usize, Option<u32>, Vec<u32>)>, AllocError>
-    ensures { IfOk result (λ o. option_map (λ r. (r.0, r.1, r.2, r.3.items)) o
-        ≡ retained_map_of (map (λ w. w.now) words.now)) }
-{
-    let [handle, order, put, keys @ ..] = words else {
-        return Ok(None);
-    };
-    let (Some(handle), Some(order), Some(put)) = (
-        handle_named(handle),
-        order_named(order),
-        put_named(put),
-    ) else {
-        return Ok(None);
-    };
-    let Some(keys) = all_named(alloc, keys)? else {
-        return Ok(None);
-    };
-    Ok(Some((handle, order, put, keys)))
-}
-
-/// The line `retain H O V K ..`.
-fn map_retaining(alloc: Global, words: &[&str]) -> Result<Option<Line<u32>>, AllocError>
-    ensures { IfOk result (Reads (SaysRetainMap (map (λ w. w.now) words.now))) }
-{
-    let Some((h, c, put, keys)) = map_retained(alloc, words)? else {
+    let Some((h, c, put, keys)) = V::retained(alloc, words)? else {
         return Ok(None);
     };
     Ok(Some(Line::Made(Call::Retain { h, c, keys, put })))
 }
 
-impl Spelled for () {
-    ghost says = { SaysSet };
+impl Spelled for u32 {
+    ghost inserted_of = { inserted_map_of };
 
-    fn line_of(alloc: Global, verb: Verb, words: &[&str]) -> Result<Option<Line<()>>, AllocError> {
-        match verb {
-            Verb::Insert => Ok(set_insertion(words)),
-            Verb::Range => ranging(alloc, words),
-            Verb::Edit => set_editing(alloc, words),
-            Verb::Retain => set_retaining(alloc, words),
-            _ => Ok(simple(verb, words)),
-        }
+    ghost says_read = { SaysRead };
+
+    ghost retained_of = { retained_map_of };
+
+    /// The words `H O K V`.
+    fn inserted(words: &[&str]) -> Option<(usize, usize, u32, u32)> {
+        let [handle, order, key, value] = words else {
+            return None;
+        };
+        Some((
+            handle_named(handle)?,
+            order_named(order)?,
+            number(key)?,
+            number(value)?,
+        ))
+    }
+
+    /// The words `H O STEP ..`.
+    fn reading(alloc: Global, words: &[&str]) -> Result<Option<Line<u32>>, AllocError> {
+        let Some((h, c, steps)) = script::<Look<u32>>(alloc, words)? else {
+            return Ok(None);
+        };
+        Ok(Some(Line::Made(Call::Read { h, c, steps })))
+    }
+
+    /// The words `H O V K ..`.
+    fn retained(alloc: Global, words: &[&str]) -> Result<Option<Retained<u32>>, AllocError> {
+        let [handle, order, put, keys @ ..] = words else {
+            return Ok(None);
+        };
+        let (Some(handle), Some(order), Some(put)) = (
+            handle_named(handle),
+            order_named(order),
+            put_named(put),
+        ) else {
+            return Ok(None);
+        };
+        let Some(keys) = all_named(alloc, keys)? else {
+            return Ok(None);
+        };
+        Ok(Some((handle, order, put, keys)))
     }
 }
 
-/// The line `insert H O K`.
-fn set_insertion(words: &[&str]) -> Option<Line<()>>
-    ensures { result ≡ option_map (λ at. Made (call.Insert at.0 at.1 at.2 tt))
-        (keyed_of (map (λ w. w.now) words.now)) }
-{
-    let (h, c, k) = keyed(words)?;
-    Some(Line::Made(Call::Insert { h, c, k, v: () }))
-}
+impl Spelled for () {
+    ghost inserted_of = { inserted_set_of };
 
-/// The handle, the order and the keys of the words `H O K ..`.
-fn set_retained(
-    alloc: Global,
-    words: &[&str],
-) -> Result<Option<(usize, usize, Vec<u32>)>, AllocError>
-    ensures { IfOk result (λ o. option_map (λ r. (r.0, r.1, r.2.items)) o
-        ≡ retained_set_of (map (λ w. w.now) words.now)) }
-{
-    let [handle, order, keys @ ..] = words else {
-        return Ok(None);
-    };
-    let (Some(handle), Some(order)) = (handle_named(handle), order_named(order)) else {
-        return Ok(None);
-    };
-    let Some(keys) = all_named(alloc, keys)? else {
-        return Ok(None);
-    };
-    Ok(Some((handle, order, keys)))
-}
+    ghost says_read = { SaysNone };
 
-/// The line `retain H O K ..`.
-fn set_retaining(alloc: Global, words: &[&str]) -> Result<Option<Line<()>>, AllocError>
-    ensures { IfOk result (Reads (SaysRetainSet (map (λ w. w.now) words.now))) }
-{
-    let Some((h, c, keys)) = set_retained(alloc, words)? else {
-        return Ok(None);
-    };
-    Ok(Some(Line::Made(Call::Retain {
-        h,
-        c,
-        keys,
-        put: None,
-    })))
+    ghost retained_of = { retained_set_of };
+
+    /// The words `H O K`.
+    fn inserted(words: &[&str]) -> Option<(usize, usize, u32, ())> {
+        let (h, c, k) = keyed(words)?;
+        Some((h, c, k, ()))
+    }
+
+    /// Sets have no reading cursors.
+    fn reading(_alloc: Global, _words: &[&str]) -> Result<Option<Line<()>>, AllocError> {
+        Ok(None)
+    }
+
+    /// The words `H O K ..`.
+    fn retained(alloc: Global, words: &[&str]) -> Result<Option<Retained<()>>, AllocError> {
+        let [handle, order, keys @ ..] = words else {
+            return Ok(None);
+        };
+        let (Some(handle), Some(order)) = (handle_named(handle), order_named(order)) else {
+            return Ok(None);
+        };
+        let Some(keys) = all_named(alloc, keys)? else {
+            return Ok(None);
+        };
+        Ok(Some((handle, order, None, keys)))
+    }
 }

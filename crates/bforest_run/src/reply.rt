@@ -5,7 +5,7 @@
 pub(crate) enum Reply {
     /// The line has no words.
     Skipped,
-    /// The line is answered by this text.
+    /// The line is answered by this line, with its end.
     Told(String),
     /// The line is bad.
     Bad,

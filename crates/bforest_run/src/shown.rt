@@ -1,24 +1,9 @@
 //! Parts of answers that maps and sets share.
-ghost use Rattle.bforest_run.specs.Shown.{counts_text, number_text, refusal_text, truth_text};
+ghost use Rattle.bforest_run.specs.Shown.{counts_text, number_text, refusal_text};
 ghost use Rattle.std.specs.Prelude.{Some};
 
 use bforest::OutOfMemory;
 use std::fmt;
-
-/// A truth value.
-#[derive(Clone, Copy)]
-pub(crate) struct Truth(pub(crate) bool);
-
-impl fmt::Display for Truth {
-    ghost output = { λ truth. Some (truth_text truth.0) };
-
-    fn fmt<W: fmt::Write>(&self, f: &mut fmt::Formatter<W>) -> fmt::Result {
-        match self.0 {
-            true => write!(f, "true"),
-            false => write!(f, "false"),
-        }
-    }
-}
 
 /// A number, if there is one.
 #[derive(Clone, Copy)]

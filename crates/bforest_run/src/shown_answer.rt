@@ -1,9 +1,10 @@
 //! Answers, as their lines show them.
-ghost use Rattle.bforest_run.specs.Shown.{answer_text, entry_text, key_text, more_texts, number_text, old_key_text, old_text, pair_text, present_text, put_text, seen_text, texts};
+ghost use Rattle.bforest_run.specs.Shown.{entry_text, key_text, more_texts, number_text, old_key_text, old_text, pair_text, present_text};
+ghost use Rattle.bforest_run.specs.Shown.{put_text, seen_text, texts, told_text};
 ghost use Rattle.std.specs.Fmt.{WritesOnOk};
 ghost use Rattle.std.specs.Prelude.{List, Option, Some, ℕ};
 
-use crate::shown::{Maybe, Refusal, Truth};
+use crate::shown::{Counts, Maybe, Refusal};
 use bforest::OutOfMemory;
 use bforest_calls::{Answer, Seen};
 use std::fmt;
@@ -93,25 +94,34 @@ impl Shows for () {
     }
 }
 
-/// An answer, as its line shows it.
-#[derive(Clone, Copy)]
-pub(crate) struct Shown<'a, V: Copy>(pub(crate) &'a Answer<u32, V>);
+/// What a line is answered.
+#[derive(Drop)]
+pub(crate) enum Told<V: Copy> {
+    /// The answer to a call.
+    Answer(Answer<u32, V>),
+    /// Whether a handle is live.
+    Truth(bool),
+    /// The levels of a tree, and the counts of the table.
+    Counts(Counts),
+}
 
-impl<V: Shows> fmt::Display for Shown<'_, V> {
-    ghost output = { λ shown. Some (answer_text V.value_text V.entry_text V.old_text shown.0.now) };
+impl<V: Shows> fmt::Display for Told<V> {
+    ghost output = { λ told. Some (told_text V.value_text V.entry_text V.old_text told) };
 
     fn fmt<W: fmt::Write>(&self, f: &mut fmt::Formatter<W>) -> fmt::Result {
-        match self.0 {
-            Answer::Value(value) => V::value(*value, f),
-            Answer::Pair(pair) => write!(f, "{}", Pair(*pair)),
-            Answer::Put(result) => write!(f, "{}", Put(*result)),
-            Answer::Pairs(pairs) => write!(f, "[{}]", Entries(pairs)),
-            Answer::Script(sights) => write!(f, "{}", Sights(sights)),
-            Answer::Done => write!(f, "ok"),
-            Answer::NoIndex => write!(f, "no index"),
-            Answer::Dead => write!(f, "dead"),
-            Answer::Unordered => write!(f, "unordered"),
-            Answer::NotOffered => write!(f, "not offered"),
+        match self {
+            Told::Answer(Answer::Value(value)) => V::value(*value, f),
+            Told::Answer(Answer::Pair(pair)) => write!(f, "{}", Pair(*pair)),
+            Told::Answer(Answer::Put(result)) => write!(f, "{}", Put(*result)),
+            Told::Answer(Answer::Pairs(pairs)) => write!(f, "[{}]", Entries(pairs)),
+            Told::Answer(Answer::Script(sights)) => write!(f, "{}", Sights(sights)),
+            Told::Answer(Answer::Done) => write!(f, "ok"),
+            Told::Answer(Answer::NoIndex) => write!(f, "no index"),
+            Told::Answer(Answer::Dead) => write!(f, "dead"),
+            Told::Answer(Answer::Unordered) => write!(f, "unordered"),
+            Told::Answer(Answer::NotOffered) => write!(f, "not offered"),
+            Told::Truth(so) => write!(f, "{so}"),
+            Told::Counts(counts) => write!(f, "{counts}"),
         }
     }
 }
@@ -129,7 +139,7 @@ impl<V: Shows> fmt::Display for Sight<'_, V> {
             Seen::Key(key) => write!(f, "{}", Maybe(*key)),
             Seen::Value(value) => V::value(*value, f),
             Seen::Put(result) => write!(f, "{}", Put(*result)),
-            Seen::Flag(so) => write!(f, "{}", Truth(*so)),
+            Seen::Flag(so) => write!(f, "{so}"),
             Seen::Done => write!(f, "ok"),
         }
     }

@@ -1,53 +1,34 @@
 //! Answers about books, as their lines show them.
-ghost use Rattle.bforest_run.specs.Bookings.{booked_text, cancelled_text, held_text, interval_text, why_text};
+ghost use Rattle.bforest_run.specs.Bookings.{book_text, interval_text, why_text};
 ghost use Rattle.std.specs.Prelude.{Some};
 
 use crate::shown::Refusal;
 use interval_books::BookError;
 use std::fmt;
 
-/// The answer to a booking.
+/// An answer about books.
 #[derive(Clone, Copy)]
-pub(crate) struct Booked(pub(crate) Result<(), BookError>);
-
-impl fmt::Display for Booked {
-    ghost output = { λ booked. Some (booked_text booked.0) };
-
-    fn fmt<W: fmt::Write>(&self, f: &mut fmt::Formatter<W>) -> fmt::Result {
-        match self.0 {
-            Ok(()) => write!(f, "ok"),
-            Err(why) => write!(f, "{}", Why(why)),
-        }
-    }
+pub(crate) enum BookAnswer {
+    /// The answer to a booking.
+    Booked(Result<(), BookError>),
+    /// The answer to a cancellation: the end of the booking.
+    Cancelled(Result<u64, BookError>),
+    /// The booking that contains a moment, if there is one.
+    Held(Result<Option<(u64, u64)>, BookError>),
 }
 
-/// The answer to a cancellation.
-#[derive(Clone, Copy)]
-pub(crate) struct Cancelled(pub(crate) Result<u64, BookError>);
-
-impl fmt::Display for Cancelled {
-    ghost output = { λ cancelled. Some (cancelled_text cancelled.0) };
+impl fmt::Display for BookAnswer {
+    ghost output = { λ answer. Some (book_text answer) };
 
     fn fmt<W: fmt::Write>(&self, f: &mut fmt::Formatter<W>) -> fmt::Result {
-        match self.0 {
-            Ok(end) => write!(f, "{end}"),
-            Err(why) => write!(f, "{}", Why(why)),
-        }
-    }
-}
-
-/// The booking that contains a moment, if there is one.
-#[derive(Clone, Copy)]
-pub(crate) struct Held(pub(crate) Result<Option<(u64, u64)>, BookError>);
-
-impl fmt::Display for Held {
-    ghost output = { λ held. Some (held_text held.0) };
-
-    fn fmt<W: fmt::Write>(&self, f: &mut fmt::Formatter<W>) -> fmt::Result {
-        match self.0 {
-            Ok(Some((start, end))) => write!(f, "{}", Interval(start, end)),
-            Ok(None) => write!(f, "none"),
-            Err(why) => write!(f, "{}", Why(why)),
+        match *self {
+            BookAnswer::Booked(Ok(())) => write!(f, "ok"),
+            BookAnswer::Cancelled(Ok(end)) => write!(f, "{end}"),
+            BookAnswer::Held(Ok(Some((start, end)))) => write!(f, "{}", Interval(start, end)),
+            BookAnswer::Held(Ok(None)) => write!(f, "none"),
+            BookAnswer::Booked(Err(why))
+            | BookAnswer::Cancelled(Err(why))
+            | BookAnswer::Held(Err(why)) => write!(f, "{}", Why(why)),
         }
     }
 }

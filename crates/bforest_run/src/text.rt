@@ -74,46 +74,40 @@ pub fn run_text<R: Read, W: Write>(
         (W.contents output.old) (W.contents output.new) result) }
 {
     match kind {
-        Kind::Map => run(alloc, &mut maps(alloc, limit), input, output),
-        Kind::Set => run(alloc, &mut sets(alloc, limit), input, output),
-        Kind::Books(count) => run_books(alloc, count, input, output),
+        Kind::Map => status(answer_all(alloc, &mut maps(alloc, limit), input, output)),
+        Kind::Set => status(answer_all(alloc, &mut sets(alloc, limit), input, output)),
+        Kind::Books(count) => status(answer_books(alloc, count, input, output)),
     }
 }
 
-/// Answers each line of the input by books of `count` resources, and returns the status.
-fn run_books<R: Read, W: Write>(alloc: Global, count: u32, input: &mut R, output: &mut W) -> u8
-    ensures status { (result ≤ 4) × (result ≢ 1) }
-    ensures served { ReadsThenWrites (R.remaining input.new)
-        (W.contents output.old) (W.contents output.new) result }
-    ensures outcome { IfSome (R.remaining input.old) (λ bytes.
-        (start : Books) × AreNew count start × Outcome BookTells IsBadForBooks start bytes
-        (W.contents output.old) (W.contents output.new) result) }
+/// The status of a run that ended so.
+fn status(run: Result<(), Stop>) -> u8
+    ensures { result ≡ status_of run }
 {
-    match Books::new(alloc, count) {
-        Ok(mut books) => run(alloc, &mut books, input, output),
-        Err(_) => 3,
-    }
-}
-
-/// Answers each line of the input, and returns the status.
-fn run<E: Engine, R: Read, W: Write>(
-    alloc: Global,
-    engine: &mut E,
-    input: &mut R,
-    output: &mut W,
-) -> u8
-    ensures status { (result ≤ 4) × (result ≢ 1) }
-    ensures served { ReadsThenWrites (R.remaining input.new)
-        (W.contents output.old) (W.contents output.new) result }
-    ensures outcome { IfSome (R.remaining input.old) (λ bytes.
-        Outcome E.tells E.is_bad engine.old bytes
-        (W.contents output.old) (W.contents output.new) result) }
-{
-    match answer_all(alloc, engine, input, output) {
+    match run {
         Ok(()) => 0,
         Err(Stop::BadLine) => 2,
         Err(Stop::Memory) => 3,
         Err(Stop::InputOutput) => 4,
+    }
+}
+
+/// Answers each line of the input by books of `count` resources.
+fn answer_books<R: Read, W: Write>(
+    alloc: Global,
+    count: u32,
+    input: &mut R,
+    output: &mut W,
+) -> Result<(), Stop>
+    ensures served { ReadsThenWrites (R.remaining input.new)
+        (W.contents output.old) (W.contents output.new) (status_of result) }
+    ensures outcome { IfSome (R.remaining input.old) (λ bytes.
+        (start : Books) × AreNew count start × Outcome BookTells IsBadForBooks start bytes
+        (W.contents output.old) (W.contents output.new) (status_of result)) }
+{
+    match Books::new(alloc, count) {
+        Ok(mut books) => answer_all(alloc, &mut books, input, output),
+        Err(_) => Err(Stop::Memory),
     }
 }
 
@@ -173,10 +167,7 @@ fn answer_line<E: Engine, W: Write>(
 {
     match reply_to(alloc, engine, line)? {
         Reply::Skipped => Ok(()),
-        Reply::Told(text) => {
-            let text = format!(in alloc; "{text}\n")?;
-            write_line(output, text.as_bytes())
-        }
+        Reply::Told(text) => write_line(output, text.as_bytes()),
         Reply::Bad => {
             let text = format!(in alloc; "line {number}: bad\n")?;
             write_line(output, text.as_bytes())?;
@@ -197,7 +188,10 @@ fn reply_to<E: Engine>(alloc: Global, engine: &mut E, line: &[u8]) -> Result<Rep
         return Ok(Reply::Skipped);
     }
     match engine.answer(alloc, &words)? {
-        Some(text) => Ok(Reply::Told(text)),
+        Some(answer) => {
+            let text = format!(in alloc; "{answer}\n")?;
+            Ok(Reply::Told(text))
+        }
         None => Ok(Reply::Bad),
     }
 }

@@ -1,5 +1,6 @@
 //! The predecessors of the blocks of a control flow graph: a map for each block, from the number of an edge to the block where it begins.
 
+use crate::Rounds;
 use crate::mixture::{Collections, walk_all};
 use crate::random::{Random, added};
 use crate::smalls::Smalls;
@@ -9,27 +10,26 @@ use std::alloc::Global;
 pub(crate) fn run<S: Collections + Drop>(
     smalls: Option<S>,
     blocks: u32,
-    walks: u32,
-    turns: u32,
+    rounds: Rounds,
 ) -> Option<u64> {
     let mut smalls = smalls?;
     add_all(&mut smalls, blocks)?;
     let mut sum = 0u64;
-    for _ in 0..walks {
+    for _ in 0..rounds.walks {
         sum = sum.wrapping_add(walk_all(&smalls, blocks));
     }
-    for turn in 0..turns {
+    for turn in 0..rounds.turns {
         sum = sum.wrapping_add(lead_all(&mut smalls, blocks, turn)?);
     }
     Some(sum)
 }
 
 /// Makes a whole run, as described at `run_edges_cursor`.
-pub(crate) fn run_by_cursor(alloc: Global, blocks: u32, walks: u32) -> Option<u64> {
+pub(crate) fn run_by_cursor(alloc: Global, blocks: u32, rounds: Rounds) -> Option<u64> {
     let mut smalls = Smalls::new(alloc, blocks).ok()?;
     add_all(&mut smalls, blocks)?;
     let mut sum = 0u64;
-    for _ in 0..walks {
+    for _ in 0..rounds.walks {
         sum = sum.wrapping_add(smalls.read_all(blocks));
     }
     Some(sum)

@@ -1,9 +1,9 @@
 //! Work by one cursor on a map or on a set.
 ghost use Rattle.bforest.specs.Cursor.{IsCursor};
 ghost use Rattle.bforest.specs.SetCursor.{IsCursor as IsSetCursor};
-ghost use Rattle.bforest.specs.Forest.{IsLive, list_of};
-ghost use Rattle.bforest.specs.Memory.{MapsFitInMemory, SetsFitInMemory};
 ghost use Rattle.bforest.specs.Entries.{IsIncreasing};
+ghost use Rattle.bforest.specs.Forest.{IsLive, IsSearchable, list_of};
+ghost use Rattle.bforest.specs.Memory.{MapsFitInMemory, SetsFitInMemory};
 ghost use Rattle.bforest_workloads_bench.specs.Cursors.{MapContinues, SetContinues};
 
 use bforest::{Comparator, Map, MapCursorMut, MapForest, OutOfMemory, Set, SetCursor, SetForest};
@@ -16,8 +16,7 @@ pub(crate) fn put_entries<K: Copy, V: Copy, C: Comparator<K>>(
     forest: &mut MapForest<K, V>,
     comp: &C,
 ) -> Result<u32, OutOfMemory>
-    requires live { IsLive forest.old map.old }
-    requires increasing { IsIncreasing (C.order comp.now) (list_of forest.old map.old) }
+    requires { IsSearchable (C.order comp.now) forest.old map.old }
     ensures live { IsLive forest.new map.new }
     ensures increasing { IsIncreasing (C.order comp.now) (list_of forest.new map.new) }
 {
@@ -52,8 +51,7 @@ pub(crate) fn edit_keys<K: Copy, C: Comparator<K>>(
     forest: &mut SetForest<K>,
     comp: &C,
 ) -> Result<u32, OutOfMemory>
-    requires live { IsLive forest.old set.old }
-    requires increasing { IsIncreasing (C.order comp.now) (list_of forest.old set.old) }
+    requires { IsSearchable (C.order comp.now) forest.old set.old }
     ensures live { IsLive forest.new set.new }
     ensures increasing { IsIncreasing (C.order comp.now) (list_of forest.new set.new) }
 {

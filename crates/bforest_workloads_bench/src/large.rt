@@ -1,29 +1,44 @@
-//! One map of many entries.
-use crate::random::{Random, added, mixed};
-use crate::walks::{read_back, read_on};
-use bforest::{Map, MapForest, OutOfMemory};
-use std::alloc::Global;
-use std::marker::Model;
+//! One map or one set of many keys.
 
-/// Makes a whole run, as described at `run_large`.
-pub(crate) fn run(
-    alloc: Global,
+use crate::Rounds;
+use crate::one_map::OneMap;
+use crate::one_set::OneSet;
+use crate::random::{Random, added, mixed};
+use std::alloc::Global;
+
+/// One map or one set. An answer is a number.
+pub(crate) trait Large {
+    /// Inserts a value into a map, or a key into a set, and returns whether the key was present. `None` where memory was refused.
+    fn put(&mut self, key: u32, value: u32) -> Option<bool>;
+
+    /// Looks a key up.
+    fn look(&self, key: u32) -> u32;
+
+    /// A checksum of each entry.
+    fn walk(&self) -> u64;
+}
+
+// The keys of a run, which are inserted in ascending order, or without one.
+#[derive(Clone, Copy)]
+struct Keys {
     size: u32,
     is_mixed: bool,
-    looks: u32,
-    walks: u32,
-    is_emptied: bool,
-) -> Option<u64> {
-    let mut large = Large::new(alloc, is_mixed);
-    let mut sum = large.inserts(size).ok()?;
-    for _ in 0..looks {
-        sum = sum.wrapping_add(large.gets(size));
+}
+
+impl Keys {
+    // The key at an index.
+    fn at(self, index: u32) -> u32 {
+        if self.is_mixed { mixed(index) } else { index }
     }
-    for _ in 0..walks {
-        sum = sum.wrapping_add(large.walk());
-    }
-    if is_emptied {
-        sum = sum.wrapping_add(large.removes(size));
+}
+
+/// Makes a whole run, as described at `run_large`.
+pub(crate) fn run(alloc: Global, size: u32, is_mixed: bool, rounds: Rounds) -> Option<u64> {
+    let mut map = OneMap::new(alloc);
+    let keys = Keys { size, is_mixed };
+    let mut sum = fill_and_read(&mut map, keys, rounds)?;
+    if rounds.turns > 0 {
+        sum = sum.wrapping_add(remove_all(&mut map, keys));
     }
     Some(sum)
 }
@@ -33,123 +48,84 @@ pub(crate) fn run_by_cursor(
     alloc: Global,
     size: u32,
     is_mixed: bool,
-    walks: u32,
-    turns: u32,
+    rounds: Rounds,
 ) -> Option<u64> {
-    let mut large = Large::new(alloc, is_mixed);
-    let mut sum = large.inserts(size).ok()?;
-    for _ in 0..walks {
-        sum = sum.wrapping_add(large.read_on());
+    let mut map = OneMap::new(alloc);
+    let mut sum = fill(&mut map, Keys { size, is_mixed })?;
+    for _ in 0..rounds.walks {
+        sum = sum.wrapping_add(map.read_on());
     }
-    for _ in 0..turns {
-        sum = sum.wrapping_add(large.read_back());
+    for _ in 0..rounds.turns {
+        sum = sum.wrapping_add(map.read_back());
     }
     Some(sum)
 }
 
-// One map in a forest of its own. Its type states that its keys increase, and no call has to be asked for it.
-#[derive(Drop)]
-struct Large {
-    forest: MapForest<u32, u32>,
-    map: Map<u32, u32>,
-    is_mixed: bool,
+/// Makes a whole run, as described at `run_large_set`.
+pub(crate) fn run_set(alloc: Global, size: u32, is_mixed: bool, rounds: Rounds) -> Option<u64> {
+    let mut set = OneSet::new(alloc);
+    let keys = Keys { size, is_mixed };
+    let mut sum = fill_and_read(&mut set, keys, rounds)?;
+    for _ in 0..rounds.turns {
+        sum = sum.wrapping_add(edit_all(&mut set, keys)?);
+    }
+    Some(sum)
 }
 
-impl Model for Large {
-    ghost use Rattle.bforest.specs.Forest.{Forest};
-    ghost use Rattle.bforest_workloads_bench.specs.Kept.{IsOrdered};
-    ghost use Rattle.std.specs.Prelude.{Option, ℕ};
-
-    ghost Value = { Forest ℕ ℕ × Option ℕ };
-
-    ghost view = { λ l. (l.forest, l.map) };
-
-    ghost invariant = { λ l. IsOrdered l.forest l.map };
+// Inserts each key. Then rounds of lookups, and rounds that read each entry.
+fn fill_and_read<T: Large>(one: &mut T, keys: Keys, rounds: Rounds) -> Option<u64> {
+    let mut sum = fill(one, keys)?;
+    for _ in 0..rounds.looks {
+        sum = sum.wrapping_add(look_all(one, keys));
+    }
+    for _ in 0..rounds.walks {
+        sum = sum.wrapping_add(one.walk());
+    }
+    Some(sum)
 }
 
-impl Large {
-    // An empty map, whose keys are inserted without an order, or in ascending order.
-    fn new(alloc: Global, is_mixed: bool) -> Self {
-        Large {
-            forest: MapForest::new(alloc),
-            map: Map::new(),
-            is_mixed,
+// Inserts each key, and counts those that were present.
+fn fill<T: Large>(one: &mut T, keys: Keys) -> Option<u64> {
+    let mut sum = 0u64;
+    for index in 0..keys.size {
+        if one.put(keys.at(index), index)? {
+            sum = sum.wrapping_add(1);
         }
     }
+    Some(sum)
+}
 
-    // The key at an index.
-    fn key(&self, index: u32) -> u32 {
-        if self.is_mixed { mixed(index) } else { index }
+// Looks as many keys up, in the order of their insertion where that is ascending, else in another order.
+fn look_all<T: Large>(one: &T, keys: Keys) -> u64 {
+    let mut random = Random::new(99);
+    let mut sum = 0u64;
+    for count in 0..keys.size {
+        let index = if keys.is_mixed {
+            random.below(keys.size)
+        } else {
+            count
+        };
+        sum = added(sum, one.look(keys.at(index)));
     }
+    sum
+}
 
-    // Inserts a value, and returns the value that it replaces.
-    fn insert(&mut self, key: u32, value: u32) -> Result<Option<u32>, OutOfMemory> {
-        self.map.insert(key, value, &mut self.forest, &())
+// Removes each key, in the order of their insertion.
+fn remove_all(map: &mut OneMap, keys: Keys) -> u64 {
+    let mut sum = 0u64;
+    for index in 0..keys.size {
+        sum = added(sum, map.remove(keys.at(index)));
     }
+    sum
+}
 
-    // The value of a key, or 7 where the key is absent.
-    fn get(&self, key: u32) -> u32 {
-        self.map.get(key, &self.forest, &()).unwrap_or(7)
+// Makes an edit for every tenth key.
+fn edit_all(set: &mut OneSet, keys: Keys) -> Option<u64> {
+    let mut random = Random::new(3141);
+    let mut sum = 0u64;
+    for _ in 0..keys.size / 10 {
+        let key = keys.at(random.below(keys.size));
+        sum = added(sum, set.edit(key).ok()?);
     }
-
-    // Removes a key, and returns its value, or 7 where the key is absent.
-    fn remove(&mut self, key: u32) -> u32 {
-        self.map.remove(key, &mut self.forest, &()).unwrap_or(7)
-    }
-
-    // Inserts `size` keys, and counts those that were present.
-    fn inserts(&mut self, size: u32) -> Result<u64, OutOfMemory> {
-        let mut sum = 0u64;
-        for index in 0..size {
-            let key = self.key(index);
-            if self.insert(key, index)?.is_some() {
-                sum = sum.wrapping_add(1);
-            }
-        }
-        Ok(sum)
-    }
-
-    // Looks `size` keys up, in the order of their insertion where that is ascending, else in another order.
-    fn gets(&self, size: u32) -> u64 {
-        let mut random = Random::new(99);
-        let mut sum = 0u64;
-        for count in 0..size {
-            let index = if self.is_mixed {
-                random.below(size)
-            } else {
-                count
-            };
-            sum = added(sum, self.get(self.key(index)));
-        }
-        sum
-    }
-
-    // Reads each entry.
-    fn walk(&self) -> u64 {
-        let mut sum = 0u64;
-        for (key, value) in self.map.iter(&self.forest) {
-            sum = added(sum, key ^ value);
-        }
-        sum
-    }
-
-    // Reads each entry by a cursor, from the first on. The checksum starts at 1, to count a first entry of zeros too.
-    fn read_on(&self) -> u64 {
-        read_on(&self.map, &self.forest, 1)
-    }
-
-    // Reads each entry by a cursor, from the last back.
-    fn read_back(&self) -> u64 {
-        read_back(&self.map, &self.forest, 1)
-    }
-
-    // Removes `size` keys, in the order of their insertion.
-    fn removes(&mut self, size: u32) -> u64 {
-        let mut sum = 0u64;
-        for index in 0..size {
-            let key = self.key(index);
-            sum = added(sum, self.remove(key));
-        }
-        sum
-    }
+    Some(sum)
 }

@@ -7,134 +7,102 @@ mod edges;
 mod edits;
 mod indexed;
 mod large;
-mod large_set;
 mod mixture;
+mod one_map;
+mod one_set;
 mod random;
 mod ranges;
 mod small_sets;
 mod smalls;
-mod std_maps;
-mod std_sets;
+mod standard;
 mod walks;
 
 use crate::indexed::Indexed;
 use crate::small_sets::SmallSets;
 use crate::smalls::Smalls;
-use crate::std_maps::StdMaps;
-use crate::std_sets::StdSets;
+use crate::standard::Standards;
 use std::alloc::Global;
+use std::collections::{BTreeMap, BTreeSet};
 
-/// Makes `calls` calls without an order on `maps` small maps, all empty at first: half insert, a quarter looks up and a quarter removes, on
-/// 20 keys. Then rounds of as many lookups, rounds that read each entry, and, if asked for, the clearing of each map.
-pub fn run_mixture(
-    alloc: Global,
-    maps: u32,
-    calls: u32,
-    looks: u32,
-    walks: u32,
-    is_cleared: bool,
-) -> u64 {
-    let smalls = Smalls::new(alloc, maps).ok();
-    mixture::run(smalls, maps, calls, looks, walks, is_cleared).unwrap_or(0)
+/// How many rounds a run makes, once its maps or sets are filled.
+#[derive(Clone, Copy)]
+pub struct Rounds {
+    /// Rounds of lookups, or of tests.
+    pub looks: u32,
+    /// Rounds that read entries.
+    pub walks: u32,
+    /// Rounds of what else the run does. What it does once alone, it does if there are any.
+    pub turns: u32,
 }
 
-/// Makes the calls of `run_mixture` on maps that are named by an index, and, if asked for, clears each map.
-pub fn run_indexed(alloc: Global, maps: u32, calls: u32, is_cleared: bool) -> u64 {
-    let indexed = Indexed::new(alloc, maps);
-    mixture::run(indexed, maps, calls, 0, 0, is_cleared).unwrap_or(0)
+/// Makes `calls` calls without an order on `maps` small maps, all empty at first: half insert, a quarter looks up and a quarter removes, on
+/// 20 keys. Then rounds of as many lookups, rounds that read each entry, and, if there are turns, the clearing of each map.
+pub fn run_mixture(alloc: Global, maps: u32, calls: u32, rounds: Rounds) -> u64 {
+    let smalls = Smalls::new(alloc, maps).ok();
+    mixture::run(smalls, maps, calls, rounds).unwrap_or(0)
+}
+
+/// Makes the run of `run_mixture` on maps that are named by an index.
+pub fn run_indexed(alloc: Global, maps: u32, calls: u32, rounds: Rounds) -> u64 {
+    mixture::run(Indexed::new(alloc, maps), maps, calls, rounds).unwrap_or(0)
 }
 
 /// Makes the run of `run_mixture` on maps of the toolchain's standard library.
-pub fn run_std_mixture(
-    alloc: Global,
-    maps: u32,
-    calls: u32,
-    looks: u32,
-    walks: u32,
-    is_cleared: bool,
-) -> u64 {
-    let smalls = StdMaps::new(alloc, maps).ok();
-    mixture::run(smalls, maps, calls, looks, walks, is_cleared).unwrap_or(0)
+pub fn run_std_mixture(alloc: Global, maps: u32, calls: u32, rounds: Rounds) -> u64 {
+    let smalls = Standards::<BTreeMap<u32, u32>>::new(alloc, maps).ok();
+    mixture::run(smalls, maps, calls, rounds).unwrap_or(0)
 }
 
 /// Makes `size` insertions into one map, in ascending order or without one. Then rounds of as many lookups, rounds that read each entry,
-/// and, if asked for, the removal of each key.
-pub fn run_large(
-    alloc: Global,
-    size: u32,
-    is_mixed: bool,
-    looks: u32,
-    walks: u32,
-    is_emptied: bool,
-) -> u64 {
-    large::run(alloc, size, is_mixed, looks, walks, is_emptied).unwrap_or(0)
+/// and, if there are turns, the removal of each key.
+pub fn run_large(alloc: Global, size: u32, is_mixed: bool, rounds: Rounds) -> u64 {
+    large::run(alloc, size, is_mixed, rounds).unwrap_or(0)
 }
 
-/// Fills the map of `run_large`. Then `walks` rounds that read each entry by a cursor from the first on, and `turns` rounds from the last
-/// back.
-pub fn run_large_cursor(alloc: Global, size: u32, is_mixed: bool, walks: u32, turns: u32) -> u64 {
-    large::run_by_cursor(alloc, size, is_mixed, walks, turns).unwrap_or(0)
+/// Fills the map of `run_large`. Then rounds that read each entry by a cursor from the first on, and turns from the last back.
+pub fn run_large_cursor(alloc: Global, size: u32, is_mixed: bool, rounds: Rounds) -> u64 {
+    large::run_by_cursor(alloc, size, is_mixed, rounds).unwrap_or(0)
 }
 
 /// Adds one to four edges out of each of `blocks` blocks of a control flow graph, to a map of predecessors for each block. Then rounds that
-/// read each map, and rounds that redirect each edge to the block behind its target, by a removal and an insertion.
-pub fn run_edges(alloc: Global, blocks: u32, walks: u32, turns: u32) -> u64 {
-    edges::run(Smalls::new(alloc, blocks).ok(), blocks, walks, turns).unwrap_or(0)
+/// read each map, and turns that redirect each edge to the block behind its target, by a removal and an insertion.
+pub fn run_edges(alloc: Global, blocks: u32, rounds: Rounds) -> u64 {
+    edges::run(Smalls::new(alloc, blocks).ok(), blocks, rounds).unwrap_or(0)
 }
 
 /// Makes the run of `run_edges` on maps of the toolchain's standard library.
-pub fn run_std_edges(alloc: Global, blocks: u32, walks: u32, turns: u32) -> u64 {
-    edges::run(StdMaps::new(alloc, blocks).ok(), blocks, walks, turns).unwrap_or(0)
+pub fn run_std_edges(alloc: Global, blocks: u32, rounds: Rounds) -> u64 {
+    let smalls = Standards::<BTreeMap<u32, u32>>::new(alloc, blocks).ok();
+    edges::run(smalls, blocks, rounds).unwrap_or(0)
 }
 
 /// Fills the maps of `run_edges`. Then rounds that read each map by a cursor, from the first entry on.
-pub fn run_edges_cursor(alloc: Global, blocks: u32, walks: u32) -> u64 {
-    edges::run_by_cursor(alloc, blocks, walks).unwrap_or(0)
+pub fn run_edges_cursor(alloc: Global, blocks: u32, rounds: Rounds) -> u64 {
+    edges::run_by_cursor(alloc, blocks, rounds).unwrap_or(0)
 }
 
 /// Makes `calls` calls without an order on `sets` small sets, all empty at first, as `run_mixture` does: half insert, a quarter tests and a
 /// quarter removes.
-pub fn run_set_mixture(
-    alloc: Global,
-    sets: u32,
-    calls: u32,
-    looks: u32,
-    walks: u32,
-    is_cleared: bool,
-) -> u64 {
+pub fn run_set_mixture(alloc: Global, sets: u32, calls: u32, rounds: Rounds) -> u64 {
     let smalls = SmallSets::new(alloc, sets).ok();
-    mixture::run(smalls, sets, calls, looks, walks, is_cleared).unwrap_or(0)
+    mixture::run(smalls, sets, calls, rounds).unwrap_or(0)
 }
 
 /// Makes the run of `run_set_mixture` on sets of the toolchain's standard library.
-pub fn run_std_set_mixture(
-    alloc: Global,
-    sets: u32,
-    calls: u32,
-    looks: u32,
-    walks: u32,
-    is_cleared: bool,
-) -> u64 {
-    let smalls = StdSets::new(alloc, sets).ok();
-    mixture::run(smalls, sets, calls, looks, walks, is_cleared).unwrap_or(0)
+pub fn run_std_set_mixture(alloc: Global, sets: u32, calls: u32, rounds: Rounds) -> u64 {
+    let smalls = Standards::<BTreeSet<u32>>::new(alloc, sets).ok();
+    mixture::run(smalls, sets, calls, rounds).unwrap_or(0)
 }
 
 /// Makes `size` insertions into one set, in ascending order or without one. Then rounds of as many tests, rounds that read each key, and
-/// rounds of a tenth as many edits: a cursor inserts five keys beside one another, and removes five from the first of them on.
-pub fn run_large_set(
-    alloc: Global,
-    size: u32,
-    is_mixed: bool,
-    looks: u32,
-    walks: u32,
-    edits: u32,
-) -> u64 {
-    large_set::run(alloc, size, is_mixed, looks, walks, edits).unwrap_or(0)
+/// turns of a tenth as many edits: a cursor inserts five keys beside one another, and removes five from the first of them on.
+pub fn run_large_set(alloc: Global, size: u32, is_mixed: bool, rounds: Rounds) -> u64 {
+    large::run_set(alloc, size, is_mixed, rounds).unwrap_or(0)
 }
 
 /// Inserts `size` live ranges into one map, from the point where each begins to its end, in order, by one cursor per eight ranges. Then
 /// rounds of as many lookups of the last range that begins at a point or before, rounds that read the first and the last of as many spans,
-/// and, if asked for, as many ranges more between those, each behind the one that its cursor inserted before.
-pub fn run_ranges(alloc: Global, size: u32, looks: u32, spans: u32, is_split: bool) -> u64 {
-    ranges::run(alloc, size, looks, spans, is_split).unwrap_or(0)
+/// and, if there are turns, as many ranges more between those, each behind the one that its cursor inserted before.
+pub fn run_ranges(alloc: Global, size: u32, rounds: Rounds) -> u64 {
+    ranges::run(alloc, size, rounds).unwrap_or(0)
 }

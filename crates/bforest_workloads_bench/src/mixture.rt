@@ -1,5 +1,6 @@
 //! Calls of all kinds on many small maps or sets.
 
+use crate::Rounds;
 use crate::random::{Random, added};
 
 /// Many small maps or sets, each named by an index. An answer is a number, or `None` for an absent value; of a set it says whether the key
@@ -26,19 +27,17 @@ pub(crate) fn run<S: Collections + Drop>(
     smalls: Option<S>,
     count: u32,
     calls: u32,
-    looks: u32,
-    walks: u32,
-    is_cleared: bool,
+    rounds: Rounds,
 ) -> Option<u64> {
     let mut smalls = smalls?;
     let mut sum = mix(&mut smalls, count, calls)?;
-    for _ in 0..looks {
+    for _ in 0..rounds.looks {
         sum = sum.wrapping_add(look(&smalls, count, calls));
     }
-    for _ in 0..walks {
+    for _ in 0..rounds.walks {
         sum = sum.wrapping_add(walk_all(&smalls, count));
     }
-    if is_cleared {
+    if rounds.turns > 0 {
         for index in 0..count {
             smalls.clear(index);
         }

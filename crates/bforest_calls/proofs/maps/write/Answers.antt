@@ -1,5 +1,5 @@
 use Rattle.bforest.specs.Cursor.{entries, spot}
-use Rattle.bforest_calls.proofs.Indexed.{becomes_same, past_at, with_value_past, within_at}
+use Rattle.bforest_calls.proofs.Indexed.{past_at, with_value_past, within_at, writes-nothing}
 use Rattle.bforest_calls.proofs.maps.write.Goals as goal
 use Rattle.std.proofs.Common.{refl}
 use Rattle.std.specs.Prelude.{slice_get}
@@ -16,12 +16,4 @@ pub returns-in-None-clause-there : goal.returns-in-None-clause-there
 returns-in-None-clause-there g c = past_at (slice_get (entries c.args.cursor.now) (spot c.args.cursor.now)) c.in-None.ensures.value
 
 pub returns-in-None-clause-writes : goal.returns-in-None-clause-writes
-returns-in-None-clause-writes g c =
-    let old = c.args.cursor.now in
-    record {
-      becomes = becomes_same _ _ _ c.requires.valid.live (with_value_past (entries old) (spot old) c.args.v c.in-None.ensures.value);
-      number = refl;
-      sizes = refl;
-      slots = refl;
-      free = refl;
-    }
+returns-in-None-clause-writes g c = writes-nothing c.requires.valid.live (with_value_past _ _ _ c.in-None.ensures.value)

@@ -1,13 +1,10 @@
 use Rattle.bforest_run.proofs.Turns.{breaks-bad, breaks-told}
 use Rattle.bforest_run.proofs.Written.{Appends-none}
-use Rattle.bforest_run.specs.Session.{IsBad, bad_text}
-use Rattle.bforest_run.specs.Words.{words_of}
+use Rattle.bforest_run.specs.Session.{IsBad, Replies, bad_text}
+use Rattle.bforest_run.specs.declared.reply.Reply.TheVariants.{Told}
 use Rattle.std.proofs.Common.{rules, ◌++◌, ◌≡◌}
-use Rattle.std.specs.Prelude.{codes, string_bytes}
+use Rattle.std.specs.Prelude.{codes}
 use Rattle.bforest_run.proofs.text.answer_line.Goals as goal
-
-pub returns-in_err-text-in-Told-clause-memory : goal.returns-in_err-text-in-Told-clause-memory
-returns-in_err-text-in-Told-clause-memory g c = λ _. Appends-none (g.W.Write.contents c.args.output.now)
 
 pub returns-in_err-text-in-Bad-clause-memory : goal.returns-in_err-text-in-Bad-clause-memory
 returns-in_err-text-in-Bad-clause-memory g c = λ _. Appends-none (g.W.Write.contents c.args.output.now)
@@ -16,10 +13,13 @@ pub returns-in_err-write_line-in-Bad-clause-failed : goal.returns-in_err-write_l
 returns-in_err-write_line-in-Bad-clause-failed g c =
     let bad : IsBad g.E.Engine.tells g.E.Engine.is_bad c.args.line.now = (rw c.in-Bad.is at c.in_ok-reply_to.ensures).0 in
     let is : c.as_bytes-in-Bad.result.now ≡ bad_text c.args.number = search rules in
-    λ _. breaks-bad g.E.Engine.tells g.E.Engine.is_bad c.args.engine.now c.args.number c.args.line.now (g.W.Write.contents c.args.output.now) (g.W.Write.contents c.write_line-in-Bad.new.output) c.as_bytes-in-Bad.result.now bad is c.in_err-write_line-in-Bad.ensures.part
+    λ _. breaks-bad g.E.Engine.tells g.E.Engine.is_bad c.args.engine.now c.args.number c.args.line.now (g.W.Write.contents c.args.output.now)
+    (g.W.Write.contents c.write_line-in-Bad.new.output) c.as_bytes-in-Bad.result.now bad is c.in_err-write_line-in-Bad.ensures.part
 
-pub returns-in_ok-text-in-Told-clause-failed : goal.returns-in_ok-text-in-Told-clause-failed
-returns-in_ok-text-in-Told-clause-failed g c =
-    let told : g.E.Engine.tells c.args.engine.now (words_of c.args.line.now) (string_bytes c.in-Told.text) c.reply_to.new.engine = rw c.in-Told.is at c.in_ok-reply_to.ensures in
-    let is : c.as_bytes.result.now ≡ string_bytes c.in-Told.text ++ codes "\n" = search rules in
-    λ e. breaks-told g.E.Engine.tells g.E.Engine.is_bad c.args.engine.now c.reply_to.new.engine c.args.number c.args.line.now (g.W.Write.contents c.args.output.now) (g.W.Write.contents c.write_line.new.output) (string_bytes c.in-Told.text) c.as_bytes.result.now told is (rw e at c.write_line.ensures.part)
+pub returns-in-Told-clause-failed : goal.returns-in-Told-clause-failed
+returns-in-Told-clause-failed g c =
+    let told : Replies g.E.Engine.tells g.E.Engine.is_bad c.args.engine.now c.args.line.now (Told c.in-Told.text) c.reply_to.new.engine =
+    rw c.in-Told.is at c.in_ok-reply_to.ensures in
+    let is : c.as_bytes.result.now ≡ told.0 ++ codes "\n" = search rules in
+    λ e. breaks-told g.E.Engine.tells g.E.Engine.is_bad c.args.engine.now c.reply_to.new.engine c.args.number c.args.line.now
+    (g.W.Write.contents c.args.output.now) (g.W.Write.contents c.write_line.new.output) told.0 _ told.2 is (rw e at c.write_line.ensures.part)

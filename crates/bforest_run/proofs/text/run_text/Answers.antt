@@ -1,7 +1,7 @@
 use Rattle.bforest_run.proofs.text.run_text.Goals as goal
 
 pub returns-in-Map-clause-maps : goal.returns-in-Map-clause-maps
-returns-in-Map-clause-maps g c = λ _. rw c.maps.ensures at c.run.ensures.outcome
+returns-in-Map-clause-maps g c = λ _. rw (c.maps.ensures, ← c.status.ensures) at c.answer_all.ensures.outcome
 
 pub returns-in-Set-clause-sets : goal.returns-in-Set-clause-sets
-returns-in-Set-clause-sets g c = λ _. rw c.sets.ensures at c.run-in-Set.ensures.outcome
+returns-in-Set-clause-sets g c = λ _. rw (c.sets.ensures, ← c.status-in-Set.ensures) at c.answer_all-in-Set.ensures.outcome

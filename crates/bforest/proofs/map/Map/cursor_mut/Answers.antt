@@ -1,5 +1,8 @@
+use Rattle.bforest.proofs.Cursors.{end-stands}
 use Rattle.bforest.proofs.map.Map.cursor_mut.Goals as goal
-use Rattle.std.proofs.Common.{rules}
 
 pub returns-clause-spot : goal.returns-clause-spot
-returns-clause-spot g c = search rules steps 1000000
+returns-clause-spot g c = (end-stands c.args.forest.now c.default.result c.requires c.default.ensures).1
+
+pub returns-clause-valid : goal.returns-clause-valid
+returns-clause-valid g c = (end-stands c.args.forest.now c.default.result c.requires c.default.ensures).0

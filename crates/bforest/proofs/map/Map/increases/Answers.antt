@@ -1,20 +1,21 @@
 use Rattle.bforest_trees.proofs.Increasing.{IncreasesAfter, IsDownTo, IsDownTo-next, alone, not_increasing}
 use Rattle.bforest.proofs.map.Map.increases.Goals as goal
 use Rattle.bforest.specs.Forest.{list_of}
-use Rattle.std.proofs.Common.{None, refl, subst, sym, ◌∙◌, ◌≡◌}
+use Rattle.std.proofs.Common.{None, refl, subst, sym, ◌∙◌}
 use Rattle.std.specs.Map.{keys_of}
 
 pub entries-init : goal.entries-init
-entries-init g c =
-    let whole : c.into_iter-key-iterator.result ≡ list_of c.args.forest.now c.args.self.now = c.into_iter-key-iterator.ensures.into_iter_gives ∙ c.iter-key-items.ensures.entries in
-    (c.iter-key-items.ensures.fits, subst (IsDownTo (g.C.Comparator.order c.args.comp.now) (list_of c.args.forest.now c.args.self.now) None) (sym whole) (record { down = λ up. up; up = λ up. up }))
+entries-init g c = (
+  c.iter-key-items.ensures.fits,
+  subst (IsDownTo (g.C.Comparator.order c.args.comp.now) (list_of c.args.forest.now c.args.self.now) None)
+      (sym (c.into_iter-key-iterator.ensures.into_iter_gives ∙ c.iter-key-items.ensures.entries)) (record { down = λ up. up; up = λ up. up }),
+)
 
 pub returns-then-not-follows : goal.returns-then-not-follows
 returns-then-not-follows g c = record {
   increasing = (
     λ no. absurd (cc),
-    λ up. absurd (not_increasing (g.C.Comparator.order c.args.comp.now) (g.met.C.Comparator.total c.args.comp.now)
-        (list_of c.args.forest.now c.args.self.now) c.entries.last c.in-Some.key c.in-Some.field-0-1 c.next.new.self c.entries.key-iterator
+    λ up. absurd (not_increasing _ (g.met.C.Comparator.total c.args.comp.now) _ _ _ _ _ _
         c.in-Some.ensures.steps (sym c.if-not-follows.true ∙ c.follows.ensures) c.entries.invariant.1 up),
   );
 }
@@ -22,12 +23,12 @@ returns-then-not-follows g c = record {
 pub entries-preserved : goal.entries-preserved
 entries-preserved g c = (
   c.entries.invariant.0,
-  IsDownTo-next (g.C.Comparator.order c.args.comp.now) (g.met.C.Comparator.total c.args.comp.now)
-      (list_of c.args.forest.now c.args.self.now) c.entries.last c.in-Some.key c.in-Some.field-0-1 c.next.new.self c.entries.key-iterator
-      c.in-Some.ensures.steps (sym c.if-not-follows.false ∙ c.follows.ensures) c.entries.invariant.1,
+  IsDownTo-next _ (g.met.C.Comparator.total c.args.comp.now) _ _ _ _ _ _ c.in-Some.ensures.steps
+      (sym c.if-not-follows.false ∙ c.follows.ensures) c.entries.invariant.1,
 )
 
 pub returns : goal.returns
 returns g c =
     let order = g.C.Comparator.order c.args.comp.now in
-    record { increasing = (λ yes. c.entries.invariant.1.up (subst (λ es. IncreasesAfter order c.entries.last (keys_of es)) (sym c.in-None.ensures.steps.0) (alone order c.entries.last)), λ up. refl) }
+    let none = subst (λ es. IncreasesAfter order c.entries.last (keys_of es)) (sym c.in-None.ensures.steps.0) (alone order c.entries.last) in
+    record { increasing = (λ yes. c.entries.invariant.1.up none, λ up. refl) }

@@ -1,16 +1,8 @@
-use Rattle.bforest.proofs.Cursors.{looks-in}
+use Rattle.bforest.proofs.Cursors.{looks-in, reads-at}
 use Rattle.bforest.proofs.map_cursor.MapCursor.goto.Goals as goal
-use Rattle.bforest_trees.proofs.Looking.{look-place-is}
-use Rattle.bforest_trees.specs.Forest.{list_of}
-use Rattle.std.proofs.Common.{ap}
 
 pub invariant_of-self : goal.invariant_of-self
-invariant_of-self g c = looks-in c.self.invariant.live c.self.invariant.increasing c.goto.ensures.look
+invariant_of-self g c = looks-in c.self.invariant c.goto.ensures.look
 
-pub returns-clause-value : goal.returns-clause-value
-returns-clause-value g c = rw (← c.self.view_is) c.goto.ensures.value
-
-pub returns-clause-moves : goal.returns-clause-moves
-returns-clause-moves g c =
-    let i = c.self.inside in
-    rw (← c.self.view_is) (ap (λ z. record { entries = list_of i.trees.now i.root; spot = z; comparator = i.comp.now }) (look-place-is c.goto.ensures.look))
+pub returns : goal.returns
+returns g c = rw (← c.self.view_is) (record { value = c.goto.ensures.value; moves = reads-at c.goto.ensures.look })

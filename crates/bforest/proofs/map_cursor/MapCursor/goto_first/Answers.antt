@@ -1,16 +1,12 @@
-use Rattle.bforest.proofs.Cursors.{looks-in}
+use Rattle.bforest.proofs.Cursors.{looks-in, reads-at}
 use Rattle.bforest.proofs.map_cursor.MapCursor.goto_first.Goals as goal
-use Rattle.bforest_trees.proofs.Looking.{look-place-is}
-use Rattle.bforest_trees.specs.Forest.{list_of}
 use Rattle.std.proofs.Common.{ap, option_map, ◌∙◌}
 
 pub invariant_of-self : goal.invariant_of-self
-invariant_of-self g c = looks-in c.self.invariant.live c.self.invariant.increasing c.first.ensures.look
+invariant_of-self g c = looks-in c.self.invariant c.first.ensures.look
 
-pub returns-clause-value : goal.returns-clause-value
-returns-clause-value g c = c.value_of.ensures ∙ ap (option_map (λ e. e.1)) (rw (← c.self.view_is) c.first.ensures.value)
-
-pub returns-clause-moves : goal.returns-clause-moves
-returns-clause-moves g c =
-    let i = c.self.inside in
-    rw (← c.self.view_is) (ap (λ z. record { entries = list_of i.trees.now i.root; spot = z; comparator = i.comp.now }) (look-place-is c.first.ensures.look))
+pub returns : goal.returns
+returns g c = rw (← c.self.view_is) (record {
+  value = c.value_of.ensures ∙ ap (option_map (λ e. e.1)) c.first.ensures.value;
+  moves = reads-at c.first.ensures.look;
+})

@@ -6,6 +6,5 @@ pub returns-clause-value : goal.returns-clause-value
 returns-clause-value g c = c.value_of.ensures ∙ ap (option_map (λ e. e.1)) (rw (← c.forest.view_is, ← c.map.view_is) c.first.ensures.value)
 
 pub returns-clause-moves : goal.returns-clause-moves
-returns-clause-moves g c =
-    let s = c.args.self.now in
-    moves-on g.C.Comparator.order s _ 0 refl refl refl refl refl c.requires.valid (rw (← c.forest.view_is, ← c.map.view_is) c.first.ensures.spot) (rw (← c.forest.view_is, ← c.map.view_is) c.first.ensures.computed)
+returns-clause-moves g c = moves-on refl refl refl refl refl c.requires.valid
+    (rw (← c.forest.view_is, ← c.map.view_is) (c.first.ensures.spot, c.first.ensures.computed))

@@ -1,16 +1,11 @@
-use Rattle.bforest.proofs.SetCursors.{key-at, moves-on}
+use Rattle.bforest.proofs.SetCursors.{key-read, moves-on}
 use Rattle.bforest.proofs.set_cursor.SetCursor.goto_first.Goals as goal
-use Rattle.bforest_trees.specs.Forest.{list_of}
-use Rattle.std.proofs.Common.{ap, option_map, refl, ◌∙◌}
+use Rattle.bforest.specs.SetCursor.{entries}
+use Rattle.std.proofs.Common.{refl}
 
 pub returns-clause-key : goal.returns-clause-key
-returns-clause-key g c =
-    let s = c.args.self.now in
-    let es = list_of s.forest.now s.set.now in
-    c.key_of.ensures ∙ ap (option_map (λ e. e.0)) (rw (← c.forest.view_is, ← c.set.view_is) c.first.ensures.value) ∙ key-at es 0
+returns-clause-key g c = key-read (entries c.args.self.now) _ c.key_of.ensures (rw (← c.forest.view_is, ← c.set.view_is) c.first.ensures.value)
 
 pub returns-clause-moves : goal.returns-clause-moves
-returns-clause-moves g c =
-    let s = c.args.self.now in
-    let es = list_of s.forest.now s.set.now in
-    moves-on g.C.Comparator.order s _ 0 refl refl refl refl refl c.requires.valid (rw (← c.forest.view_is, ← c.set.view_is) c.first.ensures.spot) (rw (← c.forest.view_is, ← c.set.view_is) c.first.ensures.computed)
+returns-clause-moves g c = moves-on refl refl refl refl refl c.requires.valid
+    (rw (← c.forest.view_is, ← c.set.view_is) (c.first.ensures.spot, c.first.ensures.computed))

@@ -1,12 +1,11 @@
-use Rattle.bforest_calls.proofs.Chains.{all-edits, loans-stay, looks-of, none-edits, shows-all, taken-of}
+use Rattle.bforest_calls.proofs.Chains.{edited, loans-stay, looks-of, shows-all, shows-taken}
 use Rattle.bforest_calls.proofs.Runs.{on_err_from}
 use Rattle.bforest_calls.proofs.maps.MapCollection.answer.Goals as goal
-use Rattle.bforest_calls.specs.Looks.{all_taken, sights_of}
+use Rattle.bforest_calls.specs.Looks.{sights_of}
 use Rattle.bforest_calls.specs.State.{Held}
-use Rattle.bforest_calls.specs.Steps.{LooksBy, TakesFrom, map_view}
+use Rattle.bforest_calls.specs.Steps.{LooksBy, map_view}
 use Rattle.bforest_calls.specs.declared.call.Answer.TheVariants as answer
 use Rattle.std.proofs.Common.{ap, refl, sym, ◌∙◌}
-use Rattle.std.proofs.lemmas.Result.{on_err_weaker}
 
 pub returns-in-Get-clause-makes : goal.returns-in-Get-clause-makes
 returns-in-Get-clause-makes g c = rw c.in-Get.is (ap answer.Value c.get.ensures.value, refl)
@@ -30,37 +29,17 @@ returns-in-Read g c =
 
 pub returns-in-Edit : goal.returns-in-Edit
 returns-in-Edit g c =
-    let order = g.C.Comparator.order in
-    let steps = c.deref-in-Edit.result.now in
-    let first = c.cursor_mut-cursor.result in
+    let view = map_view g.C.Comparator.order in
     let made = c.cursor_mut-cursor.ensures in
-    let last = c.each-in-Edit.new.stepper in
-    let r = c.each-in-Edit.result in
     let e = c.each-in-Edit.ensures in
-    let loans = loans-stay 7 refl (map_view order) first last steps r e.chain e.err in
-    let forest = c.forest-1.given.1 (sym (loans.1 ∙ made.forest_loan)) in
-    let number = c.self-1.given.1 (sym (loans.0 ∙ made.map_loan)) in
+    let loans = loans-stay 7 refl view _ _ e.chain e.err in
     let old : Held g.row.K.Denot g.row.V.Denot = record { forest = c.args.forest.now; number = c.args.self.now } in
-    let none = none-edits 7 refl (map_view order) first last steps r e.chain e.err old _ made.forest made.map forest number in
-    record {
-      makes = rw c.in-Edit.is (all-edits 7 refl (map_view order) first last steps r e.chain e.err old _ made.forest made.map forest number
-          _ (ap order made.comparator) made.spot c.in-Edit.steps.items c.deref-in-Edit.ensures.value);
-      room = rw c.in-Edit.is (on_err_from r tt);
-      err_forest = on_err_weaker r (ap (λ s. s.forest)) none;
-      err_self = on_err_weaker r (ap (λ s. s.number)) none;
-    }
+    let w = edited 7 refl view _ _ e.chain e.err old _ made.forest made.map (c.forest-1.given.1 (sym (loans.1 ∙ made.forest_loan)))
+    (c.self-1.given.1 (sym (loans.0 ∙ made.map_loan))) (ap g.C.Comparator.order made.comparator) made.spot c.deref-in-Edit.ensures.value in
+    record { makes = rw c.in-Edit.is w.0; room = rw c.in-Edit.is (on_err_from c.each-in-Edit.result tt); err_forest = w.1; err_self = w.2 }
 
 pub returns-in-Range : goal.returns-in-Range
 returns-in-Range g c =
-    let made = c.range-range.ensures in
-    let asked = c.deref-in-Range.ensures.value in
     let r = c.each-in-Range.result in
-    record {
-      makes = rw c.in-Range.is (shows-all (TakesFrom (λ es. es)) c.range-range.result c.each-in-Range.new.stepper c.deref-in-Range.result.now _ r
-          c.each-in-Range.ensures.chain
-          (λ sights chain. taken-of (λ es. es) c.range-range.result c.deref-in-Range.result.now sights c.each-in-Range.new.stepper chain
-          ∙ (λ j. all_taken (made.entries j) (asked j))) refl);
-      room = rw c.in-Range.is (on_err_from r tt);
-      err_forest = on_err_from r refl;
-      err_self = on_err_from r refl;
-    }
+    let taken = shows-taken _ _ r c.each-in-Range.ensures.chain c.range-range.ensures.entries c.deref-in-Range.ensures.value refl in
+    record { makes = rw c.in-Range.is taken; room = rw c.in-Range.is (on_err_from r tt); err_forest = on_err_from r refl; err_self = on_err_from r refl }

@@ -1,6 +1,6 @@
 use Rattle.bforest_run.proofs.Bookings.{none_told, of_each, unbooked, unbooked-new}
 use Rattle.bforest_run.proofs.Written.{Grows-same}
-use Rattle.bforest_run.proofs.text.run_books.Goals as goal
+use Rattle.bforest_run.proofs.text.answer_books.Goals as goal
 use Rattle.bforest_run.specs.Bookings.{BookTells, IsBadForBooks}
 use Rattle.std.proofs.Common.{arith, refl}
 

@@ -1,6 +1,6 @@
-use Rattle.bforest_run.proofs.parse.map_retaining.Goals as goal
+use Rattle.bforest_run.proofs.parse.retaining.Goals as goal
 use Rattle.std.proofs.Common.{ap, option_map, refl, sym, ◌∙◌}
 
 pub returns : goal.returns
-returns c =
+returns g c =
     (c.in-Some.h, c.in-Some.c, c.in-Some.put, c.in-Some.keys, sym c.in_ok-h.ensures ∙ ap (option_map (λ r. (r.0, r.1, r.2, r.3.items))) c.in-Some.is, refl)
