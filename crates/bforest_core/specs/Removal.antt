@@ -67,6 +67,12 @@ module _ {K V : Type 0} where
     pub entries_below : SameBelow level indices indices'
     pub same_top : top_of path' size ≡ top_of path size
 
+  -- the rows from a level up, under other first keys of the level: its nodes are `list` now, and the path and the
+  -- rows' sizes and numbers are as they were
+  abbrev pub Rekeyed : Table K V → Table K V → List ℕ → List ℕ → ℕ → ℕ → List (List (LevelNode K ℕ)) → List (K × ℕ) → ℕ → Type 0
+  Rekeyed old new path indices level size rows list place =
+      Rebuilt old new path indices path indices level size rows list place (map sizes rows) []
+
   -- a level with a node that lost an entry and may be less than half full: the path goes through it, to one
   -- of its entries or past the last
   pub record OnLevel {X : Type 0} (content : List (K × X) → Content K V) (half most : ℕ) (table : Table K V) (path indices : List ℕ) (level size : ℕ)
@@ -98,6 +104,11 @@ module _ {K V : Type 0} where
     pub sizes_were : were ≡ (sizes before ++ suc (length entries) ∷ sizes after) ∷ map sizes rest
     pub numbers_are : (number : ℕ) → count number (numbers (before ++ node (get_or path level 0) entries ∷ after) ++ flat_map numbers rest) ≡ count number own
     pub frees : Frees old new own []
+
+  -- rows of inner nodes, after an entry of the lowest was removed
+  abbrev pub LoosenedRows : Table K V → Table K V → List ℕ → List ℕ → ℕ → ℕ → List (List (LevelNode K ℕ)) → List (K × ℕ) → ℕ → Type 0
+  LoosenedRows old new path indices level size rows list place =
+      Loosened inner_content 4 8 old new path indices level size (map sizes rows) (flat_map numbers rows) list place
 
   -- the level is rebalanced: its row and those above it fit, and the path leads to the same entry
   pub record Healed {X : Type 0} (content : List (K × X) → Content K V) (half most : ℕ) (old new : Table K V) (path indices path' indices' : List ℕ) (level size : ℕ)

@@ -1,11 +1,12 @@
 -- Discarding roots with a single child: from the root down, and in the sizes from the leaves up. These are
 -- the answers of `collapse_root`.
-use Rattle.bforest_core.proofs.Words.{◌≡◌, ◌≢◌, ℕ, suc, ◌+◌, ◌-◌, ◌≤◌, ◌<◌, Some, List, [], ◌∷◌, ◌++◌, map, length, drop, get_or, slice_get, refl, sym, ap, ◌∙◌}
-use Rattle.bforest_core.proofs.Words.{append_assoc, append-nil, length-append, arith, Heads, Row, Rows, nil_from_length, flat_map, flat_map-append, Content}
-use Rattle.bforest_core.proofs.Words.{IsUsed, Table, with_freed, node, flat, heads, sizes, numbers, Stacked, Topped, trimmed, RowsIn, inner_content, entry_keys}
-use Rattle.bforest_core.proofs.{Words.{entry_items, count, root_above, first_number, StandsAbove, UpTo, Trimmed}, table.Stored.{item_count, some_same}}
-use Rattle.bforest_core.proofs.{walks.RowNodes.fit_full, rows.LevelRows.{least-pos, head-is}, removal.Frees.{frees-refl, freed_other, frees-first}}
-use Rattle.bforest_core.proofs.{removal.Asked.{NodeAt, ChildAt, ReadsChild, Counts}, table.Tables.{count-append, count-same, ne_from_count, rows-same, is_used}}
+use Rattle.bforest_core.proofs.Words.{◌≡◌, ◌≢◌, ℕ, suc, ◌+◌, ◌-◌, ◌≤◌, ◌<◌, Some, List, [], ◌∷◌, ◌++◌, map, length, drop, get_or, slice_get, refl, sym, ap}
+use Rattle.bforest_core.proofs.Words.{◌∙◌, append_assoc, append-nil, length-append, arith, Heads, Row, Rows, nil_from_length, flat_map, flat_map-append}
+use Rattle.bforest_core.proofs.Words.{Content, IsUsed, Table, with_freed, node, flat, heads, sizes, numbers, Stacked, Topped, trimmed, RowsIn, inner_content}
+use Rattle.bforest_core.proofs.{Words.{entry_keys, entry_items, count, root_above, first_number, StandsAbove, UpTo, Trimmed}, table.Stored.item_count}
+use Rattle.bforest_core.proofs.{table.Stored.some_same, walks.RowNodes.fit_full, rows.LevelRows.{least-pos, head-is}, removal.Frees.{frees-refl, freed_other}}
+use Rattle.bforest_core.proofs.{removal.Frees.frees-first, removal.Lifted.{NodeAt, ChildAt, ReadsChild, Counts}, table.Tables.{count-append, count-same}}
+use Rattle.bforest_core.proofs.table.Tables.{ne_from_count, rows-same, is_used}
 
 -- a row has one size per node
 pub length-sizes : {K X : Type 0} (row : Row K X) → length (sizes row) ≡ length row

@@ -1,11 +1,11 @@
 -- Restoring a tree whose leaf lost the entry on which a path stood: the answers of `heal` and `heal_alone`.
-use Rattle.bforest_core.proofs.Words.{set-set, length-remove, ◌≡◌, ◌≢◌, ℕ, ◌+◌, ◌/◌, ◌≤◌, ◌<◌, List, ◌∷◌, ◌++◌, None, Some, ap, arith, get_or, inl, inr, length}
-use Rattle.bforest_core.proofs.Words.{length-append, refl, slice_get, ◌∙◌, nil_from_length, Content, Free, EntryTaken, HasOthers, IsSingle, IsUsed, LeafLoss}
-use Rattle.bforest_core.proofs.Words.{Removed, Shrinks, StandsIn, Unbalanced, Table, Tree, entry_keys, front_of, leaf_content, root_of, tree_of, with_freed}
-use Rattle.bforest_core.proofs.{Words.{with_node, without_entry}, removal.Asked.{Counts, NodeAt}, removal.PastEnd.alone_last, removal.LeafEmptied.emptied_tree}
-use Rattle.bforest_core.proofs.{rows.Tops.root-stands, table.Tables.{is_used, puts}, removal.Removing.kept_removed, removal.Taking.alone_loss}
-use Rattle.bforest_core.proofs.{removal.Removal.{outcome, removal, stands_in}, removal.LeafAt.{LeafAt, leaf_at, leaf_count, leaf_keys, some_first}}
-use Rattle.bforest_core.proofs.union.Unions.{rooted}
+use Rattle.bforest_core.proofs.Words.{set-set, length-remove, ◌≡◌, ◌≢◌, ℕ, ◌+◌, ◌/◌, ◌≤◌, ◌<◌, List, ◌∷◌, ◌++◌, None, Some, ap, arith, get_or, inl, inr}
+use Rattle.bforest_core.proofs.Words.{length, length-append, refl, slice_get, ◌∙◌, nil_from_length, Content, Free, EntryTaken, HasOthers, IsSingle, IsUsed}
+use Rattle.bforest_core.proofs.Words.{LeafLoss, Removed, Shrinks, StandsIn, Unbalanced, Table, Tree, entry_keys, front_of, leaf_content, root_of, tree_of}
+use Rattle.bforest_core.proofs.{Words.{with_freed, with_node, without_entry}, removal.Lifted.{Counts, NodeAt}, removal.PastEnd.alone_last}
+use Rattle.bforest_core.proofs.{removal.LeafEmptied.emptied_tree, rows.Tops.root-stands, table.Tables.{is_used, puts}, removal.Removing.kept_removed}
+use Rattle.bforest_core.proofs.{removal.Taking.alone_loss, removal.Removal.{outcome, removal, stands_in}, removal.LeafAt.{LeafAt, leaf_at, leaf_count}}
+use Rattle.bforest_core.proofs.{removal.LeafAt.{leaf_keys, some_first}, union.Unions.rooted}
 
 -- a node that is written and freed is a node that is freed
 freed_again : {K V : Type 0} (t : Table K V) (n c : _) → with_freed (with_node t n c) n ≡ with_freed t n

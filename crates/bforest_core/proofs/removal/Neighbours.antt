@@ -1,11 +1,11 @@
 -- The right neighbour of a node, under the same parent or another: the answers of `right_sibling`, and the
 -- move of a path there.
 use Rattle.bforest_core.proofs.Words.{◌≡◌, ◌≢◌, ℕ, suc, ◌+◌, ◌-◌, ◌≤◌, ◌<◌, true, false, Option, List, [], ◌∷◌, ◌++◌, map, length, drop, get_or, slice_get}
-use Rattle.bforest_core.proofs.Words.{Some, None, refl, sym, ap, ◌∙◌, subst, append_assoc, length-append, arith, add-one, Heads, Rows, Table, node, flat, heads}
-use Rattle.bforest_core.proofs.Words.{RowIn, inner_content, entry_keys, entry_items, Above, NextIs, OneAbove, Bool, Over, Moved, nil_from_length}
-use Rattle.bforest_core.proofs.{removal.Lifted.{headed, NextNode, next_of, rows_above}, rows.Zipper.{Spot, stands-same}, removal.LeafAt.{no_nodes, some_first}}
-use Rattle.bforest_core.proofs.{rows.LevelRows.head-is, table.Tables.row-split}
-use Rattle.bforest_core.proofs.{table.Stored.{item_count, slice_get_at, some_same}, removal.Asked.{ChildAt, Counts, ReadsKey, ReadsChild, Beside, Seen, seen}}
+use Rattle.bforest_core.proofs.Words.{Some, None, refl, sym, ap, ◌∙◌, subst, append_assoc, length-append, arith, add-one, Heads, Rows, Table, node, flat}
+use Rattle.bforest_core.proofs.Words.{heads, RowIn, inner_content, entry_keys, entry_items, Above, NextIs, OneAbove, Bool, Over, Moved, nil_from_length}
+use Rattle.bforest_core.proofs.removal.Lifted.{headed, NextNode, next_of, rows_above, ChildAt, Counts, ReadsKey, ReadsChild, Beside, Seen, seen}
+use Rattle.bforest_core.proofs.{rows.Zipper.{Spot, stands-same}, removal.LeafAt.{no_nodes, some_first}, rows.LevelRows.head-is, table.Tables.row-split}
+use Rattle.bforest_core.proofs.table.Stored.{item_count, slice_get_at, some_same}
 
 second : {X Y : Type 0} (f : X → Y) (l : List X) (x y : X) (r : List X) → slice_get (map f (l ++ x ∷ y ∷ r)) (suc (length l)) ≡ Some (f y)
 second f [] x y r = refl

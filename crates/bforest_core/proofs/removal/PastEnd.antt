@@ -1,8 +1,9 @@
 -- The leaf after it lost an entry: whether the path is past all entries.
 use Rattle.bforest_core.proofs.Words.{◌≡◌, ℕ, ◌≤◌, ◌<◌, Some, None, Option, Bool, true, false, not, [], ◌∷◌, ◌++◌, length, get_or, slice_get, ap, ◌∙◌}
-use Rattle.bforest_core.proofs.Words.{length-append, arith, is_some, nil_from_length, Table, node, flat, heads, half_of, leaf_content, Above, OneAbove, NextIs}
-use Rattle.bforest_core.proofs.{Words.{LeafLoss, get_or_default, Content, entry_count}, rows.LevelRows.{HeadIs, head-is}, removal.LeafAt.{no_nodes, leaf_keys}}
-use Rattle.bforest_core.proofs.{table.Tables.row-split, removal.Collapse.heads-flat, removal.Lifted.{headed, top_one}, removal.Asked.{NodeAt, Beside}}
+use Rattle.bforest_core.proofs.Words.{length-append, arith, is_some, nil_from_length, Table, node, flat, heads, half_of, leaf_content, Above, OneAbove}
+use Rattle.bforest_core.proofs.{Words.{NextIs, LeafLoss, get_or_default, Content, entry_count}, rows.LevelRows.{HeadIs, head-is}, removal.LeafAt.no_nodes}
+use Rattle.bforest_core.proofs.{removal.LeafAt.leaf_keys, table.Tables.row-split, removal.Collapse.heads-flat, removal.Lifted.{headed, top_one, NodeAt}}
+use Rattle.bforest_core.proofs.removal.Lifted.{Beside}
 
 module _ {K V : Type 0} {most : ℕ} {t v : Table K V} {path indices size tree place : _} (l : LeafLoss most t v path indices size tree place) where
   pub named : HeadIs (get_or path 0 0) l.entries

@@ -2,8 +2,8 @@
 use Rattle.bforest_core.proofs.Words.{le-leb, lt-leb, lt-ltb, le-ltb, ◌≡◌, ℕ, zero, suc, ◌+◌, ◌-◌, ◌*◌, ◌/◌, ◌≤◌, ◌<◌, ◌≢◌, ◌⊎◌, true, false, List, [], ◌∷◌}
 use Rattle.bforest_core.proofs.Words.{◌++◌, map, length, set, get_or, refl, sym, ap, ◌∙◌, inl, inr, append_assoc, length-append, arith, Row, flat_map}
 use Rattle.bforest_core.proofs.Words.{append-nil, get_or-set_other, get_or-set_same, Content, Table, with_freed, node, flat, heads, sizes, numbers, least}
-use Rattle.bforest_core.proofs.Words.{rebalanced, Frees, count, Above, SameBelow, top_of, Rebuilt, OnLevel, Healed, Joined}
-use Rattle.bforest_core.proofs.{rows.LevelRows.{flat-append, heads-append, sizes-append, numbers-append, FitRow-join, least-le}, removal.Lifted.above_same}
+use Rattle.bforest_core.proofs.{Words.{rebalanced, Frees, count, Above, SameBelow, top_of, Rebuilt, OnLevel, Healed, Joined}, rows.LevelRows.flat-append}
+use Rattle.bforest_core.proofs.{rows.LevelRows.{heads-append, sizes-append, numbers-append, FitRow-join, least-le}, removal.Lifted.above_same}
 use Rattle.bforest_core.proofs.table.Tables.{count-append, counts, count-same, count-row, row-same, row-put_two, row-drop_put, rows-same}
 use Rattle.bforest_core.proofs.{rows.Zipper.{above_two, stands-same}, removal.Frees.{frees-refl, frees-after, frees-wider, frees-one, freed_other}}
 use Rattle.bforest_core.proofs.removal.Balance.{IsHalf, PutsTwo, AllRight, Spread}

@@ -1,11 +1,11 @@
 -- Rebalancing a level, from what its calls state: the answers of `rebalance`.
-use Rattle.bforest_core.proofs.Words.{◌≡◌, add-one, suc, ◌+◌, ◌≤◌, ◌<◌, ◌≢◌, List, [], ◌∷◌, ◌++◌, length, set, get_or, slice_get, Some, None, Option, refl, ap}
-use Rattle.bforest_core.proofs.Words.{◌∙◌, subst, inl, inr, length-append, arith, ℕ, Row, get_or_default, content_at, half_at, most_at, Item, Heals, Joins}
-use Rattle.bforest_core.proofs.Words.{Loses, Content, Table, IsUsed, IsUnderflowedAt, IsBalancedAt, with_freed, node, flat, heads, numbers, FitRow, count}
-use Rattle.bforest_core.proofs.{Words.{Above, OneAbove, TwoAbove, NextIs, SameBelow, top_of, OnLevel, Healed, Joined}, table.Tables.{row-split, is_used}}
-use Rattle.bforest_core.proofs.removal.Lifted.{headed, NextNode, next_of}
-use Rattle.bforest_core.proofs.{removal.Asked.{NodeAt, Counts, Beside, Rekeys, Enters}, rows.LevelRows.{least-pos, head-is, HeadIs}, rows.Zipper.apart_here}
-use Rattle.bforest_core.proofs.{removal.Balance.{IsHalf, IsStored, kind_half, kind_stored, AllRight, Spread, all_right_at, spread_at}, removal.LeafAt.no_nodes}
+use Rattle.bforest_core.proofs.Words.{◌≡◌, add-one, suc, ◌+◌, ◌≤◌, ◌<◌, ◌≢◌, List, [], ◌∷◌, ◌++◌, length, set, get_or, slice_get, Some, None, Option, refl}
+use Rattle.bforest_core.proofs.Words.{ap, ◌∙◌, subst, inl, inr, length-append, arith, ℕ, Row, get_or_default, content_at, half_at, most_at, Item, Heals}
+use Rattle.bforest_core.proofs.Words.{Joins, Loses, Content, Table, IsUsed, IsUnderflowedAt, IsBalancedAt, with_freed, node, flat, heads, numbers, FitRow}
+use Rattle.bforest_core.proofs.{Words.{count, Above, OneAbove, TwoAbove, NextIs, SameBelow, top_of, OnLevel, Healed, Joined}, table.Tables.row-split}
+use Rattle.bforest_core.proofs.{table.Tables.is_used, removal.Lifted.{headed, NextNode, next_of, NodeAt, Counts, Beside, Rekeys, Enters}}
+use Rattle.bforest_core.proofs.{rows.LevelRows.{least-pos, head-is, HeadIs}, rows.Zipper.apart_here, removal.Balance.{IsHalf, IsStored, kind_half}}
+use Rattle.bforest_core.proofs.{removal.Balance.{kind_stored, AllRight, Spread, all_right_at, spread_at}, removal.LeafAt.no_nodes}
 use Rattle.bforest_core.proofs.removal.Rebalance.{settle_stay, above_both, settle_move, apart, above_two_put, settle_spread, settle_join}
 
 both_back : {A B : Type 0} (P : A → B → Type 0) (a c : A) (b d : B) → a ≡ c → b ≡ d → P c d → P a b

@@ -3,12 +3,13 @@
 use Rattle.bforest_core.proofs.Words.{◌≡◌, ◌≢◌, ℕ, suc, ◌+◌, ◌-◌, ◌≤◌, ◌<◌, List, [], ◌∷◌, ◌++◌, map, length, drop, get_or, Some, refl, sym, ap, ◌∙◌, subst}
 use Rattle.bforest_core.proofs.Words.{append_assoc, length-append, arith, Heads, Row, Rows, flat_map, append-nil, nil_from_length, without_child, Table}
 use Rattle.bforest_core.proofs.Words.{with_node, with_freed, node, flat, heads, sizes, numbers, FitRow, Solid, loss_above, inner_content, entry_keys}
-use Rattle.bforest_core.proofs.{Words.{entry_items, count, Distinct, root_above, Above, LastAbove, nodes_up, Dropped, rebalanced}, removal.Collapse.heads-flat}
-use Rattle.bforest_core.proofs.{removal.Losses.{placed, loss_level, lost_above}, removal.Lifted.{heads-put, above_same, rows_above}, rows.Contents.removed_last}
-use Rattle.bforest_core.proofs.{removal.Asked.{Counts, Removes, Seen, seen}, rows.LevelRows.{flat-append, heads-append, sizes-append, FitRow-join, Solid-full}}
-use Rattle.bforest_core.proofs.{rows.Tops.top_rows, removal.Rebalance.rebalanced_last, removal.LeafAt.{some_first, no_nodes}}
-use Rattle.bforest_core.proofs.{rows.Zipper.{Cut_above, Facts, facts, Spot, above_two}, removal.Frees.{frees-puts, freed_other, frees-first}}
-use Rattle.bforest_core.proofs.table.Tables.{count-append, counts, count-same, row-split, row-put, row-same, rows-same, ne_from_count, puts}
+use Rattle.bforest_core.proofs.Words.{entry_items, count, Distinct, root_above, Above, LastAbove, nodes_up, Dropped, rebalanced}
+use Rattle.bforest_core.proofs.{removal.Collapse.heads-flat, removal.Losses.{placed, loss_level, lost_above}, removal.Lifted.{heads-put, above_same}}
+use Rattle.bforest_core.proofs.{removal.Lifted.{rows_above, Counts, Removes, Seen, seen}, rows.Contents.removed_last, rows.LevelRows.flat-append}
+use Rattle.bforest_core.proofs.{rows.LevelRows.{heads-append, sizes-append, FitRow-join, Solid-full}, rows.Tops.top_rows, removal.Rebalance.rebalanced_last}
+use Rattle.bforest_core.proofs.{removal.LeafAt.{some_first, no_nodes}, rows.Zipper.{Cut_above, Facts, facts, Spot, above_two}, removal.Frees.frees-puts}
+use Rattle.bforest_core.proofs.{removal.Frees.{freed_other, frees-first}, table.Tables.{count-append, counts, count-same, row-split, row-put, row-same}}
+use Rattle.bforest_core.proofs.table.Tables.{rows-same, ne_from_count, puts}
 
 -- solid nodes fit as a row
 pub fit_solid : {K X : Type 0} (half most : ℕ) → 1 ≤ half → (row : Row K X) → Solid half most row → FitRow half most row

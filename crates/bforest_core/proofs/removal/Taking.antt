@@ -3,9 +3,9 @@
 use Rattle.bforest_core.proofs.Words.{◌≡◌, ℕ, ◌≤◌, ◌<◌, Some, List, [], ◌∷◌, ◌++◌, map, length, get_or, slice_get, refl, sym, ap, ◌∙◌, length-append, arith}
 use Rattle.bforest_core.proofs.Words.{◌≢◌, Content, Leaf, without_entry, Table, node, heads, sizes, leaf_content, entry_keys, Above, OneAbove, Rebuilt}
 use Rattle.bforest_core.proofs.Words.{StandsIn, HasOthers, IsSingle, LeafLoss, nil_from_length, entry_count, IsUsed, with_node, head_of, entry_items}
-use Rattle.bforest_core.proofs.{removal.Lifted.{above_top, above_written, rebuilt_same}, rows.LevelRows.heads-append, table.Stored.{read_same, some_same}}
-use Rattle.bforest_core.proofs.{removal.Asked.NodeAt, table.Tables.{Puts, is_used, puts}}
-use Rattle.bforest_core.proofs.removal.LeafAt.{LeafAt, as_many_heads, leaf_at, leaf_count, leaf_keys, leaf_loss, some_first, without_entry_is}
+use Rattle.bforest_core.proofs.{removal.Lifted.{above_top, above_written, rebuilt_same, NodeAt}, rows.LevelRows.heads-append, table.Stored.read_same}
+use Rattle.bforest_core.proofs.{table.Stored.some_same, table.Tables.{Puts, is_used, puts}, removal.LeafAt.{LeafAt, as_many_heads, leaf_at, leaf_count}}
+use Rattle.bforest_core.proofs.removal.LeafAt.{leaf_keys, leaf_loss, some_first, without_entry_is}
 
 module _ {K V : Type 0} where
   -- a leaf with a key of this index

@@ -1,5 +1,5 @@
 use Rattle.bforest_core.proofs.{Words.{rules, ◌+◌, arith, add-one}, removal.RemovingEmptied.{here, drop_fewer, keeps, above_asks, empties}}
-use Rattle.bforest_core.proofs.removal.Asked.{last_low}
+use Rattle.bforest_core.proofs.removal.Lifted.{last_low}
 use Rattle.bforest_core.proofs.path.Path.+remove_emptied.Goals as goal
 
 pub bounds-self-up : goal.bounds-self-up

@@ -1,4 +1,4 @@
-use Rattle.bforest_core.proofs.{Words.{rules, arith}, removal.Asked.two_low, removal.Separating.{here, above_fewer, same_parent, above_asks, next_parent}}
+use Rattle.bforest_core.proofs.{Words.{rules, arith}, removal.Lifted.{two_low, here, above_fewer, same_parent, above_asks, next_parent}}
 use Rattle.bforest_core.proofs.path.Path.+update_next_separator.Goals as goal
 
 pub overflow_add-index : goal.overflow_add-index
