@@ -1,10 +1,10 @@
 -- The rows above a level: what the calls on them require and ensure, in another table, under a row whose keys were written (the answers of
 -- `update_separator` and `update_next_separator`), and under one that lost an entry, whose key passes to the next (those of `remove_merged`).
-use Rattle.bforest_core.proofs.Words.{◌≡◌, ℕ, suc, ◌+◌, ◌≤◌, ◌<◌, Option, Some, List, [], ◌∷◌, ◌++◌, map, length, drop, get_or, slice_get, ap, ◌∙◌, arith}
+use Rattle.bforest_core.proofs.Words.{◌≡◌, ℕ, suc, ◌+◌, ◌≤◌, ◌<◌, Option, Some, List, [], ◌∷◌, ◌++◌, length, drop, get_or, slice_get, ap, ◌∙◌, arith}
 use Rattle.bforest_core.proofs.Words.{Heads, Rows, Inner, IsFree, IsUsed, entry_count, with_key, without_child, Table, with_node, sizes, inner_content}
-use Rattle.bforest_core.proofs.Words.{entry_keys, entry_items, count, Above, LastAbove, NextIs, OneAbove, Rebuilt, TwoAbove, get_or_default, set, refl, sym}
+use Rattle.bforest_core.proofs.Words.{entry_keys, entry_items, count, Above, LastAbove, NextIs, OneAbove, TwoAbove, get_or_default, set, refl, sym}
 use Rattle.bforest_core.proofs.Words.{subst, append_assoc, length-append, Row, set_at, length-map, map-append, flat_map, node, flat, heads, head_of, numbers}
-use Rattle.bforest_core.proofs.{Words.{FitRow, RowIn, Distinct, Frees, ◌-◌, add-one, nil_from_length, Loosened}, table.Stored.{key_count, item_count}}
+use Rattle.bforest_core.proofs.{Words.{FitRow, RowIn, Distinct, Frees, ◌-◌, add-one, nil_from_length, LoosenedRows, Rekeyed}, table.Stored.{key_count, item_count}}
 use Rattle.bforest_core.proofs.{table.Stored.{read_same, some_same}, rows.Zipper.{Spot, spot, above_two, stands_here}, table.Tables.{is_used, count-append}}
 use Rattle.bforest_core.proofs.table.Tables.{count-same, count-row, counts, row-put, row-same, rows-same, ne_from_count, Puts, puts, row-split, row-join}
 use Rattle.bforest_core.proofs.{table.Tables.puts-then, removal.Frees.{frees-puts, frees-refl, frees-wider, frees-after}, rows.LevelRows.{HeadIs, least-pos}}
@@ -55,7 +55,7 @@ module _ {K V : Type 0} where
   -- the effect of the call that updates the key between two neighbours
   abbrev pub Rekeys : Table K V → Table K V → List ℕ → List ℕ → ℕ → ℕ → K → Type 0
   Rekeys u v path indices up size key =
-      (w : TwoAbove u path indices up size) → Rebuilt u v path indices path indices up size w.rows (w.before ++ w.x ∷ (key, w.y.1) ∷ w.after) (length w.before) (map sizes w.rows) []
+      (w : TwoAbove u path indices up size) → Rekeyed u v path indices up size w.rows (w.before ++ w.x ∷ (key, w.y.1) ∷ w.after) (length w.before)
 
   -- the effect of the call that enters the next node
   abbrev pub Enters : Table K V → List ℕ → List ℕ → List ℕ → List ℕ → ℕ → ℕ → Type 0
@@ -163,7 +163,7 @@ module _ {K V : Type 0} where
 
   -- the rows above, unchanged
   pub rebuilt_same : {u : Table K V} {path indices up size rows list p : _} → Above u path indices up size rows list p →
-      Rebuilt u u path indices path indices up size rows list p (map sizes rows) []
+      Rekeyed u u path indices up size rows list p
   rebuilt_same {u} {rows} a = record {
     rows' = rows;
     above = a;
@@ -176,66 +176,84 @@ module _ {K V : Type 0} where
   }
 
   module _ {t : Table K V} {path indices up size rows a x b : _} (d : Spot t path indices up size rows a x b) where
+    open d use {f, whole, q.{before, l, r, after, rest}}
+
+    abbrev n : ℕ
+    n = get_or path up 0
+
+    abbrev old : Heads K
+    old = l ++ x ∷ r
+
     -- the rows above the path's row
-    pub rows_above : Above t path indices (suc up) size d.q.rest (heads (d.q.before ++ node (get_or path up 0) (d.q.l ++ x ∷ d.q.r) ∷ d.q.after)) (length (heads d.q.before))
-    rows_above = let q = d.q in let p = d.whole in let c = λ (m : ℕ). counts m q.before (get_or path up 0) (q.l ++ x ∷ q.r) q.after q.rest t.chain in
-        record { stacked = p.stacked.2; inside = p.inside.1; stands = q.stands; height = omega arith; apart = λ m. omega (arith, p.apart m, c m, count-append m (flat_map numbers q.rest) t.chain) }
+    pub rows_above : Above t path indices (suc up) size rest (heads (before ++ node n old ∷ after)) (length (heads before))
+    rows_above = let p = whole in let c = λ (m : ℕ). counts m before n old after rest t.chain in
+        record { stacked = p.stacked.2; inside = p.inside.1; stands = d.q.stands; height = omega arith; apart = λ m. omega (arith, p.apart m, c m, count-append m (flat_map numbers rest) t.chain) }
 
     -- the list of a level's nodes, with other nodes from the path's on
-    pub flat_at : (es rest after : _) → es ++ flat after ≡ d.q.l ++ rest → flat (d.q.before ++ node (get_or path up 0) es ∷ after) ≡ a ++ rest
-    flat_at es rest after is = cc (flat-append d.q.before (node (get_or path up 0) es ∷ after), append_assoc (flat d.q.before) d.q.l rest)
+    pub flat_at : (es hs ns : _) → es ++ flat ns ≡ l ++ hs → flat (before ++ node n es ∷ ns) ≡ a ++ hs
+    flat_at es hs ns is = cc (flat-append before (node n es ∷ ns), append_assoc (flat before) l hs)
 
     -- the path's place in the list of nodes
-    pub place_at : length a ≡ length (flat d.q.before) + get_or indices up 0
-    place_at = omega (arith, ap length d.q.a_is, length-append (flat d.q.before) d.q.l)
+    pub place_at : length a ≡ length (flat before) + get_or indices up 0
+    place_at = omega (arith, ap length d.q.a_is, length-append (flat before) l)
+
+    -- with other entries in the path's node and other first keys behind it, the level below has `hs` from the path's place on, and this one `list`
+    abbrev pub Other : Heads K → Row K ℕ → Heads K → Heads K → Type 0
+    Other es ns hs list = (sizes ns ≡ sizes after) × (numbers ns ≡ numbers after) × (es ++ flat ns ≡ l ++ hs) × (list ≡ heads (before ++ node n es ∷ ns))
 
     -- the row with other keys, under rows above that have those keys
-    pub lifted : {v u : Table K V} (es after : _) {list : _} (rest : _) → length es ≡ length (d.q.l ++ x ∷ d.q.r) → sizes after ≡ sizes d.q.after → numbers after ≡ numbers d.q.after → es ++ flat after ≡ d.q.l ++ rest →
-        list ≡ heads (d.q.before ++ node (get_or path up 0) es ∷ after) → FitRow 4 8 (node (get_or path up 0) es ∷ after) → RowIn inner_content u.nodes (d.q.before ++ node (get_or path up 0) es ∷ after) →
-        Frees t u (numbers (d.q.before ++ node (get_or path up 0) (d.q.l ++ x ∷ d.q.r) ∷ d.q.after) ++ flat_map numbers d.q.rest) [] → Rebuilt v u path indices path indices (suc up) size d.q.rest list (length (heads d.q.before)) (map sizes d.q.rest) [] →
-        Rebuilt t u path indices path indices up size rows (a ++ rest) (length a) (map sizes rows) []
-    lifted {u} es after rest len sizes_same numbers_same flat_is heads_are fits inside frees r =
-        let q = d.q in let n = get_or path up 0 in let old = q.l ++ x ∷ q.r in let c = λ (m : ℕ). counts m q.before n old q.after q.rest t.chain in
-        let c2 = λ (m : ℕ). counts m q.before n es after r.rows' u.chain in let c3 = λ (m : ℕ). ap (λ z. count m (n ∷ z)) numbers_same in
-        let c4 = λ (m : ℕ). ap (λ z. count m z) frees.chain_is in
+    lifted : {v u : Table K V} (es ns : _) {list : _} (hs : _) → length es ≡ length old → Other es ns hs list → FitRow 4 8 (node n es ∷ ns) → RowIn inner_content u.nodes (before ++ node n es ∷ ns) →
+        Frees t u (numbers (before ++ node n old ∷ after) ++ flat_map numbers rest) [] → Rekeyed v u path indices (suc up) size rest list (length (heads before)) → Rekeyed t u path indices up size rows (a ++ hs) (length a)
+    lifted {u} es ns hs len o fits inside frees above =
+        let c = λ (m : ℕ). counts m before n old after rest t.chain in let c2 = λ (m : ℕ). counts m before n es ns above.rows' u.chain in
+        let c3 = λ (m : ℕ). ap (λ z. count m (n ∷ z)) o.1 in let c4 = λ (m : ℕ). ap (λ z. count m z) frees.chain_is in
         record {
-          rows' = (q.before ++ node n es ∷ after) ∷ r.rows';
+          rows' = (before ++ node n es ∷ ns) ∷ above.rows';
           above = record {
-            stacked = (flat_at _ _ _ flat_is, FitRow-join 4 8 q.before (node n es) after d.f.solid fits, rw (← heads_are) r.above.stacked);
-            inside = (inside, r.above.inside);
-            stands = stands_here _ _ _ _ _ n _ _ _ _ _ d.f.solid refl refl refl (omega arith) place_at r.above.stands;
+            stacked = (flat_at _ _ _ o.2, FitRow-join 4 8 before (node n es) ns f.solid fits, rw (← o.3) above.above.stacked);
+            inside = (inside, above.above.inside);
+            stands = stands_here _ _ _ _ _ n _ _ _ _ _ f.solid refl refl refl (omega arith) place_at above.above.stands;
             height = omega arith;
-            apart = λ m. omega (arith, d.whole.apart m, r.numbers_are m, c m, c2 m, c3 m, c4 m);
+            apart = λ m. omega (arith, whole.apart m, above.numbers_are m, c m, c2 m, c3 m, c4 m);
           };
-          sizes_are = cc (sizes-append _ _, sizes-append _ _);
-          numbers_are = λ m. omega (arith, c m, c2 m, c3 m, r.numbers_are m, ap (λ z. count m (flat_map numbers z)) q.rows_are);
-          frees = rw q.rows_are frees;
+          sizes_are = let same = o.0 in cc (sizes-append _ _, sizes-append _ _);
+          numbers_are = λ m. omega (arith, c m, c2 m, c3 m, above.numbers_are m, ap (λ z. count m (flat_map numbers z)) d.q.rows_are);
+          frees = rw d.q.rows_are frees;
           nodes_below = λ i low. refl;
           entries_below = λ i low. refl;
           same_top = refl;
         }
 
     -- the row after writes to the rows above it alone
-    pub lifted_above : {u : Table K V} (es after : _) {list : _} (rest : _) → length es ≡ length (d.q.l ++ x ∷ d.q.r) → sizes after ≡ sizes d.q.after → numbers after ≡ numbers d.q.after → es ++ flat after ≡ d.q.l ++ rest →
-        list ≡ heads (d.q.before ++ node (get_or path up 0) es ∷ after) → FitRow 4 8 (node (get_or path up 0) es ∷ after) → RowIn inner_content t.nodes (d.q.before ++ node (get_or path up 0) es ∷ after) →
-        Rebuilt t u path indices path indices (suc up) size d.q.rest list (length (heads d.q.before)) (map sizes d.q.rest) [] → Rebuilt t u path indices path indices up size rows (a ++ rest) (length a) (map sizes rows) []
-    lifted_above es after rest len sizes_same numbers_same flat_is heads_are fits inside r =
-        let q = d.q in let n = get_or path up 0 in let c = λ (m : ℕ). counts m q.before n (q.l ++ x ∷ q.r) q.after q.rest t.chain in
-        let c2 = λ (m : ℕ). count-row m q.before n es after in let c3 = λ (m : ℕ). ap (λ z. count m (n ∷ z)) numbers_same in
-        lifted es after rest len sizes_same numbers_same flat_is heads_are fits (row-same _ _ _ _ (λ m some. r.frees.others m (omega (arith, c m, c2 m, c3 m))) inside)
-        (frees-wider _ (λ m none. omega (arith, c m)) r.frees) r
+    pub lifted_above : {u : Table K V} (es ns : _) {list : _} (hs : _) → length es ≡ length old → Other es ns hs list → FitRow 4 8 (node n es ∷ ns) → RowIn inner_content t.nodes (before ++ node n es ∷ ns) →
+        Rekeyed t u path indices (suc up) size rest list (length (heads before)) → Rekeyed t u path indices up size rows (a ++ hs) (length a)
+    lifted_above es ns hs len o fits inside above =
+        let c = λ (m : ℕ). counts m before n old after rest t.chain in let c2 = λ (m : ℕ). count-row m before n es ns in
+        let c3 = λ (m : ℕ). ap (λ z. count m (n ∷ z)) o.1 in
+        lifted es ns hs len o fits (row-same _ _ _ _ (λ m some. above.frees.others m (omega (arith, c m, c2 m, c3 m))) inside)
+        (frees-wider _ (λ m none. omega (arith, c m)) above.frees) above
 
     -- the row after a write of the key before an entry of the node
-    pub renamed : (u : Table K V) (p y s e key rest : _) → d.q.l ++ x ∷ d.q.r ≡ p ++ y ∷ s → suc e ≡ length p → u ≡ with_node t (get_or path up 0) (with_key (inner_content (d.q.l ++ x ∷ d.q.r)) e key) →
-        (p ++ (key, y.1) ∷ s) ++ flat d.q.after ≡ d.q.l ++ rest → Rebuilt t u path indices path indices up size rows (a ++ rest) (length a) (map sizes rows) []
-    renamed u p y s e key rest es_is p_is u_is flat_is = let q = d.q in let n = get_or path up 0 in let old = q.l ++ x ∷ q.r in let es = p ++ (key, y.1) ∷ s in
-        let w = puts t u n _ _ d.f.slot_is (cc (with_key_is p y s e key p_is)) in
+    pub renamed : (u : Table K V) (p y s e key hs : _) → old ≡ p ++ y ∷ s → suc e ≡ length p → u ≡ with_node t n (with_key (inner_content old) e key) →
+        (p ++ (key, y.1) ∷ s) ++ flat after ≡ l ++ hs → Rekeyed t u path indices up size rows (a ++ hs) (length a)
+    renamed u p y s e key hs es_is p_is u_is flat_is = let es = p ++ (key, y.1) ∷ s in
+        let w = puts t u n _ _ f.slot_is (cc (with_key_is p y s e key p_is)) in
         let len : length es ≡ length old = omega (arith, ap length es_is, length-append p (y ∷ s), length-append p ((key, y.1) ∷ s)) in
-        let head = ap (λ z. head_of n z) es_is ∙ head-kept n p (y ∷ s) ((key, y.1) ∷ s) (omega arith) in let above = above_written w d.f.none_rest rows_above in
-        lifted es q.after rest len refl refl flat_is
-        (heads-put q.before n old es q.after head) (omega arith, omega arith, d.f.fit.2)
-        (row-put inner_content t.nodes u.nodes q.before n old es q.after d.f.inside w.same w.here d.f.none)
-        (frees-puts _ (let c = counts n q.before n old q.after q.rest t.chain in omega (arith, count-same n (numbers q.after))) w) (rebuilt_same above)
+        let head = ap (λ z. head_of n z) es_is ∙ head-kept n p (y ∷ s) ((key, y.1) ∷ s) (omega arith) in
+        lifted es after hs len (refl, refl, flat_is, heads-put before n old es after head) (omega arith, omega arith, f.fit.2)
+        (row-put inner_content t.nodes u.nodes before n old es after f.inside w.same w.here f.none)
+        (frees-puts _ (let c = counts n before n old after rest t.chain in omega (arith, count-same n (numbers after))) w) (rebuilt_same (above_written w f.none_rest rows_above))
+
+    module _ (u : Table K V) (key : K) where
+      -- updating the key where it is a separator in the path's parent
+      pub rekey_parent : 0 < get_or indices up 0 → u ≡ with_node t n (with_key (inner_content old) (get_or indices up 0 - 1) key) → Rekeyed t u path indices up size rows (a ++ (key, x.1) ∷ b) (length a)
+      rekey_parent some u_is = renamed u _ x _ _ _ _ refl (omega (arith, d.q.entry_is)) u_is (cc (append_assoc _ _ _))
+
+      -- updating the key where it is the parent's first, in the rows above
+      pub rekey_first : get_or indices up 0 ≤ 0 → Rekeyed t u path indices (suc up) size rest (heads before ++ (key, n) ∷ heads after) (length (heads before)) → Rekeyed t u path indices up size rows (a ++ (key, x.1) ∷ b) (length a)
+      rekey_first none above = let l_is = nil_from_length l (omega (arith, d.q.entry_is)) in let s = row-split _ _ _ _ f.inside in
+          lifted_above ((key, x.1) ∷ r) after ((key, x.1) ∷ b) (ap (λ z. length (z ++ x ∷ r)) (sym l_is))
+          (refl, refl, cc (d.q.b_is, l_is), sym (heads-append before (node n ((key, x.1) ∷ r) ∷ after))) (rw l_is at f.fit) (row-join inner_content t.nodes before (node n ((key, x.1) ∷ r) ∷ after) s.0 (rw l_is at s.1)) above
 
 -- the next node has the same parent
 pub next_in : {K : Type 0} (l : Heads K) (x : K × ℕ) (r : Heads K) (e : ℕ) (y : K × ℕ) (b more : Heads K) → y ∷ b ≡ r ++ more → length l ≡ e → e + 1 < length (l ++ x ∷ r) → (ys : Heads K) × (r ≡ y ∷ ys) × (b ≡ ys ++ more)
@@ -263,55 +281,115 @@ across n (z ∷ zs) x [] (node q (w ∷ ys) ∷ after) y b f e h =
     let hy : y ≡ w = cc in record { z = z; zs = zs; q = q; ys = ys; rest = after; l_is = refl; r_is = refl; after_is = cc; b_is = cc }
 
 module _ {K V : Type 0} where
-  module _ {t : Table K V} {path indices up size rows a x y b : _} (d : Spot t path indices up size rows a x (y ∷ b)) (o : Across d.q.l d.q.r d.q.after y b) where
-    -- the first key of the next parent is in no slot of its row
-    pub across_in : (key : K) → RowIn inner_content t.nodes (d.q.before ++ node (get_or path up 0) (d.q.l ++ x ∷ d.q.r) ∷ node o.q ((key, y.1) ∷ o.ys) ∷ o.rest)
-    across_in key = let s = row-split _ _ _ _ d.f.inside in
-        row-join _ _ _ (node (get_or path up 0) (d.q.l ++ x ∷ d.q.r) ∷ node o.q ((key, y.1) ∷ o.ys) ∷ o.rest) s.0 (s.1.0, rw o.after_is at s.1.1)
-
-    -- the rows one level up, where the two parents are neighbours
-    pub across_above : Above t path indices (suc up) size d.q.rest (heads d.q.before ++ (o.z.0, get_or path up 0) ∷ (y.0, o.q) ∷ heads o.rest) (length (heads d.q.before))
-    across_above = rw (heads-append _ _, o.l_is, o.after_is) at (rows_above d)
-
   -- without a row above there is no key to update
-  pub rekey_top : {t : Table K V} {path indices up size : _} (w : OneAbove t path indices up size) (key : K) → size ≤ up →
-      Rebuilt t t path indices path indices up size w.rows (w.before ++ (key, w.x.1) ∷ w.after) (length w.before) (map sizes w.rows) []
+  pub rekey_top : {t : Table K V} {path indices up size : _} (w : OneAbove t path indices up size) (key : K) → size ≤ up → Rekeyed t t path indices up size w.rows (w.before ++ (key, w.x.1) ∷ w.after) (length w.before)
   rekey_top w key high = rebuilt_same (above_top _ _ high (omega (arith, length-append w.before (w.x ∷ w.after), length-append w.before ((key, w.x.1) ∷ w.after))) w.above)
 
-  module _ {t : _} (u : Table K V) {path indices up size rows a x b : _} (key : K) (d : Spot t path indices up size rows a x b) where
-    -- updating the key where it is a separator in the path's parent
-    pub rekey_parent : 0 < get_or indices up 0 → u ≡ with_node t (get_or path up 0) (Inner (set (drop 1 (entry_keys (d.q.l ++ x ∷ d.q.r))) (get_or indices up 0
-        - 1) key) (entry_items (d.q.l ++ x ∷ d.q.r))) → Rebuilt t u path indices path indices up size rows (a ++ (key, x.1) ∷ b) (length a) (map sizes rows) []
-    rekey_parent some u_is = renamed d u _ x _ _ _ _ refl (omega arith) u_is (cc (append_assoc _ _ _))
+  -- the path's node and the next one
+  module _ {t : Table K V} {path indices up size rows a x y b : _} (d : Spot t path indices up size rows a x (y ∷ b)) where
+    open d use {f, whole, q.{before, l, r, after, rest}}
 
-    -- updating the key where it is the parent's first, in the rows above
-    pub rekey_first : get_or indices up 0 ≤ 0 → Rebuilt t u path indices path indices (suc up) size d.q.rest (heads d.q.before ++ (key, get_or path up 0) ∷
-        heads d.q.after) (length (heads d.q.before)) (map sizes d.q.rest) [] → Rebuilt t u path indices path indices up size rows (a ++ (key, x.1) ∷
-        b) (length a)
-        (map sizes rows) []
-    rekey_first none r =
-        let q = d.q in let num = get_or path up 0 in let l_is = nil_from_length q.l (omega (arith, q.entry_is)) in let s = row-split _ _ _ _ d.f.inside in
-        lifted_above d ((key, x.1) ∷ q.r) q.after ((key, x.1) ∷ b) (ap (λ z. length (z ++ x ∷ q.r)) (sym l_is)) refl refl (cc (q.b_is, l_is))
-        (sym (heads-append q.before (node num ((key, x.1) ∷ q.r) ∷ q.after))) (rw l_is at d.f.fit) (row-join inner_content t.nodes q.before (node num ((key, x.1) ∷ q.r) ∷ q.after) s.0 (rw l_is at s.1)) r
+    -- the rows with another key of the next node
+    abbrev pub Renamed : Table K V → K → Type 0
+    Renamed u key = Rekeyed t u path indices up size rows (a ++ x ∷ (key, y.1) ∷ b) (length a)
 
-  module _ {t : Table K V} (u : Table K V) {path indices up size rows a x y b : _} (key : K) (d : Spot t path indices up size rows a x (y ∷ b)) where
+    -- the rows once the entry was removed, and its key passed to the next
+    abbrev pub Passed : Table K V → Type 0
+    Passed u = LoosenedRows t u path indices up size rows (a ++ (x.0, y.1) ∷ b) (length a)
+
     -- updating the neighbour's key where both have the same parent
-    rekey_same : get_or indices up 0 + 1 < length (d.q.l ++ x ∷ d.q.r) → u ≡ with_node t (get_or path up 0)
-        (Inner (set (drop 1 (entry_keys (d.q.l ++ x ∷ d.q.r))) (get_or indices up 0) key) (entry_items (d.q.l ++ x ∷ d.q.r)))
-        → Rebuilt t u path indices path indices up size rows (a ++ x ∷ (key, y.1) ∷ b) (length a) (map sizes rows) []
-    rekey_same more u_is = let q = d.q in let w = next_in _ x _ _ y b _ q.b_is q.entry_is more in
-        let es_is = ap (λ z. q.l ++ x ∷ z) w.1 ∙ sym (append_assoc q.l (x ∷ []) (y ∷ w.0)) in
-        renamed d u _ y _ _ _ _ es_is (omega (arith, length-append q.l (x ∷ []), q.entry_is)) u_is (simp append_assoc (ap (λ z. q.l ++ x ∷ (key, y.1) ∷ z) (sym w.2)))
+    rekey_same : (u key : _) → get_or indices up 0 + 1 < length (old d) → u ≡ with_node t (n d) (with_key (inner_content (old d)) (get_or indices up 0) key) → Renamed u key
+    rekey_same u key more u_is = let w = next_in _ x _ _ y b _ d.q.b_is d.q.entry_is more in
+        let es_is = ap (λ z. l ++ x ∷ z) w.1 ∙ sym (append_assoc l (x ∷ []) (y ∷ w.0)) in
+        renamed d u _ y _ _ _ _ es_is (omega (arith, length-append l (x ∷ []), d.q.entry_is)) u_is (simp append_assoc (ap (λ z. l ++ x ∷ (key, y.1) ∷ z) (sym w.2)))
 
-    -- updating the neighbour's key where it is the next parent's, whose key was updated above
-    rekey_over : (o : Across d.q.l d.q.r d.q.after y b) → Rebuilt t u path indices path indices (suc up) size d.q.rest
-        (heads d.q.before ++ (o.z.0, get_or path up 0) ∷ (key, o.q) ∷ heads o.rest) (length (heads d.q.before)) (map sizes d.q.rest) []
-        → Rebuilt t u path indices path indices up size rows (a ++ x ∷ (key, y.1) ∷ b) (length a) (map sizes rows) []
-    rekey_over o r = let q = d.q in let num = get_or path up 0 in let after = node o.q ((key, y.1) ∷ o.ys) ∷ o.rest in
-        let flats = append_assoc q.l (x ∷ q.r) (flat after) ∙ ap (λ z. q.l ++ x ∷ (z ++ flat after)) o.r_is ∙ ap (λ z. q.l ++ x ∷ (key, y.1) ∷ z) (sym o.b_is) in
-        let list = heads-append q.before (node num (q.l ++ x ∷ q.r) ∷ after) ∙ ap (λ z. heads q.before ++ (head_of num (z ++ x ∷ q.r) ++ (key, o.q) ∷ heads o.rest)) o.l_is in
-        lifted_above d _ _ (x ∷ (key, y.1) ∷ b) refl (ap (λ z. sizes z) (sym o.after_is)) (ap (λ z. numbers z) (sym o.after_is)) flats (sym list)
-        (rw o.after_is at d.f.fit) (across_in d o key) r
+    -- the row after its node lost an entry, under rows above that have its keys
+    loosened : {v u : Table K V} (es ns : _) {list : _} → length (old d) ≡ suc (length es) → 1 ≤ length es → length l ≤ length es → Other d es ns ((x.0, y.1) ∷ b) list → FitRow 4 8 (node (n d) (old d) ∷ ns) →
+        RowIn inner_content t.nodes (before ++ node (n d) (old d) ∷ ns) → Rekeyed t v path indices (suc up) size rest list (length (heads before)) → Puts v u (n d) (inner_content es) → Passed u
+    loosened {v} {u} es ns len some low o fits inside above w =
+        let num = n d in let was = old d in let own = numbers (before ++ node num was ∷ after) ++ flat_map numbers rest in
+        let c = λ (i : ℕ). counts i before num was after rest t.chain in let c2 = λ (i : ℕ). counts i before num es ns above.rows' u.chain in
+        let c3 = λ (i : ℕ). ap (λ z. count i (num ∷ z)) o.1 in let c4 = λ (i : ℕ). ap (λ z. count i z) (w.chain_is ∙ above.frees.chain_is) in
+        let row_v = row-same inner_content t.nodes v.nodes (before ++ node num was ∷ ns) (λ i some. above.frees.others i (omega (arith, whole.apart i, c i, c3 i, count-row i before num was ns))) inside in
+        record {
+          before = before;
+          entries = es;
+          after = ns;
+          rest = above.rows';
+          on_level = record {
+            inside = row-put _ _ _ _ _ _ _ ns row_v w.same w.here (omega (arith, f.none, ap (λ z. count num z) o.1));
+            solid = f.solid;
+            fits = fits.2;
+            some = some;
+            lost_one = omega arith;
+            most_is = omega arith;
+            above = above_written w (omega (arith, above.numbers_are num, f.none_rest)) (rw (← o.3) above.above);
+            number_is = refl;
+            entry_was = omega (arith, d.q.entry_is);
+            apart = λ i. omega (arith, whole.apart i, above.numbers_are i, c i, c2 i, c3 i, c4 i);
+          };
+          list_is = flat_at d es ((x.0, y.1) ∷ b) ns o.2;
+          place_is = place_at d;
+          was = λ fs slot. omega (arith, item_count fs, item_count was, ap entry_count (read_same t.nodes num (inner_content was) (inner_content fs) f.slot_is slot));
+          sizes_were = let same = o.0 in cc (sizes-append _ _);
+          numbers_are = λ i. omega (arith, c i, c2 i, c3 i, above.numbers_are i, ap (λ z. count i (flat_map numbers z)) d.q.rows_are);
+          frees = rw d.q.rows_are (frees-after (λ i none. none) (frees-wider own (λ i none. omega (arith, c i)) above.frees) (frees-puts own (omega (arith, c num, count-same num (numbers after))) w));
+        }
+
+    -- removing the entry where the next one is in the same parent
+    take_same : (s u key : _) → get_or indices up 0 + 1 < length (old d) → slice_get (drop 1 (entry_keys (old d))) (get_or indices up 0 - 1) ≡ Some key → s ≡ with_node t (n d) (with_key (inner_content (old d)) (get_or indices up 0) key) →
+        u ≡ with_node s (n d) (without_child (with_key (inner_content (old d)) (get_or indices up 0) key) (get_or indices up 0)) → Passed u
+    take_same s u key more key_is s_is u_is = let e = get_or indices up 0 in
+        let w = next_in l x r e y b (flat after) d.q.b_is d.q.entry_is more in let es = l ++ (x.0, y.1) ∷ w.0 in
+        let len = length-append l ((x.0, y.1) ∷ w.0) in let one = puts t s _ _ _ f.slot_is s_is in let key_then = rw w.1 at key_is in
+        let gone = ap (λ z. without_child (with_key (inner_content (l ++ x ∷ z)) e key) e) w.1 ∙ removed_same V l x y w.0 key e d.q.entry_is key_then in
+        let two = puts s u _ _ _ one.here (simp (u_is, gone)) in
+        loosened es after (omega (arith, length-append l (x ∷ r), ap length w.1)) (omega arith) (omega arith)
+        (refl, refl, simp (append_assoc, w.2), heads-put before (n d) (old d) es after (head-other (n d) l x.0 x.1 y.1 r w.0)) f.fit f.inside (rebuilt_same (rows_above d)) (puts-then one two)
+
+    -- the next node has the next parent
+    module _ (o : Across l r after y b) where
+      -- the nodes behind the path's, and those of this row as entries of the level above, with this key
+      abbrev others : K → Row K ℕ
+      others key = node o.q ((key, y.1) ∷ o.ys) ∷ o.rest
+
+      abbrev names : K → Heads K
+      names key = heads before ++ (o.z.0, n d) ∷ (key, o.q) ∷ heads o.rest
+
+      -- the first key of the next parent is in no slot of its row
+      across_in : (key : K) → RowIn inner_content t.nodes (before ++ node (n d) (old d) ∷ others key)
+      across_in key = let s = row-split _ _ _ _ f.inside in row-join _ _ _ (node (n d) (old d) ∷ others key) s.0 (s.1.0, rw o.after_is at s.1.1)
+
+      -- the rows one level up, where the two parents are neighbours
+      across_above : Above t path indices (suc up) size rest (names y.0) (length (heads before))
+      across_above = rw (heads-append _ _, o.l_is, o.after_is) at (rows_above d)
+
+      across_other : (key es hs : _) → es ++ flat (others key) ≡ l ++ hs → head_of (n d) es ≡ (o.z.0, n d) ∷ [] → Other d es (others key) hs (names key)
+      across_other key es hs flat_is head = (ap (λ z. sizes z) (sym o.after_is), ap (λ z. numbers z) (sym o.after_is), flat_is, sym (heads-append before (node (n d) es ∷ others key) ∙ ap (λ z. heads before ++ (z ++ (key, o.q) ∷ heads o.rest)) head))
+
+      -- updating the neighbour's key, which was updated above
+      rekey_over : (u key : _) → Rekeyed t u path indices (suc up) size rest (names key) (length (heads before)) → Renamed u key
+      rekey_over u key above =
+          let flats = append_assoc l (x ∷ r) (flat (others key)) ∙ ap (λ z. l ++ x ∷ (z ++ flat (others key))) o.r_is ∙ ap (λ z. l ++ x ∷ (key, y.1) ∷ z) (sym o.b_is) in
+          lifted_above d _ _ (x ∷ (key, y.1) ∷ b) refl (across_other key _ _ flats (ap (λ z. head_of (n d) (z ++ x ∷ r)) o.l_is)) (rw o.after_is at f.fit) (across_in key) above
+
+      index_is : suc (length o.zs) ≡ get_or indices up 0
+      index_is = cc (o.l_is, d.q.entry_is)
+
+      old_is : old d ≡ (o.z ∷ o.zs) ++ x ∷ []
+      old_is = cc (o.l_is, o.r_is)
+
+      -- the key that the code read is that of the removed entry
+      moved_key : (key : K) → slice_get (drop 1 (entry_keys (old d))) (get_or indices up 0 - 1) ≡ Some key → key ≡ x.0
+      moved_key key is = some_same key x.0 (cc (old_is, last_key ℕ _ _ x _ index_is))
+
+      -- removing the entry where the next parent's key was written first
+      take_over : {v : Table K V} (u : Table K V) → Rekeyed t v path indices (suc up) size rest (names x.0) (length (heads before)) → slice_get v.nodes (n d) ≡ Some (inner_content (old d)) →
+          u ≡ with_node v (n d) (without_child (inner_content (old d)) (get_or indices up 0)) → Passed u
+      take_over {v} u above slot u_is =
+          let gone = ap (λ z. without_child (inner_content z) (get_or indices up 0)) old_is ∙ removed_last V o.z o.zs x (get_or indices up 0) index_is ∙ ap (λ z. inner_content z) (sym o.l_is) in
+          loosened l (others x.0) (omega (arith, length-append l (x ∷ r), ap length o.r_is)) (omega (arith, ap length o.l_is)) (omega arith)
+          (across_other x.0 l _ (ap (λ z. l ++ (x.0, y.1) ∷ z) (sym o.b_is)) (ap (λ z. head_of (n d) z) o.l_is)) (rw o.after_is at f.fit) (across_in x.0) above (puts v u _ _ _ slot (cc))
 
   module _ {t : Table K V} {path indices up size : _} (w : TwoAbove t path indices up size) (r : ℕ) (wide : length path ≡ 17) (height : size ≤ 17) where
     open w use {rows, before as a, x, y, after as b, above as p}
@@ -323,175 +401,73 @@ module _ {K V : Type 0} where
     pub here : Seen t path indices up size rows a x (y ∷ b) r
     here = seen a x (y ∷ b) p low r wide height
 
+    abbrev d : Spot t path indices up size rows a x (y ∷ b)
+    d = here.d
+
+    abbrev keys : List K
+    keys = drop 1 (entry_keys (old d))
+
+    abbrev items : List ℕ
+    items = entry_items (old d)
+
     pub above_fewer : (s : ℕ) → size - up ≡ s → size - (up + 1) < s
     above_fewer s bound = let l = low in omega arith
 
     module _ (m : ℕ) (value : Counts t (get_or path up r) m) where
-      -- the neighbour has the same parent
-      pub same_parent : (u : Table K V) (key : K) → get_or indices up 0 + 1 < m → Writes t u (get_or path up r) (get_or indices up 0) key → Rebuilt t u path indices path indices up size rows (a ++ x ∷ (key, y.1) ∷ b) (length a) (map sizes rows) []
-      same_parent u key more sets = let s = here in let es = s.d.q.l ++ x ∷ s.d.q.r in
-          rekey_same u key s.d (omega (arith, s.counted m value)) (rw s.num_is at (sets (drop 1 (entry_keys es)) (entry_items es) s.slot_is))
-
-      module _ (less : m ≤ get_or indices up 0 + 1) where
-        pub o : Across here.d.q.l here.d.q.r here.d.q.after y b
-        o = let s = here in across (get_or path up 0) s.d.q.l x s.d.q.r s.d.q.after y b s.d.f.fit s.d.q.b_is (omega (arith, s.counted m value))
-
-        pub above_next : Above t path indices (up + 1) size here.d.q.rest (heads here.d.q.before ++ (o.z.0, get_or path up 0) ∷ (y.0, o.q) ∷ heads o.rest) (length (heads here.d.q.before))
-        above_next = rw add-one (across_above here.d o)
-
-        -- the rows above meet what the call one level up requires, where the neighbour has another parent
-        abbrev pub above_asks : TwoAbove t path indices (up + 1) size
-        above_asks = record { rows = here.d.q.rest; before = heads here.d.q.before; x = (o.z.0, get_or path up 0); y = (y.0, o.q); after = heads o.rest; above = above_next }
-
-        pub next_parent : (u : Table K V) (key : K) → Rekeys t u path indices (up + 1) size key → Rebuilt t u path indices path indices up size rows (a ++ x ∷ (key, y.1) ∷ b) (length a) (map sizes rows) []
-        next_parent u key rekeys = rekey_over u key here.d o (rw add-one at (rekeys above_asks))
-
-module _ {K V : Type 0} where
-  module _ {t : Table K V} {path indices up size rows a x y b : _} (d : Spot t path indices up size rows a x (y ∷ b)) where
-    -- the row after its node lost an entry, under rows above that have its keys
-    loosened : {v u : Table K V} (es : _) {list : _} (after : _) → length (d.q.l ++ x ∷ d.q.r) ≡ suc (length es) → 1 ≤ length es → length d.q.l ≤ length es → sizes after ≡ sizes d.q.after → numbers after ≡ numbers d.q.after → es ++ flat after ≡ d.q.l ++ (x.0, y.1) ∷ b →
-        list ≡ heads (d.q.before ++ node (get_or path up 0) es ∷ after) → FitRow 4 8 (node (get_or path up 0) (d.q.l ++ x ∷ d.q.r) ∷ after) → RowIn inner_content t.nodes (d.q.before ++ node (get_or path up 0) (d.q.l ++ x ∷ d.q.r) ∷ after) →
-        Rebuilt t v path indices path indices (suc up) size d.q.rest list (length (heads d.q.before)) (map sizes d.q.rest) [] → Puts v u (get_or path up 0) (inner_content es) → Loosened inner_content 4 8 t u path indices up size (map sizes rows) (flat_map numbers rows) (a ++ (x.0, y.1) ∷ b) (length a)
-    loosened {v} {u} es after len some low sizes_same numbers_same flat_is heads_are fits inside r w =
-        let q = d.q in let num = get_or path up 0 in let old = q.l ++ x ∷ q.r in
-        let own = numbers (q.before ++ node num old ∷ q.after) ++ flat_map numbers q.rest in
-        let c = λ (i : ℕ). counts i q.before num old q.after q.rest t.chain in let c2 = λ (i : ℕ). counts i q.before num es after r.rows' u.chain in
-        let c3 = λ (i : ℕ). ap (λ z. count i (num ∷ z)) numbers_same in let c4 = λ (i : ℕ). ap (λ z. count i z) (w.chain_is ∙ r.frees.chain_is) in
-        let none : count num (numbers q.before) + count num (numbers after) ≡ 0 = omega (arith, d.f.none, ap (λ z. count num z) numbers_same) in
-        let row_v = row-same inner_content t.nodes v.nodes (q.before ++ node num old ∷ after) (λ i some. r.frees.others i (omega (arith, d.whole.apart i, c i, c3 i, count-row i q.before num old after))) inside in
-        record {
-          before = q.before;
-          entries = es;
-          after = after;
-          rest = r.rows';
-          on_level = record {
-            inside = row-put _ _ _ _ _ _ _ after row_v w.same w.here none;
-            solid = d.f.solid;
-            fits = fits.2;
-            some = some;
-            lost_one = omega arith;
-            most_is = omega arith;
-            above = above_written w (omega (arith, r.numbers_are num, d.f.none_rest)) (rw (← heads_are) r.above);
-            number_is = refl;
-            entry_was = omega arith;
-            apart = λ i. omega (arith, d.whole.apart i, r.numbers_are i, c i, c2 i, c3 i, c4 i);
-          };
-          list_is = flat_at d es ((x.0, y.1) ∷ b) after flat_is;
-          place_is = place_at d;
-          was = λ fs slot. omega (arith, item_count fs, item_count old, ap entry_count (read_same t.nodes num (inner_content old) (inner_content fs) d.f.slot_is slot));
-          sizes_were = cc (sizes-append _ _);
-          numbers_are = λ i. omega (arith, c i, c2 i, c3 i, r.numbers_are i, ap (λ z. count i (flat_map numbers z)) q.rows_are);
-          frees = rw q.rows_are (frees-after (λ i none. none) (frees-wider own (λ i none. omega (arith, c i)) r.frees) (frees-puts own (omega (arith, c num, count-same num (numbers q.after))) w));
-        }
-
-    -- removing the entry where the next one is in the same parent
-    take_same : (s u : Table K V) (key : K) → get_or indices up 0 + 1 < length (d.q.l ++ x ∷ d.q.r) → slice_get (drop 1 (entry_keys (d.q.l ++ x ∷ d.q.r))) (get_or indices up 0 - 1) ≡ Some key →
-        s ≡ with_node t (get_or path up 0) (Inner (set (drop 1 (entry_keys (d.q.l ++ x ∷ d.q.r))) (get_or indices up 0) key) (entry_items (d.q.l ++ x ∷ d.q.r))) →
-        u ≡ with_node s (get_or path up 0) (without_child (Inner (set (drop 1 (entry_keys (d.q.l ++ x ∷ d.q.r))) (get_or indices up 0) key) (entry_items (d.q.l ++ x ∷ d.q.r))) (get_or indices up 0)) → Loosened inner_content 4 8 t u path indices up size (map sizes rows) (flat_map numbers rows) (a ++ (x.0, y.1) ∷ b) (length a)
-    take_same s u key more key_is s_is u_is = let q = d.q in let num = get_or path up 0 in let e = get_or indices up 0 in let old = q.l ++ x ∷ q.r in
-        let w = next_in q.l x q.r e y b (flat q.after) q.b_is q.entry_is more in let es = q.l ++ (x.0, y.1) ∷ w.0 in
-        let len = length-append q.l ((x.0, y.1) ∷ w.0) in let one = puts t s _ _ _ d.f.slot_is s_is in let key_then = rw w.1 at key_is in
-        let gone = ap (λ z. without_child (with_key (inner_content (q.l ++ x ∷ z)) e key) e) w.1 ∙ removed_same V q.l x y w.0 key e q.entry_is key_then in
-        let two = puts s u _ _ _ one.here (simp (u_is, gone)) in
-        loosened es q.after (omega (arith, length-append q.l (x ∷ q.r), ap length w.1)) (omega arith) (omega arith) refl refl (simp (append_assoc, w.2))
-        (heads-put q.before num old es q.after (head-other num q.l x.0 x.1 y.1 q.r w.0)) d.f.fit d.f.inside (rebuilt_same (rows_above d)) (puts-then one two)
-
-    module _ (o2 : Across d.q.l d.q.r d.q.after y b) where
-      index_is : suc (length o2.zs) ≡ get_or indices up 0
-      index_is = cc (o2.l_is, d.q.entry_is)
-
-      old_is : d.q.l ++ x ∷ d.q.r ≡ (o2.z ∷ o2.zs) ++ x ∷ []
-      old_is = cc (o2.l_is, o2.r_is)
-
-      -- the key that the code read is that of the removed entry
-      moved_key : (key : K) → slice_get (drop 1 (entry_keys (d.q.l ++ x ∷ d.q.r))) (get_or indices up 0 - 1) ≡ Some key → key ≡ x.0
-      moved_key key is = some_same key x.0 (cc (old_is, last_key ℕ _ _ x _ index_is))
-
-      -- removing the entry where the next one is in the next parent, whose key was written first
-      take_over : {v : Table K V} (u : Table K V) → Rebuilt t v path indices path indices (suc up) size d.q.rest
-          (heads d.q.before ++ (o2.z.0, get_or path up 0) ∷ (x.0, o2.q) ∷ heads o2.rest) (length (heads d.q.before)) (map sizes d.q.rest) []
-          → slice_get v.nodes (get_or path up 0) ≡ Some (inner_content (d.q.l ++ x ∷ d.q.r)) →
-          u ≡ with_node v (get_or path up 0) (without_child (inner_content (d.q.l ++ x ∷ d.q.r)) (get_or indices up 0)) → Loosened inner_content 4 8 t u path indices up size (map sizes rows) (flat_map numbers rows) (a ++ (x.0, y.1) ∷ b) (length a)
-      take_over {v} u r slot u_is = let q = d.q in let num = get_or path up 0 in let after = node o2.q ((x.0, y.1) ∷ o2.ys) ∷ o2.rest in
-          let gone = ap (λ z. without_child (inner_content z) (get_or indices up 0)) old_is ∙ removed_last V o2.z o2.zs x (get_or indices up 0) index_is ∙ ap (λ z. inner_content z) (sym o2.l_is) in
-          let two = puts v u _ _ _ slot (cc) in
-          let list = heads-append q.before (node num q.l ∷ after) ∙ ap (λ z. heads q.before ++ (head_of num z ++ (x.0, o2.q) ∷ heads o2.rest)) o2.l_is in
-          let len : length (q.l ++ x ∷ q.r) ≡ suc (length q.l) = omega (arith, ap length o2.r_is) in
-          loosened q.l after len (omega (arith, ap length o2.l_is)) (omega arith) (ap (λ z. sizes z) (sym o2.after_is)) (ap (λ z. numbers z) (sym o2.after_is)) (ap (λ z. q.l ++ (x.0, y.1) ∷ z) (sym o2.b_is)) (sym list)
-          (rw o2.after_is at d.f.fit) (across_in d o2 x.0) r two
-
-  module _ {t : Table K V} {path indices up size : _} (w : TwoAbove t path indices up size) (r : ℕ) (wide : length path ≡ 17) (height : size ≤ 17) where
-    open w use {rows, before as a, x, y, after as b, above as p}
-
-    top : up < size
-    top = above_two rows a x y b p
-
-    -- the parent of the entry
-    pub here2 : Seen t path indices up size rows a x (y ∷ b) r
-    here2 = seen a x (y ∷ b) p top r wide height
-
-    abbrev d : Spot t path indices up size rows a x (y ∷ b)
-    d = here2.d
-
-    abbrev ds : Heads K
-    ds = d.q.l ++ x ∷ d.q.r
-
-    module _ (cnt : ℕ) (value : Counts t (get_or path up r) cnt) where
-      module _ (more : get_or indices up 0 + 1 < cnt) where
+      module _ (more : get_or indices up 0 + 1 < m) where
         pub key_asks : (i : ℕ) → i ≤ get_or indices up 0 → KeyAt t (get_or path up r) i
-        key_asks i low = here2.key_asks cnt i value (omega arith)
+        key_asks i low = here.key_asks m i value (omega arith)
 
-        module _ (s : Table K V) (key : K) (writes : Writes t s (get_or path up r) (get_or indices up 0) key) where
-          s_is : s ≡ with_node t (get_or path up r) (with_key (inner_content ds) (get_or indices up 0) key)
-          s_is = writes (drop 1 (entry_keys ds)) (entry_items ds) here2.slot_is
+        -- the key of a neighbour under the same parent was written
+        module _ (s key : _) (writes : Writes t s (get_or path up r) (get_or indices up 0) key) where
+          s_is : s ≡ with_node t (get_or path up r) (with_key (inner_content (old d)) (get_or indices up 0) key)
+          s_is = writes keys items here.slot_is
 
-          one : Puts t s (get_or path up r) (with_key (inner_content ds) (get_or indices up 0) key)
-          one = puts t s _ _ _ here2.slot_is s_is
+          pub same_parent : Renamed d s key
+          same_parent = rekey_same d s key (omega (arith, here.counted m value)) (rw here.num_is at s_is)
+
+          one : Puts t s (get_or path up r) (with_key (inner_content (old d)) (get_or indices up 0) key)
+          one = puts t s _ _ _ here.slot_is s_is
 
           pub remove_asks : IsUsed s (get_or path up r) × ChildAt s (get_or path up r) (get_or indices up 0)
-          remove_asks = (
-            is_used s _ _ one.here (cc (one.chain_is, here2.none_chain)),
-            (set (drop 1 (entry_keys ds)) (get_or indices up 0) key, entry_items ds, one.here, (let e = here2.counted cnt value in omega (arith, item_count ds))),
-          )
+          remove_asks = (is_used s _ _ one.here (cc (one.chain_is, here.none_chain)), (set keys (get_or indices up 0) key, items, one.here, (let e = here.counted m value in omega (arith, item_count (old d)))))
 
-          pub merge_same : (u : Table K V) (i : ℕ) → i ≡ get_or indices up 0 - 1 → ReadsKey t (get_or path up r) i key → Removes s u (get_or path up r) (get_or indices up 0) → Loosened inner_content 4 8 t u path indices up size (map sizes rows) (flat_map numbers rows) (a ++ (x.0, y.1) ∷ b) (length a)
-          merge_same u i i_is reads removes =
-              let num_is = here2.num_is in let u_is = removes (set (drop 1 (entry_keys ds)) (get_or indices up 0) key) (entry_items ds) one.here in
-              let key_is = rw i_is at (reads (drop 1 (entry_keys ds)) (entry_items ds) here2.slot_is) in
-              take_same d s u key (rw (← here2.counted cnt value) more) key_is (rw num_is at s_is) (rw num_is at u_is)
+          pub merge_same : (u i : _) → i ≡ get_or indices up 0 - 1 → ReadsKey t (get_or path up r) i key → Removes s u (get_or path up r) (get_or indices up 0) → Passed d u
+          merge_same u i i_is reads removes = let num_is = here.num_is in let u_is = removes (set keys (get_or indices up 0) key) items one.here in
+              take_same d s u key (rw (← here.counted m value) more) (rw i_is at (reads keys items here.slot_is)) (rw num_is at s_is) (rw num_is at u_is)
 
-      module _ (less : cnt ≤ get_or indices up 0 + 1) where
-        pub o2 : Across d.q.l d.q.r d.q.after y b
-        o2 = across (get_or path up 0) d.q.l x d.q.r d.q.after y b d.f.fit d.q.b_is (omega (arith, here2.counted cnt value, d.q.entry_is))
+      -- the neighbour has another parent
+      module _ (less : m ≤ get_or indices up 0 + 1) where
+        pub o : Across d.q.l d.q.r d.q.after y b
+        o = across (n d) d.q.l x d.q.r d.q.after y b d.f.fit d.q.b_is (omega (arith, here.counted m value, d.q.entry_is))
+
+        pub above_next : Above t path indices (up + 1) size d.q.rest (names d o y.0) (length (heads d.q.before))
+        above_next = rw add-one (across_above d o)
+
+        -- the rows above meet what the call one level up requires
+        abbrev pub above_asks : TwoAbove t path indices (up + 1) size
+        above_asks = record { rows = d.q.rest; before = heads d.q.before; x = (o.z.0, n d); y = (y.0, o.q); after = heads o.rest; above = above_next }
 
         pub index_some : 1 ≤ get_or indices up 0
-        index_some = let e = index_is d o2 in omega arith
+        index_some = let e = index_is d o in omega arith
 
         pub last_key_asks : KeyAt t (get_or path up r) (get_or indices up 0 - 1)
-        last_key_asks = here2.low_key_asks (get_or indices up 0 - 1) (let e = index_some in omega arith)
+        last_key_asks = here.low_key_asks (get_or indices up 0 - 1) (let e = index_some in omega arith)
 
-        module _ (high : ℕ) (high_is : high ≡ suc up) where
-          pub above_is : Above t path indices high size d.q.rest (heads d.q.before ++ (o2.z.0, get_or path up 0) ∷ (y.0, o2.q) ∷ heads o2.rest) (length (heads d.q.before))
-          above_is = rw high_is (across_above d o2)
+        module _ (v key : _) (rekeys : Rekeys t v path indices (up + 1) size key) where
+          rebuilt : Rekeyed t v path indices (suc up) size d.q.rest (names d o key) (length (heads d.q.before))
+          rebuilt = rw add-one at (rekeys above_asks)
 
-          abbrev pub rekey_asks : TwoAbove t path indices high size
-          rekey_asks = record { rows = d.q.rest; before = heads d.q.before; x = (o2.z.0, get_or path up 0); y = (y.0, o2.q); after = heads o2.rest; above = above_is }
+          pub next_parent : Renamed d v key
+          next_parent = rekey_over d o v key rebuilt
 
-          module _ (v : Table K V) (key : K) (rekeys : Rekeys t v path indices high size key) where
-            rebuilt : Rebuilt t v path indices path indices high size d.q.rest (heads d.q.before ++ (o2.z.0, get_or path up 0) ∷ (key, o2.q) ∷ heads o2.rest) (length (heads d.q.before)) (map sizes d.q.rest) []
-            rebuilt = rekeys rekey_asks
+          slot_then : slice_get v.nodes (n d) ≡ Some (inner_content (old d))
+          slot_then = rebuilt.frees.others (n d) d.f.none_rest ∙ d.f.slot_is
 
-            slot_then : slice_get v.nodes (get_or path up 0) ≡ Some (inner_content ds)
-            slot_then = rebuilt.frees.others (get_or path up 0) d.f.none_rest ∙ d.f.slot_is
+          pub remove_last_asks : IsUsed v (get_or path up r) × ChildAt v (get_or path up r) (get_or indices up 0)
+          remove_last_asks = (rw here.num_is (is_used v _ _ slot_then (cc (rebuilt.frees.chain_is, d.f.none_chain))), (keys, items, cc (here.num_is, slot_then), omega (arith, item_count (old d), d.count_is)))
 
-            pub remove_last_asks : IsUsed v (get_or path up r) × ChildAt v (get_or path up r) (get_or indices up 0)
-            remove_last_asks = (
-              rw here2.num_is (is_used v _ _ slot_then (cc (rebuilt.frees.chain_is, d.f.none_chain))),
-              (drop 1 (entry_keys ds), entry_items ds, cc (here2.num_is, slot_then), omega (arith, item_count ds, d.count_is)),
-            )
-
-            pub merge_next : (u : Table K V) → ReadsKey t (get_or path up r) (get_or indices up 0 - 1) key → Removes v u (get_or path up r) (get_or indices up 0) → Loosened inner_content 4 8 t u path indices up size (map sizes rows) (flat_map numbers rows) (a ++ (x.0, y.1) ∷ b) (length a)
-            merge_next u reads removes =
-                let num_is = here2.num_is in let k_is = moved_key d o2 key (reads (drop 1 (entry_keys ds)) (entry_items ds) here2.slot_is) in
-                let u_is = removes (drop 1 (entry_keys ds)) (entry_items ds) (cc (slot_then)) in
-                take_over d o2 u (rw (high_is, k_is) at rebuilt) slot_then (rw num_is at u_is)
+          pub merge_next : (u : _) → ReadsKey t (get_or path up r) (get_or indices up 0 - 1) key → Removes v u (get_or path up r) (get_or indices up 0) → Passed d u
+          merge_next u reads removes =
+              let num_is = here.num_is in let u_is = removes keys items (cc (slot_then)) in
+              take_over d o u (rw (moved_key d o key (reads keys items here.slot_is)) at rebuilt) slot_then (rw num_is at u_is)
