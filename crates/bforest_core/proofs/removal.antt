@@ -3,7 +3,6 @@ pub mod Frees
 pub mod Collapse
 pub mod PastEnd
 pub mod Removing
-pub mod LeafEmptied
 pub mod Removal
 pub mod Taking
 pub mod Balance
@@ -11,10 +10,10 @@ pub mod Rebalance
 pub mod Neighbours
 pub mod Merge
 pub mod Rebalancing
-pub mod RemovingEmptied
 pub mod Healing
 pub mod LeafTake
 pub mod Losses
 pub mod Untrimmed
 pub mod LeafAt
 pub mod Lifted
+pub mod Emptied

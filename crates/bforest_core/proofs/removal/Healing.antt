@@ -3,7 +3,7 @@ use Rattle.bforest_core.proofs.Words.{set-set, length-remove, ◌≡◌, ◌≢�
 use Rattle.bforest_core.proofs.Words.{length, length-append, refl, slice_get, ◌∙◌, nil_from_length, Content, Free, EntryTaken, HasOthers, IsSingle, IsUsed}
 use Rattle.bforest_core.proofs.Words.{LeafLoss, Removed, Shrinks, StandsIn, Unbalanced, Table, Tree, entry_keys, front_of, leaf_content, root_of, tree_of}
 use Rattle.bforest_core.proofs.{Words.{with_freed, with_node, without_entry}, removal.Lifted.{Counts, NodeAt}, removal.PastEnd.alone_last}
-use Rattle.bforest_core.proofs.{removal.LeafEmptied.emptied_tree, rows.Tops.root-stands, table.Tables.{is_used, puts}, removal.Removing.kept_removed}
+use Rattle.bforest_core.proofs.{removal.Emptied.emptied_tree, rows.Tops.root-stands, table.Tables.{is_used, puts}, removal.Removing.kept_removed}
 use Rattle.bforest_core.proofs.{removal.Taking.alone_loss, removal.Removal.{outcome, removal, stands_in}, removal.LeafAt.{LeafAt, leaf_at, leaf_count}}
 use Rattle.bforest_core.proofs.{removal.LeafAt.{leaf_keys, some_first}, union.Unions.rooted}
 
@@ -99,5 +99,5 @@ module _ {K V : Type 0} {most : ℕ} {old now : Table K V} {root place path indi
 
       -- the tree of one leaf, which had one entry
       pub alone_freed : size ≡ 1 → m ≤ 0 → (v : _) → v ≡ with_freed now read → Shrinks most old v path root place None
-      alone_freed one none v freed = let c = e.union.1.capacity in
-          (outcome most old v (λ z. Unit {0}) e.union e.stood None tt (λ is. (emptied_tree c (single (omega arith)) read num_is stood_in v freed one))).shrinks
+      alone_freed one none v freed = let alone = single (omega arith) in
+          (outcome most old v (λ z. Unit {0}) e.union e.stood None tt (λ is. emptied_tree e.union.1.capacity alone stood_in v (cc (num_is, alone.freed_is)) one)).shrinks
