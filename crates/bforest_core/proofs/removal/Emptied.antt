@@ -1,6 +1,6 @@
 -- A node of one entry that is removed with it, the rightmost of its level: in the rows above (the answers of `remove_emptied`), and a leaf, from
 -- which that begins (those of `remove_leaf`).
-use Rattle.bforest_core.proofs.Words.{◌≡◌, ◌≢◌, ℕ, suc, ◌+◌, ◌-◌, ◌≤◌, ◌<◌, List, [], ◌∷◌, ◌++◌, map, length, drop, get_or, Some, refl, sym, ap, ◌∙◌, subst}
+use Rattle.bforest_core.proofs.Words.{◌≡◌, ◌≢◌, ℕ, suc, ◌+◌, ◌-◌, ◌≤◌, ◌<◌, List, [], ◌∷◌, ◌++◌, map, length, drop, get_or, Some, refl, sym, ap, ◌∙◌}
 use Rattle.bforest_core.proofs.Words.{append_assoc, length-append, arith, Heads, Row, Rows, flat_map, append-nil, nil_from_length, without_child, Table}
 use Rattle.bforest_core.proofs.Words.{with_node, with_freed, node, flat, heads, sizes, numbers, FitRow, Solid, loss_above, inner_content, entry_keys}
 use Rattle.bforest_core.proofs.Words.{entry_items, count, Distinct, root_above, Above, LastAbove, nodes_up, Dropped, rebalanced, slice_get, IsLeafCapacity}

@@ -42,6 +42,13 @@ module _ {K V : Type 0} where
   abbrev pub Removes : Table K V → Table K V → ℕ → ℕ → Type 0
   Removes t u number index = (keys : List K) (children : _) → slice_get t.nodes number ≡ Some (Inner keys children) → u ≡ with_node t number (without_child (Inner keys children) index)
 
+  -- a path goes no higher than its levels, and is below the highest where a level has two nodes
+  pub above_low : {t : Table K V} {path indices level size rows list place : _} → Above t path indices level size rows list place → level ≤ size
+  above_low p = omega arith
+
+  pub one_low : {t : Table K V} {path indices : List ℕ} {up size : ℕ} → OneAbove t path indices up size → up ≤ size
+  one_low w = above_low w.above
+
   pub two_low : {t : Table K V} {path indices : List ℕ} {up size : ℕ} → TwoAbove t path indices up size → up < size
   two_low w = above_two _ _ _ _ _ w.above
 

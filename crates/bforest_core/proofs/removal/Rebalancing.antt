@@ -17,6 +17,10 @@ first_after half most one [] fit some = absurd (omega arith)
 first_after half most one (node q [] ∷ after) fit some = absurd (omega (arith, least-pos half one after))
 first_after half most one (node q (f ∷ fs) ∷ after) fit some = (f.0, q, record { f = f; fs = fs; rest = after; after_is = refl; k_is = refl })
 
+-- a level that lost an entry is one of the path's
+pub loses_low : {K V : Type 0} {cap least : ℕ} {t : Table K V} {path indices : List ℕ} {up size : ℕ} → Loses cap least t path indices up size → up < size
+loses_low w = let p = w.on.above in omega arith
+
 module _ {K V : Type 0} {cap least : ℕ} {t : Table K V} {path indices up size : _} (w : Loses cap least t path indices up size) (r : ℕ) (wide : length path ≡ 17) (height : size ≤ 17) where
   abbrev X : Type 0
   X = Item V w.leaf

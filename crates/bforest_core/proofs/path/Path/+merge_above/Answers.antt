@@ -32,6 +32,3 @@ remove_merged-requires g t c = (search rules, (search rules, (c.requires.height,
 pub rebalance-requires : goal.rebalance-requires
 rebalance-requires g t c = let w = c.requires.pending in let l = c.remove_merged.ensures w in
     (search rules, (search rules, (c.requires.height, loses_child w.rows l (omega (arith, length-append w.before ((w.x.0, w.y.1) ∷ w.after))) g.row.N)))
-
-pub overflow_add-up : goal.overflow_add-up
-overflow_add-up g t c = omega (arith, two_low c.requires.pending)

@@ -34,18 +34,3 @@ returns-else-is_full g t c = record {
 
 pub returns-then-up-self : goal.returns-then-up-self
 returns-then-up-self g t c = record { value = λ rows list place p. sym (need_top _ _ (omega arith)); few = omega arith }
-
-pub overflow_add-result : goal.overflow_add-result
-overflow_add-result g t c = omega arith
-
-pub bounds-self-up : goal.bounds-self-up
-bounds-self-up g t c = omega arith
-
-pub listed : goal.listed
-listed g t c = omega arith
-
-pub offset_bounds-self-up : goal.offset_bounds-self-up
-offset_bounds-self-up g t c = omega arith
-
-pub overflow_add-up : goal.overflow_add-up
-overflow_add-up g t c = omega arith

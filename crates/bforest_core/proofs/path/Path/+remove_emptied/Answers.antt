@@ -1,20 +1,5 @@
-use Rattle.bforest_core.proofs.{Words.{rules, ◌+◌, arith, add-one}, removal.Emptied.{here, drop_fewer, keeps, above_asks, empties}, removal.Lifted.last_low}
+use Rattle.bforest_core.proofs.{Words.{rules, arith}, removal.Emptied.{here, drop_fewer, keeps, above_asks, empties}}
 use Rattle.bforest_core.proofs.path.Path.+remove_emptied.Goals as goal
-
-pub bounds-self-up : goal.bounds-self-up
-bounds-self-up g t c = omega (arith, last_low c.requires.pending)
-
-pub bounds-self-up-else-entries-eq1 : goal.bounds-self-up-else-entries-eq1
-bounds-self-up-else-entries-eq1 g t c = omega (arith, last_low c.requires.pending)
-
-pub listed : goal.listed
-listed g t c = omega (arith, last_low c.requires.pending)
-
-pub offset_bounds-self-up : goal.offset_bounds-self-up
-offset_bounds-self-up g t c = omega (arith, last_low c.requires.pending)
-
-pub overflow_add-up : goal.overflow_add-up
-overflow_add-up g t c = omega (arith, last_low c.requires.pending)
 
 pub entries-requires : goal.entries-requires
 entries-requires g t c = (search rules, (here c.requires.pending c.index-self-up.result (omega arith) c.requires.height).node_asks)

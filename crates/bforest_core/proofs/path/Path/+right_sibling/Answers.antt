@@ -37,18 +37,3 @@ returns-in-None g t c = λ w.
 pub returns-in-Some : goal.returns-in-Some
 returns-in-Some g t c = λ w.
     next_parent w c.if-up-self.false c.index-self-up.result (omega arith) c.requires.height c.entries.result c.entries.ensures.value c.if-index-entries.false _ c.in-Some.next c.in-Some.is c.right_sibling.ensures c.child-in-Some.result c.child-in-Some.ensures
-
-pub bounds-self-up : goal.bounds-self-up
-bounds-self-up g t c = omega arith
-
-pub bounds-self-up-2 : goal.bounds-self-up-2
-bounds-self-up-2 g t c = omega arith
-
-pub listed : goal.listed
-listed g t c = omega arith
-
-pub offset_bounds-self-up : goal.offset_bounds-self-up
-offset_bounds-self-up g t c = omega arith
-
-pub overflow_add-up : goal.overflow_add-up
-overflow_add-up g t c = omega arith

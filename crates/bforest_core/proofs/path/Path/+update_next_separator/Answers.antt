@@ -1,4 +1,4 @@
-use Rattle.bforest_core.proofs.{Words.{rules, arith}, removal.Lifted.{two_low, here, above_fewer, same_parent, above_asks, next_parent}}
+use Rattle.bforest_core.proofs.{Words.{rules, arith}, removal.Lifted.{here, above_fewer, same_parent, above_asks, next_parent}}
 use Rattle.bforest_core.proofs.path.Path.+update_next_separator.Goals as goal
 
 pub overflow_add-index : goal.overflow_add-index
@@ -24,18 +24,3 @@ returns-then-index-entries g t c = λ w.
 pub returns-else-index-entries : goal.returns-else-index-entries
 returns-else-index-entries g t c = λ w.
     next_parent w c.index-self-up.result (omega arith) c.requires.height c.entries.result c.entries.ensures.value c.if-index-entries.false c.update_next_separator.new.pool c.args.key c.update_next_separator.ensures
-
-pub bounds-self-up : goal.bounds-self-up
-bounds-self-up g t c = omega (arith, two_low c.requires.pending, c.requires.height)
-
-pub bounds-self-up-2 : goal.bounds-self-up-2
-bounds-self-up-2 g t c = omega (arith, two_low c.requires.pending, c.requires.height)
-
-pub listed : goal.listed
-listed g t c = omega (arith, two_low c.requires.pending, c.requires.height)
-
-pub offset_bounds-self-up : goal.offset_bounds-self-up
-offset_bounds-self-up g t c = omega (arith, two_low c.requires.pending, c.requires.height)
-
-pub overflow_add-up : goal.overflow_add-up
-overflow_add-up g t c = omega (arith, two_low c.requires.pending, c.requires.height)

@@ -1,21 +1,6 @@
 use Rattle.bforest_core.proofs.{Words.{rules, arith}, removal.Lifted.{here, key_asks, remove_asks, merge_same, index_some, last_key_asks}}
-use Rattle.bforest_core.proofs.removal.Lifted.{above_asks, remove_last_asks, merge_next, two_low}
+use Rattle.bforest_core.proofs.removal.Lifted.{above_asks, remove_last_asks, merge_next}
 use Rattle.bforest_core.proofs.path.Path.remove_merged.Goals as goal
-
-pub bounds-self-up : goal.bounds-self-up
-bounds-self-up g c = omega (arith, two_low c.requires.pending)
-
-pub bounds-self-up-2 : goal.bounds-self-up-2
-bounds-self-up-2 g c = omega (arith, two_low c.requires.pending)
-
-pub listed : goal.listed
-listed g c = omega (arith, two_low c.requires.pending)
-
-pub offset_bounds-self-up : goal.offset_bounds-self-up
-offset_bounds-self-up g c = omega (arith, two_low c.requires.pending)
-
-pub overflow_add-up : goal.overflow_add-up
-overflow_add-up g c = omega (arith, two_low c.requires.pending)
 
 pub overflow_add-index : goal.overflow_add-index
 overflow_add-index g c = omega (arith, (here c.requires.pending c.index-self-up.result (omega arith) c.requires.height).small)
