@@ -52,6 +52,13 @@ module _ {K V : Type 0} where
   pub two_low : {t : Table K V} {path indices : List ℕ} {up size : ℕ} → TwoAbove t path indices up size → up < size
   two_low w = above_two _ _ _ _ _ w.above
 
+  -- an index above the leaves is that of one of 8 children
+  pub one_small : {t : Table K V} {path indices : List ℕ} {up size : ℕ} → OneAbove t path indices up size → up < size → get_or indices up 0 < 8
+  one_small w low = let d = spot _ _ _ w.above low in omega (arith, d.count_is, d.most_is)
+
+  pub two_small : {t : Table K V} {path indices : List ℕ} {up size : ℕ} → TwoAbove t path indices up size → get_or indices up 0 < 8
+  two_small w = let d = spot _ _ _ w.above (two_low w) in omega (arith, d.count_is, d.most_is)
+
   pub last_low : {t : Table K V} {path indices : List ℕ} {up size : ℕ} → LastAbove t path indices up size → up < size
   last_low w = above_two _ _ _ _ _ w.above
 

@@ -15,7 +15,7 @@ use bforest_nodes::Node;
 
 impl<K: Copy, V: Copy, const N: usize> Path<K, V, N> {
     // The right neighbour of the path's node below level `up`, which may have another parent, with the key between the two.
-    #[tactic(auto, using(crate::proofs::removal::Lifted::one_low))]
+    #[tactic(auto, using(crate::proofs::removal::Lifted::one_low, crate::proofs::removal::Lifted::one_small))]
     pub(super) fn right_sibling(&self, up: usize, pool: &NodePool<K, V, N>) -> Option<(K, Node)>
         requires height { self.now.size ≤ most_levels }
         requires pending { OneAbove pool.now self.now.node self.now.entry up self.now.size }
@@ -41,7 +41,7 @@ impl<K: Copy, V: Copy, const N: usize> Path<K, V, N> {
     }
 
     // Updates the key between the path's node below level `up` and its right neighbour.
-    #[tactic(auto, using(crate::proofs::removal::Lifted::two_low))]
+    #[tactic(auto, using(crate::proofs::removal::Lifted::two_low, crate::proofs::removal::Lifted::two_small))]
     pub(super) fn update_next_separator(&self, up: usize, key: K, pool: &mut NodePool<K, V, N>)
         requires height { self.now.size ≤ most_levels }
         requires pending { TwoAbove pool.old self.now.node self.now.entry up self.now.size }
@@ -96,7 +96,7 @@ impl<K: Copy, V: Copy, const N: usize> Path<K, V, N> {
     }
 
     // Removes the entry at the path from level `up`, and gives its key to the next one.
-    #[tactic(auto, using(crate::proofs::removal::Lifted::two_low))]
+    #[tactic(auto, using(crate::proofs::removal::Lifted::two_low, crate::proofs::removal::Lifted::two_small))]
     fn remove_merged(&self, up: usize, pool: &mut NodePool<K, V, N>)
         requires height { self.now.size ≤ most_levels }
         requires pending { TwoAbove pool.old self.now.node self.now.entry up self.now.size }

@@ -2,9 +2,6 @@ use Rattle.bforest_core.proofs.Words.{rules, arith}
 use Rattle.bforest_core.proofs.removal.Neighbours.{here, above_asks, above_fewer, first_asks, item_asks, same_parent, none_right, next_parent}
 use Rattle.bforest_core.proofs.path.Path.+right_sibling.Goals as goal
 
-pub overflow_add-index : goal.overflow_add-index
-overflow_add-index g t c = omega (arith, (here c.requires.pending c.if-up-self.false c.index-self-up.result (omega arith) c.requires.height).small)
-
 pub entries-requires : goal.entries-requires
 entries-requires g t c = (search rules, (here c.requires.pending c.if-up-self.false c.index-self-up.result (omega arith) c.requires.height).node_asks)
 

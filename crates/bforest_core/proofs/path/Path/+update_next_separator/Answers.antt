@@ -1,9 +1,6 @@
 use Rattle.bforest_core.proofs.{Words.{rules, arith}, removal.Lifted.{here, above_fewer, same_parent, above_asks, next_parent}}
 use Rattle.bforest_core.proofs.path.Path.+update_next_separator.Goals as goal
 
-pub overflow_add-index : goal.overflow_add-index
-overflow_add-index g t c = let w = c.requires.pending in omega (arith, (here w c.index-self-up.result (omega arith) c.requires.height).small)
-
 pub entries-requires : goal.entries-requires
 entries-requires g t c = let w = c.requires.pending in (search rules, (here w c.index-self-up.result (omega arith) c.requires.height).node_asks)
 

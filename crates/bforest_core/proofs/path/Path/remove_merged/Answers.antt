@@ -2,9 +2,6 @@ use Rattle.bforest_core.proofs.{Words.{rules, arith}, removal.Lifted.{here, key_
 use Rattle.bforest_core.proofs.removal.Lifted.{above_asks, remove_last_asks, merge_next}
 use Rattle.bforest_core.proofs.path.Path.remove_merged.Goals as goal
 
-pub overflow_add-index : goal.overflow_add-index
-overflow_add-index g c = omega (arith, (here c.requires.pending c.index-self-up.result (omega arith) c.requires.height).small)
-
 pub entries-requires : goal.entries-requires
 entries-requires g c = (search rules, (here c.requires.pending c.index-self-up.result (omega arith) c.requires.height).node_asks)
 
