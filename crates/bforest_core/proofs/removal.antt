@@ -1,19 +1,12 @@
 -- Lemmas on removal.
 pub mod Frees
 pub mod Collapse
-pub mod PastEnd
-pub mod Removing
 pub mod Removal
-pub mod Taking
-pub mod Balance
-pub mod Rebalance
 pub mod Neighbours
-pub mod Merge
-pub mod Rebalancing
 pub mod Healing
 pub mod LeafTake
-pub mod Losses
-pub mod Untrimmed
-pub mod LeafAt
 pub mod Lifted
 pub mod Emptied
+pub mod Rebalance
+pub mod Removing
+pub mod LeafAt

@@ -1,12 +1,13 @@
 -- Inserting an entry into the path's leaf, or splitting the leaf and inserting it into one half: the answers
 -- of `put_here` and `halve_leaf`.
-use Rattle.bforest_core.proofs.Words.{◌≡◌, ℕ, ◌+◌, ◌-◌, ◌/◌, nat_le, ◌≤◌, ◌<◌, true, false, Bool, if◌then◌else◌, [], ◌∷◌, ◌++◌, length, set, get_or, Some, refl}
-use Rattle.bforest_core.proofs.Words.{sym, ap, ◌∙◌, arith, append_assoc, length-append, get_or_default, get_or-set_same, get_or-set_other, Leaf, IsLeafCapacity}
-use Rattle.bforest_core.proofs.Words.{with_entry, Table, IsUsed, IsFullAt, IsSplitAt, front_of, with_node, heads, half_of, leaf_content, entry_keys, Placed}
-use Rattle.bforest_core.proofs.insertion.Halving.{Split, leaf_full_is, counted, split_at, left_used, into_left, into_right, middle_key, PutAsks, HasRoom}
-use Rattle.bforest_core.proofs.{Words.{Inserted, LeafHalved}, rows.Bounds.{past_le, upto_le}, table.Tables.{is_used, puts}, insertion.LeafParted.leaf_parted}
-use Rattle.bforest_core.proofs.{insertion.Halving.{Written, asks_put, put_fewer, put_in, put_past}, table.Stored.{leaf_cuts, with_entry_is}}
-use Rattle.bforest_core.proofs.{rows.LevelRows.Solid-full, insertion.Grow.{in_left, in_right}, insertion.LeafSpot.{LeafSpot, leaf_spot, put_leaf, keys_count}}
+use Rattle.bforest_core.proofs.Words.{◌≡◌, ℕ, ◌+◌, ◌-◌, ◌/◌, nat_le, ◌≤◌, ◌<◌, true, false, Bool, if◌then◌else◌, [], ◌∷◌, ◌++◌, length, set, get_or, Some}
+use Rattle.bforest_core.proofs.Words.{refl, sym, ap, ◌∙◌, arith, append_assoc, length-append, get_or_default, get_or-set_same, get_or-set_other, Leaf}
+use Rattle.bforest_core.proofs.Words.{IsLeafCapacity, with_entry, Table, IsUsed, IsFullAt, IsSplitAt, front_of, with_node, heads, half_of, leaf_content}
+use Rattle.bforest_core.proofs.{Words.{entry_keys, Placed, Inserted, LeafHalved}, insertion.Parted.{Split, leaf_full_is, counted, split_at, left_used}}
+use Rattle.bforest_core.proofs.insertion.Parted.{into_left, into_right, middle_key, PutAsks, HasRoom, Written, asks_put, put_fewer, put_in, put_past, in_left}
+use Rattle.bforest_core.proofs.{insertion.Parted.in_right, rows.Bounds.{past_le, upto_le}, table.Tables.{is_used, puts}, insertion.LeafSpot.leaf_parted}
+use Rattle.bforest_core.proofs.{insertion.LeafSpot.{LeafSpot, leaf_spot, put_leaf}, table.Stored.{leaf_cuts, with_entry_is, keys_count}}
+use Rattle.bforest_core.proofs.rows.LevelRows.{Solid-full}
 use Rattle.bforest_nodes.specs.declared.node.SplitOff.{SplitOff}
 
 module _ {K V : Type 0} where

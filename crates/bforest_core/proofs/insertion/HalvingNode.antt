@@ -3,13 +3,12 @@
 use Rattle.bforest_core.proofs.Words.{◌≡◌, ℕ, suc, ◌-◌, ◌≤◌, ◌<◌, true, false, if◌then◌else◌, [], ◌∷◌, ◌++◌, length, set, get_or, Some, refl, sym, ap, ◌∙◌}
 use Rattle.bforest_core.proofs.Words.{append_assoc, length-append, arith, ◌≢◌, nat_lt, get_or_default, get_or-set_same, get_or-set_other, Inner, with_child}
 use Rattle.bforest_core.proofs.Words.{Table, IsUsed, IsFullAt, IsSplitAt, front_of, with_node, flat, head_of, heads, sizes, inner_content, entry_items}
-use Rattle.bforest_core.proofs.{Words.{GrownBy, Halved, HalvedBy, OneAbove, node, inner_gain}, insertion.Halving.{Split, full_is, inner_parts, counted}}
-use Rattle.bforest_core.proofs.insertion.Halving.{split_at, left_used, into_left, into_right, PutAsks, HasRoom, Written, asks_put, put_fewer, put_in}
-use Rattle.bforest_core.proofs.{insertion.Halving.{put_past, Halves}, table.Stored.{item_count, key_count, with_child_is}, rows.LevelRows.Solid-full}
-use Rattle.bforest_core.proofs.{rows.LevelRows.{heads-append, sizes-append}, insertion.Rise.{settle_room, step_is, step_most}, insertion.Grow.head-grown}
-use Rattle.bforest_core.proofs.{insertion.Grow.{in_left, in_right, InHalf, gain_spot, gain_full}, table.Tables.{is_used, puts}, rows.Bounds.below_lt}
-use Rattle.bforest_core.proofs.{rows.Bounds.above_lt, removal.Lifted.rows_above, insertion.HalvingLeaf.FullAt, rows.Zipper.{Spot, spot}}
-use Rattle.bforest_core.proofs.insertion.Parted.{part}
+use Rattle.bforest_core.proofs.{Words.{GrownBy, Halved, HalvedBy, OneAbove, node, inner_gain}, insertion.Parted.{Split, full_is, inner_parts, counted}}
+use Rattle.bforest_core.proofs.insertion.Parted.{split_at, left_used, into_left, into_right, PutAsks, HasRoom, Written, asks_put, put_fewer, put_in, put_past}
+use Rattle.bforest_core.proofs.insertion.Parted.{Halves, settle_room, step_is, step_most, head-grown, in_left, in_right, InHalf, gain_spot, gain_full, part}
+use Rattle.bforest_core.proofs.{table.Stored.{item_count, key_count, with_child_is}, rows.LevelRows.{Solid-full, heads-append, sizes-append}}
+use Rattle.bforest_core.proofs.{table.Tables.{is_used, puts}, rows.Bounds.{below_lt, above_lt}, removal.Lifted.rows_above, insertion.HalvingLeaf.FullAt}
+use Rattle.bforest_core.proofs.rows.Zipper.{Spot, spot}
 use Rattle.bforest_nodes.specs.declared.node.SplitOff.{SplitOff}
 
 module _ {K V : Type 0} where

@@ -4,9 +4,10 @@ use Rattle.bforest_core.proofs.Words.{Option, Some, None, Result, Ok, Err, List,
 use Rattle.bforest_core.proofs.Words.{false, refl, sym, ap, ◌∙◌, subst, length-set, EndsIn, PutsInLeaf, Leaf, Table, IsFullAt, IsUnion, IsUsed, Placed}
 use Rattle.bforest_core.proofs.Words.{PlacedUnder, StandsUnder, Changes, sizes, sizes_of, flat, tree_of, entry_count, entry_keys, is_present, leaf_content}
 use Rattle.bforest_core.proofs.Words.{place, value_for, search_of, with_entry, with_node, with_value_at, growth, gain_above, need_above, is_some, option_map}
-use Rattle.bforest_core.proofs.{Words.{get_or-set_same, lt-ltb, ltb-true}, insertion.Halving.{HasRoom, Written}, insertion.Insertion.{placed-under, put-here}}
-use Rattle.bforest_core.proofs.{insertion.LeafSpot.{keys_count, leaf_spot, room_gain}, table.Stored.read_same, insertion.HalvingLeaf.{put_full, put_inserts}}
-use Rattle.bforest_core.proofs.{table.Read.slot-is, table.Tables.is_used, walks.LeafSearch.items-read, union.Written.{entry-used, value-written}}
+use Rattle.bforest_core.proofs.{Words.{get_or-set_same, lt-ltb, ltb-true}, insertion.Parted.{HasRoom, Written}, insertion.Insertion.{placed-under, put-here}}
+use Rattle.bforest_core.proofs.{table.Stored.{keys_count, read_same}, insertion.LeafSpot.{leaf_spot, room_gain}, insertion.HalvingLeaf.put_full}
+use Rattle.bforest_core.proofs.{insertion.HalvingLeaf.put_inserts, table.Read.slot-is, table.Tables.is_used, walks.LeafSearch.items-read}
+use Rattle.bforest_core.proofs.union.Written.{entry-used, value-written}
 use Rattle.bforest_nodes.specs.Content.{with_value as content_with}
 use Rattle.bforest_nodes.specs.Entries.{with_value}
 use Rattle.std.specs.declared.cmp.Ordering.{Ordering}

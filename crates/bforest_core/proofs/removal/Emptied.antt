@@ -5,13 +5,13 @@ use Rattle.bforest_core.proofs.Words.{append_assoc, length-append, arith, Heads,
 use Rattle.bforest_core.proofs.Words.{with_node, with_freed, node, flat, heads, sizes, numbers, FitRow, Solid, loss_above, inner_content, entry_keys}
 use Rattle.bforest_core.proofs.Words.{entry_items, count, Distinct, root_above, Above, LastAbove, nodes_up, Dropped, rebalanced, slice_get, IsLeafCapacity}
 use Rattle.bforest_core.proofs.Words.{IsUsed, Topped, Tree, half_of, loss, leaf_content, root_of, numbers_of, IsPathAt, UpTo, Trimmed, StandsIn, IsSingle}
-use Rattle.bforest_core.proofs.{Words.{Removed, Emptied, add-one, get_or_default}, removal.Collapse.heads-flat, removal.Losses.{placed, loss_level, lost_above, loss_at}}
-use Rattle.bforest_core.proofs.{removal.Lifted.{heads-put, above_same, rows_above, Counts, Removes, Seen, seen}, rows.Contents.removed_last}
-use Rattle.bforest_core.proofs.{rows.LevelRows.{flat-append, heads-append, sizes-append, FitRow-join, Solid-full}, rows.Tops.{top_rows, root-stands}}
-use Rattle.bforest_core.proofs.{removal.Rebalance.rebalanced_last, removal.LeafAt.{some_first, no_nodes, remove_flat, leaf_count, LeafAt, leaf_at}}
-use Rattle.bforest_core.proofs.{rows.Zipper.{Cut_above, Facts, facts, Spot, above_two}, removal.Frees.{frees-puts, freed_other, frees-first, frees-one}}
-use Rattle.bforest_core.proofs.table.Tables.{count-append, counts, count-same, row-split, row-put, row-same, rows-same, ne_from_count, puts}
-use Rattle.bforest_core.proofs.removal.Untrimmed.{Untrimmed, up_to, trimmed_removed}
+use Rattle.bforest_core.proofs.{Words.{Removed, Emptied, add-one, get_or_default}, removal.Collapse.heads-flat, removal.Removing.{placed, loss_level}}
+use Rattle.bforest_core.proofs.{removal.Removing.{lost_above, loss_at, Untrimmed, up_to, trimmed_removed}, removal.Lifted.{heads-put, above_same, rows_above}}
+use Rattle.bforest_core.proofs.{removal.Lifted.{Counts, Removes, Seen, seen}, rows.Contents.removed_last, rows.LevelRows.{flat-append, heads-append}}
+use Rattle.bforest_core.proofs.{rows.LevelRows.{sizes-append, FitRow-join, Solid-full}, rows.Tops.{top_rows, root-stands}, removal.Rebalance.rebalanced_last}
+use Rattle.bforest_core.proofs.{removal.LeafAt.{some_first, no_nodes, remove_flat, leaf_count, LeafAt, leaf_at}, rows.Zipper.{Cut_above, Facts, facts, Spot}}
+use Rattle.bforest_core.proofs.{rows.Zipper.above_two, removal.Frees.{frees-puts, freed_other, frees-first, frees-one}, table.Tables.{count-append, counts}}
+use Rattle.bforest_core.proofs.table.Tables.{count-same, row-split, row-put, row-same, rows-same, ne_from_count, puts}
 
 -- solid nodes fit as a row
 pub fit_solid : {K X : Type 0} (half most : ℕ) → 1 ≤ half → (row : Row K X) → Solid half most row → FitRow half most row

@@ -2,10 +2,10 @@
 use Rattle.bforest_core.proofs.Words.{set-set, length-remove, ◌≡◌, ◌≢◌, ℕ, ◌+◌, ◌/◌, ◌≤◌, ◌<◌, List, ◌∷◌, ◌++◌, None, Some, ap, arith, get_or, inl, inr}
 use Rattle.bforest_core.proofs.Words.{length, length-append, refl, slice_get, ◌∙◌, nil_from_length, Content, Free, EntryTaken, HasOthers, IsSingle, IsUsed}
 use Rattle.bforest_core.proofs.Words.{LeafLoss, Removed, Shrinks, StandsIn, Unbalanced, Table, Tree, entry_keys, front_of, leaf_content, root_of, tree_of}
-use Rattle.bforest_core.proofs.{Words.{with_freed, with_node, without_entry}, removal.Lifted.{Counts, NodeAt}, removal.PastEnd.alone_last}
-use Rattle.bforest_core.proofs.{removal.Emptied.emptied_tree, rows.Tops.root-stands, table.Tables.{is_used, puts}, removal.Removing.kept_removed}
-use Rattle.bforest_core.proofs.{removal.Taking.alone_loss, removal.Removal.{outcome, removal, stands_in}, removal.LeafAt.{LeafAt, leaf_at, leaf_count}}
-use Rattle.bforest_core.proofs.{removal.LeafAt.{leaf_keys, some_first}, union.Unions.rooted}
+use Rattle.bforest_core.proofs.{Words.{with_freed, with_node, without_entry}, removal.Lifted.{Counts, NodeAt}, removal.LeafAt.{alone_last, alone_loss}}
+use Rattle.bforest_core.proofs.{removal.LeafAt.{LeafAt, leaf_at, leaf_count, some_first}, removal.Emptied.emptied_tree, rows.Tops.root-stands}
+use Rattle.bforest_core.proofs.{table.Tables.{is_used, puts}, removal.Removing.kept_removed, removal.Removal.{outcome, removal, stands_in}}
+use Rattle.bforest_core.proofs.{table.Stored.keys_count, union.Unions.rooted}
 
 -- a node that is written and freed is a node that is freed
 freed_again : {K V : Type 0} (t : Table K V) (n c : _) → with_freed (with_node t n c) n ≡ with_freed t n
@@ -63,7 +63,7 @@ module _ {K V : Type 0} {most : ℕ} {old now : Table K V} {root place path indi
 
     module _ (m : ℕ) (value : Counts now read m) where
       count_is : m + 1 ≡ length es
-      count_is = omega (arith, value left slot_read, length-remove (entry_keys es) (get_or indices 0 0) (omega (arith, within, leaf_keys es)), leaf_keys es)
+      count_is = omega (arith, value left slot_read, length-remove (entry_keys es) (get_or indices 0 0) (omega (arith, within, keys_count es)), keys_count es)
 
       -- the entry was the leaf's only one
       pub single : m ≡ 0 → IsSingle old now leaf

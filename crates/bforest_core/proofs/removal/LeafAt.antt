@@ -1,10 +1,15 @@
--- The leaf where a path stands, cut at the path's entry, and the leaf without it.
+-- The leaf where a path stands: cut at the path's entry, without it (the answers of `remove`, `take_entry` and `renew_first`), and whether the path is
+-- past all entries then.
 use Rattle.bforest_core.proofs.Words.{◌≡◌, ℕ, suc, ◌+◌, ◌≤◌, ◌<◌, Some, Option, List, [], ◌∷◌, ◌++◌, map, length, get_or, slice_get, refl, sym, ap, ◌∙◌}
 use Rattle.bforest_core.proofs.Words.{append_assoc, length-append, arith, Row, map-append, flat_map, remove, length-map, Content, without_entry, Table, node}
 use Rattle.bforest_core.proofs.Words.{flat, heads, sizes, numbers, FitRow, Solid, Tree, half_of, RowIn, leaf_content, entry_keys, count, Distinct, numbers_of}
-use Rattle.bforest_core.proofs.{Words.{Above, Rebuilt, StandsIn, LeafLoss}, table.Tables.{count-append, counts, count-same, row-split, row-put, row-same, Puts}}
-use Rattle.bforest_core.proofs.{rows.LevelRows.{flat-append, sizes-append, FitRow-split, Solid-full, least-pos, heads-append}, rows.Zipper.{cut, apart_here}}
-use Rattle.bforest_core.proofs.{removal.Frees.{frees-after, frees-puts}, rows.Contents.remove_at}
+use Rattle.bforest_core.proofs.Words.{Above, Rebuilt, StandsIn, LeafLoss, None, Bool, true, false, not, is_some, nil_from_length, OneAbove, NextIs}
+use Rattle.bforest_core.proofs.Words.{get_or_default, entry_count, ◌≢◌, Leaf, HasOthers, IsSingle, IsUsed, with_node, head_of, entry_items}
+use Rattle.bforest_core.proofs.table.Tables.{count-append, counts, count-same, row-split, row-put, row-same, Puts, is_used, puts}
+use Rattle.bforest_core.proofs.rows.LevelRows.{flat-append, sizes-append, FitRow-split, Solid-full, least-pos, heads-append, HeadIs, head-is}
+use Rattle.bforest_core.proofs.{rows.Zipper.{cut, apart_here}, removal.Frees.{frees-after, frees-puts}, rows.Contents.remove_at, table.Stored.keys_count}
+use Rattle.bforest_core.proofs.{table.Stored.{read_same, some_same}, removal.Collapse.heads-flat, removal.Lifted.{headed, top_one, NodeAt, Beside, above_top}}
+use Rattle.bforest_core.proofs.removal.Lifted.{above_written, rebuilt_same}
 
 remove_map : {X Y : Type 0} (f : X → Y) (l r : List X) (x : X) → remove (map f (l ++ x ∷ r)) (length l) ≡ map f (l ++ r)
 remove_map f l r x = cc (map-append f l (x ∷ r), remove_at (map f l) (f x) (map f r) (length l) (length-map l f), map-append f l r)
@@ -17,13 +22,9 @@ remove_flat before n l x r after = let whole : flat (before ++ node n (l ++ x �
     ap (λ z. remove z (length (flat before) + length l)) whole ∙ ap (λ z. remove ((flat before ++ l) ++ x ∷ (r ++ flat after)) z) (sym (length-append _ l)) ∙ remove_at (flat before ++ l) x (r ++ flat after) (length (flat before ++ l)) refl
     ∙ append_assoc _ l _ ∙ ap (λ z. flat before ++ z) (sym (append_assoc l r _)) ∙ sym (flat-append before (node n (l ++ r) ∷ after))
 
--- a leaf has as many keys as entries
-pub leaf_keys : {K V : Type 0} (es : List (K × V)) → length (entry_keys es) ≡ length es
-leaf_keys es = length-map es (λ w. w.0)
-
 -- two lists of entries in the same slot are equally long
 pub leaf_count : {K V : Type 0} (es fs : List (K × V)) (c : Option (Content K V)) → c ≡ Some (leaf_content es) → c ≡ Some (leaf_content fs) → length es ≡ length fs
-leaf_count es fs c e f = let same : entry_keys es ≡ entry_keys fs = cc in cc (leaf_keys es, leaf_keys fs)
+leaf_count es fs c e f = let same : entry_keys es ≡ entry_keys fs = cc in cc (keys_count es, keys_count fs)
 
 -- a row without heads has no nodes
 pub no_nodes : {K X : Type 0} (half most : ℕ) → 1 ≤ half → (row : Row K X) → FitRow half most row → heads row ≡ [] → row ≡ []
@@ -140,3 +141,160 @@ module _ {K V : Type 0} where
           frees = frees-after (λ m none. omega (arith, none, c8 m)) (frees-puts (numbers_of tree) (omega (arith, c0 n, c1 n, c8 n, count-same n (numbers d.after))) w) b.frees;
         };
       }
+
+module _ {K V : Type 0} {most : ℕ} {t v : Table K V} {path indices size tree place : _} (l : LeafLoss most t v path indices size tree place) where
+  pub named : HeadIs (get_or path 0 0) l.entries
+  named = head-is _ _ l.some
+
+  -- the rows above the leaf, cut at it
+  pub above_left : Above v path indices 1 size l.rest (heads l.before ++ (named.first.0, get_or path 0 0) ∷ heads l.after) (length (heads l.before))
+  above_left = headed l.before l.after named l.above
+
+  -- the rows above meet what the search for the next leaf requires
+  abbrev pub beside_asks : OneAbove v path indices 1 size
+  beside_asks = record { rows = l.rest; before = heads l.before; x = (named.first.0, get_or path 0 0); after = heads l.after; above = above_left }
+
+  -- half of a leaf is at least one entry
+  pub loss_half : 1 ≤ half_of most
+  loss_half = let one : 1 ≤ most = omega arith in omega arith
+
+  -- no leaf follows
+  none_follows : (found : Option (K × ℕ)) → NextIs found (heads l.after) → is_some found ≡ false → l.after ≡ []
+  none_follows None next is = no_nodes _ _ loss_half _ l.fits next
+  none_follows (Some x) next is = absurd cc
+
+  -- no leaf follows where the leaf is the whole tree
+  pub alone_last : size ≤ 1 → l.after ≡ []
+  alone_last low = let one = top_one l.rest low above_left in
+      no_nodes (half_of most) most loss_half l.after l.fits (nil_from_length (heads l.after) (omega (arith, length-append (heads l.before) ((named.first.0, get_or path 0 0) ∷ heads l.after))))
+
+  -- a leaf follows
+  pub one_follows : (found : Option (K × ℕ)) (none : Bool) → Beside v path indices 1 size found → is_some found ≡ not none → none ≡ false → get_or indices 0 0 < length (l.entries ++ flat l.after)
+  one_follows None none beside is so = absurd (let e = ap not so in cc)
+  one_follows (Some x) none beside is so = omega (arith, ap length (beside beside_asks).1, heads-flat l.after, length-append l.entries (flat l.after))
+
+  module _ (r : ℕ) (wide : length path ≡ 17) where
+    slot_left : slice_get v.nodes (get_or path 0 r) ≡ Some (leaf_content l.entries)
+    slot_left = cc (get_or_default path 0 r 0 (omega arith), (row-split _ _ _ (node (get_or path 0 0) l.entries ∷ l.after) l.inside).1.0)
+
+    -- the leaf meets what counting its entries requires
+    pub left_asks : NodeAt v (get_or path 0 r)
+    left_asks = (leaf_content l.entries, slot_left, λ free. free)
+
+    module _ (m : ℕ) (value : (x : Content K V) → slice_get v.nodes (get_or path 0 r) ≡ Some x → m ≡ entry_count x) where
+      left_is : m ≡ length l.entries
+      left_is = value (leaf_content l.entries) slot_left ∙ keys_count _
+
+      -- the path is at an entry of the leaf
+      pub in_leaf : get_or indices 0 0 < m → get_or indices 0 0 < length (l.entries ++ flat l.after)
+      in_leaf low = omega (arith, left_is, length-append l.entries (flat l.after))
+
+      -- the path is past all entries
+      pub behind_all : (found : Option (K × ℕ)) (none : Bool) → m ≤ get_or indices 0 0 → Beside v path indices 1 size found → is_some found ≡ not none → none ≡ true → (l.after ≡ []) × (get_or indices 0 0 ≡ length l.entries)
+      behind_all found none high beside is so = (none_follows found (beside beside_asks) cc, omega (arith, left_is))
+
+module _ {K V : Type 0} where
+  -- a leaf with a key of this index
+  abbrev pub LeafKeyAt : Table K V → ℕ → ℕ → Type 0
+  LeafKeyAt t number index = (keys : List K) × (vals : List V) × (slice_get t.nodes number ≡ Some (Leaf keys vals)) × (index < length keys)
+
+  module _ {most : ℕ} {t : Table K V} {path indices size tree place : _} (s : StandsIn most t path indices size tree place) (read : ℕ) (num_is : read ≡ get_or path 0 0) where
+    pub d : LeafAt most t path indices size tree place
+    d = leaf_at s
+
+    abbrev es : List (K × V)
+    es = d.l ++ d.x ∷ d.r
+
+    slot : slice_get t.nodes read ≡ Some (leaf_content es)
+    slot = cc (d.slot_is)
+
+    -- the leaf meets what counting its entries requires
+    pub counted_asks : NodeAt t read
+    counted_asks = (leaf_content es, slot, λ free. free)
+
+    module _ (m : ℕ) (value : (x : Content K V) → slice_get t.nodes read ≡ Some x → m ≡ entry_count x) where
+      count_is : m ≡ length es
+      count_is = value (leaf_content es) slot ∙ keys_count es
+
+      first : (x : _) × (more : _) × (es ≡ x ∷ more)
+      first = some_first es (omega (arith, length-append d.l (d.x ∷ d.r)))
+
+      -- the leaf has no other entry
+      pub single : m ≡ 1 → IsSingle t t (get_or path 0 0)
+      single one =
+          let h = first in record { entry = h.0; slot_was = cc (d.slot_is, nil_from_length h.1 (omega (arith, count_is, ap length h.2))); freed_is = refl }
+
+      -- the leaf has another entry
+      pub others : m ≢ 1 → (x y : K × V) × (rest : List (K × V)) × (slice_get t.nodes (get_or path 0 0) ≡ Some (leaf_content (x ∷ y ∷ rest)))
+      others more = let h = first in let k = some_first h.1 (omega (arith, more, count_is, ap length h.2)) in (h.0, k.0, k.1, cc (d.slot_is))
+
+    -- the leaf is used
+    pub leaf_used : IsUsed t (get_or path 0 0)
+    leaf_used = is_used t _ _ d.slot_is d.none_chain
+
+    -- the leaf meets what removing the entry requires
+    pub out_asks : IsUsed t read × LeafKeyAt t read (get_or indices 0 0)
+    out_asks = (rw num_is leaf_used, (entry_keys es, entry_items es, slot, omega (arith, keys_count es, d.index_is, length-append d.l (d.x ∷ d.r))))
+
+    -- the entry was removed from the leaf, which has others
+    pub has_others : (u : _) (has : (x y : _) × (rest : _) × (slice_get t.nodes (get_or path 0 0) ≡ Some (leaf_content (x ∷ y ∷ rest)))) →
+        ((keys : List K) (vals : List V) → slice_get t.nodes read ≡ Some (Leaf keys vals) → u ≡ with_node t read (without_entry (Leaf keys vals) (get_or indices 0 0))) → HasOthers t u path indices
+    has_others u has takes = let all = has.0 ∷ has.1 ∷ has.2 in
+        record { x = has.0; y = has.1; more = has.2; slot_was = has.3; new_is = cc (takes (entry_keys all) (entry_items all) (simp (num_is, has.3))) }
+
+    module _ {u : Table K V} (h : HasOthers t u path indices) where
+      abbrev all : List (K × V)
+      all = h.x ∷ h.y ∷ h.more
+
+      more : 1 ≤ length (d.l ++ d.r)
+      more = omega (arith, leaf_count es all (slice_get t.nodes (get_or path 0 0)) d.slot_is h.slot_was, length-append d.l (d.x ∷ d.r), length-append d.l d.r)
+
+      w : Puts t u (get_or path 0 0) (leaf_content (d.l ++ d.r))
+      w = let n = get_or path 0 0 in let same = read_same _ n _ _ d.slot_is h.slot_was in
+          puts t u n _ _ d.slot_is (cc (without_entry_is d.l d.x d.r (get_or indices 0 0) d.index_is))
+
+      -- where the leaf is the whole tree, there is no row above that names it
+      pub alone_loss : size ≤ 1 → LeafLoss most t u path indices size tree place
+      alone_loss low = let n = get_or path 0 0 in let a = above_written w d.none_rows d.above in
+          let len = as_many_heads d.before n es (d.l ++ d.r) d.after (omega (arith, length-append d.l (d.x ∷ d.r))) more in
+          leaf_loss d more w (rebuilt_same (above_top _ _ low len a))
+
+      -- the rows above, which name the leaf by its old first key
+      above_then : (k : K) → ((rs : _) → head_of (get_or path 0 0) (d.l ++ d.x ∷ rs) ≡ (k, get_or path 0 0) ∷ []) → Above u path indices 1 size tree.above (heads d.before ++ (k, get_or path 0 0) ∷ heads d.after) (length (heads d.before))
+      above_then k head_is =
+          rw (← (heads-append d.before (node (get_or path 0 0) es ∷ d.after) ∙ ap (λ z. heads d.before ++ (z ++ heads d.after)) (head_is d.r))) (above_written w d.none_rows d.above)
+
+      -- an entry that is not the first was removed
+      pub behind : 0 < get_or indices 0 0 → LeafLoss most t u path indices size tree place
+      behind high = let n = get_or path 0 0 in let f = some_first d.l (omega (arith, d.index_is)) in
+          let new = sym (heads-append d.before (node n (d.l ++ d.r) ∷ d.after) ∙ ap (λ z. heads d.before ++ (head_of n (z ++ d.r) ++ heads d.after)) f.2) in
+          leaf_loss d more w (rebuilt_same (rw new at (above_then f.0.0 (λ rs. ap (λ z. head_of n (z ++ d.x ∷ rs)) f.2))))
+
+      module _ (first : get_or indices 0 0 ≤ 0) where
+        -- the entry after the removed one
+        next : (y : _) × (others : _) × (d.l ++ d.r ≡ y ∷ others)
+        next = some_first _ more
+
+        pub above : Above u path indices 1 size tree.above (heads d.before ++ (d.x.0, get_or path 0 0) ∷ heads d.after) (length (heads d.before))
+        above = above_then d.x.0 (λ rs. ap (λ z. head_of (get_or path 0 0) (z ++ d.x ∷ rs)) (nil_from_length d.l (omega (arith, first, d.index_is))))
+
+        slot_then : slice_get u.nodes read ≡ Some (leaf_content (next.0 ∷ next.1))
+        slot_then = cc (w.here, next.2)
+
+        -- the leaf meets what reading its new first key requires
+        pub first_asks : LeafKeyAt u read 0
+        first_asks = (entry_keys (next.0 ∷ next.1), entry_items (next.0 ∷ next.1), slot_then, omega arith)
+
+        -- the rows above meet what writing the new first key requires
+        abbrev pub above_asks : OneAbove u path indices 1 size
+        above_asks = record { rows = tree.above; before = heads d.before; x = (d.x.0, get_or path 0 0); after = heads d.after; above = above }
+
+        -- the first entry of the leaf was removed
+        pub ahead : (v key : _) → ((keys : List K) (vals : List V) → slice_get u.nodes read ≡ Some (Leaf keys vals) → slice_get keys 0 ≡ Some key) →
+            ((w : OneAbove u path indices 1 size) → Rebuilt u v path indices path indices 1 size w.rows (w.before ++ (key, w.x.1) ∷ w.after) (length w.before) (map sizes w.rows) []) →
+            LeafLoss most t v path indices size tree place
+        ahead v key reads rekeys = let n = get_or path 0 0 in
+            let new : heads d.before ++ ((key, n) ∷ heads d.after) ≡ heads (d.before ++ node n (d.l ++ d.r) ∷ d.after) =
+            simp ((some_same _ _ (reads (entry_keys (next.0 ∷ next.1)) (entry_items (next.0 ∷ next.1)) slot_then)), next.2, heads-append) in
+            leaf_loss d more w
+            (rw (← new) (rekeys above_asks))

@@ -121,7 +121,7 @@ impl<K: Copy, V: Copy, const N: usize> Path<K, V, N> {
 
     // Balances the path's node on `level`, which lost an entry, with its right neighbour, if it has fewer than `least` entries. Returns whether
     // it was merged into the neighbour, to which the path leads then.
-    #[tactic(auto, using(crate::proofs::removal::Rebalancing::loses_low))]
+    #[tactic(auto, using(crate::proofs::removal::Rebalance::loses_low))]
     #[inline(always)]
     pub(super) fn rebalance(
         &mut self,

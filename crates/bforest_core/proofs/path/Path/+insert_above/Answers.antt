@@ -1,7 +1,6 @@
 use Rattle.bforest_core.proofs.Words.{rules, ◌≡◌, ℕ, ◌+◌, ◌≤◌, [], map, length, sym, ap, ◌∙◌, arith, add-one, ◌<◌, suc, Bool, if◌then◌else◌, List, ◌∷◌, ◌++◌}
 use Rattle.bforest_core.proofs.Words.{get_or, Some, get_or_default, Table, IsFullAt, OneAbove, heads, sizes, need_above, gain_above, Grown, GrownBy, HalvedBy}
-use Rattle.bforest_core.proofs.{insertion.Parted.gain-some, insertion.Rise.{need_top, rise, sizes_halved, need_full}, insertion.Halving.full_is}
-use Rattle.bforest_core.proofs.rows.Zipper.{spot}
+use Rattle.bforest_core.proofs.{insertion.Parted.{gain-some, need_top, rise, sizes_halved, need_full, full_is}, rows.Zipper.spot}
 use Rattle.bforest_core.proofs.path.Path.+insert_above.Goals as goal
 
 module _ {K V : Type 0} where

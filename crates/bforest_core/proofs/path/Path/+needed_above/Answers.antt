@@ -1,4 +1,5 @@
-use Rattle.bforest_core.proofs.{Words.{rules, arith, sym}, rows.Needs.{level_above, level_full, level_room, level_used, level_within}, insertion.Rise.need_top}
+use Rattle.bforest_core.proofs.{Words.{rules, arith, sym}, rows.Needs.{level_above, level_full, level_room, level_used, level_within}}
+use Rattle.bforest_core.proofs.insertion.Parted.{need_top}
 use Rattle.bforest_core.proofs.path.Path.+needed_above.Goals as goal
 
 pub node-requires : goal.node-requires

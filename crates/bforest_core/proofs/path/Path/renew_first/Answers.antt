@@ -1,4 +1,4 @@
-use Rattle.bforest_core.proofs.{Words.{rules, arith, get_or_default}, removal.Taking.{behind, first_asks, above_asks, ahead}}
+use Rattle.bforest_core.proofs.{Words.{rules, arith, get_or_default}, removal.LeafAt.{behind, first_asks, above_asks, ahead}}
 use Rattle.bforest_core.proofs.path.Path.renew_first.Goals as goal
 
 pub returns-then-self-gt0 : goal.returns-then-self-gt0

@@ -1,4 +1,4 @@
-use Rattle.bforest_core.proofs.{Words.{rules, arith, get_or_default}, removal.Taking.{has_others, out_asks}}
+use Rattle.bforest_core.proofs.{Words.{rules, arith, get_or_default}, removal.LeafAt.{has_others, out_asks}}
 use Rattle.bforest_core.proofs.path.Path.take_entry.Goals as goal
 
 pub remove_entry-requires : goal.remove_entry-requires
