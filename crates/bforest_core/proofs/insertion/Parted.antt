@@ -171,7 +171,7 @@ module _ {K V X : Type 0} (content : List (K × X) → Content K V) where
     pub key_is : key ≡ y.0
     pub two : Two t s n right zs (y ∷ ys)
 
-  -- the two_halves of a node, with one more entry
+  -- the halves of a node, with one more entry
   pub record Halves (t u : Table K V) (n right : ℕ) (middle : K) (grown : List (K × X)) (left_count right_count : ℕ) : Type 0 where
     pub z : K × X
     pub xs : List (K × X)
@@ -241,7 +241,7 @@ module _ {K V X : Type 0} (content : List (K × X) → Content K V) where
       limit_is = cc;
     }
 
-  -- two nodes whose sizes are those of two_halves are two_halves
+  -- two nodes whose sizes are those of halves are halves
   two_halves : {t u n right : _} (middle grown lefts rights left_count right_count : _)
       → grown ≡ lefts ++ rights → length lefts ≡ left_count → length rights ≡ right_count → 1 ≤ left_count
       → head_of right rights ≡ (middle, right) ∷ [] → Two t u n right lefts rights → Halves t u n right middle grown left_count right_count

@@ -94,7 +94,7 @@ module _ {K V : Type 0} {most : ℕ} {old now : Table K V} {root place path indi
 
       -- the tree of one leaf that has others
       pub alone_kept : size ≡ 1 → 0 < m → Shrinks most old now path root place (Some root)
-      alone_kept one some = let s = stood_in in let l = alone_loss s leaf refl (others (λ none. omega arith)) (omega arith) in
+      alone_kept one some = let s = stood_in in let l = alone_loss s (others (λ none. omega arith)) (omega arith) in
           settled (kept_removed s l root_was (λ z. Unit {0}) (inr (alone_last l (omega arith))) (λ z is. tt))
 
       -- the tree of one leaf, which had one entry
