@@ -256,10 +256,9 @@ module _ {K V : Type 0} where
     pub lost : LeafLoss most old table path indices size tree place
     pub at_entry : half_of most ≤ length lost.entries → get_or indices 0 0 < length (lost.entries ++ flat lost.after)
 
-  -- the entry at the place is removed from the tree, which is not empty, has the root `root'` and satisfies
-  -- `Now`: the sizes are those of `shrink`, and the freed nodes are in front of the chain, those of the path
-  -- from the leaf up
-  pub record Removed (most : ℕ) (old new : Table K V) (path : List ℕ) (Now : Tree K V → Type 0) (tree : Tree K V) (place root' : ℕ) : Type 0 where
+  -- the entry at the place is removed from the tree, which is not empty and has the root `root'`: the sizes are those
+  -- of `shrink`, and the freed nodes are in front of the chain, those of the path from the leaf up
+  pub record Shrunk (most : ℕ) (old new : Table K V) (path : List ℕ) (tree : Tree K V) (place root' : ℕ) : Type 0 where
     pub tree' : Tree K V
     pub freed : List ℕ
     pub flat_is : flat tree'.leaves ≡ remove (flat tree.leaves) place
@@ -267,7 +266,6 @@ module _ {K V : Type 0} where
     pub fit : IsFit most tree'
     pub inside : IsIn new.nodes tree'
     pub some : 1 ≤ length (flat tree'.leaves)
-    pub at : Now tree'
     pub numbers_are : (number : ℕ) → count number (numbers_of tree') + count number freed ≡ count number (numbers_of tree)
     pub root_is : root_of tree' ≡ root'
     pub same_root : length tree'.above ≡ length tree.above → root' ≡ root_of tree
@@ -275,6 +273,12 @@ module _ {K V : Type 0} where
     pub low : length tree'.above ≤ length tree.above
     pub order : InOrder path (length tree.above - length tree'.above) freed
     pub frees : Frees old new (numbers_of tree) freed
+
+  -- the entry is removed, and the tree that is left satisfies `Now`
+  pub record Removed (most : ℕ) (old new : Table K V) (path : List ℕ) (Now : Tree K V → Type 0) (tree : Tree K V) (place root' : ℕ) : Type 0 where
+    pub shrunk : Shrunk most old new path tree place root'
+    pub open shrunk use *
+    pub at : Now tree'
 
   -- the only entry of the tree is removed, with its node
   pub record Emptied (most : ℕ) (old new : Table K V) (tree : Tree K V) (place : ℕ) : Type 0 where

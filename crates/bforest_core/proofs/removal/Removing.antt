@@ -228,23 +228,7 @@ module _ {K V : Type 0} where
   -- a removal, with another fact of the tree that it leaves
   pub removed_at : {most : ℕ} {old new : Table K V} {path : _} {Now : Tree K V → Type 0} (Then : Tree K V → Type 0) {tree : Tree K V} {place root' : ℕ} → ((z : Tree K V) → flat z.leaves ≡ remove (flat tree.leaves) place → Now z → Then z) →
       Removed most old new path Now tree place root' → Removed most old new path Then tree place root'
-  removed_at Then shows r = record {
-    tree' = r.tree';
-    freed = r.freed;
-    flat_is = r.flat_is;
-    sizes_are = r.sizes_are;
-    fit = r.fit;
-    inside = r.inside;
-    some = r.some;
-    at = shows r.tree' r.flat_is r.at;
-    numbers_are = r.numbers_are;
-    root_is = r.root_is;
-    same_root = r.same_root;
-    old_root = r.old_root;
-    low = r.low;
-    order = r.order;
-    frees = r.frees;
-  }
+  removed_at Then shows r = record { shrunk = r.shrunk; at = shows r.tree' r.flat_is r.at }
 
   -- the tree without the entry: its levels have the sizes of a removal, but the root may have a single child
   pub record Untrimmed (most : ℕ) (old new : Table K V) (tree : Tree K V) (place : ℕ) (leaves : Row K V) (rows : Rows K) (freed : List ℕ) : Type 0 where
@@ -284,24 +268,26 @@ module _ {K V : Type 0} where
       let len = length-sizes leaves ∙ sym (fit_full (half_of most) most u.half leaves u.leaves_fit) in
       let count_is = ap length t.rows_are ∙ length-append t.rows' t.discarded in
       record {
-        tree' = record { leaves = leaves; above = t.rows' };
-        freed = gone ++ freed;
-        flat_is = u.flat_is;
-        sizes_are = sym (cc (trimmed-is (sizes leaves) (heads leaves) t.rows' t.discarded len (rw (← t.rows_are) u.stacked) t.stacked t.topped));
-        fit = record { leaves_fit = u.leaves_fit; stacked = t.stacked; topped = t.topped };
-        inside = record {
-          leaves_in = row-same leaf_content mid.nodes new.nodes leaves (λ m some. t.frees.others m (omega (arith, some, u.numbers_are m, c0 m, parts m, c3 m, s.apart m))) u.leaves_in;
-          rows_in = rows-same mid.nodes new.nodes t.rows' (λ m some. t.frees.others m (omega (arith, some, u.numbers_are m, c0 m, parts m, c3 m, s.apart m))) rows_in.0;
+        shrunk = record {
+          tree' = record { leaves = leaves; above = t.rows' };
+          freed = gone ++ freed;
+          flat_is = u.flat_is;
+          sizes_are = sym (cc (trimmed-is (sizes leaves) (heads leaves) t.rows' t.discarded len (rw (← t.rows_are) u.stacked) t.stacked t.topped));
+          fit = record { leaves_fit = u.leaves_fit; stacked = t.stacked; topped = t.topped };
+          inside = record {
+            leaves_in = row-same leaf_content mid.nodes new.nodes leaves (λ m some. t.frees.others m (omega (arith, some, u.numbers_are m, c0 m, parts m, c3 m, s.apart m))) u.leaves_in;
+            rows_in = rows-same mid.nodes new.nodes t.rows' (λ m some. t.frees.others m (omega (arith, some, u.numbers_are m, c0 m, parts m, c3 m, s.apart m))) rows_in.0;
+          };
+          some = u.some;
+          numbers_are = λ m. omega (arith, u.numbers_are m, c0 m, c1 m, c2 m, parts m, t.freed_is m);
+          root_is = t.root_is;
+          same_root = λ same. t.same_root (omega arith) ∙ sym root_is;
+          old_root = λ ne. omega (arith, c2 (root_of tree), ap (λ z. count z gone) root_is);
+          low = omega arith;
+          order = record { roots = gone; up = up; freed_is = refl; roots_are = omega arith };
+          frees = frees-then (λ m none. omega (arith, u.numbers_are m, c0 m, parts m)) (λ m some. omega (arith, some, u.numbers_are m, c0 m, parts m, c3 m, s.apart m)) u.frees t.frees;
         };
-        some = u.some;
         at = at;
-        numbers_are = λ m. omega (arith, u.numbers_are m, c0 m, c1 m, c2 m, parts m, t.freed_is m);
-        root_is = t.root_is;
-        same_root = λ same. t.same_root (omega arith) ∙ sym root_is;
-        old_root = λ ne. omega (arith, c2 (root_of tree), ap (λ z. count z gone) root_is);
-        low = omega arith;
-        order = record { roots = gone; up = up; freed_is = refl; roots_are = omega arith };
-        frees = frees-then (λ m none. omega (arith, u.numbers_are m, c0 m, parts m)) (λ m some. omega (arith, some, u.numbers_are m, c0 m, parts m, c3 m, s.apart m)) u.frees t.frees;
       }
 
 module _ {K V : Type 0} {most : ℕ} {old : Table K V} {path indices size tree place : _} (s : StandsIn most old path indices size tree place) (half : 1 ≤ half_of most) {root : ℕ} (root_is : root_of tree ≡ root) where
