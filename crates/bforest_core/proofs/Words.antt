@@ -4,7 +4,7 @@ pub use Rattle.bforest_core.specs.Change.{AtUnder, Changes, Ends, EntryTaken, Gi
 pub use Rattle.bforest_core.specs.Climb.{Above, Grown, GrownBy, Halved, HalvedBy, Inserted, LastAbove, LeafHalved, NextIs, OneAbove, Parted, Placed, SameBelow}
 pub use Rattle.bforest_core.specs.Descent.{Descended, GoesThrough, HasBelow, IsFirst, IsFrom, IsLast, IsRooted, IsUpTo, Led, OnBelow, Reached, SameAbove}
 pub use Rattle.bforest_core.specs.Levels.{FitRow, IsFit, LevelNode, Solid, Stacked, Topped, Tree, flat, half_of, head_of, heads, least, node, numbers, sizes}
-pub use Rattle.bforest_core.specs.Paths.{OnLeaf, Placing, PointsTo, Standing, StandsAt, StandsOn, index_of, leaf_of, list_under, path_root, place_in}
+pub use Rattle.bforest_core.specs.Paths.{InsertsHere, OnEntry, OnLeaf, Placing, PointsTo, Standing, StandsAt, StandsOn, index_of, leaf_of, list_under, path_root, place_in}
 pub use Rattle.bforest_core.specs.Place.{Distinct, IsAt, IsIn, IsPathAt, PointsAt, RowIn, RowsIn, Stands, StandsAbove, count, entry_before, entry_items}
 pub use Rattle.bforest_core.specs.Removal.{Dropped, Emptied, Frees, GivesAll, HasOthers, Healed, Heals, IsSingle, Item, Joined, Joins, LeafLoss, Loosened, LoosenedRows}
 pub use Rattle.bforest_core.specs.Spots.{Coded, CodedOver, EndsAt, Followed, HasNext, HasNextChild, HasPrev, HasPrevChild, HasUnder, HasWay, IsBefore, IsBehind}
@@ -17,7 +17,7 @@ pub use Rattle.bforest_core.specs.{Chain.{IsChain, IsPool, chain_from, next_of},
 pub use Rattle.bforest_core.specs.{Change.{StandsUnder, TakesNodes, node_count}, Spots.{OnUnder, OnWay, SpotOn, leaf_count, leaf_place, place_by}}
 pub use Rattle.bforest_core.specs.{Climb.{TwoAbove, nodes_up, top_of}, Leaves.{EndsIn, EndsOn, Narrows, PutsInLeaf, SearchEndsAt, TakesFromLeaf, entry_up_to}}
 pub use Rattle.bforest_core.specs.{Levels.sizes_of, Steps.TurnedBy, Table.{with_node, with_slots, with_value_at, without_front}, declared.path.Path.Path}
-pub use Rattle.bforest_core.specs.{Paths.{sizes_under, spot}, Place.{entry_keys, first_number, inner_content, leaf_content, numbers_of, root_above, root_of}}
+pub use Rattle.bforest_core.specs.{Paths.{RemovesHere, sizes_under, spot}, Place.{entry_keys, first_number, inner_content, leaf_content, numbers_of, root_above, root_of}}
 pub use Rattle.bforest_core.specs.Removal.{Loses, OnLevel, Rebuilt, Rekeyed, Removed, StandsIn, Trimmed, Unbalanced, UpTo, content_at, half_at, most_at, numbers_under}
 pub use Rattle.bforest_core.specs.Sizes.{gain_above, growth, inner_gain, leaf_gain, loss, loss_above, need, need_above, past, rebalanced, shrink, trimmed}
 pub use Rattle.bforest_nodes.proofs.Found.{absent_at, place-present, present_at, search_of-keys_of, value_for-absent, value_for-present}

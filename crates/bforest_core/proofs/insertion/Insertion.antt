@@ -3,7 +3,8 @@ use Rattle.bforest_core.proofs.Words.{drop-append_seam, ◌≡◌, ℕ, suc, ◌
 use Rattle.bforest_core.proofs.Words.{length, insert, slice_get, sym, ap, ◌∙◌, subst, inl, inr, length-append, arith, Heads, Row, Rows, flat_map, cases_lt}
 use Rattle.bforest_core.proofs.Words.{eqb_tells, length-map, Table, fresh_nodes, front_of, free_count, slot_count, room, reserved, IsFullAt, node, flat, heads}
 use Rattle.bforest_core.proofs.Words.{sizes, numbers, Stacked, Topped, Tree, sizes_of, leaf_gain, gain_above, growth, need, IsAt, Stands, count, root_of}
-use Rattle.bforest_core.proofs.Words.{numbers_of, top_of, Placed, Inserted, tree_of, is_root, IsUnion, Changes, TakesNodes, PlacedUnder, StandsUnder}
+use Rattle.bforest_core.proofs.Words.{numbers_of, top_of, Placed, Inserted, tree_of, is_root, IsUnion, Changes, TakesNodes, PlacedUnder, StandsUnder, InsertsHere}
+use Rattle.bforest_core.proofs.Words.{Ok, Path, Placing, refl}
 use Rattle.bforest_core.proofs.{table.Lists.slice_get-append_left, rows.Counts.{once_below, below-one, few-below}, table.Chains.length-fresh_nodes}
 use Rattle.bforest_core.proofs.{rows.LevelRows.flat-append, table.Tables.count-append, rows.Bounds.climb-seventeen, union.Unions.{Rooted, rooted}}
 use Rattle.bforest_core.proofs.{union.Forests.root-among, union.Exchange.IsPlanted, union.Roots.exchanged, rows.Tops.root-stands}
@@ -139,3 +140,18 @@ module _ {K V : Type 0} where
   -- a full leaf is full after nodes were reserved
   pub full-reserved : (most : ℕ) (table : Table K V) (n m content : _) → slice_get table.nodes m ≡ Some content → IsFullAt most table.nodes m → IsFullAt most (reserved table n).nodes m
   full-reserved most table n m content found full = rw (slice_get-append_left _ _ m _ found) (rw found at full)
+
+  -- what is said of an insertion that was made
+  pub inserts : {most : ℕ} {old new : Table K V} {path path' : Path K V most} {key : K} {value : V} (root' : ℕ) → root' ≡ top_of path'.node path'.size
+      → ((at : Placing old path) → Put most old new at.root at.place (key, value) path'.node path'.entry path'.size) → InsertsHere old new path path' key value (Ok root')
+  inserts root' is put = record {
+    inserted = λ at. rw is (put at).is.changes;
+    account = λ at. (put at).is.takes;
+    stands = λ at. rw is (put at).is.stands;
+    same_root = λ at. rw is (put at).is.same_root;
+    full = λ at. (λ is. absurd cc, λ short. absurd (omega (arith, (put at).enough)));
+    memory = λ at is. absurd cc;
+    enough = λ at enough. refl;
+    refused_pool = tt;
+    refused_path = tt;
+  }

@@ -2,7 +2,7 @@
 -- past all entries then.
 use Rattle.bforest_core.proofs.Words.{◌≡◌, ℕ, suc, ◌+◌, ◌≤◌, ◌<◌, Some, Option, List, [], ◌∷◌, ◌++◌, map, length, get_or, slice_get, refl, sym, ap, ◌∙◌}
 use Rattle.bforest_core.proofs.Words.{append_assoc, length-append, arith, Row, map-append, flat_map, remove, length-map, Content, without_entry, Table, node}
-use Rattle.bforest_core.proofs.Words.{flat, heads, sizes, numbers, FitRow, Solid, Tree, half_of, RowIn, leaf_content, entry_keys, count, Distinct, numbers_of}
+use Rattle.bforest_core.proofs.Words.{flat, heads, numbers, FitRow, Solid, Tree, half_of, RowIn, leaf_content, entry_keys, count, Distinct, numbers_of}
 use Rattle.bforest_core.proofs.Words.{Above, StandsIn, LeafLoss, None, Bool, true, false, not, is_some, nil_from_length, OneAbove, NextIs, get_or_default}
 use Rattle.bforest_core.proofs.Words.{entry_count, ◌≢◌, Leaf, HasOthers, IsSingle, IsUsed, with_node, head_of, entry_items, Rekeyed}
 use Rattle.bforest_core.proofs.table.Tables.{count-append, counts, count-same, row-split, row-put, row-same, Puts, is_used, puts}

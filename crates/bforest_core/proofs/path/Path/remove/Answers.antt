@@ -1,5 +1,5 @@
 use Rattle.bforest_core.proofs.{Words.{rules, ℕ, Some, sym, ◌∙◌, arith, IsPathAt, tree_of, StandsUnder}, path.Path.remove.Given.Over}
-use Rattle.bforest_core.proofs.{removal.LeafAt.{counted_asks, leaf_used, single, others}, removal.Removal.{stands_in, removal, Said, outcome, if_some}}
+use Rattle.bforest_core.proofs.{removal.LeafAt.{counted_asks, leaf_used, single, others}, removal.Removal.{stands_in, removal, Said, outcome, removes}}
 use Rattle.bforest_core.proofs.rows.Tops.{root-stands}
 use Rattle.bforest_core.proofs.path.Path.remove.Goals as goal
 
@@ -34,29 +34,7 @@ entry_said g c {root} {place} u = let s = stands_in g.row.N c.args.pool.now c.re
     removal _ _ _ _ c.requires.union u (c.remove_entry.ensures (tree_of c.args.pool.now.nodes root) place s)
 
 pub returns-then-entries-eq1 : goal.returns-then-entries-eq1
-returns-then-entries-eq1 g c = record {
-  removed = λ at. (leaf_said g c at.on).shrinks.changes;
-  account = λ at. (leaf_said g c at.on).shrinks.account;
-  order = λ at. (leaf_said g c at.on).shrinks.order;
-  stands = λ at. if_some _ _ c.remove_leaf.result (λ root' r. record { root_is = r.0; at = r.1 }) (leaf_said g c at.on).at;
-  same_root = λ at. (leaf_said g c at.on).shrinks.same_root;
-  last = λ at. (leaf_said g c at.on).shrinks.last;
-  ended = λ none at. (leaf_said g c at.on).shrinks.ended none;
-  end = search rules;
-  none_left = λ none at. (leaf_said g c at.on).shrinks.none_left none;
-  freed_root = λ at ne. (leaf_said g c at.on).shrinks.freed_root ne;
-}
+returns-then-entries-eq1 g c = removes (λ at. leaf_said g c at.on) (λ none. c.remove_leaf.ensures.end)
 
 pub returns-else-entries-eq1 : goal.returns-else-entries-eq1
-returns-else-entries-eq1 g c = record {
-  removed = λ at. (entry_said g c at.on).shrinks.changes;
-  account = λ at. (entry_said g c at.on).shrinks.account;
-  order = λ at. (entry_said g c at.on).shrinks.order;
-  stands = λ at. (let r = (entry_said g c at.on).at in record { root_is = r.0; at = r.1 });
-  same_root = λ at. (entry_said g c at.on).shrinks.same_root;
-  last = λ at. (entry_said g c at.on).shrinks.last;
-  ended = search rules;
-  end = search rules;
-  none_left = search rules;
-  freed_root = λ at ne. (entry_said g c at.on).shrinks.freed_root ne;
-}
+returns-else-entries-eq1 g c = removes (λ at. entry_said g c at.on) (λ none. absurd cc)
