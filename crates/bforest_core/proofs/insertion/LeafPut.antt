@@ -4,10 +4,9 @@ use Rattle.bforest_core.proofs.Words.{Option, Some, None, Result, Ok, Err, List,
 use Rattle.bforest_core.proofs.Words.{false, refl, sym, ap, ◌∙◌, subst, length-set, EndsIn, PutsInLeaf, Leaf, Table, IsFullAt, IsUnion, IsUsed, Placed}
 use Rattle.bforest_core.proofs.Words.{PlacedUnder, StandsUnder, Changes, sizes, sizes_of, flat, tree_of, entry_count, entry_keys, is_present, leaf_content}
 use Rattle.bforest_core.proofs.Words.{place, value_for, search_of, with_entry, with_node, with_value_at, growth, gain_above, need_above, is_some, option_map}
-use Rattle.bforest_core.proofs.{Words.{get_or-set_same, lt-ltb, ltb-true}, insertion.Parted.{HasRoom, Written}, insertion.Insertion.{placed-under, put-here}}
-use Rattle.bforest_core.proofs.{table.Stored.{keys_count, read_same}, insertion.LeafSpot.{leaf_spot, room_gain}, insertion.HalvingLeaf.put_full}
-use Rattle.bforest_core.proofs.{insertion.HalvingLeaf.put_inserts, table.Read.slot-is, table.Tables.is_used, walks.LeafSearch.items-read}
-use Rattle.bforest_core.proofs.union.Written.{entry-used, value-written}
+use Rattle.bforest_core.proofs.{Words.{get_or-set_same, lt-ltb, ltb-true, PutsEntry}, insertion.Insertion.{placed-under, put-here}, table.Stored.keys_count}
+use Rattle.bforest_core.proofs.{table.Stored.read_same, insertion.LeafSpot.{leaf_spot, room_gain}, insertion.HalvingLeaf.{put_full, put_inserts}}
+use Rattle.bforest_core.proofs.{table.Read.slot-is, table.Tables.is_used, walks.LeafSearch.items-read, union.Written.{entry-used, value-written}}
 use Rattle.bforest_nodes.specs.Content.{with_value as content_with}
 use Rattle.bforest_nodes.specs.Entries.{with_value}
 use Rattle.std.specs.declared.cmp.Ordering.{Ordering}
@@ -93,11 +92,11 @@ module _ {K V : Type 0} {cmp : K → K → Ordering} (most : ℕ) {table : Table
       after : new ≡ with_node table leaf (if room then with_entry (leaf_content es) (place cmp es key) key value else leaf_content es)
       after = cc (found)
 
-      has : HasRoom Leaf (λ keys vals. length keys) most table (get_or path 0 0) room
-      has keys vals is = subst (λ z. IsTrue room ↔ (entry_count z < most)) (sym (read_same table.nodes (get_or path 0 0) (leaf_content es) (Leaf keys vals) slot is)) (λ fits. ltb-true (entry_count (leaf_content es)) most fits, λ less. lt-ltb (entry_count (leaf_content es)) most less)
-
-      wrote : Written Leaf (λ z. with_entry z (get_or js 0 0) key value) table new (get_or path 0 0) room
-      wrote keys vals is = subst (λ z. new ≡ with_node table (get_or path 0 0) (if room then with_entry z (get_or js 0 0) key value else z)) (sym (read_same table.nodes (get_or path 0 0) (leaf_content es) (Leaf keys vals) slot is)) (rw (e.leaf_is, index_is) after)
+      put_says : PutsEntry most table new (get_or path 0 0) (get_or js 0 0) key value room
+      put_says = record {
+        room = λ keys vals is. subst (λ z. IsTrue room ↔ (entry_count z < most)) (sym (read_same table.nodes (get_or path 0 0) (leaf_content es) (Leaf keys vals) slot is)) (λ fits. ltb-true (entry_count (leaf_content es)) most fits, λ less. lt-ltb (entry_count (leaf_content es)) most less);
+        node = λ keys vals is. subst (λ z. new ≡ with_node table (get_or path 0 0) (if room then with_entry z (get_or js 0 0) key value else z)) (sym (read_same table.nodes (get_or path 0 0) (leaf_content es) (Leaf keys vals) slot is)) (rw (e.leaf_is, index_is) after);
+      }
 
       gone : value_for cmp list key ≡ None
       gone = cc (value_for-absent cmp es key none)
@@ -105,9 +104,9 @@ module _ {K V : Type 0} {cmp : K → K → Ordering} (most : ℕ) {table : Table
       -- where the leaf has room, the entry is inserted
       inserts : room ≡ true → PutsInLeaf cmp table root key most value path indices size answer new
       inserts fits = let tree = tree_of table.nodes root in let ok = said ∙ ap (λ b. if b then Ok None else Err (place cmp es key)) fits in
-          let d = leaf_spot (is_placed none) in let gain = room_gain d (rw (← keys_count (d.l ++ d.r)) ((has _ _ d.slot_is).0 fits)) in
+          let d = leaf_spot (is_placed none) in let gain = room_gain d (rw (← keys_count (d.l ++ d.r)) ((put_says.room _ _ d.slot_is).0 fits)) in
           let levels = ap (λ z. length (z.1 ∷ gain_above z.0 (map sizes tree.above))) gain in
-          let put = put-here union (placed none) (put_inserts (is_placed none) 0 e.wide new key value room has wrote fits) in
+          let put = put-here union (placed none) (put_inserts (is_placed none) 0 e.wide put_says fits) in
           let put_is = after ∙ ap (λ b. with_node table leaf (if b then with_entry (leaf_content es) (place cmp es key) key value else leaf_content es)) fits in
           record {
             ok = rw ok (sym gone);
@@ -126,7 +125,7 @@ module _ {K V : Type 0} {cmp : K → K → Ordering} (most : ℕ) {table : Table
       -- where the leaf is full, nothing changes
       refuses : room ≡ false → PutsInLeaf cmp table root key most value path indices size answer new
       refuses past = let err = said ∙ ap (λ b. if b then Ok None else Err (place cmp es key)) past in
-          let same : new ≡ table = (put_full (is_placed none) 0 e.wide new key value room has wrote past).1 in
+          let same : new ≡ table = (put_full (is_placed none) 0 e.wide put_says past).1 in
           record {
             ok = rw err tt;
             slots = cc;
@@ -157,7 +156,7 @@ module _ {K V : Type 0} {cmp : K → K → Ordering} (most : ℕ) {table : Table
         absurd (let bad : Ok (value_for cmp es key) ≡ Err index = cc (search_of-keys_of cmp es key, items-read _ _, value_for-present cmp es key here) in cc)
     full_by false none true fits index err = absurd (let bad = sym (said none ∙ ap (λ b. if b then Ok None else Err (place cmp es key)) fits) ∙ err in cc)
     full_by false none false past index err =
-        rw (← e.leaf_is) (put_full (is_placed none) 0 e.wide new key value (nat_lt (entry_count (leaf_content es)) most) (has none) (wrote none) past).0
+        rw (← e.leaf_is) (put_full (is_placed none) 0 e.wide (put_says none) past).0
 
     -- the leaf is full where the key's place is answered
     pub is-full : (index : ℕ) → answer ≡ Err index → IsFullAt most table.nodes leaf

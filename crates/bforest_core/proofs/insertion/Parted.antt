@@ -2,11 +2,11 @@
 -- slots; and the levels above, once they gained the right half.
 use Rattle.bforest_core.proofs.Words.{◌≡◌, ◌⊎◌, ◌/◌, ℕ, suc, ◌+◌, ◌-◌, ◌≤◌, ◌<◌, nat_lt, if◌then◌else◌, Bool, true, false, Option, Some, None, List, [], ◌∷◌}
 use Rattle.bforest_core.proofs.Words.{◌++◌, length, refl, sym, ap, ◌∙◌, inl, inr, append_assoc, length-append, arith, Row, append-nil, node, flat, head_of}
-use Rattle.bforest_core.proofs.Words.{heads, sizes, FitRow, inner_gain, past, leaf_gain, IsAt, ◌≢◌, slice_get, subst, length-set, IsTrue, ◌↔◌, Content, IsCut}
+use Rattle.bforest_core.proofs.Words.{heads, sizes, FitRow, inner_gain, past, leaf_gain, IsAt, ◌≢◌, slice_get, subst, length-set, Content, IsCut}
 use Rattle.bforest_core.proofs.Words.{left_half, Table, with_node, with_front, front_of, IsUsed, IsFullAt, IsSplitAt, inner_content, leaf_content, count}
 use Rattle.bforest_core.proofs.Words.{false≢true, map, get_or, flat_map, length-map, numbers, Stacked, Topped, gain_above, RowIn, Distinct, StandsAbove}
-use Rattle.bforest_core.proofs.{Words.{Above, Grown, Parted, top_of, Heads, Rows, Inner, need_above, Halved}, rows.Bounds.{below_lt, above_lt, upto_le}}
-use Rattle.bforest_core.proofs.{rows.Bounds.past_le, rows.LevelRows.{flat-append, sizes-append, least-le, FitRow-split, FitRow-join, heads-append}}
+use Rattle.bforest_core.proofs.{Words.{Above, Grown, Parted, top_of, Heads, Rows, Inner, need_above, Halved, PutsIn}, rows.Bounds.{below_lt, above_lt}}
+use Rattle.bforest_core.proofs.{rows.Bounds.{upto_le, past_le}, rows.LevelRows.{flat-append, sizes-append, least-le, FitRow-split, FitRow-join, heads-append}}
 use Rattle.bforest_core.proofs.{table.Stored.{Parts, inner_cuts, some_same, item_count, keys_count}, rows.Zipper.{cut, stands-same, Spot, stands_here}}
 use Rattle.bforest_core.proofs.table.Tables.{Puts, count-same, is_used, puts, takes, length-with_front, set_here, counts, count-append, row-same, row-changed}
 use Rattle.bforest_core.proofs.table.Tables.{rows-same, ne_from_count, absent_ne, Takes, row-put}
@@ -116,33 +116,25 @@ module _ {K V X : Type 0} (kind : List K → List X → Content K V) where
   abbrev pub PutAsks : Table K V → ℕ → ℕ → Type 0
   PutAsks t number index = IsUsed t number × ((keys : List K) × (items : List X) × (slice_get t.nodes number ≡ Some (kind keys items)) × (index ≤ length keys))
 
-  -- the insertion succeeds exactly where the node has room
-  abbrev pub HasRoom : (List K → List X → ℕ) → ℕ → Table K V → ℕ → Bool → Type 0
-  HasRoom size most t number put = (keys : List K) (items : List X) → slice_get t.nodes number ≡ Some (kind keys items) → IsTrue put ↔ (size keys items < most)
+  -- the node meets that, by the number that was read
+  pub asks_put : {t : Table K V} {number n : ℕ} → number ≡ n → (keys : List K) (items : List X) → slice_get t.nodes n ≡ Some (kind keys items) → (index : ℕ) → IsUsed t n → index ≤ length keys → PutAsks t number index
+  asks_put here keys items found index used within = (rw here used, (keys, items, cc (here), within))
 
-  -- the insertion writes the node where it succeeds, and else leaves it as it is
-  abbrev pub Written : (Content K V → Content K V) → Table K V → Table K V → ℕ → Bool → Type 0
-  Written write t u number put = (keys : List K) (items : List X) → slice_get t.nodes number ≡ Some (kind keys items) → u ≡ with_node t number (if put then write (kind keys items) else kind keys items)
+module _ {K V X : Type 0} {kind : List K → List X → Content K V} {size : List K → List X → ℕ} {most : ℕ} {write : Content K V → Content K V} {t u : Table K V} {number : ℕ} {put : Bool} (said : PutsIn kind size most write t u number put)
+    {n : ℕ} (here : number ≡ n) (keys : List K) (items : List X) (found : slice_get t.nodes n ≡ Some (kind keys items)) where
+  slot_is : slice_get t.nodes number ≡ Some (kind keys items)
+  slot_is = cc (here)
 
-  -- the node's slot, found by the number that was read
-  module _ (t : Table K V) (number n : ℕ) (here : number ≡ n) (keys : List K) (items : List X) (found : slice_get t.nodes n ≡ Some (kind keys items)) where
-    slot_is : slice_get t.nodes number ≡ Some (kind keys items)
-    slot_is = cc (here)
+  -- a successful insertion had room
+  pub put_fewer : put ≡ true → size keys items < most
+  put_fewer done = (said.room keys items slot_is).0 done
 
-    pub asks_put : (index : ℕ) → IsUsed t n → index ≤ length keys → PutAsks t number index
-    asks_put index used within = (rw here used, (keys, items, slot_is, within))
+  pub put_in : size keys items < most → u ≡ with_node t n (write (kind keys items))
+  put_in fewer = (rw ((said.room keys items slot_is).1 fewer) at (said.node keys items slot_is)) ∙ ap (λ z. with_node t z (write (kind keys items))) here
 
-    module _ (u : _) (size : List K → List X → ℕ) (most : ℕ) (write : Content K V → Content K V) (put : Bool) (has : HasRoom size most t number put) (wrote : Written write t u number put) where
-      -- a successful insertion had room
-      pub put_fewer : put ≡ true → size keys items < most
-      put_fewer done = (has keys items slot_is).0 done
-
-      pub put_in : size keys items < most → u ≡ with_node t n (write (kind keys items))
-      put_in fewer = (rw ((has keys items slot_is).1 fewer) at (wrote keys items slot_is)) ∙ ap (λ z. with_node t z (write (kind keys items))) here
-
-      -- a failed insertion had no room and changes nothing
-      pub put_past : put ≡ false → (¬ (size keys items < most)) × (u ≡ t)
-      put_past none = (λ fewer. false≢true (sym none ∙ (has keys items slot_is).1 fewer), (rw none at (wrote keys items slot_is)) ∙ ap (λ z. record t { nodes = z }) (set_here _ _ _ slot_is))
+  -- a failed insertion had no room and changes nothing
+  pub put_past : put ≡ false → (¬ (size keys items < most)) × (u ≡ t)
+  put_past none = (λ fewer. false≢true (sym none ∙ (said.room keys items slot_is).1 fewer), (rw none at (said.node keys items slot_is)) ∙ ap (λ z. record t { nodes = z }) (set_here _ _ _ slot_is))
 
 -- if a list is cut twice, the later cut is in the second part of the earlier one
 between : {A : Type 0} (p q l r : List A) → p ++ q ≡ l ++ r → length l ≤ length p → (mid : List A) × (p ≡ l ++ mid) × (r ≡ mid ++ q)

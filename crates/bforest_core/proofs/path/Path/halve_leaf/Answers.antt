@@ -26,10 +26,9 @@ put_entry-room-requires-else-index g c = let w = c.requires.placed in (
 pub returns-then-index-clause-halved : goal.returns-then-index-clause-halved
 returns-then-index-clause-halved g c = λ tree place p. early_halves p c.index-self-0.result (omega arith) c.split_node-right.new.self c.requires.full
     c.split_node-right.ensures.capacity c.split_node-right.ensures.node c.split_node-right.ensures.used c.split_node-right.ensures.split c.if-index.true
-    c.put_entry-room.new.pool c.args.key c.args.value c.put_entry-room.result c.put_entry-room.ensures.room c.put_entry-room.ensures.node
+    c.put_entry-room.ensures
 
 pub returns-else-index-clause-halved : goal.returns-else-index-clause-halved
 returns-else-index-clause-halved g c = λ tree place p. late_halves p c.index-self-0.result (omega arith) c.split_node-right.new.self c.requires.full
     c.split_node-right.ensures.capacity c.split_node-right.ensures.node c.split_node-right.ensures.used c.split_node-right.ensures.split c.if-index.false
-    c.put_entry-room-else-index.new.pool c.args.key c.first_key.result c.args.value c.put_entry-room-else-index.result c.put_entry-room-else-index.ensures.room
-    c.put_entry-room-else-index.ensures.node c.first_key.ensures.front c.first_key.ensures.behind (omega arith)
+    c.first_key.result c.put_entry-room-else-index.ensures c.first_key.ensures.front c.first_key.ensures.behind (omega arith)

@@ -25,12 +25,9 @@ index_behind-requires-else-entry-lt-MIN_CHILDREN g c = omega (arith, index_small
 pub returns-then-entry-lt-MIN_CHILDREN-clause-halved : goal.returns-then-entry-lt-MIN_CHILDREN-clause-halved
 returns-then-entry-lt-MIN_CHILDREN-clause-halved g c = λ w. early_halves w c.index-self-up.result c.requires.within (omega arith) g.row.N
     c.split_node-right.new.self c.requires.full c.split_node-right.ensures.node c.split_node-right.ensures.used c.split_node-right.ensures.split
-    c.put_child-room.new.pool c.args.half.key c.args.half.node c.args.half.moved c.put_child-room.result c.index_behind.result c.if-entry-lt-MIN_CHILDREN.true
-    c.put_child-room.ensures.room c.put_child-room.ensures.node c.index_behind.ensures.value (omega arith)
+    c.args.half.moved c.index_behind.result c.if-entry-lt-MIN_CHILDREN.true c.put_child-room.ensures c.index_behind.ensures.value (omega arith)
 
 pub returns-else-entry-lt-MIN_CHILDREN-clause-halved : goal.returns-else-entry-lt-MIN_CHILDREN-clause-halved
 returns-else-entry-lt-MIN_CHILDREN-clause-halved g c = λ w. late_halves w c.index-self-up.result c.requires.within (omega arith) g.row.N
     c.split_node-right.new.self c.requires.full c.split_node-right.ensures.node c.split_node-right.ensures.used c.split_node-right.ensures.split
-    c.put_child-room-else-entry-lt-MIN_CHILDREN.new.pool c.args.half.key c.args.half.node c.args.half.moved c.put_child-room-else-entry-lt-MIN_CHILDREN.result
-    c.index_behind-else-entry-lt-MIN_CHILDREN.result c.if-entry-lt-MIN_CHILDREN.false c.put_child-room-else-entry-lt-MIN_CHILDREN.ensures.room
-    c.put_child-room-else-entry-lt-MIN_CHILDREN.ensures.node c.index_behind-else-entry-lt-MIN_CHILDREN.ensures.value (omega arith)
+    c.args.half.moved c.index_behind-else-entry-lt-MIN_CHILDREN.result c.if-entry-lt-MIN_CHILDREN.false c.put_child-room-else-entry-lt-MIN_CHILDREN.ensures c.index_behind-else-entry-lt-MIN_CHILDREN.ensures.value (omega arith)
