@@ -2,11 +2,10 @@
 pub mod Frees
 pub mod Collapse
 pub mod Removal
-pub mod Neighbours
 pub mod Healing
 pub mod LeafTake
-pub mod Lifted
 pub mod Emptied
 pub mod Rebalance
 pub mod Removing
 pub mod LeafAt
+pub mod Lifted

@@ -5,8 +5,8 @@ use Rattle.bforest_core.proofs.Words.{false, refl, sym, ap, ◌∙◌, subst, le
 use Rattle.bforest_core.proofs.Words.{PlacedUnder, StandsUnder, Changes, sizes, sizes_of, flat, tree_of, entry_count, entry_keys, is_present, leaf_content}
 use Rattle.bforest_core.proofs.Words.{place, value_for, search_of, with_entry, with_node, with_value_at, growth, gain_above, need_above, is_some, option_map}
 use Rattle.bforest_core.proofs.{Words.{get_or-set_same, lt-ltb, ltb-true, PutsEntry}, insertion.Insertion.{placed-under, put-here}, table.Stored.keys_count}
-use Rattle.bforest_core.proofs.{table.Stored.read_same, insertion.LeafSpot.{leaf_spot, room_gain}, insertion.HalvingLeaf.{put_full, put_inserts}}
-use Rattle.bforest_core.proofs.{table.Read.slot-is, table.Tables.is_used, walks.LeafSearch.items-read, union.Written.{entry-used, value-written}}
+use Rattle.bforest_core.proofs.{table.Stored.read_same, insertion.LeafSpot.{leaf_spot, room_gain, put_full, put_inserts}, table.Read.slot-is}
+use Rattle.bforest_core.proofs.{table.Tables.is_used, walks.LeafSearch.items-read, union.Written.{entry-used, value-written}}
 use Rattle.bforest_nodes.specs.Content.{with_value as content_with}
 use Rattle.bforest_nodes.specs.Entries.{with_value}
 use Rattle.std.specs.declared.cmp.Ordering.{Ordering}

@@ -1,13 +1,21 @@
--- The leaf where an entry may be inserted, the insertion where the leaf has room, and the leaves and the tree after a split of the leaf.
+-- The leaf where an entry may be inserted: the insertion where the leaf has room, the leaves and the tree after a split of the leaf (the answers of
+-- `put_here` and `halve_leaf`), and how many nodes an insertion needs, counted from the leaf upwards.
 use Rattle.bforest_core.proofs.Words.{◌≡◌, ◌⊎◌, ℕ, suc, ◌+◌, ◌≤◌, ◌<◌, List, [], ◌∷◌, ◌++◌, map, length, take, drop, insert, get_or, slice_get, Some, None}
 use Rattle.bforest_core.proofs.Words.{inl, inr, refl, sym, ap, ◌∙◌, append_assoc, length-append, length-take-le, take-append-drop, arith, Heads, Row, Rows}
 use Rattle.bforest_core.proofs.Words.{flat_map, cases_lt, length-map, Table, node, flat, heads, sizes, numbers, Solid, Stacked, Topped, Tree, IsFit, half_of}
-use Rattle.bforest_core.proofs.Words.{leaf_gain, RowIn, leaf_content, count, Distinct, StandsAbove, Stands, Placed, Inserted, Content, RowsIn}
-use Rattle.bforest_core.proofs.Words.{IsAt, ◌≢◌, Bool, if◌then◌else◌, Option, subst, IsLeafCapacity, head_of, gain_above, need_above, Above, LeafHalved}
-use Rattle.bforest_core.proofs.{Words.Grown, rows.LevelRows.{flat-append, least-pos, sizes-append, FitRow-split, heads-append}, rows.Tops.root-stands}
-use Rattle.bforest_core.proofs.{rows.Tops.root-points, rows.Zipper.apart_here, table.Tables.{counts, row-split, row-put, rows-same, ne_from_count, absent_ne}}
-use Rattle.bforest_core.proofs.{table.Tables.{Puts, count-append}, insertion.Parted.{FitRow-put, leaf_room, InHalf, leaf_full, chain_is, halves, inside}}
-use Rattle.bforest_core.proofs.insertion.Parted.{numbers_are, others_same, over, part, same_top, stands_at, stands_over, tops, Halves}
+use Rattle.bforest_core.proofs.Words.{leaf_gain, RowIn, leaf_content, count, Distinct, StandsAbove, Stands, Placed, Inserted, Content, RowsIn, IsAt, ◌≢◌}
+use Rattle.bforest_core.proofs.Words.{Bool, if◌then◌else◌, Option, subst, IsLeafCapacity, head_of, gain_above, need_above, Above, LeafHalved, Grown, ◌-◌, ◌/◌}
+use Rattle.bforest_core.proofs.Words.{nat_le, true, false, set, get_or_default, get_or-set_same, get_or-set_other, Leaf, with_entry, IsUsed, IsFullAt}
+use Rattle.bforest_core.proofs.Words.{IsSplitAt, front_of, with_node, entry_keys, PutsEntry, IsTrue, add-one, ◌↔◌, false≢true, slice_get_within, IsFree}
+use Rattle.bforest_core.proofs.{Words.{entry_count, entry_capacity, sizes_of, need, inner_content}, rows.LevelRows.{flat-append, least-pos, sizes-append}}
+use Rattle.bforest_core.proofs.{rows.LevelRows.{FitRow-split, heads-append, Solid-full}, rows.Tops.{root-stands, root-points}, rows.Zipper.apart_here}
+use Rattle.bforest_core.proofs.table.Tables.{counts, row-split, row-put, rows-same, ne_from_count, absent_ne, Puts, count-append, is_used, puts}
+use Rattle.bforest_core.proofs.insertion.Parted.{FitRow-put, leaf_room, InHalf, leaf_full, chain_is, halves, inside, numbers_are, others_same, over, part}
+use Rattle.bforest_core.proofs.insertion.Parted.{same_top, stands_at, stands_over, tops, Halves, Split, leaf_full_is, counted, split_at, left_used, into_left}
+use Rattle.bforest_core.proofs.insertion.Parted.{into_right, middle_key, PutAsks, asks_put, put_fewer, put_in, put_past, in_left, in_right, FullAt, gain_full}
+use Rattle.bforest_core.proofs.{insertion.Parted.gain_room, rows.Bounds.{past_le, upto_le}, table.Stored.{leaf_cuts, with_entry_is, keys_count, some_same}}
+use Rattle.bforest_core.proofs.{table.Stored.item_count, walks.Steps.{Spot, spot}}
+use Rattle.bforest_nodes.specs.declared.node.SplitOff.{SplitOff}
 
 module _ {K : Type 0} where
   -- a list with its first key replaced
@@ -266,3 +274,210 @@ module _ {K V : Type 0} where
         new_root = λ other. (let risen = g.new_top (λ same. other (omega arith)) in
             subst (λ z. 0 < count z (right ∷ taken)) (sym top') (omega arith));
       }
+
+module _ {K V : Type 0} where
+  module _ {cap : ℕ} {t : Table K V} {ms js size tree place : _} (p : Placed cap t ms js size tree place) (i : ℕ) (wide : length ms ≡ 17) where
+    d : LeafSpot cap t ms js tree place
+    d = leaf_spot p
+
+    open d use {before, l, r}
+
+    abbrev n : ℕ
+    n = get_or ms 0 0
+
+    -- the leaf's number, as the code reads it
+    abbrev read : ℕ
+    read = get_or ms 0 i
+
+    abbrev e : ℕ
+    e = get_or js 0 0
+
+    num_is : read ≡ n
+    num_is = get_or_default ms 0 i 0 (omega arith)
+
+    -- the leaf meets what inserting the entry requires
+    pub put_asks : PutAsks Leaf t read e
+    put_asks = asks_put _ num_is _ _ d.slot_is _ (is_used t _ _ d.slot_is d.none_chain) (omega (arith, keys_count (l ++ r), d.index_is, length-append l r))
+
+    module _ {u : Table K V} {key : K} {value : V} {put : Bool} (said : PutsEntry cap t u read e key value put) where
+      -- a successful insertion leaves the tree with the entry inserted
+      pub put_inserts : put ≡ true → Inserted cap t u ms js size tree place (key, value)
+      put_inserts done = let fewer : length (entry_keys (l ++ r)) < cap = put_fewer said num_is _ _ d.slot_is done in
+          put_leaf _ p d (omega (arith, keys_count (l ++ r))) (puts t u _ _ _ d.slot_is (put_in said num_is _ _ d.slot_is fewer ∙ ap (λ z. with_node t n z) (with_entry_is V _ _ _ _ _ d.index_is)))
+
+      -- a failed insertion means that the leaf is full, and changes nothing
+      pub put_full : put ≡ false → IsFullAt cap t.nodes n × (u ≡ t)
+      put_full none = let past = put_past said num_is _ _ d.slot_is none in (rw d.slot_is (λ free. free, omega (arith, keys_count (l ++ r), d.most_is)), past.1)
+
+    module _ (s : Table K V) (full : IsFullAt cap t.nodes n) where
+      pub full_asks : 0 < length t.chain → FullAt cap t read
+      full_asks room = (put_asks.0, (rw num_is full, room))
+
+      full_is : length (l ++ r) ≡ cap
+      full_is = leaf_full_is cap t.nodes n (l ++ r) d.slot_is full
+
+      module _ (capacity : IsLeafCapacity cap) {right : ℕ} {parts : SplitOff K} (front : front_of t.chain ≡ Some right) (used : IsUsed s right) (split : IsSplitAt cap t read e parts s) where
+        abbrev q : ℕ
+        q = parts.lhs_entries
+
+        seen : length (heads before) ≡ length before
+        seen = Solid-full (half_of cap) cap (omega arith) before d.solid
+
+        left_count : q ≡ (if nat_le e (cap / 2) then cap / 2 else (cap + 1) / 2)
+        left_count = counted leaf_content n num_is (l ++ r) d.slot_is split
+
+        cut : q < length (l ++ r) → Split leaf_content t s n right q (l ++ r) parts.crit_key
+        cut less = split_at _ _ num_is _ d.slot_is split _ (λ zs y ys left right2 key is c. leaf_cuts V _ y _ _ _ _ key is c) less d.none_chain front used.within
+
+        module _ (low : e ≤ cap / 2) where
+          low_is : q ≡ cap / 2
+          low_is = rw (upto_le _ _ low) at left_count
+
+          low_cut : Split leaf_content t s n right q (l ++ r) parts.crit_key
+          low_cut = let q_is = low_is in let f = full_is in cut (omega arith)
+
+          pub early_asks : PutAsks Leaf s read e
+          early_asks = asks_put _ num_is _ _ low_cut.two.here _ (left_used leaf_content s low_cut.two d.none_chain) (omega (arith, keys_count low_cut.zs, low_cut.count_is, low_is))
+
+          pub early_halves : {u : _} {key : K} {value : V} {put : _} → PutsEntry cap s u read e key value put → LeafHalved cap t u ms ms js size tree place (key, value) parts.crit_key right false
+          early_halves {u} {key} {value} said = let new = (key, value) ∷ [] in
+              let h = into_left leaf_content u (l ++ (key, value) ∷ r) low_cut (λ v. with_entry v e key value) (half_of cap) (half_of cap) l
+              (l ++ new) r refl (sym (append_assoc l new r)) (omega (arith, length-append l new)) (omega (arith, d.index_is, low_is)) (omega (arith, low_is)) (omega (arith, low_is, full_is))
+              (λ mid. cc (with_entry_is V l mid key value e d.index_is, append_assoc l new mid))
+              (put_in said num_is _ _ low_cut.two.here (omega (arith, keys_count low_cut.zs, low_cut.count_is, low_is, full_is))) in
+              leaf_parted ms js (key, value) false capacity p d full_is h (λ i other. refl) (λ i other. refl) seen (in_left _ _ _ _ _ _ _ _ seen (omega arith) (omega (arith, d.place_is, d.index_is)))
+
+        module _ (high : cap / 2 < e) where
+          high_is : q ≡ half_of cap
+          high_is = rw (past_le _ _ high) at left_count
+
+          pub late_within : q ≤ e
+          late_within = let q_is = high_is in omega arith
+
+          high_cut : Split leaf_content t s n right q (l ++ r) parts.crit_key
+          high_cut = let q_is = high_is in let f = full_is in cut (omega arith)
+
+          abbrev rights : List (K × V)
+          rights = high_cut.y ∷ high_cut.ys
+
+          pub late_asks : PutAsks Leaf s right (e - q)
+          late_asks = asks_put _ refl _ _ high_cut.two.there _ used (omega (arith, keys_count rights, ap length high_cut.es_is, length-append high_cut.zs rights, high_cut.count_is, d.index_is, length-append l r))
+
+          pub late_halves : {u : _} {key : K} {value : V} {put : _} (first : K) → PutsEntry cap s u right (e - q) key value put → (e - q ≡ 0 → first ≡ key) → (0 < e - q → first ≡ parts.crit_key) →
+              1 ≤ length js → LeafHalved cap t u ms (set ms 0 right) (set js 0 (e - q)) size tree place (key, value) first right true
+          late_halves {u} {key} {value} first said zero more some =
+              let h = into_right leaf_content u (l ++ (key, value) ∷ r) high_cut (λ v. with_entry v (e - q) key value) (half_of cap) (half_of cap)
+              first l r ((key, value) ∷ r) refl refl refl (omega (arith, d.index_is, late_within)) (omega (arith, high_is)) high_is (omega (arith, high_is, full_is))
+              (λ mid is. (let mid_is = is ∙ ap (λ z. z - q) d.index_is in (
+                with_entry_is V mid r key value (e - q) mid_is,
+                λ rest. middle_key right mid (key, value) r high_cut.y high_cut.ys first rest (λ none. zero (cc)) (λ few. more (omega arith) ∙ high_cut.key_is),
+              )))
+              (put_in said refl _ _ high_cut.two.there (omega (arith, keys_count rights, ap length high_cut.es_is, length-append high_cut.zs rights, high_cut.count_is, high_is, full_is))) in
+              let j_is = get_or-set_same js 0 (e - q) 0 (omega arith) in
+              leaf_parted _ _ _ _ capacity p d full_is h (λ i other. get_or-set_other ms 0 i right 0 other) (λ i other. get_or-set_other js 0 i (e - q) 0 other) seen
+              (in_right _ _ _ _ _ _ _ _ _ seen (get_or-set_same ms 0 right 0 (omega arith))
+              (omega (arith, full_is, d.index_is, length-append l r, high_is)) (omega (arith, d.place_is, d.index_is, high_is, late_within)))
+
+-- a test that answers false disproves its condition
+not_so : {A : Type 0} {full : Bool} → full ≡ false → (IsTrue full ↔ A) → ¬ A
+not_so none h = λ a. false≢true (sym none ∙ h.1 a)
+
+module _ {K V : Type 0} where
+  -- the need at a full node, and at one with room
+  spot_full : (t : Table K V) {ms js up size rows list p : _} → (f : Spot t.nodes ms js up size rows list p) → length f.entries ≡ 8 → need_above (Some p) (map sizes rows) ≡ suc (need_above (Some (length f.before)) (map sizes f.rest))
+  spot_full t f eight = rw (f.rows_are, f.row_is, f.place_is, sizes-append _ _, gain_full _ _ _ _ f.within eight) refl
+
+  spot_room : (t : Table K V) {ms js up size rows list p : _} → (f : Spot t.nodes ms js up size rows list p) → length f.entries < 8 → need_above (Some p) (map sizes rows) ≡ 1
+  spot_room t f room = rw (f.rows_are, f.row_is, f.place_is, sizes-append _ _, gain_room _ _ _ _ f.within room) refl
+
+  -- the need of a full leaf
+  pub leaf_need_full : {most : ℕ} {t : Table K V} {ms js tree place : _} → (d : LeafSpot most t ms js tree place) → length (d.l ++ d.r) ≡ most → need_above
+      (leaf_gain most place (sizes tree.leaves)).0 (map sizes tree.above) ≡ need_above (Some (length d.before)) (map sizes tree.above)
+  leaf_need_full d full = cc (full_gain d full)
+
+  -- a level above the leaves, and the test whether the path's node there is full
+  module _ {t : Table K V} {ms js up size rows list p : _} (ab : Above t ms js up size rows list p) (other : up ≢ size) (wide : size ≤ length ms) (r : ℕ) where
+    abbrev level : Spot t.nodes ms js up size rows list p
+    level = spot t.nodes ms js up size rows list p (record { stacked = ab.stacked; inside = ab.inside; stands = ab.stands; height = ab.height }) other
+
+    level_slot : slice_get t.nodes (get_or ms up r) ≡ Some (inner_content level.entries)
+    level_slot = cc (get_or_default ms up r 0 (omega arith), level.slot_is)
+
+    -- the slot of the path's node is within the table
+    pub level_within : get_or ms up r < length t.nodes
+    level_within = slice_get_within _ _ _ level_slot
+
+    -- the rows above the level
+    pub level_above : (rows : _) × (list : _) × (at : ℕ) × Above t ms js (up + 1) size rows list at
+    level_above = let above : Above t ms js (suc up) size level.rest (heads level.row) (length level.before) = record {
+      stacked = level.over.stacked;
+      inside = level.over.inside;
+      stands = level.over.stands;
+      height = level.over.height;
+      apart = λ m. omega (arith, ab.apart m, ap (λ z. count m (flat_map numbers z ++ t.chain)) level.rows_are, count-append);
+    } in
+        (level.rest, heads level.row, length level.before, rw (add-one up) above)
+
+    module _ (content : Content K V) (read : slice_get t.nodes (get_or ms up r) ≡ Some content) where
+      content_is : content ≡ inner_content level.entries
+      content_is = some_same _ _ (sym read ∙ level_slot)
+
+      pub level_used : ¬ IsFree content
+      level_used = rw content_is (λ free. free)
+
+      module _ (cap full : _) (says : IsTrue full ↔ (entry_count content ≡ entry_capacity cap content)) where
+        tells : IsTrue full ↔ (length level.entries ≡ 8)
+        tells = rw (content_is, item_count level.entries) at says
+
+        pub level_full : full ≡ true → (more : ℕ) → ((rows list at : _) → Above t ms js (up + 1) size rows list at → more ≡ need_above (Some at) (map sizes rows)) → more + 1 ≡ need_above (Some p) (map sizes rows)
+        unfolding level_above
+        level_full is more needs = omega (arith, spot_full t level (tells.0 is), needs level_above.0 level_above.1 level_above.2 level_above.3)
+
+        pub level_room : full ≡ false → 1 ≡ need_above (Some p) (map sizes rows)
+        level_room none = sym (spot_room t level (omega (arith, not_so none tells, level.most_is)))
+
+  -- the leaf, and the test whether it is full
+  module _ {most : ℕ} {t : Table K V} {ms js size tree place : _} (p : Placed most t ms js size tree place) where
+    abbrev leaf : LeafSpot most t ms js tree place
+    leaf = leaf_spot p
+
+    -- the rows above the leaf
+    pub leaf_above : (rows : _) × (list : _) × (at : ℕ) × Above t ms js 1 size rows list at
+    leaf_above = let row = leaf.before ++ node (get_or ms 0 0) (leaf.l ++ leaf.r) ∷ leaf.after in (
+      tree.above,
+      heads row,
+      length leaf.before,
+      record {
+        stacked = leaf.fit.stacked;
+        inside = p.inside.rows_in;
+        stands = leaf.stands;
+        height = omega arith;
+        apart = λ m. omega (arith, leaf.apart m, count-append);
+      },
+    )
+
+    module _ (wide : 0 < length ms) (r : ℕ) where
+      leaf_slot : slice_get t.nodes (get_or ms 0 r) ≡ Some (leaf_content (leaf.l ++ leaf.r))
+      leaf_slot = cc (get_or_default ms 0 r 0 wide, leaf.slot_is)
+
+      -- the slot of the leaf is within the table
+      pub leaf_within : get_or ms 0 r < length t.nodes
+      leaf_within = slice_get_within _ _ _ leaf_slot
+
+      module _ (content : Content K V) (read : slice_get t.nodes (get_or ms 0 r) ≡ Some content) where
+        leaf_content_is : content ≡ leaf_content (leaf.l ++ leaf.r)
+        leaf_content_is = some_same _ _ (sym read ∙ leaf_slot)
+
+        pub leaf_used : ¬ IsFree content
+        leaf_used = rw leaf_content_is (λ free. free)
+
+        module _ (full : Bool) (says : IsTrue full ↔ (entry_count content ≡ entry_capacity most content)) where
+          leaf_tells : IsTrue full ↔ (length (leaf.l ++ leaf.r) ≡ most)
+          leaf_tells = rw (leaf_content_is, keys_count (leaf.l ++ leaf.r)) at says
+
+          pub full_needs : full ≡ true → (more : ℕ) → ((rows list at : _) → Above t ms js 1 size rows list at → more ≡ need_above (Some at) (map sizes rows)) → more ≡ need most place (sizes_of tree)
+          unfolding leaf_above
+          full_needs is more needs = needs leaf_above.0 leaf_above.1 leaf_above.2 leaf_above.3 ∙ sym (leaf_need_full leaf (leaf_tells.0 is))
+
+          pub room_needs : full ≡ false → 0 ≡ need most place (sizes_of tree)
+          room_needs none = cc (room_gain leaf (omega (arith, not_so none leaf_tells, leaf.most_is)))

@@ -7,11 +7,11 @@ use Rattle.bforest_core.proofs.Words.{entry_items, count, Distinct, root_above, 
 use Rattle.bforest_core.proofs.Words.{IsUsed, Topped, Tree, half_of, loss, leaf_content, root_of, numbers_of, IsPathAt, UpTo, Trimmed, StandsIn, IsSingle}
 use Rattle.bforest_core.proofs.{Words.{Removed, Emptied, add-one, get_or_default}, removal.Collapse.heads-flat, removal.Removing.{placed, loss_level}}
 use Rattle.bforest_core.proofs.{removal.Removing.{lost_above, loss_at, Untrimmed, up_to, trimmed_removed}, removal.Lifted.{heads-put, above_same, rows_above}}
-use Rattle.bforest_core.proofs.{removal.Lifted.{Counts, Removes, Seen, seen}, rows.Contents.removed_last, rows.LevelRows.{flat-append, heads-append}}
+use Rattle.bforest_core.proofs.{removal.Lifted.{Counts, Removes, Seen, seen, some_first, no_nodes, removed_last}, rows.LevelRows.{flat-append, heads-append}}
 use Rattle.bforest_core.proofs.{rows.LevelRows.{sizes-append, FitRow-join, Solid-full}, rows.Tops.{top_rows, root-stands}, removal.Rebalance.rebalanced_last}
-use Rattle.bforest_core.proofs.{removal.LeafAt.{some_first, no_nodes, remove_flat, leaf_count, LeafAt, leaf_at}, rows.Zipper.{Cut_above, Facts, facts, Spot}}
-use Rattle.bforest_core.proofs.{rows.Zipper.above_two, removal.Frees.{frees-puts, freed_other, frees-first, frees-one}, table.Tables.{count-append, counts}}
-use Rattle.bforest_core.proofs.table.Tables.{count-same, row-split, row-put, row-same, rows-same, ne_from_count, puts}
+use Rattle.bforest_core.proofs.{removal.LeafAt.{remove_flat, leaf_count, LeafAt, leaf_at}, rows.Zipper.{Cut_above, Facts, facts, Spot, above_two}}
+use Rattle.bforest_core.proofs.{removal.Frees.{frees-puts, freed_other, frees-first, frees-one}, table.Tables.{count-append, counts, count-same, row-split}}
+use Rattle.bforest_core.proofs.table.Tables.{row-put, row-same, rows-same, ne_from_count, puts}
 
 -- solid nodes fit as a row
 pub fit_solid : {K X : Type 0} (half most : ℕ) → 1 ≤ half → (row : Row K X) → Solid half most row → FitRow half most row

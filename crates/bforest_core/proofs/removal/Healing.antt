@@ -2,8 +2,8 @@
 use Rattle.bforest_core.proofs.Words.{set-set, length-remove, ◌≡◌, ◌≢◌, ℕ, ◌+◌, ◌/◌, ◌≤◌, ◌<◌, List, ◌∷◌, ◌++◌, None, Some, ap, arith, get_or, inl, inr}
 use Rattle.bforest_core.proofs.Words.{length, length-append, slice_get, ◌∙◌, nil_from_length, Content, Free, EntryTaken, HasOthers, IsSingle, IsUsed}
 use Rattle.bforest_core.proofs.Words.{LeafLoss, Removed, Shrinks, StandsIn, Unbalanced, Table, Tree, entry_keys, front_of, leaf_content, root_of, tree_of}
-use Rattle.bforest_core.proofs.{Words.{with_freed, with_node, without_entry}, removal.Lifted.{Counts, NodeAt}, removal.LeafAt.{alone_last, alone_loss}}
-use Rattle.bforest_core.proofs.{removal.LeafAt.{LeafAt, leaf_at, leaf_count, some_first}, removal.Emptied.emptied_tree, rows.Tops.root-stands}
+use Rattle.bforest_core.proofs.{Words.{with_freed, with_node, without_entry}, removal.Lifted.{Counts, NodeAt, some_first}, removal.LeafAt.alone_last}
+use Rattle.bforest_core.proofs.{removal.LeafAt.{alone_loss, LeafAt, leaf_at, leaf_count}, removal.Emptied.emptied_tree, rows.Tops.root-stands}
 use Rattle.bforest_core.proofs.{table.Tables.{is_used, puts}, removal.Removing.kept_removed, removal.Removal.{outcome, removal, stands_in}}
 use Rattle.bforest_core.proofs.{table.Stored.keys_count, union.Unions.rooted}
 

@@ -2,14 +2,14 @@
 -- past all entries then.
 use Rattle.bforest_core.proofs.Words.{◌≡◌, ℕ, suc, ◌+◌, ◌≤◌, ◌<◌, Some, Option, List, [], ◌∷◌, ◌++◌, map, length, get_or, slice_get, refl, sym, ap, ◌∙◌}
 use Rattle.bforest_core.proofs.Words.{append_assoc, length-append, arith, Row, map-append, flat_map, remove, length-map, Content, without_entry, Table, node}
-use Rattle.bforest_core.proofs.Words.{flat, heads, numbers, FitRow, Solid, Tree, half_of, RowIn, leaf_content, entry_keys, count, Distinct, numbers_of}
-use Rattle.bforest_core.proofs.Words.{Above, StandsIn, LeafLoss, None, Bool, true, false, not, is_some, nil_from_length, OneAbove, NextIs, get_or_default}
+use Rattle.bforest_core.proofs.Words.{flat, heads, numbers, FitRow, Solid, Tree, half_of, RowIn, leaf_content, entry_keys, count, Distinct, numbers_of, Above}
+use Rattle.bforest_core.proofs.Words.{StandsIn, LeafLoss, None, Bool, true, false, not, is_some, nil_from_length, OneAbove, NextIs, get_or_default}
 use Rattle.bforest_core.proofs.Words.{entry_count, ◌≢◌, Leaf, HasOthers, IsSingle, IsUsed, with_node, head_of, entry_items, Rekeyed}
 use Rattle.bforest_core.proofs.table.Tables.{count-append, counts, count-same, row-split, row-put, row-same, Puts, is_used, puts}
-use Rattle.bforest_core.proofs.rows.LevelRows.{flat-append, sizes-append, FitRow-split, Solid-full, least-pos, heads-append, HeadIs, head-is}
-use Rattle.bforest_core.proofs.{rows.Zipper.{cut, apart_here}, removal.Frees.{frees-after, frees-puts}, rows.Contents.remove_at, table.Stored.keys_count}
-use Rattle.bforest_core.proofs.{table.Stored.{read_same, some_same}, removal.Collapse.heads-flat, removal.Lifted.{headed, top_one, NodeAt, Beside, above_top}}
-use Rattle.bforest_core.proofs.removal.Lifted.{above_written, rebuilt_same}
+use Rattle.bforest_core.proofs.rows.LevelRows.{flat-append, sizes-append, FitRow-split, Solid-full, heads-append, HeadIs, head-is}
+use Rattle.bforest_core.proofs.{rows.Zipper.{cut, apart_here}, removal.Frees.{frees-after, frees-puts}, removal.Lifted.{remove_at, headed, top_one, NodeAt}}
+use Rattle.bforest_core.proofs.{removal.Lifted.{Beside, above_top, above_written, rebuilt_same, some_first, no_nodes}, table.Stored.{keys_count, read_same}}
+use Rattle.bforest_core.proofs.{table.Stored.some_same, removal.Collapse.heads-flat}
 
 remove_map : {X Y : Type 0} (f : X → Y) (l r : List X) (x : X) → remove (map f (l ++ x ∷ r)) (length l) ≡ map f (l ++ r)
 remove_map f l r x = cc (map-append f l (x ∷ r), remove_at (map f l) (f x) (map f r) (length l) (length-map l f), map-append f l r)
@@ -25,17 +25,6 @@ remove_flat before n l x r after = let whole : flat (before ++ node n (l ++ x �
 -- two lists of entries in the same slot are equally long
 pub leaf_count : {K V : Type 0} (es fs : List (K × V)) (c : Option (Content K V)) → c ≡ Some (leaf_content es) → c ≡ Some (leaf_content fs) → length es ≡ length fs
 leaf_count es fs c e f = let same : entry_keys es ≡ entry_keys fs = cc in cc (keys_count es, keys_count fs)
-
--- a row without heads has no nodes
-pub no_nodes : {K X : Type 0} (half most : ℕ) → 1 ≤ half → (row : Row K X) → FitRow half most row → heads row ≡ [] → row ≡ []
-no_nodes half most one [] f e = refl
-no_nodes half most one (node n [] ∷ row) f e = absurd (omega (arith, least-pos half one row))
-no_nodes half most one (node n (x ∷ es) ∷ row) f e = absurd cc
-
--- a nonempty list has a first element
-pub some_first : {A : Type 0} (es : List A) → 0 < length es → (y : A) × (others : List A) × (es ≡ y ∷ others)
-some_first [] low = absurd (omega arith)
-some_first (y ∷ es) low = (y, es, refl)
 
 -- a row has as many heads where a node has other entries
 pub as_many_heads : {K X : Type 0} (before : Row K X) (n es fs after : _) → 1 ≤ length es → 1 ≤ length fs → length (heads (before ++ node n fs ∷ after)) ≡ length (heads (before ++ node n es ∷ after))

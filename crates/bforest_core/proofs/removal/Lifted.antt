@@ -1,14 +1,71 @@
 -- The rows above a level: what the calls on them require and ensure, in another table, under a row whose keys were written (the answers of
--- `update_separator` and `update_next_separator`), and under one that lost an entry, whose key passes to the next (those of `remove_merged`).
-use Rattle.bforest_core.proofs.Words.{◌≡◌, ℕ, suc, ◌+◌, ◌≤◌, ◌<◌, Option, Some, List, [], ◌∷◌, ◌++◌, length, drop, get_or, slice_get, ap, ◌∙◌, arith}
-use Rattle.bforest_core.proofs.Words.{Heads, Rows, Inner, IsFree, IsUsed, entry_count, with_key, without_child, Table, with_node, sizes, inner_content}
-use Rattle.bforest_core.proofs.Words.{entry_keys, entry_items, count, Above, LastAbove, NextIs, OneAbove, TwoAbove, get_or_default, set, refl, sym}
-use Rattle.bforest_core.proofs.Words.{subst, append_assoc, length-append, Row, set_at, length-map, map-append, flat_map, node, flat, heads, head_of, numbers}
-use Rattle.bforest_core.proofs.{Words.{FitRow, RowIn, Distinct, Frees, ◌-◌, add-one, nil_from_length, LoosenedRows, Rekeyed}, table.Stored.{key_count, item_count}}
-use Rattle.bforest_core.proofs.{table.Stored.{read_same, some_same}, rows.Zipper.{Spot, spot, above_two, stands_here}, table.Tables.{is_used, count-append}}
-use Rattle.bforest_core.proofs.table.Tables.{count-same, count-row, counts, row-put, row-same, rows-same, ne_from_count, Puts, puts, row-split, row-join}
-use Rattle.bforest_core.proofs.{table.Tables.puts-then, removal.Frees.{frees-puts, frees-refl, frees-wider, frees-after}, rows.LevelRows.{HeadIs, least-pos}}
-use Rattle.bforest_core.proofs.{rows.LevelRows.{flat-append, heads-append, sizes-append, FitRow-join}, rows.Contents.{removed_same, removed_last, last_key}}
+-- `update_separator` and `update_next_separator`), under one that lost an entry, whose key passes to the next (those of `remove_merged`), and the right
+-- neighbour of a node, under the same parent or another (those of `right_sibling`), with the move of a path there.
+use Rattle.bforest_core.proofs.Words.{◌≡◌, ℕ, zero, suc, ◌-◌, ◌≤◌, List, [], ◌∷◌, ◌++◌, length, drop, set, slice_get, Some, refl, sym, ◌∙◌, inl, inr}
+use Rattle.bforest_core.proofs.Words.{append_assoc, length-append, arith, Heads, remove, append-nil, length-map, map-append, set_at, eqb_tells, Inner}
+use Rattle.bforest_core.proofs.Words.{without_child, inner_content, entry_keys, entry_items, ◌+◌, ◌<◌, Option, get_or, ap, Rows, IsFree, IsUsed, entry_count}
+use Rattle.bforest_core.proofs.Words.{with_key, Table, with_node, sizes, count, Above, LastAbove, NextIs, OneAbove, TwoAbove, get_or_default, subst, Row}
+use Rattle.bforest_core.proofs.Words.{flat_map, node, flat, heads, head_of, numbers, FitRow, RowIn, Distinct, Frees, add-one, nil_from_length, LoosenedRows}
+use Rattle.bforest_core.proofs.{Words.{Rekeyed, ◌≢◌, true, false, map, None, Bool, Over, Moved}, table.Stored.{slice_get_at, some_same, key_count}}
+use Rattle.bforest_core.proofs.{table.Stored.{item_count, read_same}, rows.Zipper.{Spot, spot, above_two, stands_here, stands-same}, table.Tables.is_used}
+use Rattle.bforest_core.proofs.table.Tables.{count-append, count-same, count-row, counts, row-put, row-same, rows-same, ne_from_count, Puts, puts, row-split}
+use Rattle.bforest_core.proofs.{table.Tables.{row-join, puts-then}, removal.Frees.{frees-puts, frees-refl, frees-wider, frees-after}, rows.LevelRows.HeadIs}
+use Rattle.bforest_core.proofs.rows.LevelRows.{least-pos, flat-append, heads-append, sizes-append, FitRow-join, head-is}
+
+-- removing the element between two lists
+pub remove_at : {A : Type 0} → (p : List A) (y : A) (ys : List A) (n : ℕ) → length p ≡ n → remove (p ++ y ∷ ys) n ≡ p ++ ys
+remove_at [] y ys zero e = refl
+remove_at [] y ys (suc n) e = absurd (omega arith)
+remove_at (z ∷ p) y ys zero e = absurd (omega arith)
+remove_at (z ∷ p) y ys (suc n) e = cc (remove_at p y ys n (omega arith))
+
+module _ {K : Type 0} (V : Type 0) where
+  -- removing one of two children or more removes the key before it
+  pub without_some : (ks : List K) (cs index : _) → 2 ≤ length cs → without_child {V = V} (Inner ks cs) index ≡ Inner (remove ks (index - 1)) (remove cs index)
+  without_some ks cs index two = elim (eqb_tells (length cs) 1) [ inl w ↦ absurd (let e = w.1 in omega arith) | inr w ↦ (let e = w.0 in rw e refl) ]
+
+  -- removing a child that another follows, with the removed child's key passed to the next
+  pub removed_same : (l : Heads K) (x y : K × ℕ) (r : Heads K) (key : K) (e : ℕ) → length l ≡ e → slice_get (drop 1 (entry_keys (l ++ x ∷ y ∷ r))) (e - 1) ≡ Some key →
+      without_child {V = V} (Inner (set (drop 1 (entry_keys (l ++ x ∷ y ∷ r))) e key) (entry_items (l ++ x ∷ y ∷ r))) e ≡ inner_content (l ++ (x.0, y.1) ∷ r)
+  removed_same [] x y r key zero e k = without_some (key ∷ entry_keys r) (x.1 ∷ y.1 ∷ entry_items r) 0 (omega arith)
+  removed_same [] x y r key (suc n) e k = absurd (omega arith)
+  removed_same (z ∷ l) x y r key zero e k = absurd (omega arith)
+  removed_same (z ∷ l) x y r key (suc n) e k = let kl : length (entry_keys l) ≡ n = length-map l (λ (w : K × ℕ). w.0) ∙ omega arith in
+      let kl2 : length (entry_keys l ++ x.0 ∷ []) ≡ suc n = length-append (entry_keys l) (x.0 ∷ []) ∙ omega arith in
+      let il : length (entry_items l) ≡ n = length-map l (λ (w : K × ℕ). w.1) ∙ omega arith in let keys_are = map-append (λ (w : K × ℕ). w.0) l (x ∷ y ∷ r) in
+      let less : suc n - 1 ≡ n = omega arith in
+      let key_is = some_same key x.0 (sym k ∙ rw (less, keys_are) (slice_get_at (entry_keys l) x.0 (y.0 ∷ entry_keys r) n kl)) in
+      let written : set (entry_keys (l ++ x ∷ y ∷ r)) (suc n) key ≡ entry_keys l ++ x.0 ∷ x.0 ∷ entry_keys r =
+      cc (append_assoc (entry_keys l) (x.0 ∷ []) (y.0 ∷ entry_keys r), set_at (entry_keys l ++ x.0 ∷ []) y.0 (entry_keys r) key (suc n) kl2, append_assoc (entry_keys l) (x.0 ∷ []) (key ∷ entry_keys r)) in
+      let two : 2 ≤ length (entry_items ((z ∷ l) ++ x ∷ y ∷ r)) = omega (arith, length-map ((z ∷ l) ++ x ∷ y ∷ r) (λ (w : K × ℕ). w.1), length-append l (x ∷ y ∷ r)) in
+      without_some (set (entry_keys (l ++ x ∷ y ∷ r)) (suc n) key) (entry_items ((z ∷ l) ++ x ∷ y ∷ r)) (suc n) two
+      ∙ rw (written, less, map-append (λ (w : K × ℕ). w.1) l (x ∷ y ∷ r), remove_at (entry_keys l) x.0 (x.0 ∷ entry_keys r) n kl, remove_at (entry_items l) x.1 (y.1 ∷ entry_items r) n il, map-append (λ (w : K × ℕ). w.0) l ((x.0, y.1) ∷ r), map-append (λ (w : K × ℕ). w.1) l ((x.0, y.1) ∷ r)) refl
+
+  -- removing the last child
+  pub removed_last : (z : K × ℕ) (l : Heads K) (x : K × ℕ) (e : ℕ) → suc (length l) ≡ e → without_child {V = V} (inner_content ((z ∷ l) ++ x ∷ [])) e ≡ inner_content (z ∷ l)
+  removed_last z l x zero e = absurd (omega arith)
+  removed_last z l x (suc n) e =
+      let kl : length (entry_keys l) ≡ n = length-map l (λ w. w.0) ∙ omega arith in
+      let il : length (entry_items l) ≡ n = length-map l (λ w. w.1) ∙ omega arith in
+      let less : suc n - 1 ≡ n = omega arith in
+      let two : 2 ≤ length (entry_items ((z ∷ l) ++ x ∷ [])) = omega (arith, length-map ((z ∷ l) ++ x ∷ []) (λ w. w.1), length-append l (x ∷ [])) in
+      without_some (entry_keys (l ++ x ∷ [])) (entry_items ((z ∷ l) ++ x ∷ [])) (suc n) two
+      ∙ rw (less, map-append (λ w. w.0) l _, map-append (λ w. w.1) l _, remove_at _ _ _ n kl, remove_at _ _ _ n il, append-nil (entry_keys l), append-nil (entry_items l)) refl
+
+  -- the key before the last child
+  pub last_key : (z : K × ℕ) (l : Heads K) (x : K × ℕ) (e : ℕ) → suc (length l) ≡ e → slice_get (drop 1 (entry_keys ((z ∷ l) ++ x ∷ []))) (e - 1) ≡ Some x.0
+  last_key z l x e h = cc (map-append (λ w. w.0) l (x ∷ []), slice_get_at (entry_keys l) x.0 [] (e - 1) (length-map l (λ w. w.0) ∙ omega arith))
+
+-- a row without heads has no nodes
+pub no_nodes : {K X : Type 0} (half most : ℕ) → 1 ≤ half → (row : Row K X) → FitRow half most row → heads row ≡ [] → row ≡ []
+no_nodes half most one [] f e = refl
+no_nodes half most one (node n [] ∷ row) f e = absurd (omega (arith, least-pos half one row))
+no_nodes half most one (node n (x ∷ es) ∷ row) f e = absurd cc
+
+-- a nonempty list has a first element
+pub some_first : {A : Type 0} (es : List A) → 0 < length es → (y : A) × (others : List A) × (es ≡ y ∷ others)
+some_first [] low = absurd (omega arith)
+some_first (y ∷ es) low = (y, es, refl)
 
 module _ {K V : Type 0} where
   -- a used node, whose entries are counted
@@ -485,3 +542,106 @@ module _ {K V : Type 0} where
           merge_next u reads removes =
               let num_is = here.num_is in let u_is = removes keys items (cc (slot_then)) in
               take_over d o u (rw (moved_key d o key (reads keys items here.slot_is)) at rebuilt) slot_then (rw num_is at u_is)
+
+second : {X Y : Type 0} (f : X → Y) (l : List X) (x y : X) (r : List X) → slice_get (map f (l ++ x ∷ y ∷ r)) (suc (length l)) ≡ Some (f y)
+second f [] x y r = refl
+second f (z ∷ l) x y r = second f l x y r
+
+second_key : {K : Type 0} (l : Heads K) (x y : K × ℕ) (r : Heads K) → slice_get (drop 1 (entry_keys (l ++ x ∷ y ∷ r))) (length l) ≡ Some y.0
+second_key [] x y r = refl
+second_key (z ∷ l) x y r = second _ l x y r
+
+module _ {K V : Type 0} where
+  -- the rows one level up, cut at the path's node
+  pub up_above : {t : Table K V} {path indices up size rows a x : _} {b : _} → (at_one : Spot t path indices up size rows a x b) → (k : K) × Above t path indices
+      (suc up) size at_one.q.rest (heads at_one.q.before ++ (k, get_or path up 0) ∷ heads at_one.q.after) (length (heads at_one.q.before))
+  up_above at_one = let h = head-is _ _ (omega (arith, at_one.count_is)) in (h.first.0, headed at_one.q.before at_one.q.after h (rows_above at_one))
+
+  -- the rows above a level, as a step on it requires them
+  pub over-above : {t : Table K V} {path indices level size rows list place : _} → Above t path indices level size rows list place → Over t.nodes path indices level size rows list place
+  over-above p = record { stacked = p.stacked; inside = p.inside; stands = p.stands; height = p.height }
+
+  -- where there is a next node, a step moves
+  pub must_move : (t : Table K V) (path indices : List ℕ) (level size : ℕ) (rows : Rows K) (a : Heads K) (x y : K × ℕ) (b : Heads K) (moved : Bool) →
+      (moved ≡ false → suc (length a) ≡ length (a ++ x ∷ y ∷ b)) → moved ≡ true
+  must_move t path indices level size rows a x y b true last = refl
+  must_move t path indices level size rows a x y b false last = absurd (omega (arith, last refl, length-append a (x ∷ y ∷ b)))
+
+  -- the rows after a step, with another index below them
+  pub entered_next : {t : Table K V} {path indices path' indices' : _} (indices2 : _) {level size rows : _} (a x y b : _) → Above t path indices (suc level) size rows (a ++ x ∷ y ∷ b) (length a) →
+      Moved path indices path' indices' level rows (a ++ x ∷ y ∷ b) (suc (length a)) → ((i : ℕ) → suc level ≤ i → get_or indices2 i 0 ≡ get_or indices' i 0) → Above t path' indices2 (suc level) size rows (a ++ x ∷ y ∷ b) (suc (length a)) × (get_or path' level 0 ≡ y.1)
+  entered_next indices2 a x y b p m same = let len : length (a ++ x ∷ []) ≡ suc (length a) = length-append a _ ∙ omega arith in
+      let found = ap (λ z. slice_get z (suc (length a))) (sym (append_assoc a _ _)) ∙ slice_get_at _ y b _ len in
+      let head_is = some_same m.head y (cc) in (
+        record { stacked = p.stacked; inside = p.inside; stands = stands-same _ _ _ _ _ _ _ (λ i high. refl) same m.stands; height = p.height; apart = p.apart },
+        cc,
+      )
+
+  module _ {t : Table K V} {path indices up size : _} (w : OneAbove t path indices up size) (other : up ≢ size) (r : ℕ) (wide : length path ≡ 17) (height : size ≤ 17) where
+    open w use {rows, before as a, x, after as b, above as p}
+
+    is_low : up < size
+    is_low = let h = p.height in omega arith
+
+    -- the parent of the node
+    pub one_seen : Seen t path indices up size rows a x b r
+    one_seen = seen a x b p is_low r wide height
+
+    abbrev at_one : Spot t path indices up size rows a x b
+    at_one = one_seen.d
+
+    pub u : (k : K) × Above t path indices (suc up) size at_one.q.rest (heads at_one.q.before ++ (k, get_or path up 0) ∷ heads at_one.q.after) (length (heads at_one.q.before))
+    u = up_above at_one
+
+    pub one_next : Above t path indices (up + 1) size at_one.q.rest (heads at_one.q.before ++ (u.0, get_or path up 0) ∷ heads at_one.q.after) (length (heads at_one.q.before))
+    one_next = rw add-one u.1
+
+    -- the rows above meet what the call one level up requires
+    abbrev pub one_asks : OneAbove t path indices (up + 1) size
+    one_asks = record { rows = at_one.q.rest; before = heads at_one.q.before; x = (u.0, get_or path up 0); after = heads at_one.q.after; above = one_next }
+
+    pub one_fewer : (next_one : ℕ) → size - up ≡ next_one → size - (up + 1) < next_one
+    one_fewer next_one bound = let l = is_low in omega arith
+
+    -- the answer of the call one level up
+    next_above : (o : _) → Beside t path indices (up + 1) size o → NextIs o (heads at_one.q.after)
+    next_above o beside = beside one_asks
+
+    module _ (o : Option (K × ℕ)) (next : _) (is : o ≡ Some next) (beside : Beside t path indices (up + 1) size o) where
+      next_one : NextNode at_one.q.after next.0 next.1
+      next_one = let nx = next_above (Some next) (subst (Beside t path indices (up + 1) size) is beside) in next_of 4 8 (omega arith) _ _ _ _ at_one.f.fit.2 nx.1
+
+      n_slot : slice_get t.nodes next.1 ≡ Some (inner_content (next_one.f ∷ next_one.fs))
+      n_slot = let i = (row-split _ _ _ (node (get_or path up 0) (at_one.q.l ++ x ∷ at_one.q.r) ∷ at_one.q.after) at_one.f.inside).1.1 in
+          (subst (λ z. RowIn inner_content t.nodes z) next_one.after_is i).0
+
+      -- the next parent meets what reading its first child requires
+      pub first_asks : ChildAt t next.1 0
+      first_asks = (drop 1 (entry_keys (next_one.f ∷ next_one.fs)), entry_items (next_one.f ∷ next_one.fs), n_slot, omega arith)
+
+    module _ (m : ℕ) (value : Counts t (get_or path up r) m) where
+      -- a neighbour under the same parent meets what reading it requires
+      pub item_asks : get_or indices up 0 + 1 < m → ChildAt t (get_or path up r) (get_or indices up 0 + 1)
+      item_asks more = (drop 1 (entry_keys (at_one.q.l ++ x ∷ at_one.q.r)), entry_items (at_one.q.l ++ x ∷ at_one.q.r), one_seen.slot_is, omega (arith, one_seen.counted m value, item_count (at_one.q.l ++ x ∷ at_one.q.r)))
+
+      pub beside_same : (key child : _) → get_or indices up 0 + 1 < m → ReadsKey t (get_or path up r) (get_or indices up 0) key → ReadsChild t (get_or path up r) (get_or indices up 0 + 1) child → NextIs (Some (key, child)) b
+      beside_same key child more reads_key reads_child =
+          let es = at_one.q.l ++ x ∷ at_one.q.r in let w = some_first at_one.q.r (omega (arith, one_seen.counted m value, at_one.count_is)) in
+          let high : suc (length at_one.q.l) ≡ get_or indices up 0 + 1 = omega (arith, at_one.q.entry_is) in
+          let key_is = some_same _ _ (cc (second_key at_one.q.l x w.0 w.1, at_one.q.entry_is, reads_key (drop 1 (entry_keys es)) (entry_items es) one_seen.slot_is)) in
+          let child_is = some_same _ _ (cc (second (λ z. z.1) _ x _ _, reads_child (drop 1 (entry_keys es)) (entry_items es) one_seen.slot_is)) in
+          (w.1 ++ flat at_one.q.after, at_one.q.b_is ∙ ap (λ z. z ++ flat at_one.q.after) w.2 ∙ ap (λ z. (z, w.0.1) ∷ (w.1 ++ flat at_one.q.after)) key_is ∙ ap (λ z. (key, z) ∷ (w.1 ++ flat at_one.q.after)) child_is)
+
+      module _ (less : m ≤ get_or indices up 0 + 1) where
+        behind : b ≡ flat at_one.q.after
+        behind = cc (at_one.q.b_is, nil_from_length at_one.q.r (omega (arith, one_seen.counted m value, at_one.count_is)))
+
+        -- there is no right neighbour
+        pub none_right : (o : Option (K × ℕ)) → o ≡ None → Beside t path indices (up + 1) size o → NextIs None b
+        none_right o is beside = cc (behind, no_nodes 4 8 (omega arith) _ at_one.f.fit.2 (next_above None (subst (Beside t path indices (up + 1) size) is beside)))
+
+        -- the right neighbour has another parent
+        pub beside_next : (o : Option (K × ℕ)) (next : _) (is : o ≡ Some next) (beside : Beside t path indices (up + 1) size o) (child : ℕ) → ReadsChild t next.1 0 child → NextIs (Some (next.0, child)) b
+        beside_next o next is beside child reads = let w = next_one o next is beside in
+            let child_is = some_same _ _ (reads (drop 1 (entry_keys (w.f ∷ w.fs))) (entry_items (w.f ∷ w.fs)) (n_slot o next is beside)) in
+            (w.fs ++ flat w.rest, behind ∙ ap (λ z. flat z) w.after_is ∙ ap (λ z. (z, w.f.1) ∷ (w.fs ++ flat w.rest)) (sym w.k_is) ∙ ap (λ z. (next.0, z) ∷ (w.fs ++ flat w.rest)) child_is)

@@ -12,7 +12,7 @@ use Rattle.bforest_core.proofs.rows.LevelRows.{flat-append, heads-append, sizes-
 use Rattle.bforest_core.proofs.{table.Stored.{some_same, Parts, inner_cuts, leaf_cuts}, table.Tables.{count-same, puts, count-append, counts, count-row}}
 use Rattle.bforest_core.proofs.{table.Tables.{row-same, row-put_two, row-drop_put, rows-same, row-split, is_used}, rows.Zipper.{cut, above_two, stands-same}}
 use Rattle.bforest_core.proofs.{rows.Zipper.apart_here, removal.Lifted.{above_same, headed, NextNode, next_of, NodeAt, Counts, Beside, Rekeys, Enters}}
-use Rattle.bforest_core.proofs.removal.LeafAt.{no_nodes}
+use Rattle.bforest_core.proofs.removal.Lifted.{no_nodes}
 
 -- half of a node's capacity and the whole of it
 pub record IsHalf (half most : ℕ) : Type 0 where

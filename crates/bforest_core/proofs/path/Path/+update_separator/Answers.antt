@@ -1,5 +1,5 @@
 use Rattle.bforest_core.proofs.{Words.{rules, ◌+◌, ◌-◌, ◌<◌, ◌∷◌, ◌++◌, get_or, drop, arith, add-one, heads, entry_keys, entry_items}, removal.Lifted.seen}
-use Rattle.bforest_core.proofs.{removal.Lifted.{rekey_top, rekey_parent, rekey_first}, removal.Neighbours.up_above, rows.Zipper.spot}
+use Rattle.bforest_core.proofs.{removal.Lifted.{rekey_top, rekey_parent, rekey_first, up_above}, rows.Zipper.spot}
 use Rattle.bforest_core.proofs.path.Path.+update_separator.Goals as goal
 
 pub set_separator-requires : goal.set_separator-requires

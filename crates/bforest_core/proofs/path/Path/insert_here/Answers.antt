@@ -1,4 +1,4 @@
-use Rattle.bforest_core.proofs.{Words.{rules, arith}, insertion.HalvingNode.{index_small, put_asks, put_grows, put_full}}
+use Rattle.bforest_core.proofs.{Words.{rules, arith}, insertion.Parted.{index_small, put_asks, put_grows, put_full}}
 use Rattle.bforest_core.proofs.path.Path.insert_here.Goals as goal
 
 pub put_child-requires : goal.put_child-requires

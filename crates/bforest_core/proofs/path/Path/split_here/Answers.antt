@@ -1,4 +1,4 @@
-use Rattle.bforest_core.proofs.{Words.{rules, arith}, insertion.HalvingNode.{full_asks, index_small, early_asks, early_halves, late_asks, late_halves}}
+use Rattle.bforest_core.proofs.{Words.{rules, arith}, insertion.Parted.{full_asks, index_small, early_asks, early_halves, late_asks, late_halves}}
 use Rattle.bforest_core.proofs.path.Path.split_here.Goals as goal
 
 pub split_node-right-requires : goal.split_node-right-requires
