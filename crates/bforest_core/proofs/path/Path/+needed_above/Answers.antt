@@ -9,16 +9,8 @@ pub is_full-requires : goal.is_full-requires
 is_full-requires g t c = (search rules, level_used c.requires.pending.3 c.if-up-self.false (omega arith) _ _ c.node.ensures.value)
 
 pub needed_above-requires : goal.needed_above-requires
-needed_above-requires g t c κs within = let w = c.requires.pending in (
-  omega arith,
-  (
-    within.0,
-    (
-      within.1,
-      ((λ a m. search rules), (search rules, (search rules, (c.requires.height, level_above w.3 c.if-up-self.false (omega arith) c.index-self-up.result)))),
-    ),
-  ),
-)
+needed_above-requires g t c κs within = let above = level_above c.requires.pending.3 c.if-up-self.false (omega arith) c.index-self-up.result in
+    (omega arith, (within.0, (within.1, ((λ a m. search rules), (search rules, (search rules, (c.requires.height, above)))))))
 
 pub returns-then-is_full : goal.returns-then-is_full
 returns-then-is_full g t c = record {

@@ -29,10 +29,8 @@ update_next_separator-requires g c = let w = c.requires.pending in
     (search rules, (search rules, (c.requires.height, above_asks w c.index-self-up.result (omega arith) c.requires.height c.entries.result c.entries.ensures.value c.if-index-entries.false)))
 
 pub remove_child-answer-requires-else-index-entries : goal.remove_child-answer-requires-else-index-entries
-remove_child-answer-requires-else-index-entries g c = let w = c.requires.pending in (
-  search rules,
-  remove_last_asks w _ (omega arith) c.requires.height _ c.entries.ensures.value c.if-index-entries.false _ _ c.update_next_separator.ensures,
-)
+remove_child-answer-requires-else-index-entries g c = let w = c.requires.pending in
+    (search rules, remove_last_asks w _ (omega arith) c.requires.height _ c.entries.ensures.value c.if-index-entries.false _ _ c.update_next_separator.ensures)
 
 pub returns-then-index-entries : goal.returns-then-index-entries
 returns-then-index-entries g c = λ w. merge_same w c.index-self-up.result (omega arith) c.requires.height c.entries.result c.entries.ensures.value
