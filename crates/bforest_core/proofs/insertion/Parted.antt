@@ -594,9 +594,6 @@ module _ {K V : Type 0} where
     num_is : read ≡ num
     num_is = get_or_default ms up i 0 low
 
-    pub index_small : e < 8
-    index_small = omega (arith, d.count_is, d.most_is)
-
     -- the node meets what inserting the child requires
     pub put_asks : PutAsks Inner t read e
     put_asks = asks_put _ num_is _ _ f.slot_is _ (is_used t _ _ f.slot_is f.none_chain) (omega (arith, key_count es, d.count_is))
@@ -648,7 +645,7 @@ module _ {K V : Type 0} where
         right_is = omega (arith, eight, ap length node_cut.es_is, length-append node_cut.zs (node_cut.y ∷ node_cut.ys), node_cut.count_is, four)
 
         pub late_asks : PutAsks Inner s right (e - 4)
-        late_asks = asks_put _ refl _ _ node_cut.two.there _ used (omega (arith, key_count (node_cut.y ∷ node_cut.ys), index_small, right_is))
+        late_asks = asks_put _ refl _ _ node_cut.two.there _ used (omega (arith, key_count (node_cut.y ∷ node_cut.ys), d.count_is, d.most_is, right_is))
 
         pub late_halves : {u : _} {key : K} {child : ℕ} (moved : Bool) {put : _} (index : _) → 4 ≤ e → PutsChild s u right (e - 4) key child put → index ≡ (if moved then suc (e - 4) else e - 4) → up < length js → HalvedBy w (key, child) moved u (set ms up right) (set js up index) parts.crit_key right true
         late_halves {u} {key} {child} moved index late said index_is low_js = let new : K × ℕ = (key, child) in
@@ -662,5 +659,5 @@ module _ {K V : Type 0} where
             node_parted _ _ _ _ _ (omega arith, omega arith, omega arith, omega arith) (λ after. (let a = above_lt e 4 late in rw a refl)) d eight h
             (λ i other. get_or-set_other ms up i right 0 other) (λ i other. get_or-set_other js up i index 0 other) seen
             (in_right _ _ _ _ _ _ _ _ _ seen (get_or-set_same ms up right 0 low)
-            (omega (arith, step_most moved, index_small))
+            (omega (arith, step_most moved, d.count_is, d.most_is))
             (step_is moved (length a) ∙ omega (arith, j_is, ap length d.q.a_is, length-append (flat before) l, d.q.entry_is, h.left_is, late)))

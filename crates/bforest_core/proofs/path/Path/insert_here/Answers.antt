@@ -1,11 +1,11 @@
-use Rattle.bforest_core.proofs.{Words.{rules, arith}, insertion.Parted.{index_small, put_asks, put_grows, put_full}}
+use Rattle.bforest_core.proofs.{Words.{rules, arith}, removal.Lifted.one_small, insertion.Parted.{put_asks, put_grows, put_full}}
 use Rattle.bforest_core.proofs.path.Path.insert_here.Goals as goal
 
 pub put_child-requires : goal.put_child-requires
 put_child-requires g c = let w = c.requires.pending in (search rules, put_asks w c.index-self-up.result c.requires.within (omega arith))
 
 pub index_behind-requires : goal.index_behind-requires
-index_behind-requires g c = let w = c.requires.pending in omega (arith, index_small w c.index-self-up.result c.requires.within (omega arith))
+index_behind-requires g c = omega (arith, one_small c.requires.pending c.requires.within)
 
 pub returns-then-put_child-clause-grown : goal.returns-then-put_child-clause-grown
 returns-then-put_child-clause-grown g c = λ done w. put_grows w c.index-self-up.result

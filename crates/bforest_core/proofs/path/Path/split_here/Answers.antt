@@ -1,4 +1,5 @@
-use Rattle.bforest_core.proofs.{Words.{rules, arith}, insertion.Parted.{full_asks, index_small, early_asks, early_halves, late_asks, late_halves}}
+use Rattle.bforest_core.proofs.{Words.{rules, arith}, insertion.Parted.{full_asks, early_asks, early_halves, late_asks, late_halves}}
+use Rattle.bforest_core.proofs.removal.Lifted.{one_small}
 use Rattle.bforest_core.proofs.path.Path.split_here.Goals as goal
 
 pub split_node-right-requires : goal.split_node-right-requires
@@ -14,7 +15,7 @@ put_child-room-requires-else-entry-lt-MIN_CHILDREN g c = let said = c.split_node
     (search rules, late_asks c.requires.pending c.index-self-up.result c.requires.within (omega arith) g.row.N c.split_node-right.new.self c.requires.full said.node said.used said.split)
 
 pub index_behind-requires-else-entry-lt-MIN_CHILDREN : goal.index_behind-requires-else-entry-lt-MIN_CHILDREN
-index_behind-requires-else-entry-lt-MIN_CHILDREN g c = omega (arith, index_small c.requires.pending c.index-self-up.result c.requires.within (omega arith))
+index_behind-requires-else-entry-lt-MIN_CHILDREN g c = omega (arith, one_small c.requires.pending c.requires.within)
 
 pub returns-then-entry-lt-MIN_CHILDREN-clause-halved : goal.returns-then-entry-lt-MIN_CHILDREN-clause-halved
 returns-then-entry-lt-MIN_CHILDREN-clause-halved g c = λ w. let said = c.split_node-right.ensures in
