@@ -6,7 +6,7 @@ pub use Rattle.bforest_core.specs.Descent.{Descended, GoesThrough, HasBelow, IsF
 pub use Rattle.bforest_core.specs.Levels.{FitRow, IsFit, LevelNode, Solid, Stacked, Topped, Tree, flat, half_of, head_of, heads, least, node, numbers, sizes}
 pub use Rattle.bforest_core.specs.Paths.{InsertsHere, OnEntry, OnLeaf, Placing, PointsTo, Standing, StandsAt, StandsOn, index_of, leaf_of, list_under, path_root, place_in}
 pub use Rattle.bforest_core.specs.Place.{Distinct, IsAt, IsIn, IsPathAt, PointsAt, RowIn, RowsIn, Stands, StandsAbove, count, entry_before, entry_items}
-pub use Rattle.bforest_core.specs.Removal.{Dropped, Emptied, Frees, GivesAll, HasOthers, Healed, Heals, IsSingle, Item, Joined, Joins, LeafLoss, Loosened, LoosenedRows}
+pub use Rattle.bforest_core.specs.Removal.{Dropped, Emptied, Frees, GivesAll, HasOthers, Healed, Heals, IsSingle, Item, Joined, Joins, Keeps, LeafLoss, Loosened, LoosenedRows}
 pub use Rattle.bforest_core.specs.Spots.{Coded, CodedOver, EndsAt, Followed, HasNext, HasNextChild, HasPrev, HasPrevChild, HasUnder, HasWay, IsBefore, IsBehind}
 pub use Rattle.bforest_core.specs.Spots.{IsBesideOf, IsFirstPlace, IsLastPlace, IsLeafAt, IsLower, IsNextOf, IsPrevOf, IsSpotAt, IsTurn, IsWay, Leads, NumberAt}
 pub use Rattle.bforest_core.specs.Steps.{Advances, AreFirst, AreLast, HasOver, LastAt, MoreAt, Moved, OnLevels, OnOver, Over, Retreats, Turned, TurnedBack}

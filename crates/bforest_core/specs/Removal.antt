@@ -41,6 +41,12 @@ abbrev pub most_at : Bool → ℕ → ℕ
 most_at true n = n
 most_at false n = 8
 
+-- the path is as it was below a level, and leads to the same root
+pub record Keeps (path indices path' indices' : List ℕ) (level size : ℕ) : Type 0 where
+  pub nodes_below : SameBelow level path path'
+  pub entries_below : SameBelow level indices indices'
+  pub same_top : top_of path' size ≡ top_of path size
+
 module _ {K V : Type 0} where
   -- only slots of the numbers `own` change; the freed ones are free and in front of the chain
   pub record Frees (old new : Table K V) (own freed : List ℕ) : Type 0 where
@@ -63,9 +69,8 @@ module _ {K V : Type 0} where
     pub sizes_are : map sizes rows' ≡ sizes_after
     pub numbers_are : (number : ℕ) → count number (flat_map numbers rows') + count number freed ≡ count number (flat_map numbers rows)
     pub frees : Frees old new (flat_map numbers rows) freed
-    pub nodes_below : SameBelow level path path'
-    pub entries_below : SameBelow level indices indices'
-    pub same_top : top_of path' size ≡ top_of path size
+    pub keeps : Keeps path indices path' indices' level size
+    pub open keeps use *
 
   -- the rows from a level up, under other first keys of the level: its nodes are `list` now, and the path and the
   -- rows' sizes and numbers are as they were
@@ -131,9 +136,8 @@ module _ {K V : Type 0} where
     pub row_numbers : numbers (before' ++ node number' entries' ∷ after') ≡ numbers (before ++ node number entries ∷ after)
     pub rest_numbers : (m : ℕ) → count m (flat_map numbers rest') ≡ count m (flat_map numbers rest)
     pub frees : Frees old new (numbers (before ++ node number entries ∷ after) ++ flat_map numbers rest) []
-    pub nodes_below : SameBelow level path path'
-    pub entries_below : SameBelow level indices indices'
-    pub same_top : top_of path' size ≡ top_of path size
+    pub keeps : Keeps path indices path' indices' level size
+    pub open keeps use *
 
   -- the node is merged into its right neighbour, to which the path leads; the level above still names both
   pub record Joined {X : Type 0} (content : List (K × X) → Content K V) (half most : ℕ) (old new : Table K V) (path indices path' indices' : List ℕ) (level size : ℕ)
@@ -153,10 +157,9 @@ module _ {K V : Type 0} where
     pub number_is : get_or path' level 0 ≡ right
     pub entry_is : get_or indices' level 0 ≡ get_or indices level 0
     pub frees : Frees old new (numbers (before ++ node number entries ∷ after)) (number ∷ [])
-    pub nodes_below : SameBelow level path path'
     pub nodes_above : SameAbove level path path'
-    pub entries_below : SameBelow level indices indices'
-    pub same_top : top_of path' size ≡ top_of path size
+    pub keeps : Keeps path indices path' indices' level size
+    pub open keeps use *
 
   -- the path's node on a level, a leaf or else an inner node, lost an entry. Half full, it has `least` entries or more, and the path is at
   -- an entry

@@ -6,7 +6,7 @@ use Rattle.bforest_core.proofs.Words.{append_assoc, length-append, arith, Heads,
 use Rattle.bforest_core.proofs.Words.{without_child, inner_content, entry_keys, entry_items, ◌+◌, ◌<◌, Option, get_or, ap, Rows, IsFree, IsUsed, entry_count}
 use Rattle.bforest_core.proofs.Words.{with_key, Table, with_node, sizes, count, Above, LastAbove, NextIs, OneAbove, TwoAbove, get_or_default, subst, Row}
 use Rattle.bforest_core.proofs.Words.{flat_map, node, flat, heads, head_of, numbers, FitRow, RowIn, Distinct, Frees, add-one, nil_from_length, LoosenedRows}
-use Rattle.bforest_core.proofs.{Words.{Rekeyed, ◌≢◌, true, false, map, None, Bool, Over, Moved}, table.Stored.{slice_get_at, some_same, key_count}}
+use Rattle.bforest_core.proofs.{Words.{Rekeyed, ◌≢◌, true, false, map, None, Bool, Over, Moved, Keeps}, table.Stored.{slice_get_at, some_same, key_count}}
 use Rattle.bforest_core.proofs.{table.Stored.{item_count, read_same}, rows.Zipper.{Spot, spot, above_two, stands_here, stands-same}, table.Tables.is_used}
 use Rattle.bforest_core.proofs.table.Tables.{count-append, count-same, count-row, counts, row-put, row-same, rows-same, ne_from_count, Puts, puts, row-split}
 use Rattle.bforest_core.proofs.{table.Tables.{row-join, puts-then}, removal.Frees.{frees-puts, frees-refl, frees-wider, frees-after}, rows.LevelRows.HeadIs}
@@ -167,6 +167,10 @@ module _ {K V : Type 0} where
         key_asks = λ m i value more. (drop 1 (entry_keys es), entry_items es, slot, omega (arith, counted m value, key_count es));
       }
 
+-- a path that is unchanged
+pub keeps-refl : {path indices : List ℕ} {level size : ℕ} → Keeps path indices path indices level size
+keeps-refl = record { nodes_below = λ i low. refl; entries_below = λ i low. refl; same_top = refl }
+
 -- a node's first key does not change with a later entry's item
 pub head-other : {K X : Type 0} (n : ℕ) (l : List (K × X)) (k : K) (x y : X) (r s : List (K × X)) → head_of n (l ++ (k, x) ∷ r) ≡ head_of n (l ++ (k, y) ∷ s)
 head-other n [] k x y r s = refl
@@ -241,9 +245,7 @@ module _ {K V : Type 0} where
     sizes_are = refl;
     numbers_are = λ m. omega arith;
     frees = frees-refl u _;
-    nodes_below = λ i low. refl;
-    entries_below = λ i low. refl;
-    same_top = refl;
+    keeps = keeps-refl;
   }
 
   module _ {t : Table K V} {path indices up size rows a x b : _} (d : Spot t path indices up size rows a x b) where
@@ -290,9 +292,7 @@ module _ {K V : Type 0} where
           sizes_are = let same = o.0 in cc (sizes-append _ _, sizes-append _ _);
           numbers_are = λ m. omega (arith, c m, c2 m, c3 m, above.numbers_are m, ap (λ z. count m (flat_map numbers z)) d.q.rows_are);
           frees = rw d.q.rows_are frees;
-          nodes_below = λ i low. refl;
-          entries_below = λ i low. refl;
-          same_top = refl;
+          keeps = keeps-refl;
         }
 
     -- the row after writes to the rows above it alone

@@ -5,14 +5,14 @@ use Rattle.bforest_core.proofs.Words.{ap, ◌∙◌, subst, inl, inr, length-app
 use Rattle.bforest_core.proofs.Words.{entry_count, entry_capacity, joined, IsCut, Balances, left_share, Table, with_node, IsBalancedAt, Frees, Bool, false}
 use Rattle.bforest_core.proofs.Words.{IsLeafCapacity, content_at, half_at, most_at, inner_content, leaf_content, le-leb, lt-leb, lt-ltb, le-ltb, zero, ◌*◌}
 use Rattle.bforest_core.proofs.Words.{◌⊎◌, map, set, get_or, append_assoc, Row, flat_map, append-nil, get_or-set_other, get_or-set_same, with_freed, node}
-use Rattle.bforest_core.proofs.Words.{flat, heads, sizes, numbers, least, rebalanced, count, Above, SameBelow, top_of, Rebuilt, OnLevel, Healed, Joined}
-use Rattle.bforest_core.proofs.Words.{add-one, get_or_default, Item, Heals, Joins, Loses, IsUsed, IsUnderflowedAt, FitRow, OneAbove, TwoAbove, NextIs}
+use Rattle.bforest_core.proofs.Words.{flat, heads, sizes, numbers, least, rebalanced, count, Above, Rebuilt, OnLevel, Healed, Joined}
+use Rattle.bforest_core.proofs.Words.{add-one, get_or_default, Item, Heals, Joins, Loses, IsUsed, IsUnderflowedAt, FitRow, OneAbove, TwoAbove, NextIs, Keeps}
 use Rattle.bforest_core.proofs.{removal.Frees.{frees-after, frees-puts, frees-refl, frees-wider, frees-one, freed_other}, rows.LevelRows.head-is}
 use Rattle.bforest_core.proofs.rows.LevelRows.{flat-append, heads-append, sizes-append, numbers-append, FitRow-join, least-le, least-pos, HeadIs}
 use Rattle.bforest_core.proofs.{table.Stored.{some_same, Parts, inner_cuts, leaf_cuts}, table.Tables.{count-same, puts, count-append, counts, count-row}}
 use Rattle.bforest_core.proofs.{table.Tables.{row-same, row-put_two, row-drop_put, rows-same, row-split, is_used}, rows.Zipper.{cut, above_two, stands-same}}
 use Rattle.bforest_core.proofs.{rows.Zipper.apart_here, removal.Lifted.{above_same, headed, NextNode, next_of, NodeAt, Counts, Beside, Rekeys, Enters}}
-use Rattle.bforest_core.proofs.removal.Lifted.{no_nodes}
+use Rattle.bforest_core.proofs.removal.Lifted.{no_nodes, keeps-refl}
 
 -- half of a node's capacity and the whole of it
 pub record IsHalf (half most : ℕ) : Type 0 where
@@ -179,10 +179,9 @@ module _ {K V X : Type 0} {content : List (K × X) → Content K V} {half most :
     -- the level is unchanged, and the path leads to a node of the row
     settle_same : {path' indices' : _} (front : Row K X) (m fs back : _) → front ++ node m fs ∷ back ≡ before ++ node n es ∷ after → Above t path' indices' (suc up) size rest (heads (front ++ node m fs ∷ back)) (length (heads front)) →
         get_or path' up 0 ≡ m → (get_or indices up 0 < length (es ++ flat after) → get_or indices' up 0 < length fs)
-        → length (flat front) + get_or indices' up 0 ≡ length (flat before) + get_or indices up 0 → SameBelow up path path'
-        → SameBelow up indices indices' → top_of path' size ≡ top_of path size
+        → length (flat front) + get_or indices' up 0 ≡ length (flat before) + get_or indices up 0 → Keeps path indices path' indices' up size
         → Healed content half most t t path indices path' indices' up size before n es after rest
-    settle_same front m fs back same above m_is within place_is below below_too top_is = let outcome = judged _ _ _ _ hm.lo p.some why in
+    settle_same front m fs back same above m_is within place_is kept = let outcome = judged _ _ _ _ hm.lo p.some why in
         record {
           before' = front;
           number' = m;
@@ -202,14 +201,12 @@ module _ {K V X : Type 0} {content : List (K × X) → Content K V} {half most :
           row_numbers = cc;
           rest_numbers = λ m. refl;
           frees = frees-refl t _;
-          nodes_below = below;
-          entries_below = below_too;
-          same_top = top_is;
+          keeps = kept;
         }
 
     -- the level is unchanged, and so is the path
     pub settle_stay : (get_or indices up 0 < length (es ++ flat after) → get_or indices up 0 < length es) → Healed content half most t t path indices path indices up size before n es after rest
-    settle_stay within = settle_same _ n _ _ refl p.above p.number_is within refl (λ i low. refl) (λ i low. refl) refl
+    settle_stay within = settle_same _ n _ _ refl p.above p.number_is within refl keeps-refl
 
   module _ {e es q f fs after rest : _} (p : OnLevel content half most t path indices up size before n (e ∷ es) (node q (f ∷ fs) ∷ after) rest) where
     abbrev row : Row K X
@@ -222,13 +219,12 @@ module _ {K V X : Type 0} {content : List (K × X) → Content K V} {half most :
     -- the path moves from past the node to the next node
     pub settle_move : {path' indices' : _} → half ≤ length (e ∷ es) → get_or indices up 0 ≡ length (e ∷ es)
         → Above t path' indices' (suc up) size rest (heads before ++ (e.0, n) ∷ (f.0, q) ∷ heads after) (suc (length (heads before)))
-        × (get_or path' up 0 ≡ q) → get_or indices' up 0 ≡ 0 → SameBelow up path path' →
-        SameBelow up indices indices' → top_of path' size ≡ top_of path size → Healed content half most t t path indices path' indices' up size before n (e ∷ es) (node q (f ∷ fs) ∷ after) rest
-    settle_move {path'} {indices'} healthy e_is above z_is below below_too top_is =
+        × (get_or path' up 0 ≡ q) → get_or indices' up 0 ≡ 0 → Keeps path indices path' indices' up size → Healed content half most t t path indices path' indices' up size before n (e ∷ es) (node q (f ∷ fs) ∷ after) rest
+    settle_move {path'} {indices'} healthy e_is above z_is kept =
         let front = before ++ node n (e ∷ es) ∷ [] in let same = append_assoc before (node n (e ∷ es) ∷ []) (node q (f ∷ fs) ∷ after) in
         let len : length (heads front) ≡ suc (length (heads before)) = ap length (heads-append before (node n (e ∷ es) ∷ [])) ∙ length-append (heads before) ((e.0, n) ∷ []) ∙ omega arith in
         let flats = ap length (flat-append before (node n (e ∷ es) ∷ []) ∙ ap (λ z. flat before ++ z) (append-nil (e ∷ es))) ∙ length-append (flat before) (e ∷ es) in
-        settle_same p (inl healthy) front q (f ∷ fs) after same (rw (same, heads-append before (node n (e ∷ es) ∷ node q (f ∷ fs) ∷ after), len) above.0) above.1 (λ low. omega arith) (omega arith) below below_too top_is
+        settle_same p (inl healthy) front q (f ∷ fs) after same (rw (same, heads-append before (node n (e ∷ es) ∷ node q (f ∷ fs) ∷ after), len) above.0) above.1 (λ low. omega arith) (omega arith) kept
 
     -- the two nodes are different and in no other row, and the right one is off the chain
     pub apart : (n ≢ q) × (count n (numbers before) + count n (numbers after) ≡ 0) × (count q (numbers before) + count q (numbers after) ≡ 0) × (count q t.chain ≡ 0)
@@ -282,9 +278,7 @@ module _ {K V X : Type 0} {content : List (K × X) → Content K V} {half most :
             row_numbers = simp numbers-append;
             rest_numbers = λ m. omega (arith, b.numbers_are m);
             frees = frees-after (λ m none. omega (arith, c m)) (frees-wider (numbers row ++ flat_map numbers rest) (λ m none. omega (arith, c m)) (two_frees s.two)) b.frees;
-            nodes_below = λ i low. refl;
-            entries_below = λ i low. refl;
-            same_top = refl;
+            keeps = keeps-refl;
           }
 
       -- the node is merged into its right neighbour, and its slot is freed
@@ -318,10 +312,12 @@ module _ {K V X : Type 0} {content : List (K × X) → Content K V} {half most :
             number_is = get_or-set_same path up q 0 low;
             entry_is = refl;
             frees = frees;
-            nodes_below = λ i below. get_or-set_other path up i q 0 (λ w. omega arith);
             nodes_above = λ i above. get_or-set_other path up i q 0 (λ w. omega arith);
-            entries_below = λ i low. refl;
-            same_top = get_or-set_other path up (size - 1) q 0 (λ w. omega arith);
+            keeps = record {
+              nodes_below = λ i below. get_or-set_other path up i q 0 (λ w. omega arith);
+              entries_below = λ i low. refl;
+              same_top = get_or-set_other path up (size - 1) q 0 (λ w. omega arith);
+            };
           }
 
 both_back : {A B : Type 0} (P : A → B → Type 0) (a c : A) (b d : B) → a ≡ c → b ≡ d → P c d → P a b
@@ -431,10 +427,9 @@ module _ {K V : Type 0} {cap least : ℕ} {t : Table K V} {path indices up size 
         past_asks = record { rows = rest; before = heads before; x = (e.0, n); y = (then.f.0, behind.1); after = heads then.rest; above = above_past }
 
         -- entering the next node leaves the level rebalanced
-        pub past_heals : (path' indices' : _) → Enters t path indices path' indices' up size → get_or indices' up 0 ≡ 0
-            → SameBelow up path path' → SameBelow up indices indices' → top_of path' size ≡ top_of path size → Heals w t path' indices'
-        past_heals path' indices' moved first below below_too top_is = let entered = moved past_asks in let len = ap length named.es_is in
-            heals then t path' indices' (settle_move hm (level then) (omega (arith, half_here)) (omega (arith, count_read m value)) entered first below below_too top_is)
+        pub past_heals : (path' indices' : _) → Enters t path indices path' indices' up size → get_or indices' up 0 ≡ 0 → Keeps path indices path' indices' up size → Heals w t path' indices'
+        past_heals path' indices' moved first kept = let entered = moved past_asks in let len = ap length named.es_is in
+            heals then t path' indices' (settle_move hm (level then) (omega (arith, half_here)) (omega (arith, count_read m value)) entered first kept)
 
   -- the rows above, cut at the node
   pub above_high : Above t path indices (up + 1) size rest (heads before ++ (e.0, n) ∷ heads after) (length (heads before))

@@ -3,9 +3,9 @@
 use Rattle.bforest_core.proofs.Words.{lt-ltb, le-ltb, ◌≡◌, ℕ, zero, suc, ◌+◌, ◌-◌, ◌≤◌, ◌<◌, Option, None, true, false, Bool, if◌then◌else◌, option_map, List}
 use Rattle.bforest_core.proofs.Words.{[], ◌∷◌, ◌++◌, length, get_or, Some, refl, ap, ◌∙◌, length-append, arith, Row, loss, node, flat, sizes, rebalanced}
 use Rattle.bforest_core.proofs.Words.{loss_above, count, nodes_up, map, sym, subst, append_assoc, Heads, Rows, flat_map, Content, Table, heads, numbers}
-use Rattle.bforest_core.proofs.Words.{FitRow, RowIn, inner_content, Above, TwoAbove, SameBelow, top_of, Frees, Rebuilt, Loosened, Healed, Joined, Loses}
+use Rattle.bforest_core.proofs.Words.{FitRow, RowIn, inner_content, Above, TwoAbove, top_of, Frees, Rebuilt, Loosened, Healed, Joined, Loses}
 use Rattle.bforest_core.proofs.Words.{least, false≢true, remove, flat_map-append, Stacked, Tree, half_of, RowsIn, leaf_content, root_above, root_of}
-use Rattle.bforest_core.proofs.Words.{numbers_of, Stands, IsPathAt, UpTo, Trimmed, StandsIn, Removed, sizes_of, ◌⊎◌, inr, LeafLoss, Solid}
+use Rattle.bforest_core.proofs.Words.{numbers_of, Stands, IsPathAt, UpTo, Trimmed, StandsIn, Removed, sizes_of, ◌⊎◌, inr, LeafLoss, Solid, Keeps}
 use Rattle.bforest_core.proofs.{removal.Frees.{only_here, frees-then, frees-after, frees-wider}, rows.LevelRows.{flat-append, heads-append, sizes-append}}
 use Rattle.bforest_core.proofs.{rows.LevelRows.{FitRow-join, FitRow-split, Solid-full, least-pos}, rows.Zipper.stands_here, table.Tables.count-append}
 use Rattle.bforest_core.proofs.{table.Tables.{count-same, count-row, counts, row-same, rows-same}, walks.RowNodes.fit_full, rows.Tops.{root-stands, top_tree}}
@@ -176,9 +176,8 @@ module _ {K V : Type 0} {t u : Table K V} {path indices : List ℕ} {up size : �
   loses_child num = record { leaf = false; capacity = λ is. absurd (false≢true is); least_is = refl; before = l.before; entries = l.entries; after = l.after; rest = l.rest; on = l.on_level; at_entry = λ some. low l at }
 
   -- the rebalanced level is one of the rows
-  rebuilt : {v : Table K V} {path' indices' freed : _} → Restores l v path' indices' freed → SameBelow up path path' → SameBelow up indices indices' → top_of path' size ≡ top_of path size
-      → Rebuilt t v path indices path' indices' up size rows hs p (loss_above (Some p) (map sizes rows)) freed
-  rebuilt {path'} restored below below_too top =
+  rebuilt : {v : Table K V} {path' indices' freed : _} → Restores l v path' indices' freed → Keeps path indices path' indices' up size → Rebuilt t v path indices path' indices' up size rows hs p (loss_above (Some p) (map sizes rows)) freed
+  rebuilt {path'} restored kept =
       let r = restored.0 in let n' = get_or path' up 0 in let solid = (FitRow-split 4 8 r.front (node n' r.entries) r.after (rw (← r.row_is) r.fit)).0 in
       record {
         rows' = r.row ∷ r.rows;
@@ -192,15 +191,13 @@ module _ {K V : Type 0} {t u : Table K V} {path indices : List ℕ} {up size : �
         sizes_are = cc (lost_above p _);
         numbers_are = r.numbers_are;
         frees = r.frees;
-        nodes_below = below;
-        entries_below = below_too;
-        same_top = top;
+        keeps = kept;
       }
 
   -- where the node stays, the level above stays too
   pub merge_healed : {v : Table K V} {path' indices' : _} → Healed inner_content 4 8 u v path indices path' indices' up size l.before (get_or path up 0) l.entries l.after l.rest
       → Rebuilt t v path indices path' indices' up size rows hs p (loss_above (Some p) (map sizes rows)) []
-  merge_healed h = rebuilt (healed_restored l h) h.nodes_below h.entries_below h.same_top
+  merge_healed h = rebuilt (healed_restored l h) h.keeps
 
   -- where two nodes of the level merge, the level above loses an entry; level and size are as in the code
   pub merge_joined : {v w : Table K V} {path1 indices1 path' indices' : _} (up' size' : ℕ) → (j : Joined inner_content 4 8 u w path indices path1 indices1 up size l.before (get_or path up 0) l.entries l.after l.rest) → up' ≡ suc up → size' ≡ size → (levels : ℕ) →
@@ -208,7 +205,7 @@ module _ {K V : Type 0} {t u : Table K V} {path indices : List ℕ} {up size : �
       Rebuilt t v path indices path' indices' up size rows hs p (loss_above (Some p) (map sizes rows)) (nodes_up path up (suc levels))
   merge_joined {path1} up' size' j up_is size_is levels again =
       let r = rw (up_is, size_is, nodes_up-same path path1 (suc up) levels (λ i above. j.nodes_above i (omega (arith, above)))) at again in
-      rebuilt (joined_restored l j r (omega arith)) (λ i low. r.nodes_below i (omega (arith, low)) ∙ j.nodes_below i low) (λ i low. r.entries_below i (omega (arith, low)) ∙ j.entries_below i low) (r.same_top ∙ j.same_top)
+      rebuilt (joined_restored l j r (omega arith)) (record { nodes_below = λ i low. r.nodes_below i (omega (arith, low)) ∙ j.nodes_below i low; entries_below = λ i low. r.entries_below i (omega (arith, low)) ∙ j.entries_below i low; same_top = r.same_top ∙ j.same_top })
 
 -- a row has one number per node
 pub length-numbers : {K X : Type 0} (row : Row K X) → length (numbers row) ≡ length row

@@ -5,8 +5,8 @@ ghost use Rattle.std.specs.List.{flat_map};
 ghost use Rattle.bforest_core.specs.Levels.{LevelNode, numbers, sizes, most_levels};
 ghost use Rattle.bforest_core.specs.Sizes.{loss_above};
 ghost use Rattle.bforest_core.specs.Place.{inner_content};
-ghost use Rattle.bforest_core.specs.Climb.{Above, LastAbove, NextIs, nodes_up, OneAbove, SameBelow, top_of, TwoAbove};
-ghost use Rattle.bforest_core.specs.Removal.{Rebuilt, Loosened, Loses, Heals, Joins, Dropped};
+ghost use Rattle.bforest_core.specs.Climb.{Above, LastAbove, NextIs, nodes_up, OneAbove, TwoAbove};
+ghost use Rattle.bforest_core.specs.Removal.{Rebuilt, Keeps, Loosened, Loses, Heals, Joins, Dropped};
 
 use crate::access::{child, entries, remove_child, separator, set_separator};
 use crate::path::{MIN_CHILDREN, Path};
@@ -86,9 +86,7 @@ impl<K: Copy, V: Copy, const N: usize> Path<K, V, N> {
             (w.before ++ w.x ∷ w.y ∷ w.after) (suc (length w.before))
             × (get_or self.new.node level 0 ≡ w.y.1) }
         ensures first { get_or self.new.entry level 0 ≡ 0 }
-        ensures nodes_below { SameBelow level self.old.node self.new.node }
-        ensures entries_below { SameBelow level self.old.entry self.new.entry }
-        ensures same_top { top_of self.new.node self.old.size ≡ top_of self.old.node self.old.size }
+        ensures keeps { Keeps self.old.node self.old.entry self.new.node self.new.entry level self.old.size }
         ensures size { self.new.size ≡ self.old.size }
     {
         let _moved = self.next_node(level, pool);

@@ -20,8 +20,10 @@ returns g c = let w = c.requires.pending in let s1 = c.next_node-moved.new.self 
     record {
       moved = λ v. entered_next (set s1.entry c.args.level 0) v.before v.x v.y v.after v.above (moved g c v) (λ i high. get_or-set_other s1.entry c.args.level i 0 0 (λ same. omega (arith, same, high)));
       first = get_or-set_same s1.entry c.args.level 0 0 (omega (arith, w.above.height, c.requires.height));
-      nodes_below = m.nodes_below;
-      entries_below = λ below low. get_or-set_other s1.entry c.args.level below 0 0 (λ same. omega (arith, same, low)) ∙ m.entries_below below (omega (arith, low));
-      same_top = top-same w.rows w.above e.0 (two_low w);
+      keeps = record {
+        nodes_below = m.nodes_below;
+        entries_below = λ below low. get_or-set_other s1.entry c.args.level below 0 0 (λ same. omega (arith, same, low)) ∙ m.entries_below below (omega (arith, low));
+        same_top = top-same w.rows w.above e.0 (two_low w);
+      };
       size = c.next_node-moved.ensures.size;
     }
