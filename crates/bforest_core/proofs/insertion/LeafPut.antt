@@ -104,7 +104,7 @@ module _ {K V : Type 0} {cmp : K → K → Ordering} (most : ℕ) {table : Table
       -- where the leaf has room, the entry is inserted
       inserts : room ≡ true → PutsInLeaf cmp table root key most value path indices size answer new
       inserts fits = let tree = tree_of table.nodes root in let ok = said ∙ ap (λ b. if b then Ok None else Err (place cmp es key)) fits in
-          let d = leaf_spot (is_placed none) in let gain = room_gain d (rw (← keys_count (d.l ++ d.r)) ((put_says.room _ _ d.slot_is).0 fits)) in
+          let d = leaf_spot (is_placed none) in let gain = room_gain (is_placed none) (rw (← keys_count (d.l ++ d.r)) ((put_says.room _ _ d.slot_is).0 fits)) in
           let levels = ap (λ z. length (z.1 ∷ gain_above z.0 (map sizes tree.above))) gain in
           let put = put-here union (placed none) (put_inserts (is_placed none) 0 e.wide put_says fits) in
           let put_is = after ∙ ap (λ b. with_node table leaf (if b then with_entry (leaf_content es) (place cmp es key) key value else leaf_content es)) fits in

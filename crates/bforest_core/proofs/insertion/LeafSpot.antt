@@ -104,6 +104,10 @@ insert_flat before n l r after x =
 pub rows_count : {K : Type 0} (xs ys : Rows K) → map sizes ys ≡ map sizes xs → length ys ≡ length xs
 rows_count xs ys e = omega (arith, ap length e, length-map xs sizes, length-map ys sizes)
 
+-- a test that answers false disproves its condition
+not_so : {A : Type 0} {full : Bool} → full ≡ false → (IsTrue full ↔ A) → ¬ A
+not_so none h = λ a. false≢true (sym none ∙ h.1 a)
+
 module _ {K V : Type 0} where
   -- the tree, cut at the place in its leaf
   pub record LeafSpot (most : ℕ) (t : Table K V) (ms js : List ℕ) (tree : Tree K V) (place : ℕ) : Type 0 where
@@ -154,87 +158,210 @@ module _ {K V : Type 0} where
         none_chain = d.2;
       }
 
-  -- the rows over the leaves after the insertion
-  pub renewed : {most : ℕ} {t : Table K V} {ms js size tree place : _} (entry : K × V) → 1 ≤ most → Placed most t ms js size tree place → (d : LeafSpot most t ms js tree place) →
-      Renewed t.nodes ms js 1 tree.above (heads (d.before ++ node (get_or ms 0 0) (d.l ++ entry ∷ d.r) ∷ d.after))
-  renewed {most} {ms} entry one p d = let f = FitRow-split (half_of most) most d.before (node (get_or ms 0 0) (d.l ++ d.r)) d.after d.fit.leaves_fit in
-      renew _ _ _ 1 _ _ _ _ entry d.r d.after d.first (omega (arith, least-pos (half_of most) (omega (arith, one)) d.after)) d.fit.stacked d.fit.topped p.inside.rows_in
+  module _ {most : ℕ} {t : Table K V} {ms js size tree place : _} (p : Placed most t ms js size tree place) where
+    abbrev pub d : LeafSpot most t ms js tree place
+    d = leaf_spot p
 
-  -- the sizes of the leaves where the leaf has room
-  pub room_gain : {most t ms js tree place : _} → (d : LeafSpot most t ms js tree place) → length (d.l ++ d.r) < most → leaf_gain most place (sizes tree.leaves) ≡ (None, sizes d.before ++ suc (length (d.l ++ d.r)) ∷ sizes d.after)
-  room_gain {most} d room =
-      rw (d.leaves_are, d.place_is, sizes-append _ _) (leaf_room most d.before (length (d.l ++ d.r)) (length d.l) (sizes d.after) (omega (arith, length-append d.l d.r)) d.first room)
+    open d use {before, l, r, after}
 
-  pub put_leaf : {most t u ms js size tree place : _} (entry : _) → Placed most t ms js size tree place → (d : LeafSpot most t ms js tree place) → length (d.l ++ d.r) < most →
-      Puts t u (get_or ms 0 0) (leaf_content (d.l ++ entry ∷ d.r)) → Inserted most t u ms js size tree place entry
-  put_leaf {most} {t} {u} {ms} {js} {size} {tree} {place} entry p d room w =
-      let n = get_or ms 0 0 in let old = d.l ++ d.r in let es = d.l ++ entry ∷ d.r in let row2 = d.before ++ node n es ∷ d.after in
-      let above = renewed entry (omega arith) p d in
-      let len : length es ≡ suc (length old) = omega (arith, length-append d.l (entry ∷ d.r), length-append d.l d.r) in
-      let none2 = ap (λ z. count n z) above.numbers_are ∙ d.none_rows in
-      let c0 = λ (m : ℕ). ap (λ z. count m (numbers z ++ flat_map numbers tree.above)) d.leaves_are in
-      let c2 = λ (m : ℕ). counts m d.before n old d.after tree.above t.chain in let g = room_gain d room in
-      let fit' : IsFit most (record { leaves = row2; above = above.rows' }) = record { leaves_fit = FitRow-put (half_of most) most d.before d.after n old es len room d.fit.leaves_fit; stacked = above.stacked; topped = above.topped } in
-      let stands : Stands ms js size (record { leaves = row2; above = above.rows' }) place = record {
-        leaf = record { before = d.before; entries = es; after = d.after; row_is = refl; within = omega (arith, length-append d.l (entry ∷ d.r)); place_is = omega arith };
-        above = above.stands (length d.before) d.stands;
-        size_is = p.at.points.size_is ∙ omega (arith, rows_count _ _ above.sizes_are);
-      } in
-      record {
-        tree' = record { leaves = row2; above = above.rows' };
-        taken = [];
-        flat_is = flat-append d.before _ ∙ sym (insert_flat d.before n d.l d.r d.after entry) ∙ rw (d.leaves_are, d.place_is) refl;
-        sizes_are = simp (sizes-append, len, above.sizes_are, g);
-        fit = fit';
-        inside = record {
-          leaves_in = row-put _ _ _ _ n _ _ _ d.inside w.same w.here d.none;
-          rows_in = rows-same _ _ _ (λ m some. w.same m (ne_from_count m n _ some none2)) above.inside;
-        };
-        stands = stands;
-        numbers_are = λ m. omega (arith, c0 m, ap (λ z. count m z) above.numbers_are, c2 m, counts m d.before n es d.after above.rows' u.chain);
-        taken_is = cc;
-        others = λ m z. w.same m (absent_ne m n (numbers d.after) (omega (arith, c0 m, c2 m)));
-        chain_is = sym w.chain_is;
-        slots_are = w.slots_are;
-        limit_is = w.limit_is;
-        same_root = λ same. root-stands fit' stands ∙ sym (root-points _ _ _ _ _ _ (omega arith) p.fit p.at.points);
-        new_root = λ other. absurd (other (rows_count _ _ above.sizes_are));
-      }
+    abbrev n : ℕ
+    n = get_or ms 0 0
 
-module _ {K V : Type 0} where
-  pub full_gain : {most : ℕ} {t : Table K V} {ms js tree place : _} → (d : LeafSpot most t ms js tree place) → length (d.l ++ d.r) ≡ most →
-      leaf_gain most place (sizes tree.leaves) ≡ (Some (length d.before), sizes d.before ++ half_of most ∷ half_of most ∷ sizes d.after)
-  full_gain d full = rw (d.leaves_are, d.place_is, sizes-append _ _) (leaf_full _ _ _ _ _ (omega (arith, length-append d.l d.r)) d.first full)
+    abbrev e : ℕ
+    e = get_or js 0 0
 
-  -- the split leaf, except for where the path stands
-  pub leaf_parted : {most : ℕ} {t u : Table K V} {ms js : _} (ms' js' : _) {size : ℕ} {tree : Tree K V} {place : ℕ} (entry : K × V) {middle right : _} (moved :
-      Bool) → IsLeafCapacity most → Placed most t ms js size tree place → (d : LeafSpot most t ms js tree place) → length (d.l ++ d.r) ≡ most → (h : Halves
-      leaf_content t u (get_or ms 0 0) right middle (d.l ++ entry ∷ d.r) (half_of most) (half_of most)) → ((i : ℕ) → i ≢ 0 → get_or ms' i 0 ≡ get_or
-      ms i 0) → ((i
-      : ℕ) → i ≢ 0 → get_or js' i 0 ≡ get_or js i 0) → length (heads d.before) ≡ length d.before → InHalf d.before (get_or ms 0 0) right (h.z ∷ h.xs)
-      (h.y ∷ h.ys)
-      d.after (get_or ms' 0 0) (get_or js' 0 0) place moved → LeafHalved most t u ms ms' js' size tree place entry middle right moved
-  leaf_parted {most} {t} {ms} {js} ms' js' {size} {tree} entry moved capacity p d full h far_m far_j solid_full stands =
-      let n = get_or ms 0 0 in let up = renewed entry (omega arith) p d in let few : half_of most ≤ most = omega arith in
-      let hs0 : heads (d.before ++ node n (d.l ++ entry ∷ d.r) ∷ d.after) ≡ heads d.before ++ (h.z.0, n) ∷ heads d.after =
-      heads-append d.before _ ∙ ap (λ z. heads d.before ++ (head_of n z ++ heads d.after)) h.grown_is in
-      let c = λ (m : ℕ). counts m d.before n (d.l ++ d.r) d.after tree.above t.chain in
-      let above : Above t ms js 1 size up.rows' (heads d.before ++ (h.z.0, n) ∷ heads d.after) (length (heads d.before)) = record {
-        stacked = rw (← hs0) up.stacked;
-        inside = up.inside;
-        stands = rw solid_full (up.stands (length d.before) d.stands);
-        height = omega (arith, rows_count _ _ up.sizes_are);
-        apart = λ m. omega (arith, d.apart m, c m, count-append m (flat_map numbers up.rows') t.chain, ap (λ z. count m z) up.numbers_are);
-      } in
-      let apart = rw (sym up.numbers_are) at d.apart in let list_is = sym (insert_flat d.before n d.l d.r d.after entry) ∙ rw (d.leaves_are, d.place_is) refl in
-      record {
-        parted = part d.before (d.l ++ d.r) d.after ms' js' moved d.inside d.fit.leaves_fit (omega arith) (omega arith, few, omega arith, few) apart h above list_is far_m far_j stands;
-        leaves_were = d.leaves_are;
-        gain_is = full_gain d full ∙ rw (solid_full, sizes-append _ _, h.left_is, h.right_is) refl;
-        topped = rw (← hs0) up.topped;
-        sizes_above = up.sizes_are;
-        numbers_above = up.numbers_are;
-      }
+    -- the rows over the leaves after the insertion
+    renewed : (entry : K × V) → 1 ≤ most → Renewed t.nodes ms js 1 tree.above (heads (before ++ node n (l ++ entry ∷ r) ∷ after))
+    renewed entry one = renew _ _ _ 1 _ _ _ _ entry r after d.first (omega (arith, (FitRow-split (half_of most) most before (node n (l ++ r)) after d.fit.leaves_fit).1.0, least-pos (half_of most) (omega (arith, one)) after)) d.fit.stacked d.fit.topped p.inside.rows_in
+
+    -- the sizes of the leaves where the leaf has room, and where it is full
+    pub room_gain : length (l ++ r) < most → leaf_gain most place (sizes tree.leaves) ≡ (None, sizes before ++ suc (length (l ++ r)) ∷ sizes after)
+    room_gain room = cc (d.leaves_are, d.place_is, sizes-append before (node n (l ++ r) ∷ after), leaf_room most before (length (l ++ r)) (length l) (sizes after) (omega (arith, length-append l r)) d.first room)
+
+    full_gain : length (l ++ r) ≡ most → leaf_gain most place (sizes tree.leaves) ≡ (Some (length before), sizes before ++ half_of most ∷ half_of most ∷ sizes after)
+    full_gain full = cc (d.leaves_are, d.place_is, sizes-append before (node n (l ++ r) ∷ after), leaf_full most before (length (l ++ r)) (length l) (sizes after) (omega (arith, length-append l r)) d.first full)
+
+    -- the need of a full leaf
+    pub leaf_need_full : length (l ++ r) ≡ most → need_above (leaf_gain most place (sizes tree.leaves)).0 (map sizes tree.above) ≡ need_above (Some (length before)) (map sizes tree.above)
+    leaf_need_full full = cc (full_gain full)
+
+    put_leaf : {u : Table K V} (entry : _) → length (l ++ r) < most → Puts t u n (leaf_content (l ++ entry ∷ r)) → Inserted most t u ms js size tree place entry
+    put_leaf {u} entry room w =
+        let old = l ++ r in let es = l ++ entry ∷ r in let row2 = before ++ node n es ∷ after in let above = renewed entry (omega (arith, room)) in
+        let len : length es ≡ suc (length old) = omega (arith, length-append l (entry ∷ r), length-append l r) in
+        let none2 = ap (λ z. count n z) above.numbers_are ∙ d.none_rows in
+        let c0 = λ (m : ℕ). ap (λ z. count m (numbers z ++ flat_map numbers tree.above)) d.leaves_are in
+        let c2 = λ (m : ℕ). counts m before n old after tree.above t.chain in let g = room_gain room in
+        let fit' : IsFit most (record { leaves = row2; above = above.rows' }) = record { leaves_fit = FitRow-put (half_of most) most before after n old es len room d.fit.leaves_fit; stacked = above.stacked; topped = above.topped } in
+        let stands : Stands ms js size (record { leaves = row2; above = above.rows' }) place = record {
+          leaf = record { before = before; entries = es; after = after; row_is = refl; within = omega (arith, d.index_is, length-append l (entry ∷ r)); place_is = omega (arith, d.place_is, d.index_is) };
+          above = above.stands (length before) d.stands;
+          size_is = p.at.points.size_is ∙ omega (arith, rows_count _ _ above.sizes_are);
+        } in
+        record {
+          tree' = record { leaves = row2; above = above.rows' };
+          taken = [];
+          flat_is = flat-append before _ ∙ sym (insert_flat before n l r after entry) ∙ sym (cc (d.leaves_are, d.place_is));
+          sizes_are = simp (sizes-append, len, above.sizes_are, g);
+          fit = fit';
+          inside = record {
+            leaves_in = row-put _ _ _ _ n _ _ _ d.inside w.same w.here d.none;
+            rows_in = rows-same _ _ _ (λ m some. w.same m (ne_from_count m n _ some none2)) above.inside;
+          };
+          stands = stands;
+          numbers_are = λ m. omega (arith, c0 m, ap (λ z. count m z) above.numbers_are, c2 m, counts m before n es after above.rows' u.chain);
+          taken_is = cc;
+          others = λ m z. w.same m (absent_ne m n (numbers after) (omega (arith, c0 m, c2 m)));
+          chain_is = sym w.chain_is;
+          slots_are = w.slots_are;
+          limit_is = w.limit_is;
+          same_root = λ same. root-stands fit' stands ∙ sym (root-points _ _ _ _ _ _ (omega (arith, room)) p.fit p.at.points);
+          new_root = λ other. absurd (other (rows_count _ _ above.sizes_are));
+        }
+
+    -- the split leaf, except for where the path stands
+    leaf_parted : {u : Table K V} (ms' js' : _) (entry : K × V) {middle right : _} (moved : Bool) → IsLeafCapacity most → length (l ++ r) ≡ most → (h : Halves leaf_content t u n right middle (l ++ entry ∷ r) (half_of most) (half_of most)) →
+        ((i : ℕ) → i ≢ 0 → get_or ms' i 0 ≡ get_or ms i 0) → ((i : ℕ) → i ≢ 0 → get_or js' i 0 ≡ get_or js i 0) → length (heads before) ≡ length before →
+        InHalf before n right (h.z ∷ h.xs) (h.y ∷ h.ys) after (get_or ms' 0 0) (get_or js' 0 0) place moved → LeafHalved most t u ms ms' js' size tree place entry middle right moved
+    leaf_parted ms' js' entry moved capacity full h far_m far_j solid_full stands =
+        let up = renewed entry (omega arith) in let few : half_of most ≤ most = omega arith in
+        let hs0 : heads (before ++ node n (l ++ entry ∷ r) ∷ after) ≡ heads before ++ (h.z.0, n) ∷ heads after = heads-append before _ ∙ ap (λ z. heads before ++ (head_of n z ++ heads after)) h.grown_is in
+        let c = λ (m : ℕ). counts m before n (l ++ r) after tree.above t.chain in
+        let above : Above t ms js 1 size up.rows' (heads before ++ (h.z.0, n) ∷ heads after) (length (heads before)) = record {
+          stacked = rw (← hs0) up.stacked;
+          inside = up.inside;
+          stands = rw solid_full (up.stands (length before) d.stands);
+          height = omega (arith, p.at.points.size_is, rows_count _ _ up.sizes_are);
+          apart = λ m. omega (arith, d.apart m, c m, count-append m (flat_map numbers up.rows') t.chain, ap (λ z. count m z) up.numbers_are);
+        } in
+        let apart = rw (sym up.numbers_are) at d.apart in let list_is = sym (insert_flat before n l r after entry) ∙ sym (cc (d.leaves_are, d.place_is)) in
+        record {
+          parted = part before (l ++ r) after ms' js' moved d.inside d.fit.leaves_fit (omega arith) (omega arith, few, omega arith, few) apart h above list_is far_m far_j stands;
+          leaves_were = d.leaves_are;
+          gain_is = full_gain full ∙ rw (solid_full, sizes-append _ _, h.left_is, h.right_is) refl;
+          topped = rw (← hs0) up.topped;
+          sizes_above = up.sizes_are;
+          numbers_above = up.numbers_are;
+        }
+
+    -- the rows above the leaf
+    pub leaf_above : (rows : _) × (list : _) × (at : ℕ) × Above t ms js 1 size rows list at
+    leaf_above = let s = d in let above : Above t ms js 1 size tree.above (heads (before ++ node n (l ++ r) ∷ after)) (length before) =
+        record { stacked = s.fit.stacked; inside = p.inside.rows_in; stands = s.stands; height = omega (arith, p.at.points.size_is); apart = λ m. omega (arith, s.apart m, count-append) } in
+        (tree.above, heads (before ++ node n (l ++ r) ∷ after), length before, above)
+
+    module _ (i : ℕ) (wide : length ms ≡ 17) where
+      -- the leaf's number, as the code reads it
+      abbrev read : ℕ
+      read = get_or ms 0 i
+
+      num_is : read ≡ n
+      num_is = get_or_default ms 0 i 0 (omega arith)
+
+      -- the leaf meets what inserting the entry requires
+      pub put_asks : PutAsks Leaf t read e
+      put_asks = asks_put _ num_is _ _ d.slot_is _ (is_used t _ _ d.slot_is d.none_chain) (omega (arith, keys_count (l ++ r), d.index_is, length-append l r))
+
+      module _ {u : Table K V} {key : K} {value : V} {put : Bool} (said : PutsEntry most t u read e key value put) where
+        -- a successful insertion leaves the tree with the entry inserted
+        pub put_inserts : put ≡ true → Inserted most t u ms js size tree place (key, value)
+        put_inserts done = let fewer : length (entry_keys (l ++ r)) < most = put_fewer said num_is _ _ d.slot_is done in
+            put_leaf _ (omega (arith, keys_count (l ++ r))) (puts t u _ _ _ d.slot_is (put_in said num_is _ _ d.slot_is fewer ∙ ap (λ z. with_node t n z) (with_entry_is V _ _ _ _ _ d.index_is)))
+
+        -- a failed insertion means that the leaf is full, and changes nothing
+        pub put_full : put ≡ false → IsFullAt most t.nodes n × (u ≡ t)
+        put_full none = let past = put_past said num_is _ _ d.slot_is none in (rw d.slot_is (λ free. free, omega (arith, keys_count (l ++ r), d.most_is)), past.1)
+
+      module _ (s : Table K V) (full : IsFullAt most t.nodes n) where
+        pub full_asks : 0 < length t.chain → FullAt most t read
+        full_asks room = (put_asks.0, (rw num_is full, room))
+
+        full_is : length (l ++ r) ≡ most
+        full_is = leaf_full_is most t.nodes n (l ++ r) d.slot_is full
+
+        module _ (capacity : IsLeafCapacity most) {right : ℕ} {parts : SplitOff K} (front : front_of t.chain ≡ Some right) (used : IsUsed s right) (split : IsSplitAt most t read e parts s) where
+          abbrev q : ℕ
+          q = parts.lhs_entries
+
+          seen : length (heads before) ≡ length before
+          seen = Solid-full (half_of most) most (omega arith) before d.solid
+
+          left_count : q ≡ (if nat_le e (most / 2) then most / 2 else (most + 1) / 2)
+          left_count = counted leaf_content n num_is (l ++ r) d.slot_is split
+
+          cut : q < length (l ++ r) → Split leaf_content t s n right q (l ++ r) parts.crit_key
+          cut less = split_at _ _ num_is _ d.slot_is split _ (λ zs y ys left right2 key is c. leaf_cuts V _ y _ _ _ _ key is c) less d.none_chain front used.within
+
+          module _ (low : e ≤ most / 2) where
+            low_is : q ≡ most / 2
+            low_is = rw (upto_le _ _ low) at left_count
+
+            low_cut : Split leaf_content t s n right q (l ++ r) parts.crit_key
+            low_cut = let q_is = low_is in let f = full_is in cut (omega arith)
+
+            pub early_asks : PutAsks Leaf s read e
+            early_asks = asks_put _ num_is _ _ low_cut.two.here _ (left_used leaf_content s low_cut.two d.none_chain) (omega (arith, keys_count low_cut.zs, low_cut.count_is, low_is))
+
+            pub early_halves : {u : _} {key : K} {value : V} {put : _} → PutsEntry most s u read e key value put → LeafHalved most t u ms ms js size tree place (key, value) parts.crit_key right false
+            early_halves {u} {key} {value} said = let new = (key, value) ∷ [] in
+                let h = into_left leaf_content u (l ++ (key, value) ∷ r) low_cut (λ v. with_entry v e key value) (half_of most) (half_of most) l
+                (l ++ new) r refl (sym (append_assoc l new r)) (omega (arith, length-append l new)) (omega (arith, d.index_is, low_is)) (omega (arith, low_is)) (omega (arith, low_is, full_is))
+                (λ mid. cc (with_entry_is V l mid key value e d.index_is, append_assoc l new mid))
+                (put_in said num_is _ _ low_cut.two.here (omega (arith, keys_count low_cut.zs, low_cut.count_is, low_is, full_is))) in
+                leaf_parted ms js (key, value) false capacity full_is h (λ i other. refl) (λ i other. refl) seen (in_left _ _ _ _ _ _ _ _ seen (omega arith) (omega (arith, d.place_is, d.index_is)))
+
+          module _ (high : most / 2 < e) where
+            high_is : q ≡ half_of most
+            high_is = rw (past_le _ _ high) at left_count
+
+            pub late_within : q ≤ e
+            late_within = let q_is = high_is in omega arith
+
+            high_cut : Split leaf_content t s n right q (l ++ r) parts.crit_key
+            high_cut = let q_is = high_is in let f = full_is in cut (omega arith)
+
+            abbrev rights : List (K × V)
+            rights = high_cut.y ∷ high_cut.ys
+
+            pub late_asks : PutAsks Leaf s right (e - q)
+            late_asks = asks_put _ refl _ _ high_cut.two.there _ used (omega (arith, keys_count rights, ap length high_cut.es_is, length-append high_cut.zs rights, high_cut.count_is, d.index_is, length-append l r))
+
+            pub late_halves : {u : _} {key : K} {value : V} {put : _} (first : K) → PutsEntry most s u right (e - q) key value put → (e - q ≡ 0 → first ≡ key) → (0 < e - q → first ≡ parts.crit_key) →
+                1 ≤ length js → LeafHalved most t u ms (set ms 0 right) (set js 0 (e - q)) size tree place (key, value) first right true
+            late_halves {u} {key} {value} first said zero more some =
+                let h = into_right leaf_content u (l ++ (key, value) ∷ r) high_cut (λ v. with_entry v (e - q) key value) (half_of most) (half_of most)
+                first l r ((key, value) ∷ r) refl refl refl (omega (arith, d.index_is, late_within)) (omega (arith, high_is)) high_is (omega (arith, high_is, full_is))
+                (λ mid is. (let mid_is = is ∙ ap (λ z. z - q) d.index_is in (
+                  with_entry_is V mid r key value (e - q) mid_is,
+                  λ rest. middle_key right mid (key, value) r high_cut.y high_cut.ys first rest (λ none. zero (cc)) (λ few. more (omega arith) ∙ high_cut.key_is),
+                )))
+                (put_in said refl _ _ high_cut.two.there (omega (arith, keys_count rights, ap length high_cut.es_is, length-append high_cut.zs rights, high_cut.count_is, high_is, full_is))) in
+                let j_is = get_or-set_same js 0 (e - q) 0 (omega arith) in
+                leaf_parted _ _ _ _ capacity full_is h (λ i other. get_or-set_other ms 0 i right 0 other) (λ i other. get_or-set_other js 0 i (e - q) 0 other) seen
+                (in_right _ _ _ _ _ _ _ _ _ seen (get_or-set_same ms 0 right 0 (omega arith))
+                (omega (arith, full_is, d.index_is, length-append l r, high_is)) (omega (arith, d.place_is, d.index_is, high_is, late_within)))
+
+      -- the slot of the leaf is within the table
+      pub leaf_within : read < length t.nodes
+      leaf_within = slice_get_within _ _ (leaf_content (l ++ r)) (cc (num_is, d.slot_is))
+
+      module _ (content : Content K V) (is : slice_get t.nodes read ≡ Some content) where
+        leaf_content_is : content ≡ leaf_content (l ++ r)
+        leaf_content_is = some_same _ _ (cc (num_is, d.slot_is))
+
+        pub leaf_used : ¬ IsFree content
+        leaf_used = rw leaf_content_is (λ free. free)
+
+        module _ (full : Bool) (says : IsTrue full ↔ (entry_count content ≡ entry_capacity most content)) where
+          leaf_tells : IsTrue full ↔ (length (l ++ r) ≡ most)
+          leaf_tells = rw (leaf_content_is, keys_count (l ++ r)) at says
+
+          pub full_needs : full ≡ true → (more : ℕ) → ((rows list at : _) → Above t ms js 1 size rows list at → more ≡ need_above (Some at) (map sizes rows)) → more ≡ need most place (sizes_of tree)
+          unfolding leaf_above
+          full_needs so more needs = needs leaf_above.0 leaf_above.1 leaf_above.2 leaf_above.3 ∙ sym (leaf_need_full (leaf_tells.0 so))
+
+          pub room_needs : full ≡ false → 0 ≡ need most place (sizes_of tree)
+          room_needs none = cc (room_gain (omega (arith, not_so none leaf_tells, d.most_is)))
 
   -- the need, or the sizes above, where the leaf is split
   pub above_leaf : {X : Type 0} (change : Option ℕ → List (List ℕ) → X) {most : ℕ} {t u : Table K V} {ms ms' js' size tree place entry key right moved : _} → (h : LeafHalved most t u ms ms' js' size tree place entry key right moved) →
@@ -275,125 +402,12 @@ module _ {K V : Type 0} where
             subst (λ z. 0 < count z (right ∷ taken)) (sym top') (omega arith));
       }
 
-module _ {K V : Type 0} where
-  module _ {cap : ℕ} {t : Table K V} {ms js size tree place : _} (p : Placed cap t ms js size tree place) (i : ℕ) (wide : length ms ≡ 17) where
-    d : LeafSpot cap t ms js tree place
-    d = leaf_spot p
-
-    open d use {before, l, r}
-
-    abbrev n : ℕ
-    n = get_or ms 0 0
-
-    -- the leaf's number, as the code reads it
-    abbrev read : ℕ
-    read = get_or ms 0 i
-
-    abbrev e : ℕ
-    e = get_or js 0 0
-
-    num_is : read ≡ n
-    num_is = get_or_default ms 0 i 0 (omega arith)
-
-    -- the leaf meets what inserting the entry requires
-    pub put_asks : PutAsks Leaf t read e
-    put_asks = asks_put _ num_is _ _ d.slot_is _ (is_used t _ _ d.slot_is d.none_chain) (omega (arith, keys_count (l ++ r), d.index_is, length-append l r))
-
-    module _ {u : Table K V} {key : K} {value : V} {put : Bool} (said : PutsEntry cap t u read e key value put) where
-      -- a successful insertion leaves the tree with the entry inserted
-      pub put_inserts : put ≡ true → Inserted cap t u ms js size tree place (key, value)
-      put_inserts done = let fewer : length (entry_keys (l ++ r)) < cap = put_fewer said num_is _ _ d.slot_is done in
-          put_leaf _ p d (omega (arith, keys_count (l ++ r))) (puts t u _ _ _ d.slot_is (put_in said num_is _ _ d.slot_is fewer ∙ ap (λ z. with_node t n z) (with_entry_is V _ _ _ _ _ d.index_is)))
-
-      -- a failed insertion means that the leaf is full, and changes nothing
-      pub put_full : put ≡ false → IsFullAt cap t.nodes n × (u ≡ t)
-      put_full none = let past = put_past said num_is _ _ d.slot_is none in (rw d.slot_is (λ free. free, omega (arith, keys_count (l ++ r), d.most_is)), past.1)
-
-    module _ (s : Table K V) (full : IsFullAt cap t.nodes n) where
-      pub full_asks : 0 < length t.chain → FullAt cap t read
-      full_asks room = (put_asks.0, (rw num_is full, room))
-
-      full_is : length (l ++ r) ≡ cap
-      full_is = leaf_full_is cap t.nodes n (l ++ r) d.slot_is full
-
-      module _ (capacity : IsLeafCapacity cap) {right : ℕ} {parts : SplitOff K} (front : front_of t.chain ≡ Some right) (used : IsUsed s right) (split : IsSplitAt cap t read e parts s) where
-        abbrev q : ℕ
-        q = parts.lhs_entries
-
-        seen : length (heads before) ≡ length before
-        seen = Solid-full (half_of cap) cap (omega arith) before d.solid
-
-        left_count : q ≡ (if nat_le e (cap / 2) then cap / 2 else (cap + 1) / 2)
-        left_count = counted leaf_content n num_is (l ++ r) d.slot_is split
-
-        cut : q < length (l ++ r) → Split leaf_content t s n right q (l ++ r) parts.crit_key
-        cut less = split_at _ _ num_is _ d.slot_is split _ (λ zs y ys left right2 key is c. leaf_cuts V _ y _ _ _ _ key is c) less d.none_chain front used.within
-
-        module _ (low : e ≤ cap / 2) where
-          low_is : q ≡ cap / 2
-          low_is = rw (upto_le _ _ low) at left_count
-
-          low_cut : Split leaf_content t s n right q (l ++ r) parts.crit_key
-          low_cut = let q_is = low_is in let f = full_is in cut (omega arith)
-
-          pub early_asks : PutAsks Leaf s read e
-          early_asks = asks_put _ num_is _ _ low_cut.two.here _ (left_used leaf_content s low_cut.two d.none_chain) (omega (arith, keys_count low_cut.zs, low_cut.count_is, low_is))
-
-          pub early_halves : {u : _} {key : K} {value : V} {put : _} → PutsEntry cap s u read e key value put → LeafHalved cap t u ms ms js size tree place (key, value) parts.crit_key right false
-          early_halves {u} {key} {value} said = let new = (key, value) ∷ [] in
-              let h = into_left leaf_content u (l ++ (key, value) ∷ r) low_cut (λ v. with_entry v e key value) (half_of cap) (half_of cap) l
-              (l ++ new) r refl (sym (append_assoc l new r)) (omega (arith, length-append l new)) (omega (arith, d.index_is, low_is)) (omega (arith, low_is)) (omega (arith, low_is, full_is))
-              (λ mid. cc (with_entry_is V l mid key value e d.index_is, append_assoc l new mid))
-              (put_in said num_is _ _ low_cut.two.here (omega (arith, keys_count low_cut.zs, low_cut.count_is, low_is, full_is))) in
-              leaf_parted ms js (key, value) false capacity p d full_is h (λ i other. refl) (λ i other. refl) seen (in_left _ _ _ _ _ _ _ _ seen (omega arith) (omega (arith, d.place_is, d.index_is)))
-
-        module _ (high : cap / 2 < e) where
-          high_is : q ≡ half_of cap
-          high_is = rw (past_le _ _ high) at left_count
-
-          pub late_within : q ≤ e
-          late_within = let q_is = high_is in omega arith
-
-          high_cut : Split leaf_content t s n right q (l ++ r) parts.crit_key
-          high_cut = let q_is = high_is in let f = full_is in cut (omega arith)
-
-          abbrev rights : List (K × V)
-          rights = high_cut.y ∷ high_cut.ys
-
-          pub late_asks : PutAsks Leaf s right (e - q)
-          late_asks = asks_put _ refl _ _ high_cut.two.there _ used (omega (arith, keys_count rights, ap length high_cut.es_is, length-append high_cut.zs rights, high_cut.count_is, d.index_is, length-append l r))
-
-          pub late_halves : {u : _} {key : K} {value : V} {put : _} (first : K) → PutsEntry cap s u right (e - q) key value put → (e - q ≡ 0 → first ≡ key) → (0 < e - q → first ≡ parts.crit_key) →
-              1 ≤ length js → LeafHalved cap t u ms (set ms 0 right) (set js 0 (e - q)) size tree place (key, value) first right true
-          late_halves {u} {key} {value} first said zero more some =
-              let h = into_right leaf_content u (l ++ (key, value) ∷ r) high_cut (λ v. with_entry v (e - q) key value) (half_of cap) (half_of cap)
-              first l r ((key, value) ∷ r) refl refl refl (omega (arith, d.index_is, late_within)) (omega (arith, high_is)) high_is (omega (arith, high_is, full_is))
-              (λ mid is. (let mid_is = is ∙ ap (λ z. z - q) d.index_is in (
-                with_entry_is V mid r key value (e - q) mid_is,
-                λ rest. middle_key right mid (key, value) r high_cut.y high_cut.ys first rest (λ none. zero (cc)) (λ few. more (omega arith) ∙ high_cut.key_is),
-              )))
-              (put_in said refl _ _ high_cut.two.there (omega (arith, keys_count rights, ap length high_cut.es_is, length-append high_cut.zs rights, high_cut.count_is, high_is, full_is))) in
-              let j_is = get_or-set_same js 0 (e - q) 0 (omega arith) in
-              leaf_parted _ _ _ _ capacity p d full_is h (λ i other. get_or-set_other ms 0 i right 0 other) (λ i other. get_or-set_other js 0 i (e - q) 0 other) seen
-              (in_right _ _ _ _ _ _ _ _ _ seen (get_or-set_same ms 0 right 0 (omega arith))
-              (omega (arith, full_is, d.index_is, length-append l r, high_is)) (omega (arith, d.place_is, d.index_is, high_is, late_within)))
-
--- a test that answers false disproves its condition
-not_so : {A : Type 0} {full : Bool} → full ≡ false → (IsTrue full ↔ A) → ¬ A
-not_so none h = λ a. false≢true (sym none ∙ h.1 a)
-
-module _ {K V : Type 0} where
   -- the need at a full node, and at one with room
   spot_full : (t : Table K V) {ms js up size rows list p : _} → (f : Spot t.nodes ms js up size rows list p) → length f.entries ≡ 8 → need_above (Some p) (map sizes rows) ≡ suc (need_above (Some (length f.before)) (map sizes f.rest))
   spot_full t f eight = rw (f.rows_are, f.row_is, f.place_is, sizes-append _ _, gain_full _ _ _ _ f.within eight) refl
 
   spot_room : (t : Table K V) {ms js up size rows list p : _} → (f : Spot t.nodes ms js up size rows list p) → length f.entries < 8 → need_above (Some p) (map sizes rows) ≡ 1
   spot_room t f room = rw (f.rows_are, f.row_is, f.place_is, sizes-append _ _, gain_room _ _ _ _ f.within room) refl
-
-  -- the need of a full leaf
-  pub leaf_need_full : {most : ℕ} {t : Table K V} {ms js tree place : _} → (d : LeafSpot most t ms js tree place) → length (d.l ++ d.r) ≡ most → need_above
-      (leaf_gain most place (sizes tree.leaves)).0 (map sizes tree.above) ≡ need_above (Some (length d.before)) (map sizes tree.above)
-  leaf_need_full d full = cc (full_gain d full)
 
   -- a level above the leaves, and the test whether the path's node there is full
   module _ {t : Table K V} {ms js up size rows list p : _} (ab : Above t ms js up size rows list p) (other : up ≢ size) (wide : size ≤ length ms) (r : ℕ) where
@@ -435,49 +449,3 @@ module _ {K V : Type 0} where
 
         pub level_room : full ≡ false → 1 ≡ need_above (Some p) (map sizes rows)
         level_room none = sym (spot_room t level (omega (arith, not_so none tells, level.most_is)))
-
-  -- the leaf, and the test whether it is full
-  module _ {most : ℕ} {t : Table K V} {ms js size tree place : _} (p : Placed most t ms js size tree place) where
-    abbrev leaf : LeafSpot most t ms js tree place
-    leaf = leaf_spot p
-
-    -- the rows above the leaf
-    pub leaf_above : (rows : _) × (list : _) × (at : ℕ) × Above t ms js 1 size rows list at
-    leaf_above = let row = leaf.before ++ node (get_or ms 0 0) (leaf.l ++ leaf.r) ∷ leaf.after in (
-      tree.above,
-      heads row,
-      length leaf.before,
-      record {
-        stacked = leaf.fit.stacked;
-        inside = p.inside.rows_in;
-        stands = leaf.stands;
-        height = omega arith;
-        apart = λ m. omega (arith, leaf.apart m, count-append);
-      },
-    )
-
-    module _ (wide : 0 < length ms) (r : ℕ) where
-      leaf_slot : slice_get t.nodes (get_or ms 0 r) ≡ Some (leaf_content (leaf.l ++ leaf.r))
-      leaf_slot = cc (get_or_default ms 0 r 0 wide, leaf.slot_is)
-
-      -- the slot of the leaf is within the table
-      pub leaf_within : get_or ms 0 r < length t.nodes
-      leaf_within = slice_get_within _ _ _ leaf_slot
-
-      module _ (content : Content K V) (read : slice_get t.nodes (get_or ms 0 r) ≡ Some content) where
-        leaf_content_is : content ≡ leaf_content (leaf.l ++ leaf.r)
-        leaf_content_is = some_same _ _ (sym read ∙ leaf_slot)
-
-        pub leaf_used : ¬ IsFree content
-        leaf_used = rw leaf_content_is (λ free. free)
-
-        module _ (full : Bool) (says : IsTrue full ↔ (entry_count content ≡ entry_capacity most content)) where
-          leaf_tells : IsTrue full ↔ (length (leaf.l ++ leaf.r) ≡ most)
-          leaf_tells = rw (leaf_content_is, keys_count (leaf.l ++ leaf.r)) at says
-
-          pub full_needs : full ≡ true → (more : ℕ) → ((rows list at : _) → Above t ms js 1 size rows list at → more ≡ need_above (Some at) (map sizes rows)) → more ≡ need most place (sizes_of tree)
-          unfolding leaf_above
-          full_needs is more needs = needs leaf_above.0 leaf_above.1 leaf_above.2 leaf_above.3 ∙ sym (leaf_need_full leaf (leaf_tells.0 is))
-
-          pub room_needs : full ≡ false → 0 ≡ need most place (sizes_of tree)
-          room_needs none = cc (room_gain leaf (omega (arith, not_so none leaf_tells, leaf.most_is)))
