@@ -549,34 +549,13 @@ module _ {K V : Type 0} where
       omega (arith, need_some (length q.before) (map sizes q.rest))
 
 module _ {K V : Type 0} where
-  -- the split level, except for where the path stands
-  pub node_parted : {t u : Table K V} {ms js : _} (ms' js' : _) {up size rows a : _} {x : _} (y : _) {b middle right : _} (p moved : _) {big small : ℕ} → (4 ≤ big) × (big ≤ 8) × (4 ≤ small) × (small ≤ 8) →
-      ((after : _) → (if nat_lt (get_or js up 0) 4 then 5 ∷ 4 ∷ after else 4 ∷ 5 ∷ after) ≡ big ∷ small ∷ after) → (d : Spot t ms js up size rows a x b) → length (d.q.l ++ x ∷ d.q.r) ≡ 8 →
-      (h : Halves inner_content t u (get_or ms up 0) right middle (d.q.l ++ x ∷ y ∷ d.q.r) big small) → ((i : ℕ) → i ≢ up → get_or ms' i 0 ≡ get_or ms i 0) → ((i : ℕ) → i ≢ up → get_or js' i 0 ≡ get_or js i 0) → length (heads d.q.before) ≡ length d.q.before →
-      InHalf d.q.before (get_or ms up 0) right (h.z ∷ h.xs) (h.y ∷ h.ys) d.q.after (get_or ms' up 0) (get_or js' up 0) p moved → Halved t u ms js ms' js' up size rows (a ++ x ∷ y ∷ b) (length a) p middle right moved
-  node_parted {ms} ms' js' {up} {x} y p moved sides halves_are d eight h far_m far_j full at =
-      let q = d.q in let num = get_or ms up 0 in let es = q.l ++ x ∷ q.r in let row = q.before ++ node num es ∷ q.after in
-      let first_is = head-grown num q.l x q.r (y ∷ q.r) ∙ ap (λ z. head_of num z) h.grown_is in
-      let hs0 : heads row ≡ heads q.before ++ (h.z.0, num) ∷ heads q.after = heads-append q.before _ ∙ ap (λ z. heads q.before ++ (z ++ heads q.after)) first_is in
-      let list_is = ap (λ z. flat q.before ++ z) (append_assoc q.l (x ∷ y ∷ q.r) (flat q.after)) ∙ sym (append_assoc (flat q.before) q.l _) ∙ sym (cc) in
-      record {
-        parted = part q.before es q.after ms' js' moved d.f.inside d.whole.stacked.1 (omega arith) sides d.whole.apart h (rw hs0 at (rows_above d)) list_is far_m far_j at;
-        rows_were = q.rows_are;
-        head_is = first_is;
-        gain_is = ap (λ z. inner_gain (length z) (sizes row)) q.a_is ∙ gain_spot q.before num es q.l q.after
-            ∙ gain_full q.before (length es) (length q.l) (sizes q.after) (omega arith) eight
-            ∙ rw (q.entry_is, full, sizes-append _ _, h.left_is, h.right_is) (ap (λ z. (Some (length q.before), sizes q.before ++ z)) (halves_are (sizes q.after)));
-        nodes_below = λ i low_i. far_m i (λ e. omega arith);
-        entries_below = λ i low_i. far_j i (λ e. omega arith);
-      }
-
   module _ {t : Table K V} {ms js up size : _} (w : OneAbove t ms js up size) (i : ℕ) (within : up < size) (low : up < length ms) where
     open w use {rows, before as a, x, after as b, above as p}
 
     d : Spot t ms js up size rows a x b
     d = spot a x b p within
 
-    open d use {f, q.{before, l, r}}
+    open d use {f, whole, q.{before, l, r, after, rest}}
 
     abbrev num : ℕ
     num = get_or ms up 0
@@ -590,6 +569,24 @@ module _ {K V : Type 0} where
 
     abbrev es : Heads K
     es = l ++ x ∷ r
+
+    -- the split level, except for where the path stands
+    node_parted : {u : Table K V} (ms' js' : _) (y : K × ℕ) {middle right : _} (p2 : ℕ) (there : Bool) {big small : ℕ} → (4 ≤ big) × (big ≤ 8) × (4 ≤ small) × (small ≤ 8) →
+        ((after : _) → (if nat_lt e 4 then 5 ∷ 4 ∷ after else 4 ∷ 5 ∷ after) ≡ big ∷ small ∷ after) → length es ≡ 8 → (h : Halves inner_content t u num right middle (l ++ x ∷ y ∷ r) big small) →
+        ((i : ℕ) → i ≢ up → get_or ms' i 0 ≡ get_or ms i 0) → ((i : ℕ) → i ≢ up → get_or js' i 0 ≡ get_or js i 0) → length (heads before) ≡ length before →
+        InHalf before num right (h.z ∷ h.xs) (h.y ∷ h.ys) after (get_or ms' up 0) (get_or js' up 0) p2 there → Halved t u ms js ms' js' up size rows (a ++ x ∷ y ∷ b) (length a) p2 middle right there
+    node_parted ms' js' y {right = right} p2 there sides halves_are eight h far_m far_j full at =
+        let q = d.q in let row = before ++ node num es ∷ after in let first_is = head-grown num l x r (y ∷ r) ∙ ap (λ z. head_of num z) h.grown_is in
+        let hs0 : heads row ≡ heads before ++ (h.z.0, num) ∷ heads after = heads-append before _ ∙ ap (λ z. heads before ++ (z ++ heads after)) first_is in
+        let list_is = ap (λ z. flat before ++ z) (append_assoc l (x ∷ y ∷ r) (flat after)) ∙ sym (append_assoc (flat before) l _) ∙ sym (cc (q.a_is, q.b_is)) in
+        record {
+          parted = part before es after ms' js' there f.inside whole.stacked.1 (omega arith) sides whole.apart h (rw hs0 at (rows_above d)) list_is far_m far_j at;
+          rows_were = q.rows_are;
+          head_is = first_is;
+          gain_is = cc (q.a_is, gain_spot before num es l after, gain_full before (length es) (length l) (sizes after) (omega (arith, length-append l (x ∷ r))) eight, q.entry_is, halves_are (sizes after), full, sizes-append before (node num (h.z ∷ h.xs) ∷ node right (h.y ∷ h.ys) ∷ after), h.left_is, h.right_is);
+          nodes_below = λ i low_i. far_m i (λ e. omega arith);
+          entries_below = λ i low_i. far_j i (λ e. omega arith);
+        }
 
     num_is : read ≡ num
     num_is = get_or_default ms up i 0 low
@@ -637,7 +634,7 @@ module _ {K V : Type 0} where
             (λ mid. cc (one mid, with_child_is V l x mid key child e d.q.entry_is, two mid))
             (put_in said num_is _ _ node_cut.two.here (omega (arith, item_count node_cut.zs, node_cut.count_is, four))) in
             let j_is = get_or-set_same js up index 0 low_js ∙ index_is ∙ step_is moved e in
-            node_parted ms (set js up index) new (if moved then suc (length a) else length a) false (omega arith, omega arith, omega arith, omega arith) (λ after. (let a = below_lt e 4 early in rw a refl)) d eight h
+            node_parted ms (set js up index) new (if moved then suc (length a) else length a) false (omega arith, omega arith, omega arith, omega arith) (λ after. (let a = below_lt e 4 early in rw a refl)) eight h
             (λ i other. refl) (λ i other. get_or-set_other js up i index 0 other) seen
             (in_left _ _ _ _ _ _ _ _ seen (omega (arith, step_most moved)) (step_is moved (length a) ∙ omega (arith, ap length d.q.a_is, length-append (flat before) l, d.q.entry_is)))
 
@@ -656,7 +653,7 @@ module _ {K V : Type 0} where
               λ rest. head-grown right mid x (new ∷ r) r ∙ ap (λ v. head_of right v) (sym rest) ∙ ap (λ v. (v, right) ∷ []) (sym node_cut.key_is),
             )) (put_in said refl _ _ node_cut.two.there (omega (arith, item_count (node_cut.y ∷ node_cut.ys), right_is))) in
             let j_is = get_or-set_same js up index 0 low_js ∙ index_is ∙ step_is moved (e - 4) in
-            node_parted _ _ _ _ _ (omega arith, omega arith, omega arith, omega arith) (λ after. (let a = above_lt e 4 late in rw a refl)) d eight h
+            node_parted _ _ _ _ _ (omega arith, omega arith, omega arith, omega arith) (λ after. (let a = above_lt e 4 late in rw a refl)) eight h
             (λ i other. get_or-set_other ms up i right 0 other) (λ i other. get_or-set_other js up i index 0 other) seen
             (in_right _ _ _ _ _ _ _ _ _ seen (get_or-set_same ms up right 0 low)
             (omega (arith, step_most moved, d.count_is, d.most_is))
