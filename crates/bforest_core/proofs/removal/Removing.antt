@@ -472,7 +472,20 @@ module _ {K V : Type 0} where
         at = at;
       }
 
-module _ {K V : Type 0} {most : ℕ} {old : Table K V} {path indices size tree place : _} (s : StandsIn most old path indices size tree place) (half : 1 ≤ half_of most) {root : ℕ} (root_is : root_of tree ≡ root) where
+module _ {K V : Type 0} {most : ℕ} {old mid : Table K V} {path indices size tree place : _} (s : StandsIn most old path indices size tree place) (l : LeafLoss most old mid path indices size tree place) {root : ℕ} (root_is : root_of tree ≡ root) where
+  abbrev n : ℕ
+  n = get_or path 0 0
+
+  half : 1 ≤ half_of most
+  half = let one : 1 ≤ most = omega (arith, l.on_level.some, l.on_level.most_is) in omega arith
+
+  -- the leaves and the rows above them were as many
+  sizes_were : (sizes tree.leaves ≡ sizes l.before ++ suc (length l.entries) ∷ sizes l.after) × (map sizes tree.above ≡ map sizes l.rest)
+  sizes_were = let w = l.sizes_were in (cc, cc)
+
+  as_many : length (l.before ++ node n l.entries ∷ l.after) ≡ length tree.leaves
+  as_many = omega (arith, ap length sizes_were.0, length-sizes tree.leaves, length-sizes l.before, length-sizes l.after, length-append (sizes l.before) (suc (length l.entries) ∷ sizes l.after), length-append l.before (node n l.entries ∷ l.after))
+
   module _ {new : Table K V} {path' indices' freed : _} (r : Restored leaf_content (half_of most) most old new path' indices' 0 size (sizes_of tree) (numbers_of tree) (remove (flat tree.leaves) place) place freed)
       (top : top_of path' size ≡ top_of path size) where
     abbrev m : ℕ
@@ -531,49 +544,29 @@ module _ {K V : Type 0} {most : ℕ} {old : Table K V} {path indices size tree p
         trimmed_removed up (λ z. place < length (flat z.leaves) → IsPathAt path' indices' size2 z place) s (rw (← freed_is) untrimmed) root_is t size_is
         (λ low. path-at size2 (stands (within (rw (← r.list_is) low)) t))
 
-module _ {K V : Type 0} {most : ℕ} {old mid : Table K V} {path indices size tree place : _} (s : StandsIn most old path indices size tree place) (l : LeafLoss most old mid path indices size tree place) {root : ℕ} (root_is : root_of tree ≡ root) where
-  abbrev n : ℕ
-  n = get_or path 0 0
-
-  half : 1 ≤ half_of most
-  half = let one : 1 ≤ most = omega (arith, l.on_level.some, l.on_level.most_is) in omega arith
-
-  -- the leaves and the rows above them were as many
-  sizes_were : (sizes tree.leaves ≡ sizes l.before ++ suc (length l.entries) ∷ sizes l.after) × (map sizes tree.above ≡ map sizes l.rest)
-  sizes_were = let w = l.sizes_were in (cc, cc)
-
   -- the removal is complete where the leaf is still half full or the last
   pub kept_removed : (Now : Tree K V → Type 0) → (half_of most ≤ length l.entries) ⊎ (l.after ≡ []) → ((z : Tree K V) → flat z.leaves ≡ remove (flat tree.leaves) place → Now z) → Removed most old mid path Now tree place root
   kept_removed Now why now = let r = kept_restored l.loss (judged _ _ _ _ (omega arith) l.some why) (enough (half_of most) l.entries l.after l.some why) in
-      let len : length (l.before ++ node n l.entries ∷ l.after) ≡ length tree.leaves = omega (arith, ap length sizes_were.0, length-sizes tree.leaves, length-sizes l.before, length-sizes l.after, length-append (sizes l.before) (suc (length l.entries) ∷ sizes l.after), length-append l.before (node n l.entries ∷ l.after)) in
-      trimmed_removed 0 Now s (untrimmed s half root_is r refl) root_is (whole s half root_is r refl refl len (sym sizes_were.1)) refl (now _ r.list_is)
+      trimmed_removed 0 Now s (untrimmed r refl) root_is (whole r refl refl as_many (sym sizes_were.1)) refl (now _ r.list_is)
+
+  -- how many entries are left
+  left_is : (z : Tree K V) → flat z.leaves ≡ remove (flat tree.leaves) place → length (flat z.leaves) ≡ length (flat l.before) + length (l.entries ++ flat l.after)
+  left_is z is = omega (arith, ap length is, ap length l.list_is, ap length (flat-append l.before (node n l.entries ∷ l.after)), length-append (flat l.before) (l.entries ++ flat l.after))
 
   -- an entry follows in what is left
   pub entry_follows : get_or indices 0 0 < length (l.entries ++ flat l.after) → (z : Tree K V) → flat z.leaves ≡ remove (flat tree.leaves) place → place < length (flat z.leaves)
-  entry_follows low z is = omega (arith, ap length is, ap length l.list_is, ap length (flat-append l.before (node n l.entries ∷ l.after)), length-append (flat l.before) (l.entries ++ flat l.after))
+  entry_follows low z is = omega (arith, left_is z is, l.place_is)
 
   -- the removal is complete where the path was at the last entry
   pub past_removed : l.after ≡ [] → get_or indices 0 0 ≡ length l.entries → Removed most old mid path (λ z. IsPathAt path indices 0 z place) tree place root
-  past_removed none last = kept_removed _ (inr none)
-      (λ z is. omega (arith, ap length is, ap length l.list_is, ap length (flat-append l.before (node n l.entries ∷ l.after)), length-append (flat l.before) (l.entries ++ flat l.after), length-append l.entries (flat l.after), ap (λ z. length (flat z)) none))
+  past_removed none last = kept_removed _ (inr none) (λ z is. omega (arith, left_is z is, l.place_is, length-append l.entries (flat l.after), ap (λ z. length (flat z)) none))
 
   -- the removal is complete where the leaf was rebalanced and stays
   pub healed_removed : {new : Table K V} {path' indices' size1 : _} → Healed leaf_content (half_of most) most mid new path indices path' indices' 0 size l.before n l.entries l.after l.rest → size1 ≡ size →
       Removed most old new path (λ z. place < length (flat z.leaves) → IsPathAt path' indices' size1 z place) tree place root
-  healed_removed h size_is = let r = healed_restored l.loss h in
-      let len : length (h.before' ++ node h.number' h.entries' ∷ h.after') ≡ length tree.leaves = omega (
-        arith,
-        ap length sizes_were.0,
-        length-sizes tree.leaves,
-        length-sizes l.before,
-        length-sizes l.after,
-        length-append (sizes l.before) (suc (length l.entries) ∷ sizes l.after),
-        length-append l.before (node n l.entries ∷ l.after),
-        ap length h.row_numbers,
-        length-numbers (h.before' ++ node h.number' h.entries' ∷ h.after'),
-        length-numbers (l.before ++ node n l.entries ∷ l.after),
-      ) in
-      completed s half root_is r.0 h.same_top 0 refl r.1 (whole s half root_is r.0 h.same_top size_is len (cc (sizes_were.1))) size_is
+  healed_removed h size_is = let r = healed_restored l.loss h in let row = h.before' ++ node h.number' h.entries' ∷ h.after' in
+      let len : length row ≡ length tree.leaves = omega (arith, as_many, ap length h.row_numbers, length-numbers row, length-numbers (l.before ++ node n l.entries ∷ l.after)) in
+      completed r.0 h.same_top 0 refl r.1 (whole r.0 h.same_top size_is len (cc (sizes_were.1))) size_is
 
   -- the leaf was merged into its neighbour
   module _ {mid2 path1 indices1 : _} (j : Joined leaf_content (half_of most) most mid mid2 path indices path1 indices1 0 size l.before n l.entries l.after l.rest) {size1 : ℕ} (size_is : size1 ≡ size) where
@@ -597,11 +590,11 @@ module _ {K V : Type 0} {most : ℕ} {old mid : Table K V} {path indices size tr
 
       -- the rows above meet what discarding roots requires
       pub collapse_asks : (rows : _) × (list : _) × UpTo new size2 rows list root
-      collapse_asks = (joined.0.rows, heads joined.0.row, up_here s half root_is joined.0 top size2_is)
+      collapse_asks = (joined.0.rows, heads joined.0.row, up_here joined.0 top size2_is)
 
       -- the removal is complete after roots with a single child were discarded
       pub joined_removed : {new2 path2 indices2 size3 root' : _}
           → ((rows list : _) → UpTo new size2 rows list root → (gone : _) × Trimmed new new2 size2 size3 rows list root root' gone) → path2 ≡ path' → indices2 ≡ indices' →
           Removed most old new2 path (λ z. place < length (flat z.leaves) → IsPathAt path2 indices2 size3 z place) tree place root'
-      joined_removed trims path_is indices_is = let t = trims joined.0.rows (heads joined.0.row) (up_here s half root_is joined.0 top size2_is) in
-          rw (path_is, indices_is) (completed s half root_is joined.0 top (suc above.0) refl joined.1 t.1 size2_is)
+      joined_removed trims path_is indices_is = let t = trims joined.0.rows (heads joined.0.row) (up_here joined.0 top size2_is) in
+          rw (path_is, indices_is) (completed joined.0 top (suc above.0) refl joined.1 t.1 size2_is)
