@@ -6,12 +6,12 @@ use Rattle.bforest_core.proofs.Words.{heads, sizes, FitRow, inner_gain, past, le
 use Rattle.bforest_core.proofs.Words.{Table, with_node, with_front, front_of, IsUsed, IsFullAt, IsSplitAt, inner_content, leaf_content, count, false≢true}
 use Rattle.bforest_core.proofs.Words.{map, get_or, flat_map, length-map, numbers, Stacked, Topped, gain_above, RowIn, Distinct, StandsAbove, Above, Grown}
 use Rattle.bforest_core.proofs.Words.{Parted, top_of, Heads, Rows, Inner, need_above, Halved, PutsIn, set, get_or_default, get_or-set_same, get_or-set_other}
-use Rattle.bforest_core.proofs.{Words.{with_child, entry_items, GrownBy, HalvedBy, OneAbove, PutsChild}, rows.Bounds.{below_lt, above_lt, upto_le, past_le}}
-use Rattle.bforest_core.proofs.{rows.LevelRows.{flat-append, sizes-append, least-le, FitRow-split, FitRow-join, heads-append, Solid-full}, table.Stored.Parts}
-use Rattle.bforest_core.proofs.{table.Stored.{inner_cuts, some_same, item_count, keys_count, key_count, with_child_is}, rows.Zipper.{cut, stands-same, Spot}}
-use Rattle.bforest_core.proofs.{rows.Zipper.{stands_here, spot}, table.Tables.{Puts, count-same, is_used, puts, takes, length-with_front, set_here, counts}}
-use Rattle.bforest_core.proofs.table.Tables.{count-append, row-same, row-changed, rows-same, ne_from_count, absent_ne, Takes, row-put}
-use Rattle.bforest_core.proofs.removal.Lifted.{rows_above}
+use Rattle.bforest_core.proofs.{Words.{with_child, entry_items, GrownBy, HalvedBy, OneAbove, PutsChild, add-one}, rows.Bounds.{below_lt, above_lt, upto_le}}
+use Rattle.bforest_core.proofs.{rows.Bounds.past_le, rows.LevelRows.{flat-append, sizes-append, least-le, FitRow-split, FitRow-join, heads-append}}
+use Rattle.bforest_core.proofs.{rows.LevelRows.Solid-full, table.Stored.{Parts, inner_cuts, some_same, item_count, keys_count, key_count, with_child_is}}
+use Rattle.bforest_core.proofs.{rows.Zipper.{cut, stands-same, Spot, stands_here, spot}, table.Tables.{Puts, count-same, is_used, puts, takes}}
+use Rattle.bforest_core.proofs.table.Tables.{length-with_front, set_here, counts, count-append, row-same, row-changed, rows-same, ne_from_count, absent_ne}
+use Rattle.bforest_core.proofs.{table.Tables.{Takes, row-put}, removal.Lifted.rows_above}
 use Rattle.bforest_nodes.specs.declared.node.SplitOff.{SplitOff}
 
 -- a list with one more element is not shorter
@@ -658,3 +658,35 @@ module _ {K V : Type 0} where
             (in_right _ _ _ _ _ _ _ _ _ seen (get_or-set_same ms up right 0 low)
             (omega (arith, step_most moved, d.count_is, d.most_is))
             (step_is moved (length a) ∙ omega (arith, j_is, ap length d.q.a_is, length-append (flat before) l, d.q.entry_is, h.left_is, late)))
+
+module _ {K V : Type 0} where
+  -- a node is free for the split of a full node
+  pub room_then : (cap : ℕ) {t : Table K V} {ms js : List ℕ} {up size : ℕ} (w : OneAbove t ms js up size) → up < size →
+      IsFullAt cap t.nodes (get_or ms up 0) → need_above (Some (length w.before)) (map sizes w.rows) ≤ suc (length t.chain) → 0 < length t.chain
+  room_then cap {t} {ms} {up} w low full enough =
+      let d = spot w.before w.x w.after w.above low in omega (arith, need_full d (full_is cap t.nodes (get_or ms up 0) (d.q.l ++ w.x ∷ d.q.r) d.f.slot_is full))
+
+  -- the node was split
+  module _ {t t2 : Table K V} {ms js ms2 js2 : List ℕ} {up size size2 : ℕ} (w : OneAbove t ms js up size) (child : K × ℕ) (moved : Bool) {key2 : K} {right : ℕ} {moved2 : Bool} (h : HalvedBy w child moved t2 ms2 js2 key2 right moved2)
+      (r : ℕ) (low : up < size) (wide : length ms ≡ 17) (height : size ≤ 17) (size2_is : size2 ≡ size) where
+    here_is : get_or ms up 0 ≡ get_or ms up r
+    here_is = sym (get_or_default ms up r 0 (omega arith))
+
+    -- the rows one level up
+    abbrev up_next : OneAbove t2 ms2 js2 (up + 1) size2
+    up_next = record { rows = h.rest; before = heads h.before; x = (h.first.0, get_or ms up 0); after = heads h.after; above = rw (add-one, size2_is) h.above }
+
+    -- the call one level up gets what it requires
+    pub next_asks : need_above (Some (length w.before)) (map sizes w.rows) ≤ suc (length t.chain) → up + length (gain_above (Some (length w.before)) (map sizes w.rows)) ≤ 17 →
+        (v : OneAbove t2 ms2 js2 (up + 1) size2) × (v.x.1 ≡ get_or ms up r) × (need_above (Some (length v.before)) (map sizes v.rows) ≤ suc (length t2.chain)) × (up + 1 + length (gain_above (Some (length v.before)) (map sizes v.rows)) ≤ 17)
+    next_asks enough few = let n = sizes_halved h in (up_next, here_is, omega (arith, ap length h.chain_is), omega arith)
+
+    grown_next : {t3 : Table K V} {ms3 js3 : List ℕ} {size3 : ℕ} {taken : List ℕ} →
+        Grown t2 t3 ms2 js2 ms3 js3 (up + 1) size2 size3 h.rest (heads h.before ++ (h.first.0, get_or ms up 0) ∷ (key2, right) ∷ heads h.after) (if moved2 then suc (length (heads h.before)) else length (heads h.before)) (gain_above (Some (length (heads h.before))) (map sizes h.rest)) taken →
+        Grown t t3 ms js ms3 js3 up size size3 w.rows (w.before ++ w.x ∷ child ∷ w.after) (if moved then suc (length w.before) else length w.before) (gain_above (Some (length w.before)) (map sizes w.rows)) (right ∷ taken)
+    grown_next g = rise w.above h (rw (add-one, size2_is) at g)
+
+    -- what the call one level up ensures is what this one has to
+    pub next_takes : {t3 : Table K V} {ms3 js3 : List ℕ} {size3 : ℕ} → ((v : OneAbove t2 ms2 js2 (up + 1) size2) → v.x.1 ≡ get_or ms up r → (taken : List ℕ) × GrownBy v (key2, right) moved2 t3 ms3 js3 size3 taken) →
+        (taken : List ℕ) × GrownBy w child moved t3 ms3 js3 size3 taken
+    next_takes takes = let g = takes up_next here_is in (right ∷ g.0, (omega (arith, (sizes_halved h).0, g.1.0), grown_next g.1.1))
