@@ -9,12 +9,12 @@ use Rattle.bforest_core.proofs.Words.{nat_le, true, false, set, get_or_default, 
 use Rattle.bforest_core.proofs.Words.{IsSplitAt, front_of, with_node, entry_keys, PutsEntry, IsTrue, add-one, ◌↔◌, false≢true, slice_get_within, IsFree}
 use Rattle.bforest_core.proofs.{Words.{entry_count, entry_capacity, sizes_of, need, inner_content}, rows.LevelRows.{flat-append, least-pos, sizes-append}}
 use Rattle.bforest_core.proofs.{rows.LevelRows.{FitRow-split, heads-append, Solid-full}, rows.Tops.{root-stands, root-points}, rows.Zipper.apart_here}
-use Rattle.bforest_core.proofs.table.Tables.{counts, row-split, row-put, rows-same, ne_from_count, absent_ne, Puts, count-append, is_used, puts}
-use Rattle.bforest_core.proofs.insertion.Parted.{FitRow-put, leaf_room, InHalf, leaf_full, chain_is, halves, inside, numbers_are, others_same, over, part}
-use Rattle.bforest_core.proofs.insertion.Parted.{same_top, stands_at, stands_over, tops, Halves, Split, leaf_full_is, counted, split_at, left_used, into_left}
-use Rattle.bforest_core.proofs.insertion.Parted.{into_right, middle_key, PutAsks, asks_put, put_fewer, put_in, put_past, in_left, in_right, FullAt, gain_full}
-use Rattle.bforest_core.proofs.{insertion.Parted.gain_room, rows.Bounds.{past_le, upto_le}, table.Stored.{leaf_cuts, with_entry_is, keys_count, some_same}}
-use Rattle.bforest_core.proofs.{table.Stored.item_count, walks.Steps.{Spot, spot}}
+use Rattle.bforest_core.proofs.{rows.Zipper.{LeafCut, cut_leaf}, table.Tables.{counts, row-split, row-put, rows-same, ne_from_count, absent_ne, Puts}}
+use Rattle.bforest_core.proofs.{table.Tables.{count-append, is_used, puts}, insertion.Parted.{FitRow-put, leaf_room, InHalf, leaf_full, chain_is, halves}}
+use Rattle.bforest_core.proofs.insertion.Parted.{inside, numbers_are, others_same, over, part, same_top, stands_at, stands_over, tops, Halves, Split}
+use Rattle.bforest_core.proofs.insertion.Parted.{leaf_full_is, counted, split_at, left_used, into_left, into_right, middle_key, PutAsks, asks_put, put_fewer}
+use Rattle.bforest_core.proofs.{insertion.Parted.{put_in, put_past, in_left, in_right, FullAt, gain_full, gain_room}, rows.Bounds.{past_le, upto_le}}
+use Rattle.bforest_core.proofs.{table.Stored.{leaf_cuts, with_entry_is, keys_count, some_same, item_count}, walks.Steps.{Spot, spot}}
 use Rattle.bforest_nodes.specs.declared.node.SplitOff.{SplitOff}
 
 module _ {K : Type 0} where
@@ -111,52 +111,15 @@ not_so none h = λ a. false≢true (sym none ∙ h.1 a)
 module _ {K V : Type 0} where
   -- the tree, cut at the place in its leaf
   pub record LeafSpot (most : ℕ) (t : Table K V) (ms js : List ℕ) (tree : Tree K V) (place : ℕ) : Type 0 where
-    pub before : Row K V
     pub l : List (K × V)
     pub r : List (K × V)
-    pub after : Row K V
-    pub leaves_are : tree.leaves ≡ before ++ node (get_or ms 0 0) (l ++ r) ∷ after
-    pub index_is : length l ≡ get_or js 0 0
-    pub place_is : place ≡ length (flat before) + length l
+    pub cut : LeafCut most t ms js tree place l r
+    pub open cut use *
     pub first : (before ≡ []) ⊎ (1 ≤ length l)
-    pub fit : IsFit most (record { leaves = before ++ node (get_or ms 0 0) (l ++ r) ∷ after; above = tree.above })
-    pub solid : Solid (half_of most) most before
-    pub most_is : length (l ++ r) ≤ most
-    pub inside : RowIn leaf_content t.nodes (before ++ node (get_or ms 0 0) (l ++ r) ∷ after)
-    pub slot_is : slice_get t.nodes (get_or ms 0 0) ≡ Some (leaf_content (l ++ r))
-    pub stands : StandsAbove ms js 1 tree.above (length before)
-    pub apart : Distinct ((numbers (before ++ node (get_or ms 0 0) (l ++ r) ∷ after) ++ flat_map numbers tree.above) ++ t.chain)
-    pub none : count (get_or ms 0 0) (numbers before) + count (get_or ms 0 0) (numbers after) ≡ 0
-    pub none_rows : count (get_or ms 0 0) (flat_map numbers tree.above) ≡ 0
-    pub none_chain : count (get_or ms 0 0) t.chain ≡ 0
 
   pub leaf_spot : {most t ms js size tree place : _} → Placed most t ms js size tree place → LeafSpot most t ms js tree place
-  leaf_spot {most} {ms} {js} p =
-      let at = p.at.points in let n = get_or ms 0 0 in let l = take (get_or js 0 0) at.entries in let r = drop (get_or js 0 0) at.entries in
-      let l_is = length-take-le (get_or js 0 0) at.entries at.within in
-      let is = at.leaves_are ∙ ap (λ z. at.before ++ node n z ∷ at.after) (sym (take-append-drop _ _)) in let fit = rw is at p.fit in
-      let inside = rw is at p.inside.leaves_in in let apart = rw is at p.apart in
-      let f = FitRow-split (half_of most) most at.before (node n (l ++ r)) at.after fit.leaves_fit in let d = apart_here n _ _ _ _ _ apart in
-      record {
-        before = at.before;
-        l = l;
-        r = r;
-        after = at.after;
-        leaves_are = is;
-        index_is = l_is;
-        place_is = omega arith;
-        first = elim (cases_lt 0 (get_or js 0 0)) [ inl lt ↦ inr (omega arith) | inr ge ↦ inl (p.at.first (omega arith)) ];
-        fit = fit;
-        solid = f.0;
-        most_is = f.1.1;
-        inside = inside;
-        slot_is = (row-split _ _ _ (node n (l ++ r) ∷ at.after) inside).1.0;
-        stands = at.above;
-        apart = apart;
-        none = d.0;
-        none_rows = d.1;
-        none_chain = d.2;
-      }
+  leaf_spot {js = js} p = let at = p.at.points in let c = cut_leaf at.before at.entries at.after p.fit p.inside p.apart at.leaves_are at.within at.place_is at.above in
+      record { l = take (get_or js 0 0) at.entries; r = drop (get_or js 0 0) at.entries; cut = c; first = elim (cases_lt 0 (get_or js 0 0)) [ inl lt ↦ inr (omega (arith, c.index_is)) | inr ge ↦ inl (p.at.first (omega arith)) ] }
 
   module _ {most : ℕ} {t : Table K V} {ms js size tree place : _} (p : Placed most t ms js size tree place) where
     abbrev pub d : LeafSpot most t ms js tree place
@@ -270,7 +233,7 @@ module _ {K V : Type 0} where
 
         -- a failed insertion means that the leaf is full, and changes nothing
         pub put_full : put ≡ false → IsFullAt most t.nodes n × (u ≡ t)
-        put_full none = let past = put_past said num_is _ _ d.slot_is none in (rw d.slot_is (λ free. free, omega (arith, keys_count (l ++ r), d.most_is)), past.1)
+        put_full none = let past = put_past said num_is _ _ d.slot_is none in (rw d.slot_is (λ free. free, omega (arith, keys_count (l ++ r), d.fits.1)), past.1)
 
       module _ (s : Table K V) (full : IsFullAt most t.nodes n) where
         pub full_asks : 0 < length t.chain → FullAt most t read
@@ -361,7 +324,7 @@ module _ {K V : Type 0} where
           full_needs so more needs = needs leaf_above.0 leaf_above.1 leaf_above.2 leaf_above.3 ∙ sym (leaf_need_full (leaf_tells.0 so))
 
           pub room_needs : full ≡ false → 0 ≡ need most place (sizes_of tree)
-          room_needs none = cc (room_gain (omega (arith, not_so none leaf_tells, d.most_is)))
+          room_needs none = cc (room_gain (omega (arith, not_so none leaf_tells, d.fits.1)))
 
   -- the need, or the sizes above, where the leaf is split
   pub above_leaf : {X : Type 0} (change : Option ℕ → List (List ℕ) → X) {most : ℕ} {t u : Table K V} {ms ms' js' size tree place entry key right moved : _} → (h : LeafHalved most t u ms ms' js' size tree place entry key right moved) →

@@ -6,15 +6,15 @@ use Rattle.bforest_core.proofs.Words.{flat, heads, numbers, FitRow, Solid, Tree,
 use Rattle.bforest_core.proofs.Words.{StandsIn, LeafLoss, None, Bool, true, false, not, is_some, nil_from_length, OneAbove, NextIs, get_or_default}
 use Rattle.bforest_core.proofs.Words.{entry_count, ◌≢◌, Leaf, HasOthers, IsSingle, IsUsed, with_node, head_of, entry_items, Rekeyed, ◌-◌, drop, Heads, Rows}
 use Rattle.bforest_core.proofs.Words.{append-nil, without_child, with_freed, sizes, loss_above, inner_content, root_above, LastAbove, nodes_up, Dropped}
-use Rattle.bforest_core.proofs.Words.{rebalanced, IsLeafCapacity, Topped, loss, root_of, IsPathAt, UpTo, Trimmed, Removed, Emptied, add-one}
-use Rattle.bforest_core.proofs.table.Tables.{count-append, counts, count-same, row-split, row-put, row-same, Puts, is_used, puts, rows-same, ne_from_count}
-use Rattle.bforest_core.proofs.rows.LevelRows.{flat-append, sizes-append, FitRow-split, Solid-full, heads-append, HeadIs, head-is, FitRow-join}
-use Rattle.bforest_core.proofs.{rows.Zipper.{cut, apart_here, Cut_above, Facts, facts, Spot, above_two}, removal.Frees.{frees-after, frees-puts, freed_other}}
-use Rattle.bforest_core.proofs.{removal.Frees.{frees-first, frees-one}, removal.Lifted.{remove_at, headed, top_one, NodeAt, Beside, above_top, above_written}}
-use Rattle.bforest_core.proofs.removal.Lifted.{rebuilt_same, some_first, no_nodes, heads-put, above_same, rows_above, Counts, Removes, Seen, seen}
-use Rattle.bforest_core.proofs.{removal.Lifted.removed_last, table.Stored.{keys_count, read_same, some_same}, removal.Removing.{heads-flat, placed}}
-use Rattle.bforest_core.proofs.{removal.Removing.{loss_level, lost_above, loss_at, Untrimmed, up_to, trimmed_removed}, rows.Tops.{top_rows, root-stands}}
-use Rattle.bforest_core.proofs.removal.Rebalance.{rebalanced_last}
+use Rattle.bforest_core.proofs.Words.{rebalanced, IsLeafCapacity, Topped, loss, root_of, IsPathAt, UpTo, Trimmed, Removed, Emptied, add-one, take}
+use Rattle.bforest_core.proofs.{Words.length-drop, table.Tables.{count-append, counts, count-same, row-split, row-put, row-same, Puts, is_used, puts}}
+use Rattle.bforest_core.proofs.{table.Tables.{rows-same, ne_from_count}, rows.LevelRows.{flat-append, sizes-append, FitRow-split, Solid-full, heads-append}}
+use Rattle.bforest_core.proofs.{rows.LevelRows.{HeadIs, head-is, FitRow-join}, rows.Zipper.{cut, apart_here, Cut_above, Facts, facts, Spot, above_two}}
+use Rattle.bforest_core.proofs.{rows.Zipper.{LeafCut, cut_leaf}, removal.Frees.{frees-after, frees-puts, freed_other, frees-first, frees-one}}
+use Rattle.bforest_core.proofs.removal.Lifted.{remove_at, headed, top_one, NodeAt, Beside, above_top, above_written, rebuilt_same, some_first, no_nodes}
+use Rattle.bforest_core.proofs.{removal.Lifted.{heads-put, above_same, rows_above, Counts, Removes, Seen, seen, removed_last}, table.Stored.keys_count}
+use Rattle.bforest_core.proofs.{table.Stored.{read_same, some_same}, removal.Removing.{heads-flat, placed, loss_level, lost_above, loss_at, Untrimmed, up_to}}
+use Rattle.bforest_core.proofs.{removal.Removing.trimmed_removed, rows.Tops.{top_rows, root-stands}, removal.Rebalance.rebalanced_last}
 
 remove_map : {X Y : Type 0} (f : X → Y) (l r : List X) (x : X) → remove (map f (l ++ x ∷ r)) (length l) ≡ map f (l ++ r)
 remove_map f l r x = cc (map-append f l (x ∷ r), remove_at (map f l) (f x) (map f r) (length l) (length-map l f), map-append f l r)
@@ -45,58 +45,28 @@ module _ {K V : Type 0} where
 
   -- the tree, cut at the entry in its leaf
   pub record LeafAt (most : ℕ) (t : Table K V) (path indices : List ℕ) (size : ℕ) (tree : Tree K V) (place : ℕ) : Type 0 where
-    pub before : Row K V
     pub l : List (K × V)
     pub x : K × V
     pub r : List (K × V)
-    pub after : Row K V
-    pub leaves_are : tree.leaves ≡ before ++ node (get_or path 0 0) (l ++ x ∷ r) ∷ after
-    pub index_is : length l ≡ get_or indices 0 0
-    pub place_is : place ≡ length (flat before) + length l
-    pub solid : Solid (half_of most) most before
-    pub fit : FitRow (half_of most) most (node (get_or path 0 0) (l ++ x ∷ r) ∷ after)
-    pub inside : RowIn leaf_content t.nodes (before ++ node (get_or path 0 0) (l ++ x ∷ r) ∷ after)
-    pub slot_is : slice_get t.nodes (get_or path 0 0) ≡ Some (leaf_content (l ++ x ∷ r))
+    pub cut : LeafCut most t path indices tree place l (x ∷ r)
+    pub open cut use *
     pub half : 1 ≤ half_of most
     pub above : Above t path indices 1 size tree.above (heads (before ++ node (get_or path 0 0) (l ++ x ∷ r) ∷ after)) (length (heads before))
-    pub apart : Distinct ((numbers (before ++ node (get_or path 0 0) (l ++ x ∷ r) ∷ after) ++ flat_map numbers tree.above) ++ t.chain)
-    pub none : count (get_or path 0 0) (numbers before) + count (get_or path 0 0) (numbers after) ≡ 0
-    pub none_rows : count (get_or path 0 0) (flat_map numbers tree.above) ≡ 0
-    pub none_chain : count (get_or path 0 0) t.chain ≡ 0
 
   -- a tree in which a path stands can be cut at the path's entry
   pub leaf_at : {most t path indices size tree place : _} → StandsIn most t path indices size tree place → LeafAt most t path indices size tree place
-  leaf_at {most} {path} {indices} s = let at = s.stands.leaf in let n = get_or path 0 0 in let c = cut at.entries (get_or indices 0 0) at.within in
-      let row = at.before ++ node n (c.l ++ c.x ∷ c.r) ∷ at.after in let is = at.row_is ∙ ap (λ z. at.before ++ node n z ∷ at.after) c.es_is in
-      let fit = rw is at s.fit.leaves_fit in let inside = rw is at s.inside.leaves_in in let apart = rw is at s.apart in
-      let f = FitRow-split (half_of most) most at.before (node n (c.l ++ c.x ∷ c.r)) at.after fit in let d = apart_here n _ _ _ _ _ apart in
-      let one : 1 ≤ most = omega (arith, length-append c.l (c.x ∷ c.r)) in let half : 1 ≤ half_of most = omega arith in
-      let full = Solid-full (half_of most) most half at.before f.0 in
+  leaf_at {most} {t} {indices = indices} s = let at = s.stands.leaf in let e = get_or indices 0 0 in
+      let more = some_first (drop e at.entries) (omega (arith, length-drop e at.entries, at.within)) in
+      let c = rw more.2 at (cut_leaf {t = t} at.before at.entries at.after s.fit s.inside s.apart at.row_is (omega (arith, at.within)) at.place_is s.stands.above) in
+      let one : 1 ≤ most = omega (arith, c.fits.1, length-append (take e at.entries) (more.0 ∷ more.1)) in let half : 1 ≤ half_of most = omega arith in
+      let full = Solid-full (half_of most) most half c.before c.solid in
       record {
-        before = at.before;
-        l = c.l;
-        x = c.x;
-        r = c.r;
-        after = at.after;
-        leaves_are = is;
-        index_is = c.place_is;
-        place_is = omega arith;
-        solid = f.0;
-        fit = f.1;
-        inside = inside;
-        slot_is = (row-split _ _ _ (node n (c.l ++ c.x ∷ c.r) ∷ at.after) inside).1.0;
+        l = take e at.entries;
+        x = more.0;
+        r = more.1;
+        cut = c;
         half = half;
-        above = record {
-          stacked = rw (← is) s.fit.stacked;
-          inside = s.inside.rows_in;
-          stands = rw full s.stands.above;
-          height = omega arith;
-          apart = λ m. omega (arith, apart m, count-append);
-        };
-        apart = apart;
-        none = d.0;
-        none_rows = d.1;
-        none_chain = d.2;
+        above = record { stacked = c.fit.stacked; inside = s.inside.rows_in; stands = rw full c.stands; height = omega (arith, s.stands.size_is); apart = λ m. omega (arith, c.apart m, count-append) };
       }
 
   -- the leaf without the entry, under rows that have its first key
@@ -118,7 +88,7 @@ module _ {K V : Type 0} where
           on_level = record {
             inside = row-same leaf_content u.nodes v.nodes row2 (λ m some. b.frees.others m (omega (arith, d.apart m, c1 m, c2 m))) in_u;
             solid = d.solid;
-            fits = d.fit.2;
+            fits = d.fits.2;
             some = more;
             lost_one = omega arith;
             most_is = omega arith;
@@ -490,7 +460,7 @@ module _ {K V : Type 0} {most : ℕ} {t : Table K V} {path indices size : _} (ca
 
   -- a leaf of one entry is the last
   row_is : before ++ node leaf (f.l ++ x ∷ f.r) ∷ f.after ≡ before ++ node leaf (x ∷ []) ∷ []
-  row_is = let none = none_after _ _ leaf _ _ (omega arith) one_entry f.fit in
+  row_is = let none = none_after _ _ leaf _ _ (omega arith) one_entry f.fits in
       simp (none_left, nil_from_length f.r (omega (arith, one_entry, length-append f.l (x ∷ f.r))), none)
 
   leaves_are : tree.leaves ≡ before ++ node leaf (x ∷ []) ∷ []
