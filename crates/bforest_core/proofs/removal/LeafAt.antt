@@ -9,11 +9,11 @@ use Rattle.bforest_core.proofs.Words.{append-nil, without_child, with_freed, siz
 use Rattle.bforest_core.proofs.Words.{rebalanced, IsLeafCapacity, Topped, loss, root_of, IsPathAt, UpTo, Trimmed, Removed, Emptied, add-one, take}
 use Rattle.bforest_core.proofs.{Words.length-drop, table.Tables.{count-append, counts, count-same, row-split, row-put, row-same, Puts, is_used, puts}}
 use Rattle.bforest_core.proofs.{table.Tables.{rows-same, ne_from_count}, rows.LevelRows.{flat-append, sizes-append, FitRow-split, Solid-full, heads-append}}
-use Rattle.bforest_core.proofs.{rows.LevelRows.{HeadIs, head-is, FitRow-join}, rows.Zipper.{cut, apart_here, Cut_above, Facts, facts, Spot, above_two}}
-use Rattle.bforest_core.proofs.{rows.Zipper.{LeafCut, cut_leaf}, removal.Frees.{frees-after, frees-puts, freed_other, frees-first, frees-one}}
-use Rattle.bforest_core.proofs.removal.Lifted.{remove_at, headed, top_one, NodeAt, Beside, above_top, above_written, rebuilt_same, some_first, no_nodes}
-use Rattle.bforest_core.proofs.{removal.Lifted.{heads-put, above_same, rows_above, Counts, Removes, Seen, seen, removed_last}, table.Stored.keys_count}
-use Rattle.bforest_core.proofs.{table.Stored.{read_same, some_same}, removal.Removing.{heads-flat, placed, loss_level, lost_above, loss_at, Untrimmed, up_to}}
+use Rattle.bforest_core.proofs.{rows.LevelRows.FitRow-join, rows.Zipper.{cut, apart_here, Cut_above, Facts, facts, Spot, above_two, LeafCut, cut_leaf}}
+use Rattle.bforest_core.proofs.{removal.Frees.{frees-after, frees-puts, freed_other, frees-first, frees-one}, removal.Lifted.{remove_at, headed, top_one}}
+use Rattle.bforest_core.proofs.removal.Lifted.{NodeAt, Beside, above_top, above_written, rebuilt_same, some_first, no_nodes, heads-put, above_same}
+use Rattle.bforest_core.proofs.{removal.Lifted.{rows_above, Counts, Removes, Seen, seen, removed_last, First}, table.Stored.{keys_count, read_same}}
+use Rattle.bforest_core.proofs.{table.Stored.some_same, removal.Removing.{heads-flat, placed, loss_level, lost_above, loss_at, Untrimmed, up_to}}
 use Rattle.bforest_core.proofs.{removal.Removing.trimmed_removed, rows.Tops.{top_rows, root-stands}, removal.Rebalance.rebalanced_last}
 
 remove_map : {X Y : Type 0} (f : X → Y) (l r : List X) (x : X) → remove (map f (l ++ x ∷ r)) (length l) ≡ map f (l ++ r)
@@ -107,16 +107,16 @@ module _ {K V : Type 0} where
       }
 
 module _ {K V : Type 0} {most : ℕ} {t v : Table K V} {path indices size tree place : _} (l : LeafLoss most t v path indices size tree place) where
-  pub named : HeadIs (get_or path 0 0) l.entries
-  named = head-is _ _ l.some
+  pub named : First l.entries
+  named = some_first _ l.some
 
   -- the rows above the leaf, cut at it
-  pub above_left : Above v path indices 1 size l.rest (heads l.before ++ (named.first.0, get_or path 0 0) ∷ heads l.after) (length (heads l.before))
-  above_left = headed l.before l.after named l.above
+  pub above_left : Above v path indices 1 size l.rest (heads l.before ++ (named.0.0, get_or path 0 0) ∷ heads l.after) (length (heads l.before))
+  above_left = headed l.before _ l.after named l.above
 
   -- the rows above meet what the search for the next leaf requires
   abbrev pub beside_asks : OneAbove v path indices 1 size
-  beside_asks = record { rows = l.rest; before = heads l.before; x = (named.first.0, get_or path 0 0); after = heads l.after; above = above_left }
+  beside_asks = record { rows = l.rest; before = heads l.before; x = (named.0.0, get_or path 0 0); after = heads l.after; above = above_left }
 
   -- half of a leaf is at least one entry
   pub loss_half : 1 ≤ half_of most
@@ -130,7 +130,7 @@ module _ {K V : Type 0} {most : ℕ} {t v : Table K V} {path indices size tree p
   -- no leaf follows where the leaf is the whole tree
   pub alone_last : size ≤ 1 → l.after ≡ []
   alone_last low = let one = top_one l.rest low above_left in
-      no_nodes (half_of most) most loss_half l.after l.fits (nil_from_length (heads l.after) (omega (arith, length-append (heads l.before) ((named.first.0, get_or path 0 0) ∷ heads l.after))))
+      no_nodes (half_of most) most loss_half l.after l.fits (nil_from_length (heads l.after) (omega (arith, length-append (heads l.before) ((named.0.0, get_or path 0 0) ∷ heads l.after))))
 
   -- a leaf follows
   pub one_follows : (found : Option (K × ℕ)) (none : Bool) → Beside v path indices 1 size found → is_some found ≡ not none → none ≡ false → get_or indices 0 0 < length (l.entries ++ flat l.after)

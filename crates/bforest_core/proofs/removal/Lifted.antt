@@ -9,8 +9,8 @@ use Rattle.bforest_core.proofs.Words.{flat_map, node, flat, heads, head_of, numb
 use Rattle.bforest_core.proofs.{Words.{Rekeyed, ◌≢◌, true, false, map, None, Bool, Over, Moved, Keeps}, table.Stored.{slice_get_at, some_same, key_count}}
 use Rattle.bforest_core.proofs.{table.Stored.{item_count, read_same}, rows.Zipper.{Spot, spot, above_two, stands_here, stands-same}, table.Tables.is_used}
 use Rattle.bforest_core.proofs.table.Tables.{count-append, count-same, count-row, counts, row-put, row-same, rows-same, ne_from_count, Puts, puts, row-split}
-use Rattle.bforest_core.proofs.{table.Tables.{row-join, puts-then}, removal.Frees.{frees-puts, frees-refl, frees-wider, frees-after}, rows.LevelRows.HeadIs}
-use Rattle.bforest_core.proofs.rows.LevelRows.{least-pos, flat-append, heads-append, sizes-append, FitRow-join, head-is}
+use Rattle.bforest_core.proofs.{table.Tables.{row-join, puts-then}, removal.Frees.{frees-puts, frees-refl, frees-wider, frees-after}}
+use Rattle.bforest_core.proofs.rows.LevelRows.{least-pos, flat-append, heads-append, sizes-append, FitRow-join}
 
 -- removing the element between two lists
 pub remove_at : {A : Type 0} → (p : List A) (y : A) (ys : List A) (n : ℕ) → length p ≡ n → remove (p ++ y ∷ ys) n ≡ p ++ ys
@@ -62,8 +62,11 @@ no_nodes half most one [] f e = refl
 no_nodes half most one (node n [] ∷ row) f e = absurd (omega (arith, least-pos half one row))
 no_nodes half most one (node n (x ∷ es) ∷ row) f e = absurd cc
 
--- a nonempty list has a first element
-pub some_first : {A : Type 0} (es : List A) → 0 < length es → (y : A) × (others : List A) × (es ≡ y ∷ others)
+-- the first element of a list, and the others
+abbrev pub First : {A : Type 0} → List A → Type 0
+First {A} es = (y : A) × (others : List A) × (es ≡ y ∷ others)
+
+pub some_first : {A : Type 0} (es : List A) → 0 < length es → First es
 some_first [] low = absurd (omega arith)
 some_first (y ∷ es) low = (y, es, refl)
 
@@ -214,10 +217,9 @@ module _ {K V : Type 0} where
   above_same u same apart a = record { stacked = a.stacked; inside = rows-same _ _ _ same a.inside; stands = a.stands; height = a.height; apart = apart }
 
   -- the rows above, cut at a node of the level
-  pub headed : {X : Type 0} {t : Table K V} {path indices up size : _} (before : Row K X) {n : ℕ} {es : List (K × X)} (after : Row K X) {rest : _} (h : HeadIs n
-      es) → Above t path indices up size rest (heads (before ++ node n es ∷ after)) (length (heads before)) → Above t path indices up size rest (heads before ++
-      (h.first.0, n) ∷ heads after) (length (heads before))
-  headed {t} {path} {indices} {up} {size} before after {rest} h p =
+  pub headed : {X : Type 0} {t : Table K V} {path indices up size : _} (before : Row K X) (n : ℕ) {es : List (K × X)} (after : Row K X) {rest : _} (h : First es) → Above t path indices up size rest (heads (before ++ node n es ∷ after)) (length (heads before)) → Above t path indices up size rest (heads before ++
+      (h.0.0, n) ∷ heads after) (length (heads before))
+  headed {t} {path} {indices} {up} {size} before n after {rest} h p =
       subst (λ z. Above t path indices up size rest z (length (heads before))) (cc (heads-append _ _)) p
 
   -- the rows above, after a write to a slot that is not theirs
@@ -555,7 +557,7 @@ module _ {K V : Type 0} where
   -- the rows one level up, cut at the path's node
   pub up_above : {t : Table K V} {path indices up size rows a x : _} {b : _} → (at_one : Spot t path indices up size rows a x b) → (k : K) × Above t path indices
       (suc up) size at_one.q.rest (heads at_one.q.before ++ (k, get_or path up 0) ∷ heads at_one.q.after) (length (heads at_one.q.before))
-  up_above at_one = let h = head-is _ _ (omega (arith, at_one.count_is)) in (h.first.0, headed at_one.q.before at_one.q.after h (rows_above at_one))
+  up_above at_one = let h = some_first _ (omega (arith, at_one.count_is)) in (h.0.0, headed at_one.q.before _ at_one.q.after h (rows_above at_one))
 
   -- the rows above a level, as a step on it requires them
   pub over-above : {t : Table K V} {path indices level size rows list place : _} → Above t path indices level size rows list place → Over t.nodes path indices level size rows list place

@@ -5,14 +5,14 @@ use Rattle.bforest_core.proofs.Words.{ap, ◌∙◌, subst, inl, inr, length-app
 use Rattle.bforest_core.proofs.Words.{entry_count, entry_capacity, joined, IsCut, Balances, left_share, Table, with_node, IsBalancedAt, Frees, Bool, false}
 use Rattle.bforest_core.proofs.Words.{IsLeafCapacity, content_at, half_at, most_at, inner_content, leaf_content, le-leb, lt-leb, lt-ltb, le-ltb, zero, ◌*◌}
 use Rattle.bforest_core.proofs.Words.{◌⊎◌, map, set, get_or, append_assoc, Row, flat_map, append-nil, get_or-set_other, get_or-set_same, with_freed, node}
-use Rattle.bforest_core.proofs.Words.{flat, heads, sizes, numbers, least, rebalanced, count, Above, Rebuilt, OnLevel, Healed, Joined}
-use Rattle.bforest_core.proofs.Words.{add-one, get_or_default, Item, Heals, Joins, Loses, IsUsed, IsUnderflowedAt, FitRow, OneAbove, TwoAbove, NextIs, Keeps}
-use Rattle.bforest_core.proofs.{removal.Frees.{frees-after, frees-puts, frees-refl, frees-wider, frees-one, freed_other}, rows.LevelRows.head-is}
-use Rattle.bforest_core.proofs.rows.LevelRows.{flat-append, heads-append, sizes-append, numbers-append, FitRow-join, least-le, least-pos, HeadIs}
-use Rattle.bforest_core.proofs.{table.Stored.{some_same, Parts, inner_cuts, leaf_cuts}, table.Tables.{count-same, puts, count-append, counts, count-row}}
-use Rattle.bforest_core.proofs.{table.Tables.{row-same, row-put_two, row-drop_put, rows-same, row-split, is_used}, rows.Zipper.{cut, above_two, stands-same}}
+use Rattle.bforest_core.proofs.Words.{flat, heads, sizes, numbers, least, rebalanced, count, Above, Rebuilt, OnLevel, Healed, Joined, add-one, get_or_default}
+use Rattle.bforest_core.proofs.Words.{Item, Heals, Joins, Loses, IsUsed, IsUnderflowedAt, FitRow, OneAbove, TwoAbove, NextIs, Keeps}
+use Rattle.bforest_core.proofs.{removal.Frees.{frees-after, frees-puts, frees-refl, frees-wider, frees-one, freed_other}, rows.LevelRows.flat-append}
+use Rattle.bforest_core.proofs.{rows.LevelRows.{heads-append, sizes-append, numbers-append, FitRow-join, least-le, least-pos}, table.Stored.some_same}
+use Rattle.bforest_core.proofs.{table.Stored.{Parts, inner_cuts, leaf_cuts}, table.Tables.{count-same, puts, count-append, counts, count-row, row-same}}
+use Rattle.bforest_core.proofs.{table.Tables.{row-put_two, row-drop_put, rows-same, row-split, is_used}, rows.Zipper.{cut, above_two, stands-same}}
 use Rattle.bforest_core.proofs.{rows.Zipper.apart_here, removal.Lifted.{above_same, headed, NextNode, next_of, NodeAt, Counts, Beside, Rekeys, Enters}}
-use Rattle.bforest_core.proofs.removal.Lifted.{no_nodes, keeps-refl}
+use Rattle.bforest_core.proofs.removal.Lifted.{no_nodes, keeps-refl, some_first, First}
 
 -- half of a node's capacity and the whole of it
 pub record IsHalf (half most : ℕ) : Type 0 where
@@ -126,22 +126,22 @@ module _ {K V X : Type 0} (content : List (K × X) → Content K V) where
         elim (cases_lt most (length (e ∷ es) + length (f ∷ fs))) [
           | inr less ↦ absurd (let w = bal.merges (omega arith) in let g = w.0 in cc)
           | inl more ↦ (let w = bal.shares (omega (arith, more)) in
-              let c = cut ((e ∷ es) ++ f ∷ fs) (both - both / 2) (omega (arith, more, two)) in let h = head-is n c.l (omega (arith, more, two)) in
-              let whole = c.es_is ∙ ap (λ z. z ++ c.x ∷ c.r) h.es_is in let left = ap length (sym h.es_is) ∙ c.place_is in
-              let cuts : IsCut (content ((h.first ∷ h.others) ++ c.x ∷ c.r)) (both - both / 2) b.new_left w.0 b.new_right =
-              subst (λ z. IsCut (content ((h.first ∷ h.others) ++ c.x ∷ c.r)) (left_share z) b.new_left w.0 b.new_right) total
+              let c = cut ((e ∷ es) ++ f ∷ fs) (both - both / 2) (omega (arith, more, two)) in let h = some_first c.l (omega (arith, more, two)) in
+              let whole = c.es_is ∙ ap (λ z. z ++ c.x ∷ c.r) h.2 in let left = ap length (sym h.2) ∙ c.place_is in
+              let cuts : IsCut (content ((h.0 ∷ h.1) ++ c.x ∷ c.r)) (both - both / 2) b.new_left w.0 b.new_right =
+              subst (λ z. IsCut (content ((h.0 ∷ h.1) ++ c.x ∷ c.r)) (left_share z) b.new_left w.0 b.new_right) total
               (subst (λ z. IsCut z (left_share (entry_count (content (e ∷ es)) + entry_count (content (f ∷ fs))))
               b.new_left w.0 b.new_right) (s.joins e es f fs ∙ ap content whole) w.2) in
-              let p = s.cuts h.first h.others c.x c.r (both - both / 2) b.new_left b.new_right w.0 left cuts in
+              let p = s.cuts h.0 h.1 c.x c.r (both - both / 2) b.new_left b.new_right w.0 left cuts in
               record {
                 more = more;
-                x = h.first;
-                xs = h.others;
+                x = h.0;
+                xs = h.1;
                 y = c.x;
                 ys = c.r;
                 whole = whole;
                 left_is = left;
-                right_is = omega (arith, ap length whole, length-append (h.first ∷ h.others) (c.x ∷ c.r));
+                right_is = omega (arith, ap length whole, length-append (h.0 ∷ h.1) (c.x ∷ c.r));
                 key_is = some_same key w.0 w.1 ∙ p.key_is;
                 two = puts_two t u n q _ _ _ _ fn fq ne cc;
               })
@@ -383,24 +383,24 @@ module _ {K V : Type 0} {cap least : ℕ} {t : Table K V} {path indices up size 
   count_read : (m : ℕ) → Counts t (get_or path up r) m → m ≡ length es
   count_read m value = value (content es) slot_read ∙ s.count_is es
 
-  pub named : HeadIs n es
-  named = head-is n es p.some
+  pub named : First es
+  named = some_first es p.some
 
   abbrev e : K × X
-  e = named.first
+  e = named.0
 
   abbrev others : List (K × X)
-  others = named.others
+  others = named.1
 
   -- the level, with the node's first entry and the next node named
   level : {k q : _} (d : NextNode after k q) → OnLevel content half most t path indices up size before n (e ∷ others) (node q (d.f ∷ d.fs) ∷ d.rest) rest
-  level d = rw (← d.after_is) (subst (λ z. OnLevel content half most t path indices up size before n z after rest) named.es_is p)
+  level d = rw (← d.after_is) (subst (λ z. OnLevel content half most t path indices up size before n z after rest) named.2 p)
 
   -- the level so named is rebalanced, and so the level is
   heals : {k q : _} (d : NextNode after k q) (v path' indices' : _)
       → Healed content half most t v path indices path' indices' up size before n (e ∷ others) (node q (d.f ∷ d.fs) ∷ d.rest) rest → Heals w v path' indices'
   heals d v path' indices' h =
-      both_back (λ y z. Healed content half most t v path indices path' indices' up size before n y z rest) es _ after _ named.es_is d.after_is h
+      both_back (λ y z. Healed content half most t v path indices path' indices' up size before n y z rest) es _ after _ named.2 d.after_is h
 
   module _ (m : ℕ) (value : Counts t (get_or path up r) m) where
     module _ (healthy : least ≤ m) where
@@ -428,12 +428,12 @@ module _ {K V : Type 0} {cap least : ℕ} {t : Table K V} {path indices up size 
 
         -- entering the next node leaves the level rebalanced
         pub past_heals : (path' indices' : _) → Enters t path indices path' indices' up size → get_or indices' up 0 ≡ 0 → Keeps path indices path' indices' up size → Heals w t path' indices'
-        past_heals path' indices' moved first kept = let entered = moved past_asks in let len = ap length named.es_is in
+        past_heals path' indices' moved first kept = let entered = moved past_asks in let len = ap length named.2 in
             heals then t path' indices' (settle_move hm (level then) (omega (arith, half_here)) (omega (arith, count_read m value)) entered first kept)
 
   -- the rows above, cut at the node
   pub above_high : Above t path indices (up + 1) size rest (heads before ++ (e.0, n) ∷ heads after) (length (heads before))
-  above_high = rw (add-one up) (headed before after named p.above)
+  above_high = rw (add-one up) (headed before n after named p.above)
 
   -- the rows above meet what the call for the right neighbour requires
   abbrev pub beside_asks : OneAbove t path indices (up + 1) size
@@ -456,7 +456,7 @@ module _ {K V : Type 0} {cap least : ℕ} {t : Table K V} {path indices up size 
     q = next.1
 
     under_is : length (e ∷ others) < half
-    under_is = omega (arith, count_read m value, ap length named.es_is)
+    under_is = omega (arith, count_read m value, ap length named.2)
 
     -- the two nodes are different and in no other row, and the right one is off the chain
     lies : (n ≢ q) × (count n (numbers before) + count n (numbers d.rest) ≡ 0) × (count q (numbers before) + count q (numbers d.rest) ≡ 0) × (count q t.chain ≡ 0)
@@ -512,4 +512,4 @@ module _ {K V : Type 0} {cap least : ℕ} {t : Table K V} {path indices up size 
         -- freeing the left node leaves the two merged
         pub free_joins : (v : _) → v ≡ with_freed u (get_or path up r) → Joins w v (set path up q) indices
         free_joins v freed = let j = settle_join hm (level d) v under_is all_right (cc (num_is)) low in
-            both_back (λ y z. Joined content half most t v path indices (set path up q) indices up size before n y z rest) es _ after _ named.es_is d.after_is j
+            both_back (λ y z. Joined content half most t v path indices (set path up q) indices up size before n y z rest) es _ after _ named.2 d.after_is j

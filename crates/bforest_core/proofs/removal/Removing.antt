@@ -7,11 +7,11 @@ use Rattle.bforest_core.proofs.Words.{entry_keys, entry_items, count, root_above
 use Rattle.bforest_core.proofs.Words.{None, true, false, Bool, if◌then◌else◌, option_map, loss, rebalanced, loss_above, nodes_up, subst, FitRow, RowIn, Above}
 use Rattle.bforest_core.proofs.Words.{TwoAbove, top_of, Frees, Rebuilt, Loosened, Healed, Joined, Loses, least, false≢true, remove, Tree, half_of}
 use Rattle.bforest_core.proofs.Words.{leaf_content, root_of, numbers_of, Stands, IsPathAt, StandsIn, Removed, sizes_of, ◌⊎◌, inr, LeafLoss, Solid, Keeps}
-use Rattle.bforest_core.proofs.{table.Stored.{item_count, some_same}, walks.RowNodes.fit_full, rows.LevelRows.{least-pos, head-is, flat-append, heads-append}}
+use Rattle.bforest_core.proofs.{table.Stored.{item_count, some_same}, walks.RowNodes.fit_full, rows.LevelRows.{least-pos, flat-append, heads-append}}
 use Rattle.bforest_core.proofs.{rows.LevelRows.{sizes-append, FitRow-join, FitRow-split, Solid-full}, removal.Frees.{frees-refl, freed_other, frees-first}}
 use Rattle.bforest_core.proofs.{removal.Frees.{only_here, frees-then, frees-after, frees-wider}, removal.Lifted.{NodeAt, ChildAt, ReadsChild, Counts}}
-use Rattle.bforest_core.proofs.table.Tables.{count-append, count-same, ne_from_count, rows-same, is_used, count-row, counts, row-same}
-use Rattle.bforest_core.proofs.{rows.Zipper.stands_here, rows.Tops.{root-stands, top_tree}, removal.Rebalance.{enough, judged}}
+use Rattle.bforest_core.proofs.{removal.Lifted.some_first, table.Tables.{count-append, count-same, ne_from_count, rows-same, is_used, count-row, counts}}
+use Rattle.bforest_core.proofs.{table.Tables.row-same, rows.Zipper.stands_here, rows.Tops.{root-stands, top_tree}, removal.Rebalance.{enough, judged}}
 
 -- a row has one size per node
 pub length-sizes : {K X : Type 0} (row : Row K X) → length (sizes row) ≡ length row
@@ -149,7 +149,7 @@ module _ {K V : Type 0} where
       -- the root has a single child
       module _ (few : n ≤ 1) where
         child : (x : _) × (root_row.entries ≡ x ∷ [])
-        child = let h = head-is root root_row.entries root_row.some in (h.first, cc (nil_from_length h.others (omega (arith, count_is, ap length h.es_is))))
+        child = let h = some_first root_row.entries root_row.some in (h.0, cc (nil_from_length h.1 (omega (arith, count_is, ap length h.2))))
 
         -- the root meets what reading its child requires
         pub child_asks : ChildAt t root 0
