@@ -132,8 +132,7 @@ module _ {K V : Type 0} where
       ((tree place : _) → Placed most mid path indices size tree place → Inserted most mid new path' indices' size' tree place entry) → Put most old new root place entry path' indices' size'
   put-split most old mid new {root} {place} n path' indices' size' entry union p slots needs enough mid_is inserts =
       let tree = tree_of old.nodes root in let n_is = needs tree place (placed-under most old union p) in
-      let mid_old = mid_is ∙ ap (λ z. reserved old z) n_is in
-      let i = inserts tree place (placed-mid _ _ _ _ union p mid_old) in
+      let mid_old = mid_is ∙ ap (λ z. reserved old z) n_is in let i = inserts tree place (placed-mid _ _ _ _ union p mid_old) in
       let low : size' ≤ 17 = omega (arith, ap length i.sizes_are, length-map i.tree'.above sizes, growth-low most old root place union p.root_is slots) in
       record { some = omega arith; low = low; is = insertion old root union p.root_is low (rw mid_old at i); enough = omega (arith, enough) }
 

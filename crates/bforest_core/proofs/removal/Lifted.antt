@@ -46,8 +46,7 @@ module _ {K : Type 0} (V : Type 0) where
   removed_last z l x zero e = absurd (omega arith)
   removed_last z l x (suc n) e =
       let kl : length (entry_keys l) ≡ n = length-map l (λ w. w.0) ∙ omega arith in
-      let il : length (entry_items l) ≡ n = length-map l (λ w. w.1) ∙ omega arith in
-      let less : suc n - 1 ≡ n = omega arith in
+      let il : length (entry_items l) ≡ n = length-map l (λ w. w.1) ∙ omega arith in let less : suc n - 1 ≡ n = omega arith in
       let two : 2 ≤ length (entry_items ((z ∷ l) ++ x ∷ [])) = omega (arith, length-map ((z ∷ l) ++ x ∷ []) (λ w. w.1), length-append l (x ∷ [])) in
       without_some (entry_keys (l ++ x ∷ [])) (entry_items ((z ∷ l) ++ x ∷ [])) (suc n) two
       ∙ rw (less, map-append (λ w. w.0) l _, map-append (λ w. w.1) l _, remove_at _ _ _ n kl, remove_at _ _ _ n il, append-nil (entry_keys l), append-nil (entry_items l)) refl
@@ -309,8 +308,7 @@ module _ {K V : Type 0} where
     -- the row after a write of the key before an entry of the node
     pub renamed : (u : Table K V) (p y s e key hs : _) → old ≡ p ++ y ∷ s → suc e ≡ length p → u ≡ with_node t n (with_key (inner_content old) e key) →
         (p ++ (key, y.1) ∷ s) ++ flat after ≡ l ++ hs → Rekeyed t u path indices up size rows (a ++ hs) (length a)
-    renamed u p y s e key hs es_is p_is u_is flat_is = let es = p ++ (key, y.1) ∷ s in
-        let w = puts t u n _ _ f.slot_is (cc (with_key_is p y s e key p_is)) in
+    renamed u p y s e key hs es_is p_is u_is flat_is = let es = p ++ (key, y.1) ∷ s in let w = puts t u n _ _ f.slot_is (cc (with_key_is p y s e key p_is)) in
         let len : length es ≡ length old = omega (arith, ap length es_is, length-append p (y ∷ s), length-append p ((key, y.1) ∷ s)) in
         let head = ap (λ z. head_of n z) es_is ∙ head-kept n p (y ∷ s) ((key, y.1) ∷ s) (omega arith) in
         lifted es after hs len (refl, refl, flat_is, heads-put before n old es after head) (omega arith, omega arith, f.fit.2)

@@ -82,7 +82,6 @@ climb-seventeen p hs [] s t few low = omega arith
 climb-seventeen p hs (row ∷ rows) s t few low = let len = length-map (row ∷ rows) sizes in let most = gain-most (Some p) (map sizes (row ∷ rows)) in
     elim (cases_lt (length (gain_above (Some p) (map sizes (row ∷ rows)))) 17) [
       | inl lt ↦ omega arith
-      | inr ge ↦ (let fifteen : length rows ≡ 15 = omega arith in
-          let r = rw fifteen at (risen p hs row rows s t (omega arith)) in
+      | inr ge ↦ (let fifteen : length rows ≡ 15 = omega arith in let r = rw fifteen at (risen p hs row rows s t (omega arith)) in
           absurd (omega arith))
     ]
