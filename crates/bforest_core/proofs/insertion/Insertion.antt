@@ -142,7 +142,8 @@ module _ {K V : Type 0} where
 
   -- what is said of an insertion that was made
   pub inserts : {most : ℕ} {old new : Table K V} {path path' : Path K V most} {key : K} {value : V} (root' : ℕ) → root' ≡ top_of path'.node path'.size
-      → ((at : Placing old path) → Put most old new at.root at.place (key, value) path'.node path'.entry path'.size) → InsertsHere old new path path' key value (Ok root')
+      → ((at : Placing old path) → Put most old new at.root at.place (key, value) path'.node path'.entry path'.size) →
+      InsertsHere old new path path' key value (Ok root')
   inserts root' is put = record {
     inserted = λ at. rw is (put at).is.changes;
     account = λ at. (put at).is.takes;

@@ -183,12 +183,15 @@ module _ {K V : Type 0} where
         }
 
     -- the split leaf, except for where the path stands
-    leaf_parted : {u : Table K V} (ms' js' : _) (entry : K × V) {middle right : _} (moved : Bool) → IsLeafCapacity most → length (l ++ r) ≡ most → (h : Halves leaf_content t u n right middle (l ++ entry ∷ r) (half_of most) (half_of most)) →
+    leaf_parted : {u : Table K V} (ms' js' : _) (entry : K × V) {middle right : _} (moved : Bool) → IsLeafCapacity most → length (l ++ r) ≡ most →
+        (h : Halves leaf_content t u n right middle (l ++ entry ∷ r) (half_of most) (half_of most)) →
         ((i : ℕ) → i ≢ 0 → get_or ms' i 0 ≡ get_or ms i 0) → ((i : ℕ) → i ≢ 0 → get_or js' i 0 ≡ get_or js i 0) → length (heads before) ≡ length before →
-        InHalf before n right (h.z ∷ h.xs) (h.y ∷ h.ys) after (get_or ms' 0 0) (get_or js' 0 0) place moved → LeafHalved most t u ms ms' js' size tree place entry middle right moved
+        InHalf before n right (h.z ∷ h.xs) (h.y ∷ h.ys) after (get_or ms' 0 0) (get_or js' 0 0) place moved →
+        LeafHalved most t u ms ms' js' size tree place entry middle right moved
     leaf_parted ms' js' entry moved capacity full h far_m far_j solid_full stands =
         let up = renewed entry (omega arith) in let few : half_of most ≤ most = omega arith in
-        let hs0 : heads (before ++ node n (l ++ entry ∷ r) ∷ after) ≡ heads before ++ (h.z.0, n) ∷ heads after = heads-append before _ ∙ ap (λ z. heads before ++ (head_of n z ++ heads after)) h.grown_is in
+        let hs0 : heads (before ++ node n (l ++ entry ∷ r) ∷ after) ≡ heads before ++ (h.z.0, n) ∷ heads after = heads-append before _
+        ∙ ap (λ z. heads before ++ (head_of n z ++ heads after)) h.grown_is in
         let c = λ (m : ℕ). counts m before n (l ++ r) after tree.above t.chain in
         let above : Above t ms js 1 size up.rows' (heads before ++ (h.z.0, n) ∷ heads after) (length (heads before)) = record {
           stacked = rw (← hs0) up.stacked;
@@ -233,7 +236,8 @@ module _ {K V : Type 0} where
 
         -- a failed insertion means that the leaf is full, and changes nothing
         pub put_full : put ≡ false → IsFullAt most t.nodes n × (u ≡ t)
-        put_full none = let past = put_past said num_is _ _ d.slot_is none in (rw d.slot_is (λ free. free, omega (arith, keys_count (l ++ r), d.fits.1)), past.1)
+        put_full none = let past = put_past said num_is _ _ d.slot_is none in
+            (rw d.slot_is (λ free. free, omega (arith, keys_count (l ++ r), d.fits.1)), past.1)
 
       module _ (s : Table K V) (full : IsFullAt most t.nodes n) where
         pub full_asks : 0 < length t.chain → FullAt most t read
@@ -242,7 +246,8 @@ module _ {K V : Type 0} where
         full_is : length (l ++ r) ≡ most
         full_is = leaf_full_is most t.nodes n (l ++ r) d.slot_is full
 
-        module _ (capacity : IsLeafCapacity most) {right : ℕ} {parts : SplitOff K} (front : front_of t.chain ≡ Some right) (used : IsUsed s right) (split : IsSplitAt most t read e parts s) where
+        module _ (capacity : IsLeafCapacity most) {right : ℕ} {parts : SplitOff K} (front : front_of t.chain ≡ Some right) (used : IsUsed s right)
+            (split : IsSplitAt most t read e parts s) where
           abbrev q : ℕ
           q = parts.lhs_entries
 
@@ -263,15 +268,19 @@ module _ {K V : Type 0} where
             low_cut = let q_is = low_is in let f = full_is in cut (omega arith)
 
             pub early_asks : PutAsks Leaf s read e
-            early_asks = asks_put _ num_is _ _ low_cut.two.here _ (left_used leaf_content s low_cut.two d.none_chain) (omega (arith, keys_count low_cut.zs, low_cut.count_is, low_is))
+            early_asks = asks_put _ num_is _ _ low_cut.two.here _ (left_used leaf_content s low_cut.two d.none_chain)
+                (omega (arith, keys_count low_cut.zs, low_cut.count_is, low_is))
 
-            pub early_halves : {u : _} {key : K} {value : V} {put : _} → PutsEntry most s u read e key value put → LeafHalved most t u ms ms js size tree place (key, value) parts.crit_key right false
+            pub early_halves : {u : _} {key : K} {value : V} {put : _} → PutsEntry most s u read e key value put →
+                LeafHalved most t u ms ms js size tree place (key, value) parts.crit_key right false
             early_halves {u} {key} {value} said = let new = (key, value) ∷ [] in
                 let h = into_left leaf_content u (l ++ (key, value) ∷ r) low_cut (λ v. with_entry v e key value) (half_of most) (half_of most) l
-                (l ++ new) r refl (sym (append_assoc l new r)) (omega (arith, length-append l new)) (omega (arith, d.index_is, low_is)) (omega (arith, low_is)) (omega (arith, low_is, full_is))
+                (l ++ new) r refl (sym (append_assoc l new r)) (omega (arith, length-append l new)) (omega (arith, d.index_is, low_is))
+                (omega (arith, low_is)) (omega (arith, low_is, full_is))
                 (λ mid. cc (with_entry_is V l mid key value e d.index_is, append_assoc l new mid))
                 (put_in said num_is _ _ low_cut.two.here (omega (arith, keys_count low_cut.zs, low_cut.count_is, low_is, full_is))) in
-                leaf_parted ms js (key, value) false capacity full_is h (λ i other. refl) (λ i other. refl) seen (in_left _ _ _ _ _ _ _ _ seen (omega arith) (omega (arith, d.place_is, d.index_is)))
+                leaf_parted ms js (key, value) false capacity full_is h (λ i other. refl) (λ i other. refl) seen
+                (in_left _ _ _ _ _ _ _ _ seen (omega arith) (omega (arith, d.place_is, d.index_is)))
 
           module _ (high : most / 2 < e) where
             high_is : q ≡ half_of most
@@ -289,14 +298,17 @@ module _ {K V : Type 0} where
             pub late_asks : PutAsks Leaf s right (e - q)
             late_asks = asks_put _ refl _ _ high_cut.two.there _ used (omega (arith, keys_count rights, ap length high_cut.es_is, length-append high_cut.zs rights, high_cut.count_is, d.index_is, length-append l r))
 
-            pub late_halves : {u : _} {key : K} {value : V} {put : _} (first : K) → PutsEntry most s u right (e - q) key value put → (e - q ≡ 0 → first ≡ key) → (0 < e - q → first ≡ parts.crit_key) →
+            pub late_halves : {u : _} {key : K} {value : V} {put : _} (first : K) → PutsEntry most s u right (e - q) key value put →
+                (e - q ≡ 0 → first ≡ key) → (0 < e - q → first ≡ parts.crit_key) →
                 1 ≤ length js → LeafHalved most t u ms (set ms 0 right) (set js 0 (e - q)) size tree place (key, value) first right true
             late_halves {u} {key} {value} first said zero more some =
                 let h = into_right leaf_content u (l ++ (key, value) ∷ r) high_cut (λ v. with_entry v (e - q) key value) (half_of most) (half_of most)
-                first l r ((key, value) ∷ r) refl refl refl (omega (arith, d.index_is, late_within)) (omega (arith, high_is)) high_is (omega (arith, high_is, full_is))
+                first l r ((key, value) ∷ r) refl refl refl (omega (arith, d.index_is, late_within)) (omega (arith, high_is)) high_is
+                (omega (arith, high_is, full_is))
                 (λ mid is. (let mid_is = is ∙ ap (λ z. z - q) d.index_is in (
                   with_entry_is V mid r key value (e - q) mid_is,
-                  λ rest. middle_key right mid (key, value) r high_cut.y high_cut.ys first rest (λ none. zero (cc)) (λ few. more (omega arith) ∙ high_cut.key_is),
+                  λ rest. middle_key right mid (key, value) r high_cut.y high_cut.ys first rest (λ none. zero (cc))
+                      (λ few. more (omega arith) ∙ high_cut.key_is),
                 )))
                 (put_in said refl _ _ high_cut.two.there (omega (arith, keys_count rights, ap length high_cut.es_is, length-append high_cut.zs rights, high_cut.count_is, high_is, full_is))) in
                 let j_is = get_or-set_same js 0 (e - q) 0 (omega arith) in

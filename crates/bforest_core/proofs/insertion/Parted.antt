@@ -119,7 +119,8 @@ module _ {K V X : Type 0} (kind : List K → List X → Content K V) where
   PutAsks t number index = IsUsed t number × ((keys : List K) × (items : List X) × (slice_get t.nodes number ≡ Some (kind keys items)) × (index ≤ length keys))
 
   -- the node meets that, by the number that was read
-  pub asks_put : {t : Table K V} {number n : ℕ} → number ≡ n → (keys : List K) (items : List X) → slice_get t.nodes n ≡ Some (kind keys items) → (index : ℕ) → IsUsed t n → index ≤ length keys → PutAsks t number index
+  pub asks_put : {t : Table K V} {number n : ℕ} → number ≡ n → (keys : List K) (items : List X) → slice_get t.nodes n ≡ Some (kind keys items) → (index : ℕ) →
+      IsUsed t n → index ≤ length keys → PutAsks t number index
   asks_put here keys items found index used within = (rw here used, (keys, items, cc (here), within))
 
 module _ {K V X : Type 0} {kind : List K → List X → Content K V} {size : List K → List X → ℕ} {most : ℕ} {write : Content K V → Content K V} {t u : Table K V} {number : ℕ} {put : Bool} (said : PutsIn kind size most write t u number put)
@@ -571,10 +572,13 @@ module _ {K V : Type 0} where
     es = l ++ x ∷ r
 
     -- the split level, except for where the path stands
-    node_parted : {u : Table K V} (ms' js' : _) (y : K × ℕ) {middle right : _} (p2 : ℕ) (there : Bool) {big small : ℕ} → (4 ≤ big) × (big ≤ 8) × (4 ≤ small) × (small ≤ 8) →
-        ((after : _) → (if nat_lt e 4 then 5 ∷ 4 ∷ after else 4 ∷ 5 ∷ after) ≡ big ∷ small ∷ after) → length es ≡ 8 → (h : Halves inner_content t u num right middle (l ++ x ∷ y ∷ r) big small) →
+    node_parted : {u : Table K V} (ms' js' : _) (y : K × ℕ) {middle right : _} (p2 : ℕ) (there : Bool) {big small : ℕ} →
+        (4 ≤ big) × (big ≤ 8) × (4 ≤ small) × (small ≤ 8) →
+        ((after : _) → (if nat_lt e 4 then 5 ∷ 4 ∷ after else 4 ∷ 5 ∷ after) ≡ big ∷ small ∷ after) → length es ≡ 8 →
+        (h : Halves inner_content t u num right middle (l ++ x ∷ y ∷ r) big small) →
         ((i : ℕ) → i ≢ up → get_or ms' i 0 ≡ get_or ms i 0) → ((i : ℕ) → i ≢ up → get_or js' i 0 ≡ get_or js i 0) → length (heads before) ≡ length before →
-        InHalf before num right (h.z ∷ h.xs) (h.y ∷ h.ys) after (get_or ms' up 0) (get_or js' up 0) p2 there → Halved t u ms js ms' js' up size rows (a ++ x ∷ y ∷ b) (length a) p2 middle right there
+        InHalf before num right (h.z ∷ h.xs) (h.y ∷ h.ys) after (get_or ms' up 0) (get_or js' up 0) p2 there →
+        Halved t u ms js ms' js' up size rows (a ++ x ∷ y ∷ b) (length a) p2 middle right there
     node_parted ms' js' y {right = right} p2 there sides halves_are eight h far_m far_j full at =
         let q = d.q in let row = before ++ node num es ∷ after in let first_is = head-grown num l x r (y ∷ r) ∙ ap (λ z. head_of num z) h.grown_is in
         let hs0 : heads row ≡ heads before ++ (h.z.0, num) ∷ heads after = heads-append before _ ∙ ap (λ z. heads before ++ (z ++ heads after)) first_is in
@@ -597,7 +601,8 @@ module _ {K V : Type 0} where
 
     module _ {u : Table K V} {key : K} {child : ℕ} {put : Bool} (said : PutsChild t u read e key child put) where
       -- a successful insertion needs one node in all and leaves the rows grown
-      pub put_grows : put ≡ true → (moved index : _) → index ≡ (if moved then suc e else e) → up < length js → GrownBy w (key, child) moved u ms (set js up index) size []
+      pub put_grows : put ≡ true → (moved index : _) → index ≡ (if moved then suc e else e) → up < length js →
+          GrownBy w (key, child) moved u ms (set js up index) size []
       put_grows done moved index index_is low_js = let fewer : length (entry_items es) < 8 = put_fewer said num_is _ _ f.slot_is done in
           settle_room _ _ _ d (omega (arith, item_count es)) (puts t u _ _ _ f.slot_is (put_in said num_is _ _ f.slot_is fewer ∙ ap (λ z. with_node t num z) (with_child_is V _ x _ _ _ _ d.q.entry_is)))
           (get_or-set_same js up index 0 low_js ∙ index_is) (λ i other. get_or-set_other js up i index 0 other)
@@ -621,20 +626,26 @@ module _ {K V : Type 0} where
         four = counted inner_content num num_is es f.slot_is split
 
         node_cut : Split inner_content t s num right parts.lhs_entries es parts.crit_key
-        node_cut = let four_is = four in let eight_is = eight in split_at _ _ num_is _ f.slot_is split _ (inner_parts _ (omega arith)) (omega arith) f.none_chain front used.within
+        node_cut = let four_is = four in let eight_is = eight in
+            split_at _ _ num_is _ f.slot_is split _ (inner_parts _ (omega arith)) (omega arith) f.none_chain front used.within
 
         pub early_asks : e < 4 → PutAsks Inner s read e
-        early_asks early = asks_put _ num_is _ _ node_cut.two.here _ (left_used inner_content s node_cut.two f.none_chain) (omega (arith, key_count node_cut.zs, node_cut.count_is, four))
+        early_asks early = asks_put _ num_is _ _ node_cut.two.here _ (left_used inner_content s node_cut.two f.none_chain)
+            (omega (arith, key_count node_cut.zs, node_cut.count_is, four))
 
-        pub early_halves : {u : _} {key : K} {child : ℕ} (moved : Bool) {put : _} (index : _) → e < 4 → PutsChild s u read e key child put → index ≡ (if moved then suc e else e) → up < length js → HalvedBy w (key, child) moved u ms (set js up index) parts.crit_key right false
+        pub early_halves : {u : _} {key : K} {child : ℕ} (moved : Bool) {put : _} (index : _) → e < 4 → PutsChild s u read e key child put →
+            index ≡ (if moved then suc e else e) → up < length js → HalvedBy w (key, child) moved u ms (set js up index) parts.crit_key right false
         early_halves {u} {key} {child} moved index early said index_is low_js = let new : K × ℕ = (key, child) in
             let one = append_assoc l (x ∷ []) in let two = append_assoc l (x ∷ new ∷ []) in
-            let h = into_left inner_content u (l ++ x ∷ new ∷ r) node_cut (λ v. with_child v e key child) 5 4 (l ++ x ∷ []) (l ++ x ∷ new ∷ []) r (sym (one r)) (sym (two r))
-            (omega (arith, length-append l (x ∷ []), length-append l (x ∷ new ∷ []))) (omega (arith, length-append l (x ∷ []), d.q.entry_is, four)) (omega (arith, four)) (omega (arith, four, eight))
+            let h = into_left inner_content u (l ++ x ∷ new ∷ r) node_cut (λ v. with_child v e key child) 5 4 (l ++ x ∷ []) (l ++ x ∷ new ∷ []) r
+            (sym (one r)) (sym (two r))
+            (omega (arith, length-append l (x ∷ []), length-append l (x ∷ new ∷ []))) (omega (arith, length-append l (x ∷ []), d.q.entry_is, four))
+            (omega (arith, four)) (omega (arith, four, eight))
             (λ mid. cc (one mid, with_child_is V l x mid key child e d.q.entry_is, two mid))
             (put_in said num_is _ _ node_cut.two.here (omega (arith, item_count node_cut.zs, node_cut.count_is, four))) in
             let j_is = get_or-set_same js up index 0 low_js ∙ index_is ∙ step_is moved e in
-            node_parted ms (set js up index) new (if moved then suc (length a) else length a) false (omega arith, omega arith, omega arith, omega arith) (λ after. (let a = below_lt e 4 early in rw a refl)) eight h
+            node_parted ms (set js up index) new (if moved then suc (length a) else length a) false (omega arith, omega arith, omega arith, omega arith)
+            (λ after. (let a = below_lt e 4 early in rw a refl)) eight h
             (λ i other. refl) (λ i other. get_or-set_other js up i index 0 other) seen
             (in_left _ _ _ _ _ _ _ _ seen (omega (arith, step_most moved)) (step_is moved (length a) ∙ omega (arith, ap length d.q.a_is, length-append (flat before) l, d.q.entry_is)))
 
@@ -644,7 +655,9 @@ module _ {K V : Type 0} where
         pub late_asks : PutAsks Inner s right (e - 4)
         late_asks = asks_put _ refl _ _ node_cut.two.there _ used (omega (arith, key_count (node_cut.y ∷ node_cut.ys), d.count_is, d.most_is, right_is))
 
-        pub late_halves : {u : _} {key : K} {child : ℕ} (moved : Bool) {put : _} (index : _) → 4 ≤ e → PutsChild s u right (e - 4) key child put → index ≡ (if moved then suc (e - 4) else e - 4) → up < length js → HalvedBy w (key, child) moved u (set ms up right) (set js up index) parts.crit_key right true
+        pub late_halves : {u : _} {key : K} {child : ℕ} (moved : Bool) {put : _} (index : _) → 4 ≤ e → PutsChild s u right (e - 4) key child put →
+            index ≡ (if moved then suc (e - 4) else e - 4) → up < length js →
+            HalvedBy w (key, child) moved u (set ms up right) (set js up index) parts.crit_key right true
         late_halves {u} {key} {child} moved index late said index_is low_js = let new : K × ℕ = (key, child) in
             let h = into_right inner_content u (l ++ x ∷ new ∷ r) node_cut (λ v. with_child v (e - 4) key child) 4 5
             parts.crit_key l (x ∷ r) (x ∷ new ∷ r) refl refl refl (omega (arith, d.q.entry_is, four)) (omega (arith, four)) four (omega (arith, four, eight))
@@ -677,7 +690,8 @@ module _ {K V : Type 0} where
     up_next = record { rows = h.rest; before = heads h.before; x = (h.first.0, get_or ms up 0); after = heads h.after; above = rw (add-one, size2_is) h.above }
 
     -- the call one level up gets what it requires
-    pub next_asks : need_above (Some (length w.before)) (map sizes w.rows) ≤ suc (length t.chain) → up + length (gain_above (Some (length w.before)) (map sizes w.rows)) ≤ 17 →
+    pub next_asks : need_above (Some (length w.before)) (map sizes w.rows) ≤ suc (length t.chain) →
+        up + length (gain_above (Some (length w.before)) (map sizes w.rows)) ≤ 17 →
         (v : OneAbove t2 ms2 js2 (up + 1) size2) × (v.x.1 ≡ get_or ms up r) × (need_above (Some (length v.before)) (map sizes v.rows) ≤ suc (length t2.chain)) × (up + 1 + length (gain_above (Some (length v.before)) (map sizes v.rows)) ≤ 17)
     next_asks enough few = let n = sizes_halved h in (up_next, here_is, omega (arith, ap length h.chain_is), omega arith)
 
@@ -687,6 +701,7 @@ module _ {K V : Type 0} where
     grown_next g = rise w.above h (rw (add-one, size2_is) at g)
 
     -- what the call one level up ensures is what this one has to
-    pub next_takes : {t3 : Table K V} {ms3 js3 : List ℕ} {size3 : ℕ} → ((v : OneAbove t2 ms2 js2 (up + 1) size2) → v.x.1 ≡ get_or ms up r → (taken : List ℕ) × GrownBy v (key2, right) moved2 t3 ms3 js3 size3 taken) →
+    pub next_takes : {t3 : Table K V} {ms3 js3 : List ℕ} {size3 : ℕ} →
+        ((v : OneAbove t2 ms2 js2 (up + 1) size2) → v.x.1 ≡ get_or ms up r → (taken : List ℕ) × GrownBy v (key2, right) moved2 t3 ms3 js3 size3 taken) →
         (taken : List ℕ) × GrownBy w child moved t3 ms3 js3 size3 taken
     next_takes takes = let g = takes up_next here_is in (right ∷ g.0, (omega (arith, (sizes_halved h).0, g.1.0), grown_next g.1.1))

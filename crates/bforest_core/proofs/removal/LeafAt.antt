@@ -71,7 +71,8 @@ module _ {K V : Type 0} where
 
   -- the leaf without the entry, under rows that have its first key
   pub leaf_loss : {most t u v path indices size tree place : _} → (d : LeafAt most t path indices size tree place) → 1 ≤ length (d.l ++ d.r) → Puts t u (get_or path 0 0) (leaf_content (d.l ++ d.r)) →
-      Rekeyed u v path indices 1 size tree.above (heads (d.before ++ node (get_or path 0 0) (d.l ++ d.r) ∷ d.after)) (length (heads d.before)) → LeafLoss most t v path indices size tree place
+      Rekeyed u v path indices 1 size tree.above (heads (d.before ++ node (get_or path 0 0) (d.l ++ d.r) ∷ d.after)) (length (heads d.before)) →
+      LeafLoss most t v path indices size tree place
   leaf_loss {t} {u} {v} {path} {tree} d more w b =
       let n = get_or path 0 0 in let old = d.l ++ d.x ∷ d.r in let es = d.l ++ d.r in let row2 = d.before ++ node n es ∷ d.after in
       let len : length old ≡ suc (length es) = omega (arith, length-append d.l (d.x ∷ d.r), length-append d.l d.r) in
@@ -191,8 +192,10 @@ module _ {K V : Type 0} where
           leaf_loss d more w (rebuilt_same (above_top _ _ low len (above_written w d.none_rows d.above)))
 
       -- the rows above, which name the leaf by its old first key
-      above_then : (k : K) → ((rs : _) → head_of n (l ++ x ∷ rs) ≡ (k, n) ∷ []) → Above u path indices 1 size tree.above (heads before ++ (k, n) ∷ heads after) (length (heads before))
-      above_then k head_is = rw (← (heads-append before (node n es ∷ after) ∙ ap (λ z. heads before ++ (z ++ heads after)) (head_is r))) (above_written w d.none_rows d.above)
+      above_then : (k : K) → ((rs : _) → head_of n (l ++ x ∷ rs) ≡ (k, n) ∷ []) →
+          Above u path indices 1 size tree.above (heads before ++ (k, n) ∷ heads after) (length (heads before))
+      above_then k head_is = rw (← (heads-append before (node n es ∷ after) ∙ ap (λ z. heads before ++ (z ++ heads after)) (head_is r)))
+          (above_written w d.none_rows d.above)
 
       -- an entry that is not the first was removed
       pub behind : 0 < get_or indices 0 0 → LeafLoss most t u path indices size tree place
@@ -263,7 +266,8 @@ module _ {K V : Type 0} where
 
         -- the rows above have the leaf's new first key
         pub ahead : (v key : _) → ((keys : List K) (vals : List V) → slice_get u.nodes read ≡ Some (Leaf keys vals) → slice_get keys 0 ≡ Some key) →
-            ((w : OneAbove u path indices 1 size) → Rekeyed u v path indices 1 size w.rows (w.before ++ (key, w.x.1) ∷ w.after) (length w.before)) → LeafLoss most t v path indices size tree place
+            ((w : OneAbove u path indices 1 size) → Rekeyed u v path indices 1 size w.rows (w.before ++ (key, w.x.1) ∷ w.after) (length w.before)) →
+            LeafLoss most t v path indices size tree place
         ahead v key reads rekeys = let f = next h first in
             let new : heads before ++ ((key, n) ∷ heads after) ≡ heads (before ++ node n (l ++ r) ∷ after) =
             simp ((some_same _ _ (reads (entry_keys (f.0 ∷ f.1)) (entry_items (f.0 ∷ f.1)) slot_then)), f.2, heads-append) in
@@ -294,14 +298,17 @@ last_of (x ∷ y ∷ xs) some = let r = last_of (y ∷ xs) (omega arith) in reco
 
 module _ {K V : Type 0} where
   -- the rows above a level, after its last node was freed
-  pub above_freed : {X : Type 0} {t : Table K V} (v : Table K V) {path indices up size : _} (num : ℕ) (before : Row K X) (x : K × X) {rest : _} (o : LastOf (heads before)) →
+  pub above_freed : {X : Type 0} {t : Table K V} (v : Table K V) {path indices up size : _} (num : ℕ) (before : Row K X) (x : K × X) {rest : _}
+      (o : LastOf (heads before)) →
       Distinct ((numbers (before ++ node num (x ∷ []) ∷ []) ++ flat_map numbers rest) ++ t.chain) → v ≡ with_freed t num →
-      Above t path indices up size rest (heads (before ++ node num (x ∷ []) ∷ [])) (length (heads before)) → Above v path indices up size rest (o.init ++ o.last ∷ (x.0, num) ∷ []) (suc (length o.init))
+      Above t path indices up size rest (heads (before ++ node num (x ∷ []) ∷ [])) (length (heads before)) →
+      Above v path indices up size rest (o.init ++ o.last ∷ (x.0, num) ∷ []) (suc (length o.init))
   above_freed {t} v num before x {rest} o apart is p = let c = λ (m : ℕ). counts m before num (x ∷ []) [] rest t.chain in
       let none : count num (flat_map numbers rest) ≡ 0 = omega (arith, apart num, c num, count-same num []) in
       let list = heads-append before (node num (x ∷ []) ∷ []) ∙ ap (λ z. z ++ (x.0, num) ∷ []) o.is ∙ append_assoc o.init (o.last ∷ []) ((x.0, num) ∷ []) in
       let len : length (heads before) ≡ suc (length o.init) = omega (arith, ap length o.is, length-append o.init (o.last ∷ [])) in
-      above_same v (λ m some. freed_other t v num is m (ne_from_count m num _ some none)) (λ m. omega (arith, apart m, c m, count-append m (flat_map numbers rest) v.chain, ap (λ z. count m z.chain) is)) (rw (list, len) at p)
+      above_same v (λ m some. freed_other t v num is m (ne_from_count m num _ some none))
+      (λ m. omega (arith, apart m, c m, count-append m (flat_map numbers rest) v.chain, ap (λ z. count m z.chain) is)) (rw (list, len) at p)
 
   -- what the call ensures
   abbrev pub Drops : Table K V → Table K V → List ℕ → ℕ → ℕ → Rows K → Heads K → K × ℕ → Type 0
@@ -332,17 +339,20 @@ module _ {K V : Type 0} where
     lost =
         let row = d.q.rows_are ∙ ap (λ z. (before ++ node num (l ++ x ∷ z) ∷ after) ∷ rest) ends.0 ∙ ap (λ z. (before ++ node num (l ++ x ∷ []) ∷ z) ∷ rest) ends.1 in
         let len : length (l ++ x ∷ []) ≡ suc (length l) = length-append l (x ∷ []) ∙ omega arith in
-        sym (lost_above _ _) ∙ loss_level 8 before (length l) (length l) (length a) [] (map sizes rest) (map sizes rows) (cc (sizes-append before (node num (l ++ x ∷ []) ∷ []))) (omega arith) (omega (arith, ap length d.q.a_is, length-append (flat before) l))
+        sym (lost_above _ _) ∙ loss_level 8 before (length l) (length l) (length a) [] (map sizes rest) (map sizes rows)
+        (cc (sizes-append before (node num (l ++ x ∷ []) ∷ []))) (omega arith) (omega (arith, ap length d.q.a_is, length-append (flat before) l))
 
     own_is : (m : ℕ) → count m (flat_map numbers rows) ≡ count m (numbers before) + count m (num ∷ []) + count m (flat_map numbers rest)
     own_is m = omega (arith, ap (λ z. count m (flat_map numbers z)) d.q.rows_are, ap (λ z. count m (num ∷ numbers z)) ends.1, counts m before num (l ++ x ∷ r) after rest t.chain)
 
     -- the node keeps other entries
-    drop_keep : (u : Table K V) → length (l ++ x ∷ r) ≢ 1 → u ≡ with_node t num (without_child (inner_content (l ++ x ∷ r)) (get_or indices up 0)) → Dropped t u path size rows a left []
+    drop_keep : (u : Table K V) → length (l ++ x ∷ r) ≢ 1 → u ≡ with_node t num (without_child (inner_content (l ++ x ∷ r)) (get_or indices up 0)) →
+        Dropped t u path size rows a left []
     drop_keep u more u_is = let p = whole in let old = l ++ x ∷ [] in let row = before ++ node num l ∷ [] in
         let old_is = ap (λ z. l ++ x ∷ z) ends.0 in let len : length old ≡ suc (length l) = length-append l (x ∷ []) ∙ omega arith in
         let some : 1 ≤ length l = omega (arith, ap length old_is) in let first = some_first l some in
-        let gone = ap (λ z. without_child (inner_content z) (get_or indices up 0)) (old_is ∙ ap (λ z. z ++ x ∷ []) first.2) ∙ removed_last V first.0 first.1 x (get_or indices up 0) (cc (d.q.entry_is)) ∙ ap (λ z. inner_content z) (sym first.2) in
+        let gone = ap (λ z. without_child (inner_content z) (get_or indices up 0)) (old_is ∙ ap (λ z. z ++ x ∷ []) first.2)
+        ∙ removed_last V first.0 first.1 x (get_or indices up 0) (cc (d.q.entry_is)) ∙ ap (λ z. inner_content z) (sym first.2) in
         let w = puts t u num _ _ known.slot_is (u_is ∙ ap (λ z. with_node t num z) gone) in
         let high : up + length rest ≡ size - 1 = omega (arith, p.height) in let hs = heads-put before num old l [] (simp first.2) in
         record {
@@ -374,7 +384,8 @@ module _ {K V : Type 0} where
       drop_empty : {u freed : _} → Dropped v u path size rest (front.init ++ front.last ∷ []) (loss_above (Some (suc (length front.init))) (map sizes rest)) freed → Dropped t u path size rows a left (freed ++ num ∷ [])
       drop_empty below = let hs = front.is in let p = whole in
           let len : length before ≡ suc (length front.init) = omega (arith, Solid-full 4 8 (omega arith) before f.solid, ap length hs, length-append front.init (front.last ∷ [])) in
-          let in_v = row-same _ _ _ _ (λ m some. freed_other t v num v_is m (ne_from_count m num (numbers before) some (omega (arith, known.none)))) (row-split _ _ _ _ known.inside).0 in
+          let in_v = row-same _ _ _ _ (λ m some. freed_other t v num v_is m (ne_from_count m num (numbers before) some (omega (arith, known.none))))
+          (row-split _ _ _ _ known.inside).0 in
           let c = λ (m : ℕ). counts m before num (l ++ x ∷ []) [] rest t.chain in
           record {
             rows' = before ∷ below.rows';
@@ -430,7 +441,8 @@ module _ {K V : Type 0} where
         last_asks = record { rows = here.d.q.rest; before = o.init; y = o.last; x = (x.0, get_or path up 0); above = above_is }
 
         -- what the call one level up ensures is what this one has to
-        pub empties : (u : Table K V) → ((w2 : LastAbove v path indices (up + 1) size) → Drops v u path (up + 1) size w2.rows w2.before w2.y) → Drops t u path up size rows a y
+        pub empties : (u : Table K V) → ((w2 : LastAbove v path indices (up + 1) size) → Drops v u path (up + 1) size w2.rows w2.before w2.y) →
+            Drops t u path up size rows a y
         empties u drops = let said = drops last_asks in (suc said.0, rw (← len_is) (drop_empty here.d v one_child some v_is (rw add-one at said.1)))
 
 -- no node follows a node of one entry
@@ -442,7 +454,8 @@ two_leaves : {K : Type 0} (list : Heads K) (rows : Rows K) → Topped list rows 
 two_leaves list [] topped ne = absurd (ne refl)
 two_leaves list (row ∷ rows) topped ne = topped.0
 
-module _ {K V : Type 0} {most : ℕ} {t : Table K V} {path indices size : _} (capacity : IsLeafCapacity most) {p : Table K V} (alone : IsSingle t p (get_or path 0 0))
+module _ {K V : Type 0} {most : ℕ} {t : Table K V} {path indices size : _} (capacity : IsLeafCapacity most) {p : Table K V}
+    (alone : IsSingle t p (get_or path 0 0))
     {tree : Tree K V} {place : ℕ} (s : StandsIn most t path indices size tree place) where
   pub f : LeafAt most t path indices size tree place
   f = leaf_at s
@@ -467,7 +480,8 @@ module _ {K V : Type 0} {most : ℕ} {t : Table K V} {path indices size : _} (ca
   leaves_are = f.leaves_are ∙ row_is
 
   heads_are : length (heads tree.leaves) ≡ suc (length (heads before))
-  heads_are = ap (λ z. length (heads z)) leaves_are ∙ ap length (heads-append before (node leaf (x ∷ []) ∷ [])) ∙ length-append (heads before) ((x.0, leaf) ∷ []) ∙ omega arith
+  heads_are = ap (λ z. length (heads z)) leaves_are ∙ ap length (heads-append before (node leaf (x ∷ []) ∷ []))
+      ∙ length-append (heads before) ((x.0, leaf) ∷ []) ∙ omega arith
 
   place_is : place ≡ length (flat before)
   place_is = omega (arith, f.place_is, ap length none_left)
@@ -532,7 +546,8 @@ module _ {K V : Type 0} {most : ℕ} {t : Table K V} {path indices size : _} (ca
               let len : suc (length last_leaf.init) ≡ length before = omega (arith, ap length hs, length-append last_leaf.init (last_leaf.last ∷ [])) in
               let first : place ≡ length (flat before) + 0 = omega (arith, place_is) in
               let in_v = row-same leaf_content t.nodes v.nodes before (λ m some. freed_other t v leaf freed_is m (ne_from_count m leaf (numbers before) some (omega (arith, f.none)))) (row-split leaf_content t.nodes before (node leaf (f.l ++ x ∷ f.r) ∷ f.after) f.inside).0 in
-              let lost = ap (λ z. loss most place z) (ap sizes leaves_are ∙ sizes-append before (node leaf (x ∷ []) ∷ [])) ∙ ap (λ z. loss most z (sizes before ++ suc 0 ∷ [])) first ∙ loss_at most before 0 0 [] (omega arith) in
+              let lost = ap (λ z. loss most place z) (ap sizes leaves_are ∙ sizes-append before (node leaf (x ∷ []) ∷ []))
+              ∙ ap (λ z. loss most z (sizes before ++ suc 0 ∷ [])) first ∙ loss_at most before 0 0 [] (omega arith) in
               let c0 = λ (m : ℕ). ap (λ z. count m (numbers z)) leaves_are in let c1 = λ (m : ℕ). counts m before leaf (x ∷ []) [] tree.above t.chain in
               let c2 = λ (m : ℕ). count-append m (numbers tree.leaves) (flat_map numbers tree.above) in
               record {

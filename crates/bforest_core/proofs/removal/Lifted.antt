@@ -216,7 +216,9 @@ module _ {K V : Type 0} where
   above_same u same apart a = record { stacked = a.stacked; inside = rows-same _ _ _ same a.inside; stands = a.stands; height = a.height; apart = apart }
 
   -- the rows above, cut at a node of the level
-  pub headed : {X : Type 0} {t : Table K V} {path indices up size : _} (before : Row K X) (n : ℕ) {es : List (K × X)} (after : Row K X) {rest : _} (h : First es) → Above t path indices up size rest (heads (before ++ node n es ∷ after)) (length (heads before)) → Above t path indices up size rest (heads before ++
+  pub headed : {X : Type 0} {t : Table K V} {path indices up size : _} (before : Row K X) (n : ℕ) {es : List (K × X)} (after : Row K X) {rest : _}
+      (h : First es) → Above t path indices up size rest (heads (before ++ node n es ∷ after)) (length (heads before)) →
+      Above t path indices up size rest (heads before ++
       (h.0.0, n) ∷ heads after) (length (heads before))
   headed {t} {path} {indices} {up} {size} before n after {rest} h p =
       subst (λ z. Above t path indices up size rest z (length (heads before))) (cc (heads-append _ _)) p
@@ -276,8 +278,10 @@ module _ {K V : Type 0} where
     Other es ns hs list = (sizes ns ≡ sizes after) × (numbers ns ≡ numbers after) × (es ++ flat ns ≡ l ++ hs) × (list ≡ heads (before ++ node n es ∷ ns))
 
     -- the row with other keys, under rows above that have those keys
-    lifted : {v u : Table K V} (es ns : _) {list : _} (hs : _) → length es ≡ length old → Other es ns hs list → FitRow 4 8 (node n es ∷ ns) → RowIn inner_content u.nodes (before ++ node n es ∷ ns) →
-        Frees t u (numbers (before ++ node n old ∷ after) ++ flat_map numbers rest) [] → Rekeyed v u path indices (suc up) size rest list (length (heads before)) → Rekeyed t u path indices up size rows (a ++ hs) (length a)
+    lifted : {v u : Table K V} (es ns : _) {list : _} (hs : _) → length es ≡ length old → Other es ns hs list → FitRow 4 8 (node n es ∷ ns) →
+        RowIn inner_content u.nodes (before ++ node n es ∷ ns) →
+        Frees t u (numbers (before ++ node n old ∷ after) ++ flat_map numbers rest) [] →
+        Rekeyed v u path indices (suc up) size rest list (length (heads before)) → Rekeyed t u path indices up size rows (a ++ hs) (length a)
     lifted {u} es ns hs len o fits inside frees above =
         let c = λ (m : ℕ). counts m before n old after rest t.chain in let c2 = λ (m : ℕ). counts m before n es ns above.rows' u.chain in
         let c3 = λ (m : ℕ). ap (λ z. count m (n ∷ z)) o.1 in let c4 = λ (m : ℕ). ap (λ z. count m z) frees.chain_is in
@@ -297,7 +301,8 @@ module _ {K V : Type 0} where
         }
 
     -- the row after writes to the rows above it alone
-    pub lifted_above : {u : Table K V} (es ns : _) {list : _} (hs : _) → length es ≡ length old → Other es ns hs list → FitRow 4 8 (node n es ∷ ns) → RowIn inner_content t.nodes (before ++ node n es ∷ ns) →
+    pub lifted_above : {u : Table K V} (es ns : _) {list : _} (hs : _) → length es ≡ length old → Other es ns hs list → FitRow 4 8 (node n es ∷ ns) →
+        RowIn inner_content t.nodes (before ++ node n es ∷ ns) →
         Rekeyed t u path indices (suc up) size rest list (length (heads before)) → Rekeyed t u path indices up size rows (a ++ hs) (length a)
     lifted_above es ns hs len o fits inside above =
         let c = λ (m : ℕ). counts m before n old after rest t.chain in let c2 = λ (m : ℕ). count-row m before n es ns in
@@ -313,18 +318,21 @@ module _ {K V : Type 0} where
         let head = ap (λ z. head_of n z) es_is ∙ head-kept n p (y ∷ s) ((key, y.1) ∷ s) (omega arith) in
         lifted es after hs len (refl, refl, flat_is, heads-put before n old es after head) (omega arith, omega arith, f.fit.2)
         (row-put inner_content t.nodes u.nodes before n old es after f.inside w.same w.here f.none)
-        (frees-puts _ (let c = counts n before n old after rest t.chain in omega (arith, count-same n (numbers after))) w) (rebuilt_same (above_written w f.none_rest rows_above))
+        (frees-puts _ (let c = counts n before n old after rest t.chain in omega (arith, count-same n (numbers after))) w)
+        (rebuilt_same (above_written w f.none_rest rows_above))
 
     module _ (u : Table K V) (key : K) where
       -- updating the key where it is a separator in the path's parent
-      pub rekey_parent : 0 < get_or indices up 0 → u ≡ with_node t n (with_key (inner_content old) (get_or indices up 0 - 1) key) → Rekeyed t u path indices up size rows (a ++ (key, x.1) ∷ b) (length a)
+      pub rekey_parent : 0 < get_or indices up 0 → u ≡ with_node t n (with_key (inner_content old) (get_or indices up 0 - 1) key) →
+          Rekeyed t u path indices up size rows (a ++ (key, x.1) ∷ b) (length a)
       rekey_parent some u_is = renamed u _ x _ _ _ _ refl (omega (arith, d.q.entry_is)) u_is (cc (append_assoc _ _ _))
 
       -- updating the key where it is the parent's first, in the rows above
       pub rekey_first : get_or indices up 0 ≤ 0 → Rekeyed t u path indices (suc up) size rest (heads before ++ (key, n) ∷ heads after) (length (heads before)) → Rekeyed t u path indices up size rows (a ++ (key, x.1) ∷ b) (length a)
       rekey_first none above = let l_is = nil_from_length l (omega (arith, d.q.entry_is)) in let s = row-split _ _ _ _ f.inside in
           lifted_above ((key, x.1) ∷ r) after ((key, x.1) ∷ b) (ap (λ z. length (z ++ x ∷ r)) (sym l_is))
-          (refl, refl, cc (d.q.b_is, l_is), sym (heads-append before (node n ((key, x.1) ∷ r) ∷ after))) (rw l_is at f.fit) (row-join inner_content t.nodes before (node n ((key, x.1) ∷ r) ∷ after) s.0 (rw l_is at s.1)) above
+          (refl, refl, cc (d.q.b_is, l_is), sym (heads-append before (node n ((key, x.1) ∷ r) ∷ after))) (rw l_is at f.fit)
+          (row-join inner_content t.nodes before (node n ((key, x.1) ∷ r) ∷ after) s.0 (rw l_is at s.1)) above
 
 -- the next node has the same parent
 pub next_in : {K : Type 0} (l : Heads K) (x : K × ℕ) (r : Heads K) (e : ℕ) (y : K × ℕ) (b more : Heads K) → y ∷ b ≡ r ++ more → length l ≡ e → e + 1 < length (l ++ x ∷ r) → (ys : Heads K) × (r ≡ y ∷ ys) × (b ≡ ys ++ more)
@@ -353,7 +361,8 @@ across n (z ∷ zs) x [] (node q (w ∷ ys) ∷ after) y b f e h =
 
 module _ {K V : Type 0} where
   -- without a row above there is no key to update
-  pub rekey_top : {t : Table K V} {path indices up size : _} (w : OneAbove t path indices up size) (key : K) → size ≤ up → Rekeyed t t path indices up size w.rows (w.before ++ (key, w.x.1) ∷ w.after) (length w.before)
+  pub rekey_top : {t : Table K V} {path indices up size : _} (w : OneAbove t path indices up size) (key : K) → size ≤ up →
+      Rekeyed t t path indices up size w.rows (w.before ++ (key, w.x.1) ∷ w.after) (length w.before)
   rekey_top w key high = rebuilt_same (above_top _ _ high (omega (arith, length-append w.before (w.x ∷ w.after), length-append w.before ((key, w.x.1) ∷ w.after))) w.above)
 
   -- the path's node and the next one
@@ -369,19 +378,24 @@ module _ {K V : Type 0} where
     Passed u = LoosenedRows t u path indices up size rows (a ++ (x.0, y.1) ∷ b) (length a)
 
     -- updating the neighbour's key where both have the same parent
-    rekey_same : (u key : _) → get_or indices up 0 + 1 < length (old d) → u ≡ with_node t (n d) (with_key (inner_content (old d)) (get_or indices up 0) key) → Renamed u key
+    rekey_same : (u key : _) → get_or indices up 0 + 1 < length (old d) → u ≡ with_node t (n d) (with_key (inner_content (old d)) (get_or indices up 0) key) →
+        Renamed u key
     rekey_same u key more u_is = let w = next_in _ x _ _ y b _ d.q.b_is d.q.entry_is more in
         let es_is = ap (λ z. l ++ x ∷ z) w.1 ∙ sym (append_assoc l (x ∷ []) (y ∷ w.0)) in
-        renamed d u _ y _ _ _ _ es_is (omega (arith, length-append l (x ∷ []), d.q.entry_is)) u_is (simp append_assoc (ap (λ z. l ++ x ∷ (key, y.1) ∷ z) (sym w.2)))
+        renamed d u _ y _ _ _ _ es_is (omega (arith, length-append l (x ∷ []), d.q.entry_is)) u_is
+        (simp append_assoc (ap (λ z. l ++ x ∷ (key, y.1) ∷ z) (sym w.2)))
 
     -- the row after its node lost an entry, under rows above that have its keys
-    loosened : {v u : Table K V} (es ns : _) {list : _} → length (old d) ≡ suc (length es) → 1 ≤ length es → length l ≤ length es → Other d es ns ((x.0, y.1) ∷ b) list → FitRow 4 8 (node (n d) (old d) ∷ ns) →
-        RowIn inner_content t.nodes (before ++ node (n d) (old d) ∷ ns) → Rekeyed t v path indices (suc up) size rest list (length (heads before)) → Puts v u (n d) (inner_content es) → Passed u
+    loosened : {v u : Table K V} (es ns : _) {list : _} → length (old d) ≡ suc (length es) → 1 ≤ length es → length l ≤ length es →
+        Other d es ns ((x.0, y.1) ∷ b) list → FitRow 4 8 (node (n d) (old d) ∷ ns) →
+        RowIn inner_content t.nodes (before ++ node (n d) (old d) ∷ ns) → Rekeyed t v path indices (suc up) size rest list (length (heads before)) →
+        Puts v u (n d) (inner_content es) → Passed u
     loosened {v} {u} es ns len some low o fits inside above w =
         let num = n d in let was = old d in let own = numbers (before ++ node num was ∷ after) ++ flat_map numbers rest in
         let c = λ (i : ℕ). counts i before num was after rest t.chain in let c2 = λ (i : ℕ). counts i before num es ns above.rows' u.chain in
         let c3 = λ (i : ℕ). ap (λ z. count i (num ∷ z)) o.1 in let c4 = λ (i : ℕ). ap (λ z. count i z) (w.chain_is ∙ above.frees.chain_is) in
-        let row_v = row-same inner_content t.nodes v.nodes (before ++ node num was ∷ ns) (λ i some. above.frees.others i (omega (arith, whole.apart i, c i, c3 i, count-row i before num was ns))) inside in
+        let row_v = row-same inner_content t.nodes v.nodes (before ++ node num was ∷ ns)
+        (λ i some. above.frees.others i (omega (arith, whole.apart i, c i, c3 i, count-row i before num was ns))) inside in
         record {
           before = before;
           entries = es;
@@ -408,7 +422,8 @@ module _ {K V : Type 0} where
         }
 
     -- removing the entry where the next one is in the same parent
-    take_same : (s u key : _) → get_or indices up 0 + 1 < length (old d) → slice_get (drop 1 (entry_keys (old d))) (get_or indices up 0 - 1) ≡ Some key → s ≡ with_node t (n d) (with_key (inner_content (old d)) (get_or indices up 0) key) →
+    take_same : (s u key : _) → get_or indices up 0 + 1 < length (old d) → slice_get (drop 1 (entry_keys (old d))) (get_or indices up 0 - 1) ≡ Some key →
+        s ≡ with_node t (n d) (with_key (inner_content (old d)) (get_or indices up 0) key) →
         u ≡ with_node s (n d) (without_child (with_key (inner_content (old d)) (get_or indices up 0) key) (get_or indices up 0)) → Passed u
     take_same s u key more key_is s_is u_is = let e = get_or indices up 0 in
         let w = next_in l x r e y b (flat after) d.q.b_is d.q.entry_is more in let es = l ++ (x.0, y.1) ∷ w.0 in
@@ -416,7 +431,8 @@ module _ {K V : Type 0} where
         let gone = ap (λ z. without_child (with_key (inner_content (l ++ x ∷ z)) e key) e) w.1 ∙ removed_same V l x y w.0 key e d.q.entry_is key_then in
         let two = puts s u _ _ _ one.here (simp (u_is, gone)) in
         loosened es after (omega (arith, length-append l (x ∷ r), ap length w.1)) (omega arith) (omega arith)
-        (refl, refl, simp (append_assoc, w.2), heads-put before (n d) (old d) es after (head-other (n d) l x.0 x.1 y.1 r w.0)) f.fit f.inside (rebuilt_same (rows_above d)) (puts-then one two)
+        (refl, refl, simp (append_assoc, w.2), heads-put before (n d) (old d) es after (head-other (n d) l x.0 x.1 y.1 r w.0)) f.fit f.inside
+        (rebuilt_same (rows_above d)) (puts-then one two)
 
     -- the next node has the next parent
     module _ (o : Across l r after y b) where
@@ -455,12 +471,14 @@ module _ {K V : Type 0} where
       moved_key key is = some_same key x.0 (cc (old_is, last_key ℕ _ _ x _ index_is))
 
       -- removing the entry where the next parent's key was written first
-      take_over : {v : Table K V} (u : Table K V) → Rekeyed t v path indices (suc up) size rest (names x.0) (length (heads before)) → slice_get v.nodes (n d) ≡ Some (inner_content (old d)) →
+      take_over : {v : Table K V} (u : Table K V) → Rekeyed t v path indices (suc up) size rest (names x.0) (length (heads before)) →
+          slice_get v.nodes (n d) ≡ Some (inner_content (old d)) →
           u ≡ with_node v (n d) (without_child (inner_content (old d)) (get_or indices up 0)) → Passed u
       take_over {v} u above slot u_is =
           let gone = ap (λ z. without_child (inner_content z) (get_or indices up 0)) old_is ∙ removed_last V o.z o.zs x (get_or indices up 0) index_is ∙ ap (λ z. inner_content z) (sym o.l_is) in
           loosened l (others x.0) (omega (arith, length-append l (x ∷ r), ap length o.r_is)) (omega (arith, ap length o.l_is)) (omega arith)
-          (across_other x.0 l _ (ap (λ z. l ++ (x.0, y.1) ∷ z) (sym o.b_is)) (ap (λ z. head_of (n d) z) o.l_is)) (rw o.after_is at f.fit) (across_in x.0) above (puts v u _ _ _ slot (cc))
+          (across_other x.0 l _ (ap (λ z. l ++ (x.0, y.1) ∷ z) (sym o.b_is)) (ap (λ z. head_of (n d) z) o.l_is)) (rw o.after_is at f.fit) (across_in x.0)
+          above (puts v u _ _ _ slot (cc))
 
   module _ {t : Table K V} {path indices up size : _} (w : TwoAbove t path indices up size) (r : ℕ) (wide : length path ≡ 17) (height : size ≤ 17) where
     open w use {rows, before as a, x, y, after as b, above as p}
@@ -503,7 +521,8 @@ module _ {K V : Type 0} where
           pub remove_asks : IsUsed s (get_or path up r) × ChildAt s (get_or path up r) (get_or indices up 0)
           remove_asks = (is_used s _ _ one.here (cc (one.chain_is, here.none_chain)), (set keys (get_or indices up 0) key, items, one.here, (let e = here.counted m value in omega (arith, item_count (old d)))))
 
-          pub merge_same : (u i : _) → i ≡ get_or indices up 0 - 1 → ReadsKey t (get_or path up r) i key → Removes s u (get_or path up r) (get_or indices up 0) → Passed d u
+          pub merge_same : (u i : _) → i ≡ get_or indices up 0 - 1 → ReadsKey t (get_or path up r) i key →
+              Removes s u (get_or path up r) (get_or indices up 0) → Passed d u
           merge_same u i i_is reads removes = let num_is = here.num_is in let u_is = removes (set keys (get_or indices up 0) key) items one.here in
               take_same d s u key (rw (← here.counted m value) more) (rw i_is at (reads keys items here.slot_is)) (rw num_is at s_is) (rw num_is at u_is)
 
@@ -538,7 +557,8 @@ module _ {K V : Type 0} where
           pub remove_last_asks : IsUsed v (get_or path up r) × ChildAt v (get_or path up r) (get_or indices up 0)
           remove_last_asks = (rw here.num_is (is_used v _ _ slot_then (cc (rebuilt.frees.chain_is, d.f.none_chain))), (keys, items, cc (here.num_is, slot_then), omega (arith, item_count (old d), d.count_is)))
 
-          pub merge_next : (u : _) → ReadsKey t (get_or path up r) (get_or indices up 0 - 1) key → Removes v u (get_or path up r) (get_or indices up 0) → Passed d u
+          pub merge_next : (u : _) → ReadsKey t (get_or path up r) (get_or indices up 0 - 1) key → Removes v u (get_or path up r) (get_or indices up 0) →
+              Passed d u
           merge_next u reads removes =
               let num_is = here.num_is in let u_is = removes keys items (cc (slot_then)) in
               take_over d o u (rw (moved_key d o key (reads keys items here.slot_is)) at rebuilt) slot_then (rw num_is at u_is)
@@ -553,7 +573,8 @@ second_key (z ∷ l) x y r = second _ l x y r
 
 module _ {K V : Type 0} where
   -- the rows one level up, cut at the path's node
-  pub up_above : {t : Table K V} {path indices up size rows a x : _} {b : _} → (at_one : Spot t path indices up size rows a x b) → (k : K) × Above t path indices
+  pub up_above : {t : Table K V} {path indices up size rows a x : _} {b : _} → (at_one : Spot t path indices up size rows a x b) →
+      (k : K) × Above t path indices
       (suc up) size at_one.q.rest (heads at_one.q.before ++ (k, get_or path up 0) ∷ heads at_one.q.after) (length (heads at_one.q.before))
   up_above at_one = let h = some_first _ (omega (arith, at_one.count_is)) in (h.0.0, headed at_one.q.before _ at_one.q.after h (rows_above at_one))
 
@@ -590,10 +611,12 @@ module _ {K V : Type 0} where
     abbrev at_one : Spot t path indices up size rows a x b
     at_one = one_seen.d
 
-    pub u : (k : K) × Above t path indices (suc up) size at_one.q.rest (heads at_one.q.before ++ (k, get_or path up 0) ∷ heads at_one.q.after) (length (heads at_one.q.before))
+    pub u : (k : K) × Above t path indices (suc up) size at_one.q.rest (heads at_one.q.before ++ (k, get_or path up 0) ∷ heads at_one.q.after)
+        (length (heads at_one.q.before))
     u = up_above at_one
 
-    pub one_next : Above t path indices (up + 1) size at_one.q.rest (heads at_one.q.before ++ (u.0, get_or path up 0) ∷ heads at_one.q.after) (length (heads at_one.q.before))
+    pub one_next : Above t path indices (up + 1) size at_one.q.rest (heads at_one.q.before ++ (u.0, get_or path up 0) ∷ heads at_one.q.after)
+        (length (heads at_one.q.before))
     one_next = rw add-one u.1
 
     -- the rows above meet what the call one level up requires
@@ -609,7 +632,8 @@ module _ {K V : Type 0} where
 
     module _ (o : Option (K × ℕ)) (next : _) (is : o ≡ Some next) (beside : Beside t path indices (up + 1) size o) where
       next_one : NextNode at_one.q.after next.0 next.1
-      next_one = let nx = next_above (Some next) (subst (Beside t path indices (up + 1) size) is beside) in next_of 4 8 (omega arith) _ _ _ _ at_one.f.fit.2 nx.1
+      next_one = let nx = next_above (Some next) (subst (Beside t path indices (up + 1) size) is beside) in
+          next_of 4 8 (omega arith) _ _ _ _ at_one.f.fit.2 nx.1
 
       n_slot : slice_get t.nodes next.1 ≡ Some (inner_content (next_one.f ∷ next_one.fs))
       n_slot = let i = (row-split _ _ _ (node (get_or path up 0) (at_one.q.l ++ x ∷ at_one.q.r) ∷ at_one.q.after) at_one.f.inside).1.1 in
@@ -624,7 +648,8 @@ module _ {K V : Type 0} where
       pub item_asks : get_or indices up 0 + 1 < m → ChildAt t (get_or path up r) (get_or indices up 0 + 1)
       item_asks more = (drop 1 (entry_keys (at_one.q.l ++ x ∷ at_one.q.r)), entry_items (at_one.q.l ++ x ∷ at_one.q.r), one_seen.slot_is, omega (arith, one_seen.counted m value, item_count (at_one.q.l ++ x ∷ at_one.q.r)))
 
-      pub beside_same : (key child : _) → get_or indices up 0 + 1 < m → ReadsKey t (get_or path up r) (get_or indices up 0) key → ReadsChild t (get_or path up r) (get_or indices up 0 + 1) child → NextIs (Some (key, child)) b
+      pub beside_same : (key child : _) → get_or indices up 0 + 1 < m → ReadsKey t (get_or path up r) (get_or indices up 0) key →
+          ReadsChild t (get_or path up r) (get_or indices up 0 + 1) child → NextIs (Some (key, child)) b
       beside_same key child more reads_key reads_child =
           let es = at_one.q.l ++ x ∷ at_one.q.r in let w = some_first at_one.q.r (omega (arith, one_seen.counted m value, at_one.count_is)) in
           let high : suc (length at_one.q.l) ≡ get_or indices up 0 + 1 = omega (arith, at_one.q.entry_is) in
@@ -641,7 +666,8 @@ module _ {K V : Type 0} where
         none_right o is beside = cc (behind, no_nodes 4 8 (omega arith) _ at_one.f.fit.2 (next_above None (subst (Beside t path indices (up + 1) size) is beside)))
 
         -- the right neighbour has another parent
-        pub beside_next : (o : Option (K × ℕ)) (next : _) (is : o ≡ Some next) (beside : Beside t path indices (up + 1) size o) (child : ℕ) → ReadsChild t next.1 0 child → NextIs (Some (next.0, child)) b
+        pub beside_next : (o : Option (K × ℕ)) (next : _) (is : o ≡ Some next) (beside : Beside t path indices (up + 1) size o) (child : ℕ) →
+            ReadsChild t next.1 0 child → NextIs (Some (next.0, child)) b
         beside_next o next is beside child reads = let w = next_one o next is beside in
             let child_is = some_same _ _ (reads (drop 1 (entry_keys (w.f ∷ w.fs))) (entry_items (w.f ∷ w.fs)) (n_slot o next is beside)) in
             (w.fs ++ flat w.rest, behind ∙ ap (λ z. flat z) w.after_is ∙ ap (λ z. (z, w.f.1) ∷ (w.fs ++ flat w.rest)) (sym w.k_is) ∙ ap (λ z. (next.0, z) ∷ (w.fs ++ flat w.rest)) child_is)

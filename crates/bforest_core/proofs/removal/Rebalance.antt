@@ -219,12 +219,14 @@ module _ {K V X : Type 0} {content : List (K × X) → Content K V} {half most :
     -- the path moves from past the node to the next node
     pub settle_move : {path' indices' : _} → half ≤ length (e ∷ es) → get_or indices up 0 ≡ length (e ∷ es)
         → Above t path' indices' (suc up) size rest (heads before ++ (e.0, n) ∷ (f.0, q) ∷ heads after) (suc (length (heads before)))
-        × (get_or path' up 0 ≡ q) → get_or indices' up 0 ≡ 0 → Keeps path indices path' indices' up size → Healed content half most t t path indices path' indices' up size before n (e ∷ es) (node q (f ∷ fs) ∷ after) rest
+        × (get_or path' up 0 ≡ q) → get_or indices' up 0 ≡ 0 → Keeps path indices path' indices' up size →
+        Healed content half most t t path indices path' indices' up size before n (e ∷ es) (node q (f ∷ fs) ∷ after) rest
     settle_move {path'} {indices'} healthy e_is above z_is kept =
         let front = before ++ node n (e ∷ es) ∷ [] in let same = append_assoc before (node n (e ∷ es) ∷ []) (node q (f ∷ fs) ∷ after) in
         let len : length (heads front) ≡ suc (length (heads before)) = ap length (heads-append before (node n (e ∷ es) ∷ [])) ∙ length-append (heads before) ((e.0, n) ∷ []) ∙ omega arith in
         let flats = ap length (flat-append before (node n (e ∷ es) ∷ []) ∙ ap (λ z. flat before ++ z) (append-nil (e ∷ es))) ∙ length-append (flat before) (e ∷ es) in
-        settle_same p (inl healthy) front q (f ∷ fs) after same (rw (same, heads-append before (node n (e ∷ es) ∷ node q (f ∷ fs) ∷ after), len) above.0) above.1 (λ low. omega arith) (omega arith) kept
+        settle_same p (inl healthy) front q (f ∷ fs) after same (rw (same, heads-append before (node n (e ∷ es) ∷ node q (f ∷ fs) ∷ after), len) above.0)
+        above.1 (λ low. omega arith) (omega arith) kept
 
     -- the two nodes are different and in no other row, and the right one is off the chain
     pub apart : (n ≢ q) × (count n (numbers before) + count n (numbers after) ≡ 0) × (count q (numbers before) + count q (numbers after) ≡ 0) × (count q t.chain ≡ 0)
@@ -427,7 +429,8 @@ module _ {K V : Type 0} {cap least : ℕ} {t : Table K V} {path indices up size 
         past_asks = record { rows = rest; before = heads before; x = (e.0, n); y = (then.f.0, behind.1); after = heads then.rest; above = above_past }
 
         -- entering the next node leaves the level rebalanced
-        pub past_heals : (path' indices' : _) → Enters t path indices path' indices' up size → get_or indices' up 0 ≡ 0 → Keeps path indices path' indices' up size → Heals w t path' indices'
+        pub past_heals : (path' indices' : _) → Enters t path indices path' indices' up size → get_or indices' up 0 ≡ 0 →
+            Keeps path indices path' indices' up size → Heals w t path' indices'
         past_heals path' indices' moved first kept = let entered = moved past_asks in let len = ap length named.2 in
             heals then t path' indices' (settle_move hm (level then) (omega (arith, half_here)) (omega (arith, count_read m value)) entered first kept)
 

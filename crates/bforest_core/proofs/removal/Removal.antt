@@ -110,7 +110,8 @@ module _ {K V : Type 0} where
     outcome (Some root') removed emptied = removal removed
 
   -- what is said of a removal, at each entry where the path stands
-  pub removes : {most : ℕ} {old new : Table K V} {path path' : Path K V most} {result : Option ℕ} → ((at : OnEntry old path) → Said most old new path.node at.root at.place (λ now. IsPathAt path'.node path'.entry path'.size now at.place) result)
+  pub removes : {most : ℕ} {old new : Table K V} {path path' : Path K V most} {result : Option ℕ} →
+      ((at : OnEntry old path) → Said most old new path.node at.root at.place (λ now. IsPathAt path'.node path'.entry path'.size now at.place) result)
       → (result ≡ None → path'.size ≡ 0) → RemovesHere old new path path' result
   removes {result = result} said end = record {
     removed = λ at. (said at).shrinks.changes;

@@ -177,7 +177,8 @@ module _ {K V : Type 0} where
           }
 
           -- the rows below the root, after further roots were discarded
-          pub trim_then : {w size' root' gone : _} → Trimmed v w (size - 1) size' root_row.init list only root' gone → Trimmed t w size size' rows list root root' (gone ++ root ∷ [])
+          pub trim_then : {w size' root' gone : _} → Trimmed v w (size - 1) size' root_row.init list only root' gone →
+              Trimmed t w size size' rows list root root' (gone ++ root ∷ [])
           trim_then {size'} {gone} r = let row = node root root_row.entries ∷ [] in let c = λ (m : ℕ). count_top m r.discarded root root_row.entries in
               let d = λ (m : ℕ). count-append m gone (root ∷ []) in
               let parts = ap (λ z. count root z) (ap (flat_map numbers) r.rows_are ∙ flat_map-append numbers r.rows' r.discarded) ∙ count-append root (flat_map numbers r.rows') (flat_map numbers r.discarded) in
@@ -361,7 +362,8 @@ module _ {K V : Type 0} {t u : Table K V} {path indices : List ℕ} {up size : �
   loses_child num = record { leaf = false; capacity = λ is. absurd (false≢true is); least_is = refl; before = l.before; entries = l.entries; after = l.after; rest = l.rest; on = l.on_level; at_entry = λ some. low l at }
 
   -- the rebalanced level is one of the rows
-  rebuilt : {v : Table K V} {path' indices' freed : _} → Restores l v path' indices' freed → Keeps path indices path' indices' up size → Rebuilt t v path indices path' indices' up size rows hs p (loss_above (Some p) (map sizes rows)) freed
+  rebuilt : {v : Table K V} {path' indices' freed : _} → Restores l v path' indices' freed → Keeps path indices path' indices' up size →
+      Rebuilt t v path indices path' indices' up size rows hs p (loss_above (Some p) (map sizes rows)) freed
   rebuilt {path'} restored kept =
       let r = restored.0 in let n' = get_or path' up 0 in let solid = (FitRow-split 4 8 r.front (node n' r.entries) r.after (rw (← r.row_is) r.fit)).0 in
       record {
@@ -550,7 +552,8 @@ module _ {K V : Type 0} {most : ℕ} {old mid : Table K V} {path indices size tr
       trimmed_removed 0 Now s (untrimmed r refl) root_is (whole r refl refl as_many (sym sizes_were.1)) refl (now _ r.list_is)
 
   -- how many entries are left
-  left_is : (z : Tree K V) → flat z.leaves ≡ remove (flat tree.leaves) place → length (flat z.leaves) ≡ length (flat l.before) + length (l.entries ++ flat l.after)
+  left_is : (z : Tree K V) → flat z.leaves ≡ remove (flat tree.leaves) place →
+      length (flat z.leaves) ≡ length (flat l.before) + length (l.entries ++ flat l.after)
   left_is z is = omega (arith, ap length is, ap length l.list_is, ap length (flat-append l.before (node n l.entries ∷ l.after)), length-append (flat l.before) (l.entries ++ flat l.after))
 
   -- an entry follows in what is left

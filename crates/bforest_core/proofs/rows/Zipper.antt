@@ -143,12 +143,18 @@ module _ {K V : Type 0} where
     pub none_rows : count (get_or ms 0 0) (flat_map numbers tree.above) ≡ 0
     pub none_chain : count (get_or ms 0 0) t.chain ≡ 0
 
-  abbrev pub cut_leaf : {most : ℕ} {t : Table K V} {ms js : List ℕ} {tree : Tree K V} {place : ℕ} (before : Row K V) (entries : List (K × V)) (after : Row K V) → IsFit most tree → IsIn t.nodes tree → Distinct (numbers_of tree ++ t.chain) → tree.leaves ≡ before ++ node (get_or ms 0 0) entries ∷ after →
-      get_or js 0 0 ≤ length entries → place ≡ length (flat before) + get_or js 0 0 → StandsAbove ms js 1 tree.above (length before) → LeafCut most t ms js tree place (take (get_or js 0 0) entries) (drop (get_or js 0 0) entries)
+  abbrev pub cut_leaf : {most : ℕ} {t : Table K V} {ms js : List ℕ} {tree : Tree K V} {place : ℕ} (before : Row K V) (entries : List (K × V))
+      (after : Row K V) → IsFit most tree → IsIn t.nodes tree → Distinct (numbers_of tree ++ t.chain) →
+      tree.leaves ≡ before ++ node (get_or ms 0 0) entries ∷ after →
+      get_or js 0 0 ≤ length entries → place ≡ length (flat before) + get_or js 0 0 → StandsAbove ms js 1 tree.above (length before) →
+      LeafCut most t ms js tree place (take (get_or js 0 0) entries) (drop (get_or js 0 0) entries)
   cut_leaf {most} {ms = ms} {js} before entries after fit inside apart is within place_is stands =
-      let n = get_or ms 0 0 in let l = take (get_or js 0 0) entries in let r = drop (get_or js 0 0) entries in let l_is = length-take-le (get_or js 0 0) entries within in
-      let row_is = is ∙ ap (λ z. before ++ node n z ∷ after) (sym (take-append-drop _ _)) in let fit_row = rw row_is at fit in let apart_row = rw row_is at apart in
-      let inside_row = rw row_is at inside.leaves_in in let f = FitRow-split (half_of most) most before (node n (l ++ r)) after fit_row.leaves_fit in let d = apart_here n _ _ _ _ _ apart_row in
+      let n = get_or ms 0 0 in let l = take (get_or js 0 0) entries in let r = drop (get_or js 0 0) entries in
+      let l_is = length-take-le (get_or js 0 0) entries within in
+      let row_is = is ∙ ap (λ z. before ++ node n z ∷ after) (sym (take-append-drop _ _)) in let fit_row = rw row_is at fit in
+      let apart_row = rw row_is at apart in
+      let inside_row = rw row_is at inside.leaves_in in let f = FitRow-split (half_of most) most before (node n (l ++ r)) after fit_row.leaves_fit in
+      let d = apart_here n _ _ _ _ _ apart_row in
       record {
         before = before;
         after = after;

@@ -9,7 +9,8 @@ free_node-requires g t c = (search rules, (here c.requires.pending c.index-self-
 
 pub remove_emptied-requires : goal.remove_emptied-requires
 remove_emptied-requires g t c κs within = let w = c.requires.pending in
-    let asked = last_asks w c.index-self-up.result (omega arith) c.requires.height c.entries.result c.entries.ensures.value c.if-entries-eq1.true c.free_node.new.self c.free_node.ensures.freed in
+    let asked = last_asks w c.index-self-up.result (omega arith) c.requires.height c.entries.result c.entries.ensures.value c.if-entries-eq1.true
+    c.free_node.new.self c.free_node.ensures.freed in
     let less = drop_fewer w c.index-self-up.result (omega arith) c.requires.height t c.decreases in
     (less, (within.0, (within.1, ((λ a m. search rules), (search rules, (search rules, (c.requires.height, asked)))))))
 

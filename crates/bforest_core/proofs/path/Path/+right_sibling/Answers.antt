@@ -25,7 +25,8 @@ child-requires-in-Some g t c = let w = c.requires.pending in
 
 pub returns-then-index-entries : goal.returns-then-index-entries
 returns-then-index-entries g t c = λ w.
-    beside_same w c.if-up-self.false c.index-self-up.result (omega arith) c.requires.height c.entries.result c.entries.ensures.value c.separator.result c.child.result c.if-index-entries.true c.separator.ensures c.child.ensures
+    beside_same w c.if-up-self.false c.index-self-up.result (omega arith) c.requires.height c.entries.result c.entries.ensures.value c.separator.result
+    c.child.result c.if-index-entries.true c.separator.ensures c.child.ensures
 
 pub returns-in-None : goal.returns-in-None
 returns-in-None g t c = λ w.
@@ -33,4 +34,5 @@ returns-in-None g t c = λ w.
 
 pub returns-in-Some : goal.returns-in-Some
 returns-in-Some g t c = λ w.
-    beside_next w c.if-up-self.false c.index-self-up.result (omega arith) c.requires.height c.entries.result c.entries.ensures.value c.if-index-entries.false _ c.in-Some.next c.in-Some.is c.right_sibling.ensures c.child-in-Some.result c.child-in-Some.ensures
+    beside_next w c.if-up-self.false c.index-self-up.result (omega arith) c.requires.height c.entries.result c.entries.ensures.value c.if-index-entries.false
+    _ c.in-Some.next c.in-Some.is c.right_sibling.ensures c.child-in-Some.result c.child-in-Some.ensures

@@ -16,7 +16,8 @@ update_next_separator-requires g t c κs within = let w = c.requires.pending in
 
 pub returns-then-index-entries : goal.returns-then-index-entries
 returns-then-index-entries g t c = λ w.
-    same_parent w c.index-self-up.result (omega arith) c.requires.height c.entries.result c.entries.ensures.value c.if-index-entries.true c.set_separator.new.pool c.args.key c.set_separator.ensures
+    same_parent w c.index-self-up.result (omega arith) c.requires.height c.entries.result c.entries.ensures.value c.if-index-entries.true
+    c.set_separator.new.pool c.args.key c.set_separator.ensures
 
 pub returns-else-index-entries : goal.returns-else-index-entries
 returns-else-index-entries g t c = λ w.

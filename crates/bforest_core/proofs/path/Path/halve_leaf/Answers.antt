@@ -19,7 +19,8 @@ put_entry-room-requires-else-index g c = let said = c.split_node-right.ensures i
 
 pub returns-then-index-clause-halved : goal.returns-then-index-clause-halved
 returns-then-index-clause-halved g c = λ tree place p. let said = c.split_node-right.ensures in
-    early_halves p c.index-self-0.result (omega arith) c.split_node-right.new.self c.requires.full said.capacity said.node said.used said.split c.if-index.true c.put_entry-room.ensures
+    early_halves p c.index-self-0.result (omega arith) c.split_node-right.new.self c.requires.full said.capacity said.node said.used said.split
+    c.if-index.true c.put_entry-room.ensures
 
 pub returns-else-index-clause-halved : goal.returns-else-index-clause-halved
 returns-else-index-clause-halved g c = λ tree place p. let said = c.split_node-right.ensures in let first = c.first_key.ensures in

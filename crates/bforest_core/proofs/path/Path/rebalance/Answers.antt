@@ -10,7 +10,8 @@ enter_next-requires g c = (search rules, (search rules, (c.requires.height, past
 
 pub returns-then-self-level-clause-healed : goal.returns-then-self-level-clause-healed
 returns-then-self-level-clause-healed g c = λ same w.
-    past_heals w _ (omega arith) c.requires.height _ c.entries-left.ensures.value c.if-left-least.true c.if-self-level.true _ _ c.enter_next.ensures.moved c.enter_next.ensures.first c.enter_next.ensures.keeps
+    past_heals w _ (omega arith) c.requires.height _ c.entries-left.ensures.value c.if-left-least.true c.if-self-level.true _ _ c.enter_next.ensures.moved
+    c.enter_next.ensures.first c.enter_next.ensures.keeps
 
 pub returns-else-self-level-clause-healed : goal.returns-else-self-level-clause-healed
 returns-else-self-level-clause-healed g c = λ same w. stay_heals w _ (omega arith) c.requires.height _ c.entries-left.ensures.value c.if-left-least.true c.if-self-level.false
