@@ -1,20 +1,20 @@
 -- The leaf where an entry may be inserted: the insertion where the leaf has room, the leaves and the tree after a split of the leaf (the answers of
 -- `put_here` and `halve_leaf`), and how many nodes an insertion needs, counted from the leaf upwards.
 use Rattle.bforest_core.proofs.Words.{◌≡◌, ◌⊎◌, ℕ, suc, ◌+◌, ◌≤◌, ◌<◌, List, [], ◌∷◌, ◌++◌, map, length, take, drop, insert, get_or, slice_get, Some, None}
-use Rattle.bforest_core.proofs.Words.{inl, inr, refl, sym, ap, ◌∙◌, append_assoc, length-append, length-take-le, take-append-drop, arith, Heads, Row, Rows}
-use Rattle.bforest_core.proofs.Words.{flat_map, cases_lt, length-map, Table, node, flat, heads, sizes, numbers, Solid, Stacked, Topped, Tree, IsFit, half_of}
-use Rattle.bforest_core.proofs.Words.{leaf_gain, RowIn, leaf_content, count, Distinct, StandsAbove, Stands, Placed, Inserted, Content, RowsIn, IsAt, ◌≢◌}
+use Rattle.bforest_core.proofs.Words.{inl, inr, refl, sym, ap, ◌∙◌, append_assoc, length-append, arith, Heads, Row, Rows}
+use Rattle.bforest_core.proofs.Words.{flat_map, cases_lt, length-map, Table, node, flat, heads, sizes, numbers, Stacked, Topped, Tree, IsFit, half_of}
+use Rattle.bforest_core.proofs.Words.{leaf_gain, leaf_content, count, StandsAbove, Stands, Placed, Inserted, Content, RowsIn, IsAt, ◌≢◌}
 use Rattle.bforest_core.proofs.Words.{Bool, if◌then◌else◌, Option, subst, IsLeafCapacity, head_of, gain_above, need_above, Above, LeafHalved, Grown, ◌-◌, ◌/◌}
 use Rattle.bforest_core.proofs.Words.{nat_le, true, false, set, get_or_default, get_or-set_same, get_or-set_other, Leaf, with_entry, IsUsed, IsFullAt}
 use Rattle.bforest_core.proofs.Words.{IsSplitAt, front_of, with_node, entry_keys, PutsEntry, IsTrue, add-one, ◌↔◌, false≢true, slice_get_within, IsFree}
-use Rattle.bforest_core.proofs.{Words.{entry_count, entry_capacity, sizes_of, need, inner_content}, rows.LevelRows.{flat-append, least-pos, sizes-append}}
-use Rattle.bforest_core.proofs.{rows.LevelRows.{FitRow-split, heads-append, Solid-full}, rows.Tops.{root-stands, root-points}, rows.Zipper.apart_here}
-use Rattle.bforest_core.proofs.{rows.Zipper.{LeafCut, cut_leaf}, table.Tables.{counts, row-split, row-put, rows-same, ne_from_count, absent_ne, Puts}}
-use Rattle.bforest_core.proofs.{table.Tables.{count-append, is_used, puts}, insertion.Parted.{FitRow-put, leaf_room, InHalf, leaf_full, chain_is, halves}}
-use Rattle.bforest_core.proofs.insertion.Parted.{inside, numbers_are, others_same, over, part, same_top, stands_at, stands_over, tops, Halves, Split}
+use Rattle.bforest_core.proofs.{Words.{entry_count, entry_capacity, sizes_of, need, inner_content, le-leb, lt-leb}, rows.LevelRows.{flat-append, least-pos}}
+use Rattle.bforest_core.proofs.{rows.LevelRows.{sizes-append, FitRow-split, heads-append, Solid-full}, rows.Tops.{root-stands, root-points}}
+use Rattle.bforest_core.proofs.{rows.Zipper.{LeafCut, cut_leaf}, table.Tables.{counts, row-put, rows-same, ne_from_count, absent_ne}}
+use Rattle.bforest_core.proofs.{table.Tables.{Puts, count-append, is_used, puts}, insertion.Parted.{FitRow-put, leaf_room, InHalf, leaf_full, chain_is}}
+use Rattle.bforest_core.proofs.insertion.Parted.{halves, inside, numbers_are, others_same, over, part, same_top, stands_at, stands_over, tops, Halves, Split}
 use Rattle.bforest_core.proofs.insertion.Parted.{leaf_full_is, counted, split_at, left_used, into_left, into_right, middle_key, PutAsks, asks_put, put_fewer}
-use Rattle.bforest_core.proofs.{insertion.Parted.{put_in, put_past, in_left, in_right, FullAt, gain_full, gain_room}, rows.Bounds.{past_le, upto_le}}
-use Rattle.bforest_core.proofs.{table.Stored.{leaf_cuts, with_entry_is, keys_count, some_same, item_count}, walks.Steps.{Spot, spot}}
+use Rattle.bforest_core.proofs.{insertion.Parted.{put_in, put_past, in_left, in_right, FullAt, gain_full, gain_room}, table.Stored.{leaf_cuts, with_entry_is}}
+use Rattle.bforest_core.proofs.{table.Stored.{keys_count, some_same, item_count}, walks.Steps.{Spot, spot}}
 use Rattle.bforest_nodes.specs.declared.node.SplitOff.{SplitOff}
 
 module _ {K : Type 0} where
@@ -262,7 +262,7 @@ module _ {K V : Type 0} where
 
           module _ (low : e ≤ most / 2) where
             low_is : q ≡ most / 2
-            low_is = rw (upto_le _ _ low) at left_count
+            low_is = rw (le-leb _ _ low) at left_count
 
             low_cut : Split leaf_content t s n right q (l ++ r) parts.crit_key
             low_cut = let q_is = low_is in let f = full_is in cut (omega arith)
@@ -284,7 +284,7 @@ module _ {K V : Type 0} where
 
           module _ (high : most / 2 < e) where
             high_is : q ≡ half_of most
-            high_is = rw (past_le _ _ high) at left_count
+            high_is = rw (lt-leb _ _ high) at left_count
 
             pub late_within : q ≤ e
             late_within = let q_is = high_is in omega arith

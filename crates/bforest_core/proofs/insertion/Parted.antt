@@ -6,12 +6,12 @@ use Rattle.bforest_core.proofs.Words.{heads, sizes, FitRow, inner_gain, past, le
 use Rattle.bforest_core.proofs.Words.{Table, with_node, with_front, front_of, IsUsed, IsFullAt, IsSplitAt, inner_content, leaf_content, count, false≢true}
 use Rattle.bforest_core.proofs.Words.{map, get_or, flat_map, length-map, numbers, Stacked, Topped, gain_above, RowIn, Distinct, StandsAbove, Above, Grown}
 use Rattle.bforest_core.proofs.Words.{Parted, top_of, Heads, Rows, Inner, need_above, Halved, PutsIn, set, get_or_default, get_or-set_same, get_or-set_other}
-use Rattle.bforest_core.proofs.{Words.{with_child, entry_items, GrownBy, HalvedBy, OneAbove, PutsChild, add-one}, rows.Bounds.{below_lt, above_lt, upto_le}}
-use Rattle.bforest_core.proofs.{rows.Bounds.past_le, rows.LevelRows.{flat-append, sizes-append, least-le, FitRow-split, FitRow-join, heads-append}}
-use Rattle.bforest_core.proofs.{rows.LevelRows.Solid-full, table.Stored.{Parts, inner_cuts, some_same, item_count, keys_count, key_count, with_child_is}}
-use Rattle.bforest_core.proofs.{rows.Zipper.{cut, stands-same, Spot, stands_here, spot}, table.Tables.{Puts, count-same, is_used, puts, takes}}
-use Rattle.bforest_core.proofs.table.Tables.{length-with_front, set_here, counts, count-append, row-same, row-changed, rows-same, ne_from_count, absent_ne}
-use Rattle.bforest_core.proofs.{table.Tables.{Takes, row-put}, removal.Lifted.rows_above}
+use Rattle.bforest_core.proofs.Words.{with_child, entry_items, GrownBy, HalvedBy, OneAbove, PutsChild, add-one, le-leb, le-ltb, lt-leb, lt-ltb}
+use Rattle.bforest_core.proofs.{rows.LevelRows.{flat-append, sizes-append, least-le, FitRow-split, FitRow-join, heads-append, Solid-full}, table.Stored.Parts}
+use Rattle.bforest_core.proofs.{table.Stored.{inner_cuts, some_same, item_count, keys_count, key_count, with_child_is}, rows.Zipper.{cut, stands-same, Spot}}
+use Rattle.bforest_core.proofs.{rows.Zipper.{stands_here, spot}, table.Tables.{Puts, count-same, is_used, puts, takes, length-with_front, set_here, counts}}
+use Rattle.bforest_core.proofs.table.Tables.{count-append, row-same, row-changed, rows-same, ne_from_count, absent_ne, Takes, row-put}
+use Rattle.bforest_core.proofs.removal.Lifted.{rows_above}
 use Rattle.bforest_nodes.specs.declared.node.SplitOff.{SplitOff}
 
 -- a list with one more element is not shorter
@@ -86,7 +86,7 @@ module _ {K X : Type 0} where
       rw (len, step (length es) (length es + (length (flat before) + e)) (sizes before ++ rest) (omega arith), d) (ap (λ z. past (length es) z) (change_behind change low step before e rest (inr some)))
 
   gain_behind : (before : Row K X) (e rest : _) → inner_gain (length (flat before) + e) (sizes before ++ rest) ≡ behind before (inner_gain e rest)
-  gain_behind before e rest = change_behind inner_gain 0 (λ s p after high. (let a = above_lt p s (omega arith) in rw a refl)) before e rest (inr (omega arith))
+  gain_behind before e rest = change_behind inner_gain 0 (λ s p after high. (let a = le-ltb p s (omega arith) in rw a refl)) before e rest (inr (omega arith))
 
   -- the gain of an insertion depends on the nodes before only through their number
   pub gain_spot : (before : Row K X) (n es l after : _) → inner_gain (length (flat before ++ l)) (sizes (before ++ node n es ∷ after)) ≡ inner_gain (length (flat before) + length l) (sizes before ++ length es ∷ sizes after)
@@ -94,23 +94,23 @@ module _ {K X : Type 0} where
 
   -- the sizes of a level after an insertion into a node with room
   pub gain_room : (before : Row K X) (s e after : _) → e < s → s < 8 → inner_gain (length (flat before) + e) (sizes before ++ s ∷ after) ≡ (None, sizes before ++ suc s ∷ after)
-  gain_room before s e after low room = rw (gain_behind _ e _, below_lt e s low, below_lt s 8 room) (behind_none before (suc s ∷ after))
+  gain_room before s e after low room = rw (gain_behind _ e _, lt-ltb e s low, lt-ltb s 8 room) (behind_none before (suc s ∷ after))
 
   -- the sizes of a level after an insertion that splits a full node
   pub gain_full : (before : Row K X) (s e : ℕ) (after : List ℕ) → e < s → s ≡ 8 → inner_gain (length (flat before) + e) (sizes before ++ s ∷ after) ≡ (Some (length before), sizes before ++ (if nat_lt e 4 then 5 ∷ 4 ∷ after else 4 ∷ 5 ∷ after))
-  gain_full before s e after low full = rw (gain_behind _ e _, below_lt e s low, above_lt s 8 (omega arith)) (behind_some _ _)
+  gain_full before s e after low full = rw (gain_behind _ e _, lt-ltb e s low, le-ltb s 8 (omega arith)) (behind_some _ _)
 
   -- an insertion into a leaf passes over the leaves before it; it is at the front of the first leaf only
   leaf_behind : (most : ℕ) (before : Row K X) (s e after : _) → (before ≡ []) ⊎ (1 ≤ e) → leaf_gain most (length (flat before) + e) (sizes before ++ s ∷ after) ≡ behind before (leaf_gain most e (s ∷ after))
-  leaf_behind most before s e after at = change_behind (leaf_gain most) 1 (λ size p rest high. (let a = past_le p size (omega arith) in rw a refl)) before e (s ∷ after) at
+  leaf_behind most before s e after at = change_behind (leaf_gain most) 1 (λ size p rest high. (let a = lt-leb p size (omega arith) in rw a refl)) before e (s ∷ after) at
 
   -- the sizes of the leaves after an insertion into a leaf with room
   pub leaf_room : (most : ℕ) (before : Row K X) (s e after : _) → e ≤ s → (before ≡ []) ⊎ (1 ≤ e) → s < most → leaf_gain most (length (flat before) + e) (sizes before ++ s ∷ after) ≡ (None, sizes before ++ suc s ∷ after)
-  leaf_room most before s e after low at room = rw (leaf_behind _ _ s e _ at, upto_le e s low, below_lt s most room) (behind_none before (suc s ∷ after))
+  leaf_room most before s e after low at room = rw (leaf_behind _ _ s e _ at, le-leb e s low, lt-ltb s most room) (behind_none before (suc s ∷ after))
 
   -- the sizes of the leaves after an insertion that splits a full leaf
   pub leaf_full : (most : ℕ) (before : Row K X) (s e after : _) → e ≤ s → (before ≡ []) ⊎ (1 ≤ e) → s ≡ most → leaf_gain most (length (flat before) + e) (sizes before ++ s ∷ after) ≡ (Some (length before), sizes before ++ (most + 1) / 2 ∷ (most + 1) / 2 ∷ after)
-  leaf_full most before s e after low at full = rw (leaf_behind _ _ s e _ at, upto_le e s low, above_lt s most (omega arith)) (behind_some _ _)
+  leaf_full most before s e after low at full = rw (leaf_behind _ _ s e _ at, le-leb e s low, le-ltb s most (omega arith)) (behind_some _ _)
 
 -- nodes of one kind, by their keys and their values or children
 module _ {K V X : Type 0} (kind : List K → List X → Content K V) where
@@ -645,7 +645,7 @@ module _ {K V : Type 0} where
             (put_in said num_is _ _ node_cut.two.here (omega (arith, item_count node_cut.zs, node_cut.count_is, four))) in
             let j_is = get_or-set_same js up index 0 low_js ∙ index_is ∙ step_is moved e in
             node_parted ms (set js up index) new (if moved then suc (length a) else length a) false (omega arith, omega arith, omega arith, omega arith)
-            (λ after. (let a = below_lt e 4 early in rw a refl)) eight h
+            (λ after. (let a = lt-ltb e 4 early in rw a refl)) eight h
             (λ i other. refl) (λ i other. get_or-set_other js up i index 0 other) seen
             (in_left _ _ _ _ _ _ _ _ seen (omega (arith, step_most moved)) (step_is moved (length a) ∙ omega (arith, ap length d.q.a_is, length-append (flat before) l, d.q.entry_is)))
 
@@ -666,7 +666,7 @@ module _ {K V : Type 0} where
               λ rest. head-grown right mid x (new ∷ r) r ∙ ap (λ v. head_of right v) (sym rest) ∙ ap (λ v. (v, right) ∷ []) (sym node_cut.key_is),
             )) (put_in said refl _ _ node_cut.two.there (omega (arith, item_count (node_cut.y ∷ node_cut.ys), right_is))) in
             let j_is = get_or-set_same js up index 0 low_js ∙ index_is ∙ step_is moved (e - 4) in
-            node_parted _ _ _ _ _ (omega arith, omega arith, omega arith, omega arith) (λ after. (let a = above_lt e 4 late in rw a refl)) eight h
+            node_parted _ _ _ _ _ (omega arith, omega arith, omega arith, omega arith) (λ after. (let a = le-ltb e 4 late in rw a refl)) eight h
             (λ i other. get_or-set_other ms up i right 0 other) (λ i other. get_or-set_other js up i index 0 other) seen
             (in_right _ _ _ _ _ _ _ _ _ seen (get_or-set_same ms up right 0 low)
             (omega (arith, step_most moved, d.count_is, d.most_is))

@@ -2,14 +2,14 @@
 -- entries then; and removed with its only entry, as the rightmost of its level, with the nodes that this empties (those of `remove_leaf` and `remove_emptied`).
 use Rattle.bforest_core.proofs.Words.{◌≡◌, ℕ, suc, ◌+◌, ◌≤◌, ◌<◌, Some, Option, List, [], ◌∷◌, ◌++◌, map, length, get_or, slice_get, refl, sym, ap, ◌∙◌}
 use Rattle.bforest_core.proofs.Words.{append_assoc, length-append, arith, Row, map-append, flat_map, remove, length-map, Content, without_entry, Table, node}
-use Rattle.bforest_core.proofs.Words.{flat, heads, numbers, FitRow, Solid, Tree, half_of, RowIn, leaf_content, entry_keys, count, Distinct, numbers_of, Above}
+use Rattle.bforest_core.proofs.Words.{flat, heads, numbers, FitRow, Solid, Tree, half_of, leaf_content, entry_keys, count, Distinct, numbers_of, Above}
 use Rattle.bforest_core.proofs.Words.{StandsIn, LeafLoss, None, Bool, true, false, not, is_some, nil_from_length, OneAbove, NextIs, get_or_default}
 use Rattle.bforest_core.proofs.Words.{entry_count, ◌≢◌, Leaf, HasOthers, IsSingle, IsUsed, with_node, head_of, entry_items, Rekeyed, ◌-◌, drop, Heads, Rows}
 use Rattle.bforest_core.proofs.Words.{append-nil, without_child, with_freed, sizes, loss_above, inner_content, root_above, LastAbove, nodes_up, Dropped}
 use Rattle.bforest_core.proofs.Words.{rebalanced, IsLeafCapacity, Topped, loss, root_of, IsPathAt, UpTo, Trimmed, Removed, Emptied, add-one, take}
 use Rattle.bforest_core.proofs.{Words.length-drop, table.Tables.{count-append, counts, count-same, row-split, row-put, row-same, Puts, is_used, puts}}
-use Rattle.bforest_core.proofs.{table.Tables.{rows-same, ne_from_count}, rows.LevelRows.{flat-append, sizes-append, FitRow-split, Solid-full, heads-append}}
-use Rattle.bforest_core.proofs.{rows.LevelRows.FitRow-join, rows.Zipper.{cut, apart_here, Cut_above, Facts, facts, Spot, above_two, LeafCut, cut_leaf}}
+use Rattle.bforest_core.proofs.{table.Tables.{rows-same, ne_from_count}, rows.LevelRows.{flat-append, sizes-append, Solid-full, heads-append}}
+use Rattle.bforest_core.proofs.{rows.LevelRows.FitRow-join, rows.Zipper.{Cut_above, Facts, facts, Spot, above_two, LeafCut, cut_leaf}}
 use Rattle.bforest_core.proofs.{removal.Frees.{frees-after, frees-puts, freed_other, frees-first, frees-one}, removal.Lifted.{remove_at, headed, top_one}}
 use Rattle.bforest_core.proofs.removal.Lifted.{NodeAt, Beside, above_top, above_written, rebuilt_same, some_first, no_nodes, heads-put, above_same}
 use Rattle.bforest_core.proofs.{removal.Lifted.{rows_above, Counts, Removes, Seen, seen, removed_last, First}, table.Stored.{keys_count, read_same}}
