@@ -9,9 +9,9 @@ use Rattle.bforest_core.proofs.Words.{Parted, top_of, Heads, Rows, Inner, need_a
 use Rattle.bforest_core.proofs.Words.{with_child, entry_items, GrownBy, HalvedBy, OneAbove, PutsChild, add-one, le-leb, le-ltb, lt-leb, lt-ltb}
 use Rattle.bforest_core.proofs.{rows.LevelRows.{flat-append, sizes-append, least-le, FitRow-split, FitRow-join, heads-append, Solid-full}, table.Stored.Parts}
 use Rattle.bforest_core.proofs.{table.Stored.{inner_cuts, some_same, item_count, keys_count, key_count, with_child_is}, rows.Zipper.{cut, stands-same, Spot}}
-use Rattle.bforest_core.proofs.{rows.Zipper.{stands_here, spot}, table.Tables.{Puts, count-same, is_used, puts, takes, length-with_front, set_here, counts}}
+use Rattle.bforest_core.proofs.{rows.Zipper.{stands_here, spot}, table.Tables.{Puts, count-same, is_used, puts, takes, length-with_front, counts}}
 use Rattle.bforest_core.proofs.table.Tables.{count-append, row-same, row-changed, rows-same, ne_from_count, absent_ne, Takes, row-put}
-use Rattle.bforest_core.proofs.removal.Lifted.{rows_above}
+use Rattle.bforest_core.proofs.{removal.Lifted.rows_above, table.Lists.set-kept}
 use Rattle.bforest_nodes.specs.declared.node.SplitOff.{SplitOff}
 
 -- a list with one more element is not shorter
@@ -137,7 +137,7 @@ module _ {K V X : Type 0} {kind : List K → List X → Content K V} {size : Lis
 
   -- a failed insertion had no room and changes nothing
   pub put_past : put ≡ false → (¬ (size keys items < most)) × (u ≡ t)
-  put_past none = (λ fewer. false≢true (sym none ∙ (said.room keys items slot_is).1 fewer), (rw none at (said.node keys items slot_is)) ∙ ap (λ z. record t { nodes = z }) (set_here _ _ _ slot_is))
+  put_past none = (λ fewer. false≢true (sym none ∙ (said.room keys items slot_is).1 fewer), (rw none at (said.node keys items slot_is)) ∙ ap (λ z. record t { nodes = z }) (set-kept _ _ _ slot_is))
 
 -- if a list is cut twice, the later cut is in the second part of the earlier one
 between : {A : Type 0} (p q l r : List A) → p ++ q ≡ l ++ r → length l ≤ length p → (mid : List A) × (p ≡ l ++ mid) × (r ≡ mid ++ q)
