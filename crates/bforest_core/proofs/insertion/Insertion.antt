@@ -1,19 +1,14 @@
 -- The effect of an insertion into the tree under a root on the table, where nodes were reserved for it.
 use Rattle.bforest_core.proofs.Words.{drop-append_seam, ◌≡◌, ℕ, suc, ◌-◌, ◌^◌, ◌≤◌, ◌<◌, ◌≢◌, ◌↔◌, IsTrue, Option, Some, None, List, [], ◌∷◌, ◌++◌, drop, map}
 use Rattle.bforest_core.proofs.Words.{length, insert, slice_get, sym, ap, ◌∙◌, subst, inl, inr, length-append, arith, Heads, Row, Rows, flat_map, cases_lt}
-use Rattle.bforest_core.proofs.Words.{eqb_tells, length-map, Table, fresh_nodes, front_of, free_count, slot_count, room, reserved, IsFullAt, node, flat, heads}
-use Rattle.bforest_core.proofs.Words.{sizes, numbers, Stacked, Topped, Tree, sizes_of, leaf_gain, gain_above, growth, need, IsAt, Stands, count, root_of}
-use Rattle.bforest_core.proofs.Words.{numbers_of, top_of, Placed, Inserted, tree_of, is_root, IsUnion, Changes, TakesNodes, PlacedUnder, StandsUnder, InsertsHere}
-use Rattle.bforest_core.proofs.Words.{Ok, Path, Placing, refl}
-use Rattle.bforest_core.proofs.{table.Lists.slice_get-append_left, rows.Counts.{once_below, below-one, few-below}, table.Chains.length-fresh_nodes}
-use Rattle.bforest_core.proofs.{rows.LevelRows.flat-append, table.Tables.count-append, rows.Bounds.climb-seventeen, union.Unions.{Rooted, rooted}}
-use Rattle.bforest_core.proofs.{union.Forests.root-among, union.Exchange.IsPlanted, union.Roots.exchanged, rows.Tops.root-stands}
-use Rattle.bforest_core.proofs.{table.Allocating.{reserved-enough, reserved-free}, union.Reserved.{reserved-union, reserved-roots, reserved-then}}
-
--- a row in which a path stands has an entry
-row_some : {K X : Type 0} {row : Row K X} {n index place : ℕ} → IsAt row n index place → 1 ≤ length (flat row)
-row_some {n} at =
-    omega (arith, ap (λ z. length (flat z)) at.row_is, ap length (flat-append at.before (node n at.entries ∷ at.after)), length-append (flat at.before) (at.entries ++ flat at.after), length-append at.entries (flat at.after))
+use Rattle.bforest_core.proofs.Words.{eqb_tells, length-map, Table, fresh_nodes, front_of, free_count, slot_count, room, reserved, IsFullAt, node, flat}
+use Rattle.bforest_core.proofs.Words.{heads, sizes, numbers, Stacked, Topped, Tree, sizes_of, leaf_gain, gain_above, growth, need, Stands, count}
+use Rattle.bforest_core.proofs.Words.{root_of, numbers_of, top_of, Placed, Inserted, tree_of, is_root, IsUnion, Changes, TakesNodes, PlacedUnder, StandsUnder}
+use Rattle.bforest_core.proofs.{Words.{InsertsHere, Ok, Path, Placing, refl}, table.Lists.slice_get-append_left, rows.Counts.{once_below, below-one}}
+use Rattle.bforest_core.proofs.{rows.Counts.few-below, table.Chains.length-fresh_nodes, table.Tables.count-append}
+use Rattle.bforest_core.proofs.{rows.Bounds.climb-seventeen, union.Unions.{Rooted, rooted}, union.Forests.root-among, union.Exchange.IsPlanted}
+use Rattle.bforest_core.proofs.{union.Roots.exchanged, rows.Tops.root-stands, table.Allocating.{reserved-enough, reserved-free}}
+use Rattle.bforest_core.proofs.{union.Reserved.{reserved-union, reserved-roots, reserved-then}, removal.Removal.place_low}
 
 -- a row has no more heads than nodes
 heads-few : {K X : Type 0} (row : Row K X) → length (heads row) ≤ length (numbers row)
@@ -71,7 +66,7 @@ module _ {K V : Type 0} where
       let tree = tree_of old.nodes root in let n = need most place (sizes_of tree) in let mid = reserved old n in let root' = root_of i.tree' in
       let roots = reserved-roots most old n union root in let same = roots.1 is in let union_mid = reserved-union most old n union in
       let r = rw same at (rooted most mid root union_mid (roots.0 ∙ is)) in let nums = λ (m : ℕ). ap (λ z. count m (numbers_of z)) same in
-      let planted : IsPlanted most new.nodes i.tree' = record { fit = i.fit; inside = i.inside; some = row_some i.stands.leaf; low = omega (arith, low) } in
+      let planted : IsPlanted most new.nodes i.tree' = record { fit = i.fit; inside = i.inside; some = omega (arith, place_low path' indices' size' i.tree' place i.stands); low = omega (arith, low) } in
       let e = exchanged root i.taken union_mid (roots.0 ∙ is) planted i.chain_is i.slots_are (λ m. omega (arith, i.numbers_are m, nums m)) (λ m none. i.others m (omega (arith, nums m))) in
       let levels : length (growth most place (sizes_of tree)) ≡ suc (length i.tree'.above) = omega (arith, ap length i.sizes_are, length-map i.tree'.above sizes) in
       let levels_were : length (sizes_of tree) ≡ suc (length tree.above) = omega (arith, length-map tree.above sizes) in
