@@ -1,5 +1,4 @@
 -- Lemmas on insertion.
-pub mod Insertion
-pub mod LeafPut
 pub mod Parted
 pub mod LeafSpot
+pub mod LeafPut
