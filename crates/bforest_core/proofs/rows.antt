@@ -4,6 +4,4 @@ pub mod Zipper
 pub mod Tops
 pub mod Bounds
 pub mod Counts
-pub mod Needs
 pub mod Shapes
-pub mod Contents

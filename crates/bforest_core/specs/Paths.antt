@@ -1,12 +1,15 @@
 -- Where a path stands in a pool, in the terms of its public calls; contracts read a path only through these.
-use Rattle.std.specs.Prelude.{◌≡◌, ℕ, List, Some, drop, length, get_or, slice_get, if◌then◌else◌, ◌==◌, ◌+◌, ◌++◌, ◌∷◌, [], nat_eq, ◌<◌}
-use Rattle.bforest_core.specs.Change.{AtUnder, EntryTaken, PlacedUnder, PointsUnder, StandsUnder}
+use Rattle.std.specs.Prelude.{◌≡◌, ◌≢◌, ℕ, List, Option, Some, None, IfSome, Result, Err, IfOk, IsOk, OnOk, OnErr, drop, insert, remove, length, get_or, slice_get, if◌then◌else◌, ◌==◌, ◌+◌, ◌++◌, ◌∷◌, [], nat_eq, ◌<◌, ◌≤◌, ◌↔◌}
+use Rattle.bforest_core.specs.Change.{AtUnder, Changes, Ends, EntryTaken, GivesInOrder, GivesNodes, PlacedUnder, PointsUnder, StandsUnder, TakesNodes}
 use Rattle.bforest_core.specs.Climb.{top_of}
 use Rattle.bforest_core.specs.Levels.{LevelNode, flat, node, sizes_of}
-use Rattle.bforest_core.specs.Place.{leaf_content}
-use Rattle.bforest_core.specs.Table.{Table}
+use Rattle.bforest_core.specs.Place.{count, leaf_content}
+use Rattle.bforest_core.specs.Sizes.{growth, need, shrink}
+use Rattle.bforest_core.specs.Table.{NeedsGrowth, Table, free_count, room}
 use Rattle.bforest_core.specs.Trees.{tree_of}
 use Rattle.bforest_core.specs.declared.path.Path.{Path}
+use Rattle.bforest_core.specs.declared.pool.OutOfMemory.{OutOfMemory}
+use Rattle.bforest_core.specs.declared.pool.OutOfMemory.TheVariants.{Full, Memory}
 
 module _ {K V : Type 0} where
   -- the list of the tree under a root
@@ -87,6 +90,33 @@ module _ {K V : Type 0} where
     pub root : ℕ
     pub place : ℕ
     pub to : PointsTo table root path place
+
+  -- what an insertion at a path answers and leaves: at each place where the path stands, the entry is in the list and the nodes that this takes are
+  -- off the chain, or both the table and the path are as before, and memory or the limit is too small
+  pub record InsertsHere {n : ℕ} (old new : Table K V) (path path' : Path K V n) (key : K) (value : V) (result : Result ℕ OutOfMemory) : Type 0 where
+    pub inserted : (at : Placing old path) → IfOk result (λ root'. Changes n old new at.root root' (insert (list_under old at.root) at.place (key, value)) (growth n at.place (sizes_under old at.root)))
+    pub account : (at : Placing old path) → OnOk result (TakesNodes (need n at.place (sizes_under old at.root)) old new)
+    pub stands : (at : Placing old path) → IfOk result (λ root'. StandsOn new root' path' at.place)
+    pub same_root : (at : Placing old path) → IfOk result (λ root'. (root' ≡ at.root) ↔ (length (growth n at.place (sizes_under old at.root)) ≡ length (sizes_under old at.root)))
+    pub full : (at : Placing old path) → (result ≡ Err Full) ↔ (room old < need n at.place (sizes_under old at.root))
+    pub memory : (at : Placing old path) → result ≡ Err Memory → NeedsGrowth (need n at.place (sizes_under old at.root)) old
+    pub enough : (at : Placing old path) → need n at.place (sizes_under old at.root) ≤ free_count old → IsOk result
+    pub refused_pool : OnErr result (new ≡ old)
+    pub refused_path : OnErr result (path' ≡ path)
+
+  -- what a removal at a path answers and leaves: on each entry where the path stands, the entry is out of the list and the nodes that this frees are on
+  -- the chain; `None` where it was the tree's last, which ends the tree
+  pub record RemovesHere {n : ℕ} (old new : Table K V) (path path' : Path K V n) (result : Option ℕ) : Type 0 where
+    pub removed : (at : OnEntry old path) → IfSome result (λ root'. Changes n old new at.root root' (remove (list_under old at.root) at.place) (shrink n at.place (sizes_under old at.root)))
+    pub account : (at : OnEntry old path) → GivesNodes (sizes_under old at.root) (shrink n at.place (sizes_under old at.root)) old new
+    pub order : (at : OnEntry old path) → GivesInOrder (nodes_of path) (sizes_under old at.root) (shrink n at.place (sizes_under old at.root)) old new
+    pub stands : (at : OnEntry old path) → IfSome result (λ root'. StandsAt new root' path' at.place)
+    pub same_root : (at : OnEntry old path) → IfSome result (λ root'. (root' ≡ at.root) ↔ (length (shrink n at.place (sizes_under old at.root)) ≡ length (sizes_under old at.root)))
+    pub last : (at : OnEntry old path) → (result ≡ None) ↔ (length (list_under old at.root) ≡ 1)
+    pub ended : result ≡ None → (at : OnEntry old path) → Ends n old new at.root
+    pub end : result ≡ None → IsAtEnd path'
+    pub none_left : result ≡ None → (at : OnEntry old path) → shrink n at.place (sizes_under old at.root) ≡ []
+    pub freed_root : (at : OnEntry old path) → result ≢ Some at.root → 0 < count at.root new.chain
 
   -- the path stands at its index in a leaf of these entries, which start at this place of the list under a
   -- root

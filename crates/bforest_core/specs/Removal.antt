@@ -41,6 +41,12 @@ abbrev pub most_at : Bool → ℕ → ℕ
 most_at true n = n
 most_at false n = 8
 
+-- the path is as it was below a level, and leads to the same root
+pub record Keeps (path indices path' indices' : List ℕ) (level size : ℕ) : Type 0 where
+  pub nodes_below : SameBelow level path path'
+  pub entries_below : SameBelow level indices indices'
+  pub same_top : top_of path' size ≡ top_of path size
+
 module _ {K V : Type 0} where
   -- only slots of the numbers `own` change; the freed ones are free and in front of the chain
   pub record Frees (old new : Table K V) (own freed : List ℕ) : Type 0 where
@@ -63,9 +69,14 @@ module _ {K V : Type 0} where
     pub sizes_are : map sizes rows' ≡ sizes_after
     pub numbers_are : (number : ℕ) → count number (flat_map numbers rows') + count number freed ≡ count number (flat_map numbers rows)
     pub frees : Frees old new (flat_map numbers rows) freed
-    pub nodes_below : SameBelow level path path'
-    pub entries_below : SameBelow level indices indices'
-    pub same_top : top_of path' size ≡ top_of path size
+    pub keeps : Keeps path indices path' indices' level size
+    pub open keeps use *
+
+  -- the rows from a level up, under other first keys of the level: its nodes are `list` now, and the path and the
+  -- rows' sizes and numbers are as they were
+  abbrev pub Rekeyed : Table K V → Table K V → List ℕ → List ℕ → ℕ → ℕ → List (List (LevelNode K ℕ)) → List (K × ℕ) → ℕ → Type 0
+  Rekeyed old new path indices level size rows list place =
+      Rebuilt old new path indices path indices level size rows list place (map sizes rows) []
 
   -- a level with a node that lost an entry and may be less than half full: the path goes through it, to one
   -- of its entries or past the last
@@ -99,6 +110,11 @@ module _ {K V : Type 0} where
     pub numbers_are : (number : ℕ) → count number (numbers (before ++ node (get_or path level 0) entries ∷ after) ++ flat_map numbers rest) ≡ count number own
     pub frees : Frees old new own []
 
+  -- rows of inner nodes, after an entry of the lowest was removed
+  abbrev pub LoosenedRows : Table K V → Table K V → List ℕ → List ℕ → ℕ → ℕ → List (List (LevelNode K ℕ)) → List (K × ℕ) → ℕ → Type 0
+  LoosenedRows old new path indices level size rows list place =
+      Loosened inner_content 4 8 old new path indices level size (map sizes rows) (flat_map numbers rows) list place
+
   -- the level is rebalanced: its row and those above it fit, and the path leads to the same entry
   pub record Healed {X : Type 0} (content : List (K × X) → Content K V) (half most : ℕ) (old new : Table K V) (path indices path' indices' : List ℕ) (level size : ℕ)
       (before : List (LevelNode K X)) (number : ℕ) (entries : List (K × X)) (after : List (LevelNode K X)) (rest : List (List (LevelNode K ℕ))) : Type 0 where
@@ -120,9 +136,8 @@ module _ {K V : Type 0} where
     pub row_numbers : numbers (before' ++ node number' entries' ∷ after') ≡ numbers (before ++ node number entries ∷ after)
     pub rest_numbers : (m : ℕ) → count m (flat_map numbers rest') ≡ count m (flat_map numbers rest)
     pub frees : Frees old new (numbers (before ++ node number entries ∷ after) ++ flat_map numbers rest) []
-    pub nodes_below : SameBelow level path path'
-    pub entries_below : SameBelow level indices indices'
-    pub same_top : top_of path' size ≡ top_of path size
+    pub keeps : Keeps path indices path' indices' level size
+    pub open keeps use *
 
   -- the node is merged into its right neighbour, to which the path leads; the level above still names both
   pub record Joined {X : Type 0} (content : List (K × X) → Content K V) (half most : ℕ) (old new : Table K V) (path indices path' indices' : List ℕ) (level size : ℕ)
@@ -142,10 +157,9 @@ module _ {K V : Type 0} where
     pub number_is : get_or path' level 0 ≡ right
     pub entry_is : get_or indices' level 0 ≡ get_or indices level 0
     pub frees : Frees old new (numbers (before ++ node number entries ∷ after)) (number ∷ [])
-    pub nodes_below : SameBelow level path path'
     pub nodes_above : SameAbove level path path'
-    pub entries_below : SameBelow level indices indices'
-    pub same_top : top_of path' size ≡ top_of path size
+    pub keeps : Keeps path indices path' indices' level size
+    pub open keeps use *
 
   -- the path's node on a level, a leaf or else an inner node, lost an entry. Half full, it has `least` entries or more, and the path is at
   -- an entry
@@ -245,10 +259,9 @@ module _ {K V : Type 0} where
     pub lost : LeafLoss most old table path indices size tree place
     pub at_entry : half_of most ≤ length lost.entries → get_or indices 0 0 < length (lost.entries ++ flat lost.after)
 
-  -- the entry at the place is removed from the tree, which is not empty, has the root `root'` and satisfies
-  -- `Now`: the sizes are those of `shrink`, and the freed nodes are in front of the chain, those of the path
-  -- from the leaf up
-  pub record Removed (most : ℕ) (old new : Table K V) (path : List ℕ) (Now : Tree K V → Type 0) (tree : Tree K V) (place root' : ℕ) : Type 0 where
+  -- the entry at the place is removed from the tree, which is not empty and has the root `root'`: the sizes are those
+  -- of `shrink`, and the freed nodes are in front of the chain, those of the path from the leaf up
+  pub record Shrunk (most : ℕ) (old new : Table K V) (path : List ℕ) (tree : Tree K V) (place root' : ℕ) : Type 0 where
     pub tree' : Tree K V
     pub freed : List ℕ
     pub flat_is : flat tree'.leaves ≡ remove (flat tree.leaves) place
@@ -256,7 +269,6 @@ module _ {K V : Type 0} where
     pub fit : IsFit most tree'
     pub inside : IsIn new.nodes tree'
     pub some : 1 ≤ length (flat tree'.leaves)
-    pub at : Now tree'
     pub numbers_are : (number : ℕ) → count number (numbers_of tree') + count number freed ≡ count number (numbers_of tree)
     pub root_is : root_of tree' ≡ root'
     pub same_root : length tree'.above ≡ length tree.above → root' ≡ root_of tree
@@ -264,6 +276,12 @@ module _ {K V : Type 0} where
     pub low : length tree'.above ≤ length tree.above
     pub order : InOrder path (length tree.above - length tree'.above) freed
     pub frees : Frees old new (numbers_of tree) freed
+
+  -- the entry is removed, and the tree that is left satisfies `Now`
+  pub record Removed (most : ℕ) (old new : Table K V) (path : List ℕ) (Now : Tree K V → Type 0) (tree : Tree K V) (place root' : ℕ) : Type 0 where
+    pub shrunk : Shrunk most old new path tree place root'
+    pub open shrunk use *
+    pub at : Now tree'
 
   -- the only entry of the tree is removed, with its node
   pub record Emptied (most : ℕ) (old new : Table K V) (tree : Tree K V) (place : ℕ) : Type 0 where

@@ -1,7 +1,7 @@
 -- What a contract states of a `NodePool`: numbered nodes, the chain of the free ones, and a limit.
-use Rattle.std.specs.Prelude.{◌≡◌, ℕ, ◌+◌, ◌-◌, ◌*◌, ◌<◌, ◌≤◌, true, false, List, [], ◌∷◌, ◌++◌, length, slice_set, nat_eq, Option, Some, None, IfSome, slice_get, slice_index_or, option_and_then, zero, suc}
+use Rattle.std.specs.Prelude.{◌≡◌, ℕ, ◌+◌, ◌-◌, ◌*◌, ◌<◌, ◌≤◌, true, false, List, [], ◌∷◌, ◌++◌, length, slice_set, nat_eq, Option, Some, None, IfSome, slice_get, slice_index_or, option_and_then, zero, suc, Bool, IsTrue, ◌↔◌, if◌then◌else◌}
 use Rattle.std.specs.List.{list_any, IsDistinct}
-use Rattle.bforest_nodes.specs.Content.{Content, Free, IsLeaf, vals_of, with_value, IsFree, IsCut, entry_count, entry_capacity, left_half, IsSameKind, Balances}
+use Rattle.bforest_nodes.specs.Content.{Content, Free, Inner, Leaf, with_child, with_entry, IsLeaf, vals_of, with_value, IsFree, IsCut, entry_count, entry_capacity, left_half, IsSameKind, Balances}
 use Rattle.bforest_nodes.specs.declared.node.SplitOff.{SplitOff}
 
 -- the content of each slot, the numbers of the free slots from the front of the chain on, and the most slots
@@ -97,6 +97,22 @@ module _ {K V : Type 0} where
     nodes = slice_set table.nodes node (Free (front_of table.chain));
     chain = node ∷ table.chain;
   }
+
+  -- what an insertion into a node answers and leaves: the node, which holds keys and as many items, is written where it
+  -- has room for one more, and else stays
+  pub record PutsIn {X : Type 0} (kind : List K → List X → Content K V) (size : List K → List X → ℕ) (most : ℕ) (write : Content K V → Content K V) (old new : Table K V) (number : ℕ) (put : Bool) : Type 0 where
+    pub room : (keys : List K) (items : List X) → slice_get old.nodes number ≡ Some (kind keys items) → IsTrue put ↔ (size keys items < most)
+    pub node : (keys : List K) (items : List X) → slice_get old.nodes number ≡ Some (kind keys items) → new ≡ with_node old number (if put then write (kind keys items) else kind keys items)
+
+  -- an entry, into a leaf with room for so many
+  abbrev pub PutsEntry : ℕ → Table K V → Table K V → ℕ → ℕ → K → V → Bool → Type 0
+  PutsEntry most old new number index key value =
+      PutsIn Leaf (λ keys vals. length keys) most (λ node. with_entry node index key value) old new number
+
+  -- a child and its first key, into an inner node, after the child at the index
+  abbrev pub PutsChild : Table K V → Table K V → ℕ → ℕ → K → ℕ → Bool → Type 0
+  PutsChild old new number index key child =
+      PutsIn Inner (λ keys children. length children) 8 (λ node. with_child node index key child) old new number
 
   -- the slot holds a node that is not free and is full
   abbrev pub IsFullAt : ℕ → List (Content K V) → ℕ → Type 0

@@ -1,12 +1,12 @@
 //! Reading and writing one node of a pool, by its number.
-ghost use Rattle.std.specs.Prelude.{◌≡◌, ℕ, ◌-◌, ◌<◌, ◌≤◌, ◌↔◌, IsTrue, IfSome, List, length, slice_get, Some, Err, if◌then◌else◌};
+ghost use Rattle.std.specs.Prelude.{◌≡◌, ℕ, ◌-◌, ◌<◌, ◌≤◌, IfSome, List, length, slice_get, Some, Err};
 ghost use Rattle.std.specs.List.Sorted.{IsStrictlySortedBy};
-ghost use Rattle.bforest_nodes.specs.Content.{Content, Inner, IsInner, IsLeafCapacity, IsFree, with_child, Leaf, with_entry, with_key, without_child, without_entry, removed_answer, entry_count, put_answer, take_answer, with_put, with_taken};
+ghost use Rattle.bforest_nodes.specs.Content.{Content, Inner, IsInner, IsLeafCapacity, IsFree, Leaf, with_key, without_child, without_entry, removed_answer, entry_count, put_answer, take_answer, with_put, with_taken};
 ghost use Rattle.bforest_nodes.specs.Search.{search_of};
 ghost use Rattle.bforest_core.specs.Descent.{child_index};
 ghost use Rattle.bforest_nodes.specs.Entries.{IsIncreasing, place, value_for};
 ghost use Rattle.bforest_core.specs.Place.{entry_keys, leaf_content};
-ghost use Rattle.bforest_core.specs.Table.{IsUsed, with_node};
+ghost use Rattle.bforest_core.specs.Table.{IsUsed, PutsChild, PutsEntry, with_node};
 
 use crate::pool::NodePool;
 use bforest_nodes::{Comparator, Node, Removed};
@@ -22,12 +22,7 @@ pub(crate) fn put_child<K: Copy, V: Copy, const N: usize>(
     requires used { IsUsed pool.old node }
     requires inner { (keys : List K) × (children : List ℕ)
         × (slice_get pool.old.nodes node ≡ Some (Inner keys children)) × (index ≤ length keys) }
-    ensures room { (keys : List K) (children : List ℕ) → slice_get pool.old.nodes node
-        ≡ Some (Inner keys children) → IsTrue result ↔ (length children < 8) }
-    ensures node { (keys : List K) (children : List ℕ) → slice_get pool.old.nodes node
-        ≡ Some (Inner keys children) → pool.new
-        ≡ with_node pool.old node (if result then with_child (Inner keys children) index key child else Inner
-        keys children) }
+    ensures { PutsChild pool.old pool.new node index key child result }
 {
     pool.node_mut(node).try_inner_insert(index, key, child)
 }
@@ -96,11 +91,7 @@ pub(crate) fn put_entry<K: Copy, V: Copy, const N: usize>(
     requires used { IsUsed pool.old node }
     requires leaf { (keys : List K) × (vals : List V)
         × (slice_get pool.old.nodes node ≡ Some (Leaf keys vals)) × (index ≤ length keys) }
-    ensures room { (keys : List K) (vals : List V) → slice_get pool.old.nodes node ≡ Some (Leaf keys vals)
-        → IsTrue result ↔ (length keys < N) }
-    ensures node { (keys : List K) (vals : List V) → slice_get pool.old.nodes node ≡ Some (Leaf keys vals)
-        → pool.new ≡ with_node pool.old node (if result then with_entry (Leaf keys vals) index key value else
-        Leaf keys vals) }
+    ensures { PutsEntry N pool.old pool.new node index key value result }
 {
     pool.node_mut(node).try_leaf_insert(index, key, value)
 }

@@ -1,11 +1,10 @@
 -- Restoring a tree whose leaf lost the entry on which a path stood: the answers of `heal` and `heal_alone`.
-use Rattle.bforest_core.proofs.Words.{set-set, length-remove, ◌≡◌, ◌≢◌, ℕ, ◌+◌, ◌/◌, ◌≤◌, ◌<◌, List, ◌∷◌, ◌++◌, None, Some, ap, arith, get_or, inl, inr, length}
-use Rattle.bforest_core.proofs.Words.{length-append, refl, slice_get, ◌∙◌, nil_from_length, Content, Free, EntryTaken, HasOthers, IsSingle, IsUsed, LeafLoss}
-use Rattle.bforest_core.proofs.Words.{Removed, Shrinks, StandsIn, Unbalanced, Table, Tree, entry_keys, front_of, leaf_content, root_of, tree_of, with_freed}
-use Rattle.bforest_core.proofs.{Words.{with_node, without_entry}, removal.Asked.{Counts, NodeAt}, removal.PastEnd.alone_last, removal.LeafEmptied.emptied_tree}
-use Rattle.bforest_core.proofs.{rows.Tops.root-stands, table.Tables.{is_used, puts}, removal.Removing.kept_removed, removal.Taking.alone_loss}
-use Rattle.bforest_core.proofs.{removal.Removal.{outcome, removal, stands_in}, removal.LeafAt.{LeafAt, leaf_at, leaf_count, leaf_keys, some_first}}
-use Rattle.bforest_core.proofs.union.Unions.{rooted}
+use Rattle.bforest_core.proofs.Words.{set-set, length-remove, ◌≡◌, ◌≢◌, ℕ, ◌+◌, ◌/◌, ◌≤◌, ◌<◌, List, ◌∷◌, ◌++◌, None, Some, ap, arith, get_or, inl, inr}
+use Rattle.bforest_core.proofs.Words.{length, length-append, slice_get, ◌∙◌, nil_from_length, Content, Free, EntryTaken, HasOthers, IsSingle, IsUsed}
+use Rattle.bforest_core.proofs.Words.{LeafLoss, Removed, Shrinks, StandsIn, Unbalanced, Table, Tree, entry_keys, front_of, leaf_content, root_of, tree_of}
+use Rattle.bforest_core.proofs.{Words.{with_freed, with_node, without_entry}, removal.Lifted.{Counts, NodeAt, some_first}, removal.LeafAt.alone_last}
+use Rattle.bforest_core.proofs.{removal.LeafAt.{alone_loss, LeafAt, leaf_at, leaf_count, emptied_tree}, rows.Tops.root-stands, table.Tables.{is_used, puts}}
+use Rattle.bforest_core.proofs.{removal.Removing.kept_removed, removal.Removal.{outcome, removal, stands_in}, table.Stored.keys_count, union.Unions.rooted}
 
 -- a node that is written and freed is a node that is freed
 freed_again : {K V : Type 0} (t : Table K V) (n c : _) → with_freed (with_node t n c) n ≡ with_freed t n
@@ -63,7 +62,7 @@ module _ {K V : Type 0} {most : ℕ} {old now : Table K V} {root place path indi
 
     module _ (m : ℕ) (value : Counts now read m) where
       count_is : m + 1 ≡ length es
-      count_is = omega (arith, value left slot_read, length-remove (entry_keys es) (get_or indices 0 0) (omega (arith, within, leaf_keys es)), leaf_keys es)
+      count_is = omega (arith, value left slot_read, length-remove (entry_keys es) (get_or indices 0 0) (omega (arith, within, keys_count es)), keys_count es)
 
       -- the entry was the leaf's only one
       pub single : m ≡ 0 → IsSingle old now leaf
@@ -94,10 +93,10 @@ module _ {K V : Type 0} {most : ℕ} {old now : Table K V} {root place path indi
 
       -- the tree of one leaf that has others
       pub alone_kept : size ≡ 1 → 0 < m → Shrinks most old now path root place (Some root)
-      alone_kept one some = let s = stood_in in let l = alone_loss s leaf refl (others (λ none. omega arith)) (omega arith) in
+      alone_kept one some = let s = stood_in in let l = alone_loss s (others (λ none. omega arith)) (omega arith) in
           settled (kept_removed s l root_was (λ z. Unit {0}) (inr (alone_last l (omega arith))) (λ z is. tt))
 
       -- the tree of one leaf, which had one entry
       pub alone_freed : size ≡ 1 → m ≤ 0 → (v : _) → v ≡ with_freed now read → Shrinks most old v path root place None
-      alone_freed one none v freed = let c = e.union.1.capacity in
-          (outcome most old v (λ z. Unit {0}) e.union e.stood None tt (λ is. (emptied_tree c (single (omega arith)) read num_is stood_in v freed one))).shrinks
+      alone_freed one none v freed = let alone = single (omega arith) in
+          (outcome most old v (λ z. Unit {0}) e.union e.stood None tt (λ is. emptied_tree e.union.1.capacity alone stood_in v (cc (num_is, alone.freed_is)) one)).shrinks

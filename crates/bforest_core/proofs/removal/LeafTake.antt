@@ -1,8 +1,8 @@
 -- Removing a key from the leaf in which a search for it ends: the answers of `take_from_leaf`.
-use Rattle.bforest_core.proofs.Words.{take_answer, with_taken, search_of-keys_of, value_for-absent, value_for-present, ◌≡◌, ℕ, Bool, IfSome, Option, Some, None}
-use Rattle.bforest_core.proofs.Words.{Ok, Err, List, option_map, set, if◌then◌else◌, true, false, refl, ap, ◌∙◌, EndsIn, EntryTaken, TakesFromLeaf, IsUnion}
-use Rattle.bforest_core.proofs.{Words.{entry_keys, flat, is_present, leaf_content, place, search_of, tree_of, value_for, with_node}, table.Lists.set-kept}
-use Rattle.bforest_core.proofs.{insertion.LeafPut.{index_is, slot, stands, valued}, walks.LeafSearch.items-read}
+use Rattle.bforest_core.proofs.Words.{take_answer, with_taken, search_of-keys_of, value_for-absent, value_for-present, ◌≡◌, ℕ, Bool, IfSome, Option, Some}
+use Rattle.bforest_core.proofs.Words.{None, Ok, Err, List, option_map, set, if◌then◌else◌, true, false, refl, ap, ◌∙◌, EndsIn, EntryTaken, TakesFromLeaf}
+use Rattle.bforest_core.proofs.Words.{IsUnion, entry_keys, flat, is_present, leaf_content, place, search_of, tree_of, value_for, with_node}
+use Rattle.bforest_core.proofs.{table.Lists.set-kept, insertion.LeafPut.{index_is, slot, stands, valued}, walks.LeafSearch.items-read}
 use Rattle.std.specs.declared.cmp.Ordering.{Ordering}
 
 module _ {V : Type 0} (index : ℕ) where

@@ -2,7 +2,7 @@
 use Rattle.bforest_core.proofs.Words.{length-remove, IsTrue, ◌≡◌, ℕ, suc, ◌<◌, Option, Some, None, IfSome, List, ◌∷◌, ◌++◌, length, get_or, refl, sym, ap, ◌∙◌}
 use Rattle.bforest_core.proofs.Words.{subst, inl, inr, append_assoc, length-append, arith, eqb_tells, length-map, Table, node, flat, sizes, Tree, sizes_of}
 use Rattle.bforest_core.proofs.Words.{nodes_up, shrink, count, root_of, numbers_of, Stands, tree_of, IsUnion, is_root, Shrinks, StandsUnder, node_count}
-use Rattle.bforest_core.proofs.{Words.{StandsIn, Removed, Emptied}, union.Roots.{exchanged-freed, uprooted-union}, union.Account.{length-same, nodes-count}}
+use Rattle.bforest_core.proofs.{Words.{StandsIn, Removed, Emptied, IsPathAt, OnEntry, Path, RemovesHere}, union.Roots.{exchanged-freed, uprooted-union}, union.Account.{length-same, nodes-count}}
 use Rattle.bforest_core.proofs.{rows.LevelRows.flat-append, table.Tables.count-append, union.Forests.root-among, union.Exchange.IsPlanted, union.Unions.rooted}
 
 -- an implication, applied to the value of an option, if any
@@ -108,3 +108,20 @@ module _ {K V : Type 0} where
     pub outcome : (found : _) → IfSome found (λ root'. Removed most old new path Now (tree_of old.nodes root) place root') → (found ≡ None → Emptied most old new (tree_of old.nodes root) place) → Said most old new path root place Now found
     outcome None removed emptied = ending (emptied refl)
     outcome (Some root') removed emptied = removal removed
+
+  -- what is said of a removal, at each entry where the path stands
+  pub removes : {most : ℕ} {old new : Table K V} {path path' : Path K V most} {result : Option ℕ} →
+      ((at : OnEntry old path) → Said most old new path.node at.root at.place (λ now. IsPathAt path'.node path'.entry path'.size now at.place) result)
+      → (result ≡ None → path'.size ≡ 0) → RemovesHere old new path path' result
+  removes {result = result} said end = record {
+    removed = λ at. (said at).shrinks.changes;
+    account = λ at. (said at).shrinks.account;
+    order = λ at. (said at).shrinks.order;
+    stands = λ at. if_some _ _ result (λ root' r. record { root_is = r.0; at = r.1 }) (said at).at;
+    same_root = λ at. (said at).shrinks.same_root;
+    last = λ at. (said at).shrinks.last;
+    ended = λ none at. (said at).shrinks.ended none;
+    end = end;
+    none_left = λ none at. (said at).shrinks.none_left none;
+    freed_root = λ at. (said at).shrinks.freed_root;
+  }

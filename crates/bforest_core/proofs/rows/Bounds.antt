@@ -1,7 +1,7 @@
 -- Bounds on leaves, on levels and on nodes.
-use Rattle.bforest_core.proofs.Words.{mul-le-mul_left, pow-succ', ◌≡◌, ℕ, suc, ◌+◌, ◌*◌, ◌^◌, ◌≤◌, ◌<◌, ◌-◌, nat_lt, true, false, Some, None, List, [], ◌∷◌}
-use Rattle.bforest_core.proofs.Words.{◌++◌, map, length, refl, sym, ap, ◌∙◌, inl, inr, length-append, arith, nat_le, Heads, Row, Rows, cases_lt, length-map}
-use Rattle.bforest_core.proofs.{Words.{node, flat, heads, sizes, FitRow, Stacked, Topped, inner_gain, gain_above}, walks.RowNodes.fit_full}
+use Rattle.bforest_core.proofs.Words.{mul-le-mul_left, pow-succ', ◌≡◌, ℕ, suc, ◌+◌, ◌*◌, ◌^◌, ◌≤◌, ◌<◌, ◌-◌, Some, None, List, [], ◌∷◌}
+use Rattle.bforest_core.proofs.Words.{◌++◌, map, length, refl, sym, ap, ◌∙◌, inl, inr, length-append, arith, Heads, Row, Rows, cases_lt, length-map}
+use Rattle.bforest_core.proofs.{Words.{node, flat, heads, sizes, FitRow, Stacked, Topped, inner_gain, gain_above, le-ltb, lt-ltb}, walks.RowNodes.fit_full}
 
 -- a row has more entries than half full nodes, one fewer than its nodes, would have
 pub entries-many : {K X : Type 0} (half most : ℕ) → 1 ≤ half → (m : ℕ) (es : List (K × X)) (ns : _) → FitRow half most (node m es ∷ ns) → half * length ns < length (flat (node m es ∷ ns))
@@ -39,25 +39,10 @@ some_grew : (k levels : _) → length (gain_above k levels) ≡ suc (length leve
 some_grew None levels e = absurd (omega arith)
 some_grew (Some q) levels e = (q, refl)
 
--- `nat_lt` of a lesser number is true
-pub below_lt : (a b : ℕ) → a < b → nat_lt a b ≡ true
-below_lt a b h = grind arith
-
--- `nat_lt` of a number that is not less is false
-pub above_lt : (a b : ℕ) → b ≤ a → nat_lt a b ≡ false
-above_lt a b h = grind arith
-
--- `nat_le` of a number that is at most another is true
-pub upto_le : (a b : ℕ) → a ≤ b → nat_le a b ≡ true
-upto_le a b h = grind arith
-
-pub past_le : (a b : ℕ) → b < a → nat_le a b ≡ false
-past_le a b h = grind arith
-
 -- an only node with room does not split
 none_small : (p s : ℕ) → s < 8 → (inner_gain p (s ∷ [])).0 ≡ None
 none_small p s room =
-    elim (cases_lt p s) [ inl lt ↦ (let a = below_lt p s lt in rw (a, below_lt s 8 room) refl) | inr ge ↦ (let a = above_lt p s ge in rw a refl) ]
+    elim (cases_lt p s) [ inl lt ↦ (let a = lt-ltb p s lt in rw (a, lt-ltb s 8 room) refl) | inr ge ↦ (let a = le-ltb p s ge in rw a refl) ]
 
 root_full : {K : Type 0} (p : ℕ) {q : ℕ} (row : Row K ℕ) → length (heads row) ≡ 1 → FitRow 4 8 row → (inner_gain p (sizes row)).0 ≡ Some q → 8 ≤ length (flat row)
 root_full p [] one f e = absurd (omega arith)
@@ -82,7 +67,6 @@ climb-seventeen p hs [] s t few low = omega arith
 climb-seventeen p hs (row ∷ rows) s t few low = let len = length-map (row ∷ rows) sizes in let most = gain-most (Some p) (map sizes (row ∷ rows)) in
     elim (cases_lt (length (gain_above (Some p) (map sizes (row ∷ rows)))) 17) [
       | inl lt ↦ omega arith
-      | inr ge ↦ (let fifteen : length rows ≡ 15 = omega arith in
-          let r = rw fifteen at (risen p hs row rows s t (omega arith)) in
+      | inr ge ↦ (let fifteen : length rows ≡ 15 = omega arith in let r = rw fifteen at (risen p hs row rows s t (omega arith)) in
           absurd (omega arith))
     ]

@@ -1,8 +1,9 @@
 -- The parent of a level's entry on the path: the rows above the level, cut there.
-use Rattle.bforest_core.proofs.Words.{◌≡◌, ℕ, zero, suc, ◌+◌, ◌≤◌, ◌<◌, List, [], ◌∷◌, ◌++◌, length, get_or, slice_get, Some, refl, sym, ap, ◌∙◌, append_assoc}
-use Rattle.bforest_core.proofs.Words.{length-append, arith, Heads, Row, Rows, flat_map, Table, node, flat, heads, numbers, FitRow, Solid, RowIn, inner_content}
-use Rattle.bforest_core.proofs.Words.{count, Distinct, StandsAbove, Above}
-use Rattle.bforest_core.proofs.{rows.LevelRows.{flat-append, FitRow-split, Solid-full}, table.Tables.{count-append, count-same, count-row, row-split}}
+use Rattle.bforest_core.proofs.Words.{◌≡◌, ℕ, zero, suc, ◌+◌, ◌≤◌, ◌<◌, List, [], ◌∷◌, ◌++◌, length, get_or, slice_get, Some, refl, sym, ap, ◌∙◌}
+use Rattle.bforest_core.proofs.Words.{append_assoc, length-append, arith, Heads, Row, Rows, flat_map, Table, node, flat, heads, numbers, FitRow, Solid, RowIn}
+use Rattle.bforest_core.proofs.Words.{inner_content, count, Distinct, StandsAbove, Above, IsFit, Tree, half_of, IsIn, numbers_of, leaf_content, take, drop}
+use Rattle.bforest_core.proofs.{Words.{length-take-le, take-append-drop}, rows.LevelRows.{flat-append, FitRow-split, Solid-full}, table.Tables.count-append}
+use Rattle.bforest_core.proofs.table.Tables.{count-same, count-row, row-split}
 
 -- two ways to cut one list at one place are the same
 pub cut_same : {A : Type 0} (p q : List A) (x y : A) (s t : List A) → p ++ x ∷ s ≡ q ++ y ∷ t → length p ≡ length q → (p ≡ q) × (x ≡ y) × (s ≡ t)
@@ -122,6 +123,55 @@ module _ {K V : Type 0} where
   pub spot : {t : Table K V} {ms js up size rows : _} (a x b : _) → Above t ms js up size rows (a ++ x ∷ b) (length a) → up < size → Spot t ms js up size rows a x b
   spot {t} {rows} a x b p low = let q = parent rows a x b p low in let w = cut_above p q in let f = facts t _ _ _ _ _ _ _ x _ _ _ w in
       record { q = q; whole = w; f = f; count_is = omega (arith, length-append q.l (x ∷ q.r), q.entry_is); most_is = f.fit.1 }
+
+module _ {K V : Type 0} where
+  -- a tree, cut at the index of a path in its leaf
+  pub record LeafCut (most : ℕ) (t : Table K V) (ms js : List ℕ) (tree : Tree K V) (place : ℕ) (l r : List (K × V)) : Type 0 where
+    pub before : Row K V
+    pub after : Row K V
+    pub leaves_are : tree.leaves ≡ before ++ node (get_or ms 0 0) (l ++ r) ∷ after
+    pub index_is : length l ≡ get_or js 0 0
+    pub place_is : place ≡ length (flat before) + length l
+    pub fit : IsFit most (record { leaves = before ++ node (get_or ms 0 0) (l ++ r) ∷ after; above = tree.above })
+    pub solid : Solid (half_of most) most before
+    pub fits : FitRow (half_of most) most (node (get_or ms 0 0) (l ++ r) ∷ after)
+    pub inside : RowIn leaf_content t.nodes (before ++ node (get_or ms 0 0) (l ++ r) ∷ after)
+    pub slot_is : slice_get t.nodes (get_or ms 0 0) ≡ Some (leaf_content (l ++ r))
+    pub stands : StandsAbove ms js 1 tree.above (length before)
+    pub apart : Distinct ((numbers (before ++ node (get_or ms 0 0) (l ++ r) ∷ after) ++ flat_map numbers tree.above) ++ t.chain)
+    pub none : count (get_or ms 0 0) (numbers before) + count (get_or ms 0 0) (numbers after) ≡ 0
+    pub none_rows : count (get_or ms 0 0) (flat_map numbers tree.above) ≡ 0
+    pub none_chain : count (get_or ms 0 0) t.chain ≡ 0
+
+  abbrev pub cut_leaf : {most : ℕ} {t : Table K V} {ms js : List ℕ} {tree : Tree K V} {place : ℕ} (before : Row K V) (entries : List (K × V))
+      (after : Row K V) → IsFit most tree → IsIn t.nodes tree → Distinct (numbers_of tree ++ t.chain) →
+      tree.leaves ≡ before ++ node (get_or ms 0 0) entries ∷ after →
+      get_or js 0 0 ≤ length entries → place ≡ length (flat before) + get_or js 0 0 → StandsAbove ms js 1 tree.above (length before) →
+      LeafCut most t ms js tree place (take (get_or js 0 0) entries) (drop (get_or js 0 0) entries)
+  cut_leaf {most} {ms = ms} {js} before entries after fit inside apart is within place_is stands =
+      let n = get_or ms 0 0 in let l = take (get_or js 0 0) entries in let r = drop (get_or js 0 0) entries in
+      let l_is = length-take-le (get_or js 0 0) entries within in
+      let row_is = is ∙ ap (λ z. before ++ node n z ∷ after) (sym (take-append-drop _ _)) in let fit_row = rw row_is at fit in
+      let apart_row = rw row_is at apart in
+      let inside_row = rw row_is at inside.leaves_in in let f = FitRow-split (half_of most) most before (node n (l ++ r)) after fit_row.leaves_fit in
+      let d = apart_here n _ _ _ _ _ apart_row in
+      record {
+        before = before;
+        after = after;
+        leaves_are = row_is;
+        index_is = l_is;
+        place_is = omega arith;
+        fit = fit_row;
+        solid = f.0;
+        fits = f.1;
+        inside = inside_row;
+        slot_is = (row-split _ _ _ (node n (l ++ r) ∷ after) inside_row).1.0;
+        stands = stands;
+        apart = apart_row;
+        none = d.0;
+        none_rows = d.1;
+        none_chain = d.2;
+      }
 
 -- two paths that agree from a level up stand at the same place there
 pub stands-same : {K : Type 0} (ms js ms' js' : List ℕ) (up : ℕ) (rows : Rows K) (p : ℕ) → ((i : ℕ) → up ≤ i → get_or ms' i 0 ≡ get_or ms i 0) → ((i : ℕ) → up ≤ i → get_or js' i 0 ≡ get_or js i 0) → StandsAbove ms js up rows p → StandsAbove ms' js' up rows p

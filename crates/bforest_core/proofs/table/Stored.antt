@@ -45,6 +45,9 @@ key_count es = cc (length-drop 1 _, length-map es (λ w. w.0))
 pub item_count : {K X : Type 0} → (es : List (K × X)) → length (entry_items es) ≡ length es
 item_count es = length-map es (λ w. w.1)
 
+pub keys_count : {K X : Type 0} → (es : List (K × X)) → length (entry_keys es) ≡ length es
+keys_count es = length-map es (λ w. w.0)
+
 -- the two parts of a node that was cut
 pub record Parts {K V X : Type 0} (content : List (K × X) → Content K V) (xs : List (K × X)) (y : K × X) (ys : List (K × X)) (left right : Content K V) (key : K) : Type 0 where
   pub left_is : left ≡ content xs

@@ -1,5 +1,5 @@
 -- Counting numbers, and rows that a change of the table leaves unchanged.
-use Rattle.bforest_core.proofs.Words.{◌≡◌, ℕ, zero, suc, ◌+◌, ◌<◌, ◌≢◌, false, nat_eq, List, [], ◌∷◌, ◌++◌, length, set, slice_get, Some, refl, sym, ap, ◌∙◌}
+use Rattle.bforest_core.proofs.Words.{◌≡◌, ℕ, suc, ◌+◌, ◌<◌, ◌≢◌, false, nat_eq, List, [], ◌∷◌, ◌++◌, length, slice_get, Some, refl, ap, ◌∙◌}
 use Rattle.bforest_core.proofs.Words.{inl, inr, length-set, arith, Row, Rows, flat_map, list_any, eqb_tells, Content, Table, with_node, with_front, front_of}
 use Rattle.bforest_core.proofs.{Words.{IsUsed, slice_get_within, node, numbers, RowIn, RowsIn, count}, rows.LevelRows.numbers-append}
 pub use Rattle.bforest_core.proofs.table.Lists.{slice_get-set_apart, slice_get-set_same}
@@ -35,12 +35,6 @@ pub off_chain : (n ms : _) → count n ms ≡ 0 → list_any (nat_eq n) ms ≡ f
 off_chain n [] none = refl
 off_chain n (m ∷ ms) none =
     elim (eqb_tells n m) [ inl w ↦ absurd (absent_ne n m ms none w.1) | inr w ↦ (let e = w.0 in rw (e, off_chain n ms (omega arith)) refl) ]
-
--- writing the element that is already there changes nothing
-pub set_here : {X : Type 0} → (xs : List X) (i x : _) → slice_get xs i ≡ Some x → set xs i x ≡ xs
-set_here [] i x e = refl
-set_here (y ∷ xs) zero x e = let same : y ≡ x = cc in ap (λ z. z ∷ xs) (sym same)
-set_here (y ∷ xs) (suc i) x e = cc (set_here xs i x e)
 
 module _ {K V : Type 0} where
   pub is_used : (t : Table K V) (n c : _) → slice_get t.nodes n ≡ Some c → count n t.chain ≡ 0 → IsUsed t n

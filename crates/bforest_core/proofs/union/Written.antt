@@ -2,11 +2,11 @@
 use Rattle.bforest_core.proofs.Words.{◌≡◌, ℕ, zero, suc, ◌+◌, ◌<◌, List, [], ◌∷◌, ◌++◌, map, length, get_or, set, slice_get, Some, refl, sym, ap, ◌∙◌, subst}
 use Rattle.bforest_core.proofs.Words.{length-set, arith, flat_map, Table, IsUsed, IsEntryAt, value_at, with_node, with_value_at, value_at_place, node, flat}
 use Rattle.bforest_core.proofs.Words.{head_of, heads, sizes, sizes_of, numbers, Tree, half_of, leaf_content, entry_keys, entry_items, count, IsAt, numbers_of}
-use Rattle.bforest_core.proofs.{Words.{root_above, tree_of, IsUnion, Changes, StandsUnder}, union.Roots.{exchanged, exchanged-changes}, walks.Entered.leaf_here}
-use Rattle.bforest_core.proofs.{rows.LevelRows.{flat-append, heads-append, sizes-append, numbers-append, FitRow-split, FitRow-join}, walks.RowNodes.entry_at}
-use Rattle.bforest_core.proofs.{insertion.LeafSpot.keys_count, walks.LeafSearch.items-read, union.Unions.{Rooted, rooted}, table.Stored.item_count}
-use Rattle.bforest_core.proofs.{table.Tables.{count-append, count-same, count-row, row-put, rows-same, ne_from_count, is_used, puts}, union.Exchange.IsPlanted}
-use Rattle.bforest_core.proofs.{rows.Zipper.apart_here, walks.Steps.read, table.Read.slot-is}
+use Rattle.bforest_core.proofs.{Words.{root_above, tree_of, IsUnion, Changes, StandsUnder}, union.Roots.{exchanged, exchanged-changes}}
+use Rattle.bforest_core.proofs.{walks.Entered.leaf_here, rows.LevelRows.{flat-append, heads-append, sizes-append, numbers-append, FitRow-split, FitRow-join}}
+use Rattle.bforest_core.proofs.{walks.RowNodes.entry_at, table.Stored.{keys_count, item_count}, walks.LeafSearch.items-read, union.Unions.{Rooted, rooted}}
+use Rattle.bforest_core.proofs.table.Tables.{count-append, count-same, count-row, row-put, rows-same, ne_from_count, is_used, puts}
+use Rattle.bforest_core.proofs.{union.Exchange.IsPlanted, rows.Zipper.apart_here, walks.Steps.read, table.Read.slot-is}
 use Rattle.bforest_nodes.specs.Entries.{with_value}
 
 module _ {K X : Type 0} where

@@ -24,7 +24,7 @@ pub(super) struct RightHalf<K> {
 }
 
 impl<K: Copy, V: Copy, const N: usize> Path<K, V, N> {
-    ghost use Rattle.bforest_core.specs.Paths.{Placing, StandsOn, leaf_of, list_under, sizes_under};
+    ghost use Rattle.bforest_core.specs.Paths.{InsertsHere, Placing, leaf_of, sizes_under};
 
     /// Inserts an entry here, and returns the tree's root. The path stands at the entry afterwards.
     ///
@@ -43,29 +43,7 @@ impl<K: Copy, V: Copy, const N: usize> Path<K, V, N> {
         requires union { IsUnion N pool.old }
         requires placed { Placing pool.old self.old }
 
-        // The effect of an insertion.
-        ensures inserted { (at : Placing pool.old self.old)
-            → IfOk result (λ root'. Changes N pool.old pool.new at.root root'
-            (insert (list_under pool.old at.root) at.place (key, value))
-            (growth N at.place (sizes_under pool.old at.root))) }
-        ensures account { (at : Placing pool.old self.old)
-            → OnOk result (TakesNodes (need N at.place (sizes_under pool.old at.root)) pool.old pool.new) }
-        ensures stands { (at : Placing pool.old self.old)
-            → IfOk result (λ root'. StandsOn pool.new root' self.new at.place) }
-        ensures same_root { (at : Placing pool.old self.old) → IfOk result (λ root'. (root' ≡ at.root)
-            ↔ (length (growth N at.place (sizes_under pool.old at.root))
-            ≡ length (sizes_under pool.old at.root))) }
-
-        // The cases of a refusal, and its effect.
-        ensures full { (at : Placing pool.old self.old)
-            → (result ≡ Err OutOfMemory.Full)
-            ↔ (room pool.old < need N at.place (sizes_under pool.old at.root)) }
-        ensures memory { (at : Placing pool.old self.old) → result ≡ Err OutOfMemory.Memory
-            → NeedsGrowth (need N at.place (sizes_under pool.old at.root)) pool.old }
-        ensures enough { (at : Placing pool.old self.old)
-            → need N at.place (sizes_under pool.old at.root) ≤ free_count pool.old → IsOk result }
-        ensures refused_pool { OnErr result (pool.new ≡ pool.old) }
-        ensures refused_path { OnErr result (self.new ≡ self.old) }
+        ensures { InsertsHere pool.old pool.new self.old self.new key value result }
     {
         if self.put_here(key, value, pool) {
             return Ok(self.root());
@@ -88,29 +66,7 @@ impl<K: Copy, V: Copy, const N: usize> Path<K, V, N> {
         requires placed { Placing pool.old self.old }
         requires full { IsFullAt N pool.old.nodes (leaf_of self.old) }
 
-        // The effect of an insertion.
-        ensures inserted { (at : Placing pool.old self.old)
-            → IfOk result (λ root'. Changes N pool.old pool.new at.root root'
-            (insert (list_under pool.old at.root) at.place (key, value))
-            (growth N at.place (sizes_under pool.old at.root))) }
-        ensures account { (at : Placing pool.old self.old)
-            → OnOk result (TakesNodes (need N at.place (sizes_under pool.old at.root)) pool.old pool.new) }
-        ensures stands { (at : Placing pool.old self.old)
-            → IfOk result (λ root'. StandsOn pool.new root' self.new at.place) }
-        ensures same_root { (at : Placing pool.old self.old) → IfOk result (λ root'. (root' ≡ at.root)
-            ↔ (length (growth N at.place (sizes_under pool.old at.root))
-            ≡ length (sizes_under pool.old at.root))) }
-
-        // The cases of a refusal, and its effect.
-        ensures full { (at : Placing pool.old self.old)
-            → (result ≡ Err OutOfMemory.Full)
-            ↔ (room pool.old < need N at.place (sizes_under pool.old at.root)) }
-        ensures memory { (at : Placing pool.old self.old) → result ≡ Err OutOfMemory.Memory
-            → NeedsGrowth (need N at.place (sizes_under pool.old at.root)) pool.old }
-        ensures enough { (at : Placing pool.old self.old)
-            → need N at.place (sizes_under pool.old at.root) ≤ free_count pool.old → IsOk result }
-        ensures refused_pool { OnErr result (pool.new ≡ pool.old) }
-        ensures refused_path { OnErr result (self.new ≡ self.old) }
+        ensures { InsertsHere pool.old pool.new self.old self.new key value result }
     {
         pool.reserve(self.needed_here(pool))?;
         self.split_leaf(key, value, pool);
@@ -152,6 +108,7 @@ impl<K: Copy, V: Copy, const N: usize> Path<K, V, N> {
     }
 
     // How many nodes a split of the path's node below level `up` takes.
+    #[tactic(auto, using(crate::proofs::removal::Lifted::above_low))]
     fn needed_above(&self, up: usize, pool: &NodePool<K, V, N>) -> u32
         requires height { self.now.size ≤ most_levels }
         requires pending { (rows : List (List (LevelNode K ℕ))) × (list : List (K × ℕ)) × (place : ℕ)

@@ -5,8 +5,8 @@ ghost use Rattle.std.specs.List.{flat_map};
 ghost use Rattle.bforest_core.specs.Levels.{LevelNode, numbers, sizes, most_levels};
 ghost use Rattle.bforest_core.specs.Sizes.{loss_above};
 ghost use Rattle.bforest_core.specs.Place.{inner_content};
-ghost use Rattle.bforest_core.specs.Climb.{Above, LastAbove, NextIs, nodes_up, OneAbove, SameBelow, top_of, TwoAbove};
-ghost use Rattle.bforest_core.specs.Removal.{Rebuilt, Loosened, Loses, Heals, Joins, Dropped};
+ghost use Rattle.bforest_core.specs.Climb.{Above, LastAbove, NextIs, nodes_up, OneAbove, TwoAbove};
+ghost use Rattle.bforest_core.specs.Removal.{Rebuilt, Keeps, Loosened, Loses, Heals, Joins, Dropped};
 
 use crate::access::{child, entries, remove_child, separator, set_separator};
 use crate::path::{MIN_CHILDREN, Path};
@@ -15,6 +15,7 @@ use bforest_nodes::Node;
 
 impl<K: Copy, V: Copy, const N: usize> Path<K, V, N> {
     // The right neighbour of the path's node below level `up`, which may have another parent, with the key between the two.
+    #[tactic(auto, using(crate::proofs::removal::Lifted::one_low, crate::proofs::removal::Lifted::one_small))]
     pub(super) fn right_sibling(&self, up: usize, pool: &NodePool<K, V, N>) -> Option<(K, Node)>
         requires height { self.now.size ≤ most_levels }
         requires pending { OneAbove pool.now self.now.node self.now.entry up self.now.size }
@@ -40,6 +41,7 @@ impl<K: Copy, V: Copy, const N: usize> Path<K, V, N> {
     }
 
     // Updates the key between the path's node below level `up` and its right neighbour.
+    #[tactic(auto, using(crate::proofs::removal::Lifted::two_low, crate::proofs::removal::Lifted::two_small))]
     pub(super) fn update_next_separator(&self, up: usize, key: K, pool: &mut NodePool<K, V, N>)
         requires height { self.now.size ≤ most_levels }
         requires pending { TwoAbove pool.old self.now.node self.now.entry up self.now.size }
@@ -84,9 +86,7 @@ impl<K: Copy, V: Copy, const N: usize> Path<K, V, N> {
             (w.before ++ w.x ∷ w.y ∷ w.after) (suc (length w.before))
             × (get_or self.new.node level 0 ≡ w.y.1) }
         ensures first { get_or self.new.entry level 0 ≡ 0 }
-        ensures nodes_below { SameBelow level self.old.node self.new.node }
-        ensures entries_below { SameBelow level self.old.entry self.new.entry }
-        ensures same_top { top_of self.new.node self.old.size ≡ top_of self.old.node self.old.size }
+        ensures keeps { Keeps self.old.node self.old.entry self.new.node self.new.entry level self.old.size }
         ensures size { self.new.size ≡ self.old.size }
     {
         let _moved = self.next_node(level, pool);
@@ -94,6 +94,7 @@ impl<K: Copy, V: Copy, const N: usize> Path<K, V, N> {
     }
 
     // Removes the entry at the path from level `up`, and gives its key to the next one.
+    #[tactic(auto, using(crate::proofs::removal::Lifted::two_low, crate::proofs::removal::Lifted::two_small))]
     fn remove_merged(&self, up: usize, pool: &mut NodePool<K, V, N>)
         requires height { self.now.size ≤ most_levels }
         requires pending { TwoAbove pool.old self.now.node self.now.entry up self.now.size }
@@ -118,6 +119,7 @@ impl<K: Copy, V: Copy, const N: usize> Path<K, V, N> {
 
     // Balances the path's node on `level`, which lost an entry, with its right neighbour, if it has fewer than `least` entries. Returns whether
     // it was merged into the neighbour, to which the path leads then.
+    #[tactic(auto, using(crate::proofs::removal::Rebalance::loses_low))]
     #[inline(always)]
     pub(super) fn rebalance(
         &mut self,
@@ -160,6 +162,7 @@ impl<K: Copy, V: Copy, const N: usize> Path<K, V, N> {
     }
 
     // Removes the entry of the path's node below level `up`, which was merged into its right neighbour, and gives its key to the neighbour.
+    #[tactic(auto, using(crate::proofs::removal::Lifted::two_low))]
     pub(super) fn merge_above(&mut self, up: usize, pool: &mut NodePool<K, V, N>)
         requires height { self.old.size ≤ most_levels }
         requires pending { TwoAbove pool.old self.old.node self.old.entry up self.old.size }
@@ -176,6 +179,7 @@ impl<K: Copy, V: Copy, const N: usize> Path<K, V, N> {
     }
 
     // Removes the entry of the path's node below level `up`, which was the rightmost and is empty, and the nodes that this empties.
+    #[tactic(auto, using(crate::proofs::removal::Lifted::last_low))]
     pub(super) fn remove_emptied(&self, up: usize, pool: &mut NodePool<K, V, N>)
         requires height { self.now.size ≤ most_levels }
         requires pending { LastAbove pool.old self.now.node self.now.entry up self.now.size }

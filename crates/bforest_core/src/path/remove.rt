@@ -15,7 +15,7 @@ use crate::pool::NodePool;
 use bforest_nodes::Node;
 
 impl<K: Copy, V: Copy, const N: usize> Path<K, V, N> {
-    ghost use Rattle.bforest_core.specs.Paths.{IsAtEnd, LeafLost, OnEntry, StandsAt, list_under, nodes_of, sizes_under};
+    ghost use Rattle.bforest_core.specs.Paths.{LeafLost, OnEntry, RemovesHere, nodes_of};
 
     /// Removes the entry here, and returns the root of its tree, or `None` if it was the tree's last entry, whose node is freed with it.
     /// The path goes to the next entry, or to the end. Takes no memory.
@@ -26,31 +26,7 @@ impl<K: Copy, V: Copy, const N: usize> Path<K, V, N> {
         requires union { IsUnion N pool.old }
         requires stands { OnEntry pool.old self.old }
 
-        // The effect of a removal.
-        ensures removed { (at : OnEntry pool.old self.old)
-            → IfSome result (λ root'. Changes N pool.old pool.new at.root root'
-            (remove (list_under pool.old at.root) at.place)
-            (shrink N at.place (sizes_under pool.old at.root))) }
-        ensures account { (at : OnEntry pool.old self.old) → GivesNodes (sizes_under pool.old at.root)
-            (shrink N at.place (sizes_under pool.old at.root)) pool.old pool.new }
-        ensures order { (at : OnEntry pool.old self.old) → GivesInOrder (nodes_of self.old)
-            (sizes_under pool.old at.root) (shrink N at.place (sizes_under pool.old at.root)) pool.old
-            pool.new }
-        ensures stands { (at : OnEntry pool.old self.old)
-            → IfSome result (λ root'. StandsAt pool.new root' self.new at.place) }
-        ensures same_root { (at : OnEntry pool.old self.old) → IfSome result (λ root'. (root' ≡ at.root)
-            ↔ (length (shrink N at.place (sizes_under pool.old at.root))
-            ≡ length (sizes_under pool.old at.root))) }
-
-        // When it was the last entry, and the effect then.
-        ensures last { (at : OnEntry pool.old self.old)
-            → (result ≡ None) ↔ (length (list_under pool.old at.root) ≡ 1) }
-        ensures ended { result ≡ None → (at : OnEntry pool.old self.old) → Ends N pool.old pool.new at.root }
-        ensures end { result ≡ None → IsAtEnd self.new }
-        ensures none_left { result ≡ None → (at : OnEntry pool.old self.old)
-            → shrink N at.place (sizes_under pool.old at.root) ≡ [] }
-        ensures freed_root { (at : OnEntry pool.old self.old)
-            → result ≢ Some at.root → 0 < count at.root pool.new.chain }
+        ensures { RemovesHere pool.old pool.new self.old self.new result }
     {
         let root = self.root();
         if entries(pool, self.node[0]) == 1 {

@@ -1,5 +1,5 @@
-use Rattle.bforest_core.proofs.Words.{rules, ◌-◌, ◌<◌, [], ◌∷◌, ◌++◌, arith}
-use Rattle.bforest_core.proofs.removal.Collapse.{trim_leaf, counted_asks, trim_stays, child_asks, free_asks, trim_down, trim_then}
+use Rattle.bforest_core.proofs.{Words.{rules, ◌-◌, ◌<◌, [], ◌∷◌, ◌++◌, arith}, removal.Removing.{trim_leaf, counted_asks, trim_stays, child_asks, free_asks}}
+use Rattle.bforest_core.proofs.removal.Removing.{trim_down, trim_then}
 use Rattle.bforest_core.proofs.path.Path.+collapse_root.Goals as goal
 
 pub returns-then-self-eq1-clause-trimmed : goal.returns-then-self-eq1-clause-trimmed
@@ -28,7 +28,5 @@ collapse_root-requires g t c κs within = let w = c.requires.rooted in
 pub returns-clause-trimmed : goal.returns-clause-trimmed
 returns-clause-trimmed g t c = λ rows list u.
     let next = trim_down u (λ one. c.if-self-eq1.false one) _ c.entries-count.ensures.value c.if-count-gt1.false _ c.child-only.ensures _ c.free_node.ensures.freed in
-    let r = c.collapse_root.ensures.trimmed _ list next in (
-      r.0 ++ c.args.root ∷ [],
-      trim_then u (λ one. c.if-self-eq1.false one) _ c.entries-count.ensures.value c.if-count-gt1.false _ c.child-only.ensures _ c.free_node.ensures.freed r.1,
-    )
+    let r = c.collapse_root.ensures.trimmed _ list next in
+    (r.0 ++ c.args.root ∷ [], trim_then u (λ one. c.if-self-eq1.false one) _ c.entries-count.ensures.value c.if-count-gt1.false _ c.child-only.ensures _ c.free_node.ensures.freed r.1)

@@ -17,28 +17,10 @@ follow-index-requires g t c = let w = c.requires.under in
     (search rules, follow_asks (g.met.C.Comparator.total c.args.comp.now) c.requires.capacity s)
 
 pub descend-requires : goal.descend-requires
-descend-requires g t c κs within = let w = c.requires.under in
-    let s = inner_step (g.met.C.Comparator.total c.args.comp.now) c.requires.capacity w.6 w.7
-    (inner_at c.requires.capacity _ _ _ _ w.5 (λ z. c.if-level-eq0.false (w.8 ∙ z))) in
-    let d = below (g.met.C.Comparator.total c.args.comp.now) c.requires.capacity s c.follow-index.ensures.index c.follow-index.ensures.child in (
-      omega arith,
-      (
-        within.0,
-        (
-          within.1.0,
-          (
-            (λ a m. search rules),
-            (
-              within.1.1,
-              (
-                search rules,
-                (search rules, (c.requires.capacity, (omega arith, (w.0, s.here.rows, d.front, d.head, d.back, d.under, w.6, d.through, omega arith)))),
-              ),
-            ),
-          ),
-        ),
-      ),
-    )
+descend-requires g t c κs within = let w = c.requires.under in let total = g.met.C.Comparator.total c.args.comp.now in
+    let s = inner_step total c.requires.capacity w.6 w.7 (inner_at c.requires.capacity _ _ _ _ w.5 (λ z. c.if-level-eq0.false (w.8 ∙ z))) in
+    let d = below total c.requires.capacity s c.follow-index.ensures.index c.follow-index.ensures.child in
+    (omega arith, (within.0, (within.1.0, ((λ a m. search rules), (within.1.1, (search rules, (search rules, (c.requires.capacity, (omega arith, (w.0, s.here.rows, d.front, d.head, d.back, d.under, w.6, d.through, omega arith))))))))))
 
 pub returns-clause-descended : goal.returns-clause-descended
 returns-clause-descended g t c = λ leaves lower a first b u inc through level_is.

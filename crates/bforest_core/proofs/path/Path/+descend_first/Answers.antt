@@ -9,28 +9,8 @@ pub child-child-requires : goal.child-child-requires
 child-child-requires g t c = (search rules, led-asks c.requires.capacity first-turns c.if-level-eq0.false c.requires.under)
 
 pub descend_first-requires : goal.descend_first-requires
-descend_first-requires g t c κs within = (
-  omega (arith, c.decreases, c.if-level-eq0.false),
-  (
-    within.0,
-    (
-      within.1,
-      (
-        (λ a m. search rules),
-        (
-          search rules,
-          (
-            search rules,
-            (
-              c.requires.capacity,
-              (omega (arith, c.requires.height), led-goes c.requires.capacity first-turns c.if-level-eq0.false c.child-child.ensures c.requires.under),
-            ),
-          ),
-        ),
-      ),
-    ),
-  ),
-)
+descend_first-requires g t c κs within = let goes = led-goes c.requires.capacity first-turns c.if-level-eq0.false c.child-child.ensures c.requires.under in
+    (omega (arith, c.decreases, c.if-level-eq0.false), (within.0, (within.1, ((λ a m. search rules), (search rules, (search rules, (c.requires.capacity, (omega (arith, c.requires.height), goes))))))))
 
 pub returns-clause-led : goal.returns-clause-led
 returns-clause-led g t c = let set = c.set_level.ensures in

@@ -1,5 +1,5 @@
-use Rattle.bforest_core.proofs.{Words.{rules, ◌+◌, ◌-◌, ◌<◌, suc, ◌∷◌, ◌++◌, length, length-append, arith, add-one, ◌∙◌}, removal.Asked.two_low}
-use Rattle.bforest_core.proofs.removal.Merge.{loses_child, merge_asks, merge_healed, merge_joined}
+use Rattle.bforest_core.proofs.{Words.{rules, ◌+◌, ◌-◌, ◌<◌, suc, ◌∷◌, ◌++◌, length, length-append, arith, add-one, ◌∙◌}, removal.Lifted.two_low}
+use Rattle.bforest_core.proofs.removal.Removing.{loses_child, merge_asks, merge_healed, merge_joined}
 use Rattle.bforest_core.proofs.path.Path.+merge_above.Goals as goal
 
 pub merge_above-requires : goal.merge_above-requires
@@ -32,6 +32,3 @@ remove_merged-requires g t c = (search rules, (search rules, (c.requires.height,
 pub rebalance-requires : goal.rebalance-requires
 rebalance-requires g t c = let w = c.requires.pending in let l = c.remove_merged.ensures w in
     (search rules, (search rules, (c.requires.height, loses_child w.rows l (omega (arith, length-append w.before ((w.x.0, w.y.1) ∷ w.after))) g.row.N)))
-
-pub overflow_add-up : goal.overflow_add-up
-overflow_add-up g t c = omega (arith, two_low c.requires.pending)

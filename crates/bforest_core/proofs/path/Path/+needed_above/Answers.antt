@@ -1,4 +1,5 @@
-use Rattle.bforest_core.proofs.{Words.{rules, arith, sym}, rows.Needs.{level_above, level_full, level_room, level_used, level_within}, insertion.Rise.need_top}
+use Rattle.bforest_core.proofs.{Words.{rules, arith, sym}, insertion.LeafSpot.{level_above, level_full, level_room, level_used, level_within}}
+use Rattle.bforest_core.proofs.insertion.Parted.{need_top}
 use Rattle.bforest_core.proofs.path.Path.+needed_above.Goals as goal
 
 pub node-requires : goal.node-requires
@@ -8,16 +9,8 @@ pub is_full-requires : goal.is_full-requires
 is_full-requires g t c = (search rules, level_used c.requires.pending.3 c.if-up-self.false (omega arith) _ _ c.node.ensures.value)
 
 pub needed_above-requires : goal.needed_above-requires
-needed_above-requires g t c κs within = let w = c.requires.pending in (
-  omega arith,
-  (
-    within.0,
-    (
-      within.1,
-      ((λ a m. search rules), (search rules, (search rules, (c.requires.height, level_above w.3 c.if-up-self.false (omega arith) c.index-self-up.result)))),
-    ),
-  ),
-)
+needed_above-requires g t c κs within = let above = level_above c.requires.pending.3 c.if-up-self.false (omega arith) c.index-self-up.result in
+    (omega arith, (within.0, (within.1, ((λ a m. search rules), (search rules, (search rules, (c.requires.height, above)))))))
 
 pub returns-then-is_full : goal.returns-then-is_full
 returns-then-is_full g t c = record {
@@ -34,18 +27,3 @@ returns-else-is_full g t c = record {
 
 pub returns-then-up-self : goal.returns-then-up-self
 returns-then-up-self g t c = record { value = λ rows list place p. sym (need_top _ _ (omega arith)); few = omega arith }
-
-pub overflow_add-result : goal.overflow_add-result
-overflow_add-result g t c = omega arith
-
-pub bounds-self-up : goal.bounds-self-up
-bounds-self-up g t c = omega arith
-
-pub listed : goal.listed
-listed g t c = omega arith
-
-pub offset_bounds-self-up : goal.offset_bounds-self-up
-offset_bounds-self-up g t c = omega arith
-
-pub overflow_add-up : goal.overflow_add-up
-overflow_add-up g t c = omega arith

@@ -1,21 +1,5 @@
-use Rattle.bforest_core.proofs.{Words.{rules, ◌+◌, arith, add-one}, removal.RemovingEmptied.{here, drop_fewer, keeps, above_asks, empties}}
-use Rattle.bforest_core.proofs.removal.Asked.{last_low}
+use Rattle.bforest_core.proofs.{Words.{rules, arith}, removal.LeafAt.{here, drop_fewer, keeps, last_asks, empties}}
 use Rattle.bforest_core.proofs.path.Path.+remove_emptied.Goals as goal
-
-pub bounds-self-up : goal.bounds-self-up
-bounds-self-up g t c = omega (arith, last_low c.requires.pending)
-
-pub bounds-self-up-else-entries-eq1 : goal.bounds-self-up-else-entries-eq1
-bounds-self-up-else-entries-eq1 g t c = omega (arith, last_low c.requires.pending)
-
-pub listed : goal.listed
-listed g t c = omega (arith, last_low c.requires.pending)
-
-pub offset_bounds-self-up : goal.offset_bounds-self-up
-offset_bounds-self-up g t c = omega (arith, last_low c.requires.pending)
-
-pub overflow_add-up : goal.overflow_add-up
-overflow_add-up g t c = omega (arith, last_low c.requires.pending)
 
 pub entries-requires : goal.entries-requires
 entries-requires g t c = (search rules, (here c.requires.pending c.index-self-up.result (omega arith) c.requires.height).node_asks)
@@ -25,8 +9,9 @@ free_node-requires g t c = (search rules, (here c.requires.pending c.index-self-
 
 pub remove_emptied-requires : goal.remove_emptied-requires
 remove_emptied-requires g t c κs within = let w = c.requires.pending in
-    let asked = above_asks w c.index-self-up.result (omega arith) c.requires.height c.entries.result c.entries.ensures.value c.if-entries-eq1.true c.free_node.new.self c.free_node.ensures.freed (c.args.up + 1) (add-one c.args.up) in
-    let less = drop_fewer w c.index-self-up.result (omega arith) c.requires.height _ t (add-one c.args.up) c.decreases in
+    let asked = last_asks w c.index-self-up.result (omega arith) c.requires.height c.entries.result c.entries.ensures.value c.if-entries-eq1.true
+    c.free_node.new.self c.free_node.ensures.freed in
+    let less = drop_fewer w c.index-self-up.result (omega arith) c.requires.height t c.decreases in
     (less, (within.0, (within.1, ((λ a m. search rules), (search rules, (search rules, (c.requires.height, asked)))))))
 
 pub remove_child-answer-requires : goal.remove_child-answer-requires
@@ -35,7 +20,7 @@ remove_child-answer-requires g t c =
 
 pub returns-then-entries-eq1 : goal.returns-then-entries-eq1
 returns-then-entries-eq1 g t c = λ w.
-    empties w _ (omega arith) c.requires.height _ c.entries.ensures.value c.if-entries-eq1.true _ c.free_node.ensures.freed _ (add-one c.args.up) _ c.remove_emptied.ensures
+    empties w _ (omega arith) c.requires.height _ c.entries.ensures.value c.if-entries-eq1.true _ c.free_node.ensures.freed _ c.remove_emptied.ensures
 
 pub returns-else-entries-eq1 : goal.returns-else-entries-eq1
 returns-else-entries-eq1 g t c = λ w.

@@ -1,16 +1,13 @@
-use Rattle.bforest_core.proofs.Words.{rules, arith}
-use Rattle.bforest_core.proofs.removal.Neighbours.{here, above_asks, above_fewer, first_asks, item_asks, same_parent, none_right, next_parent}
+use Rattle.bforest_core.proofs.{Words.{rules, arith}, removal.Lifted.{one_seen, one_asks, one_fewer, first_asks, item_asks, beside_same, none_right}}
+use Rattle.bforest_core.proofs.removal.Lifted.{beside_next}
 use Rattle.bforest_core.proofs.path.Path.+right_sibling.Goals as goal
 
-pub overflow_add-index : goal.overflow_add-index
-overflow_add-index g t c = omega (arith, (here c.requires.pending c.if-up-self.false c.index-self-up.result (omega arith) c.requires.height).small)
-
 pub entries-requires : goal.entries-requires
-entries-requires g t c = (search rules, (here c.requires.pending c.if-up-self.false c.index-self-up.result (omega arith) c.requires.height).node_asks)
+entries-requires g t c = (search rules, (one_seen c.requires.pending c.if-up-self.false c.index-self-up.result (omega arith) c.requires.height).node_asks)
 
 pub separator-requires : goal.separator-requires
 separator-requires g t c = let w = c.requires.pending in
-    (search rules, (here w c.if-up-self.false c.index-self-up.result (omega arith) c.requires.height).key_asks _ _ c.entries.ensures.value c.if-index-entries.true)
+    (search rules, (one_seen w c.if-up-self.false c.index-self-up.result (omega arith) c.requires.height).key_asks _ _ c.entries.ensures.value c.if-index-entries.true)
 
 pub child-requires : goal.child-requires
 child-requires g t c =
@@ -18,8 +15,8 @@ child-requires g t c =
 
 pub right_sibling-requires : goal.right_sibling-requires
 right_sibling-requires g t c κs within =
-    let w = c.requires.pending in let d = above_asks w c.if-up-self.false c.index-self-up.result (omega arith) c.requires.height in
-    let falls = above_fewer w c.if-up-self.false c.index-self-up.result (omega arith) c.requires.height t c.decreases in
+    let w = c.requires.pending in let d = one_asks w c.if-up-self.false c.index-self-up.result (omega arith) c.requires.height in
+    let falls = one_fewer w c.if-up-self.false c.index-self-up.result (omega arith) c.requires.height t c.decreases in
     (falls, (within.0, (within.1, ((λ a' m'. search rules), (search rules, (search rules, (c.requires.height, d)))))))
 
 pub child-requires-in-Some : goal.child-requires-in-Some
@@ -28,7 +25,8 @@ child-requires-in-Some g t c = let w = c.requires.pending in
 
 pub returns-then-index-entries : goal.returns-then-index-entries
 returns-then-index-entries g t c = λ w.
-    same_parent w c.if-up-self.false c.index-self-up.result (omega arith) c.requires.height c.entries.result c.entries.ensures.value c.separator.result c.child.result c.if-index-entries.true c.separator.ensures c.child.ensures
+    beside_same w c.if-up-self.false c.index-self-up.result (omega arith) c.requires.height c.entries.result c.entries.ensures.value c.separator.result
+    c.child.result c.if-index-entries.true c.separator.ensures c.child.ensures
 
 pub returns-in-None : goal.returns-in-None
 returns-in-None g t c = λ w.
@@ -36,19 +34,5 @@ returns-in-None g t c = λ w.
 
 pub returns-in-Some : goal.returns-in-Some
 returns-in-Some g t c = λ w.
-    next_parent w c.if-up-self.false c.index-self-up.result (omega arith) c.requires.height c.entries.result c.entries.ensures.value c.if-index-entries.false _ c.in-Some.next c.in-Some.is c.right_sibling.ensures c.child-in-Some.result c.child-in-Some.ensures
-
-pub bounds-self-up : goal.bounds-self-up
-bounds-self-up g t c = omega arith
-
-pub bounds-self-up-2 : goal.bounds-self-up-2
-bounds-self-up-2 g t c = omega arith
-
-pub listed : goal.listed
-listed g t c = omega arith
-
-pub offset_bounds-self-up : goal.offset_bounds-self-up
-offset_bounds-self-up g t c = omega arith
-
-pub overflow_add-up : goal.overflow_add-up
-overflow_add-up g t c = omega arith
+    beside_next w c.if-up-self.false c.index-self-up.result (omega arith) c.requires.height c.entries.result c.entries.ensures.value c.if-index-entries.false
+    _ c.in-Some.next c.in-Some.is c.right_sibling.ensures c.child-in-Some.result c.child-in-Some.ensures

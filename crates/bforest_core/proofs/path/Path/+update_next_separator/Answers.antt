@@ -1,8 +1,5 @@
-use Rattle.bforest_core.proofs.{Words.{rules, arith}, removal.Asked.two_low, removal.Separating.{here, above_fewer, same_parent, above_asks, next_parent}}
+use Rattle.bforest_core.proofs.{Words.{rules, arith}, removal.Lifted.{here, above_fewer, same_parent, above_asks, next_parent}}
 use Rattle.bforest_core.proofs.path.Path.+update_next_separator.Goals as goal
-
-pub overflow_add-index : goal.overflow_add-index
-overflow_add-index g t c = let w = c.requires.pending in omega (arith, (here w c.index-self-up.result (omega arith) c.requires.height).small)
 
 pub entries-requires : goal.entries-requires
 entries-requires g t c = let w = c.requires.pending in (search rules, (here w c.index-self-up.result (omega arith) c.requires.height).node_asks)
@@ -19,23 +16,9 @@ update_next_separator-requires g t c κs within = let w = c.requires.pending in
 
 pub returns-then-index-entries : goal.returns-then-index-entries
 returns-then-index-entries g t c = λ w.
-    same_parent w c.index-self-up.result (omega arith) c.requires.height c.entries.result c.entries.ensures.value c.set_separator.new.pool c.args.key c.if-index-entries.true c.set_separator.ensures
+    same_parent w c.index-self-up.result (omega arith) c.requires.height c.entries.result c.entries.ensures.value c.if-index-entries.true
+    c.set_separator.new.pool c.args.key c.set_separator.ensures
 
 pub returns-else-index-entries : goal.returns-else-index-entries
 returns-else-index-entries g t c = λ w.
     next_parent w c.index-self-up.result (omega arith) c.requires.height c.entries.result c.entries.ensures.value c.if-index-entries.false c.update_next_separator.new.pool c.args.key c.update_next_separator.ensures
-
-pub bounds-self-up : goal.bounds-self-up
-bounds-self-up g t c = omega (arith, two_low c.requires.pending, c.requires.height)
-
-pub bounds-self-up-2 : goal.bounds-self-up-2
-bounds-self-up-2 g t c = omega (arith, two_low c.requires.pending, c.requires.height)
-
-pub listed : goal.listed
-listed g t c = omega (arith, two_low c.requires.pending, c.requires.height)
-
-pub offset_bounds-self-up : goal.offset_bounds-self-up
-offset_bounds-self-up g t c = omega (arith, two_low c.requires.pending, c.requires.height)
-
-pub overflow_add-up : goal.overflow_add-up
-overflow_add-up g t c = omega (arith, two_low c.requires.pending, c.requires.height)

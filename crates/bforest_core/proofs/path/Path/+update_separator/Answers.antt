@@ -1,5 +1,5 @@
-use Rattle.bforest_core.proofs.{Words.{rules, ◌+◌, ◌-◌, ◌<◌, ◌∷◌, ◌++◌, get_or, drop, arith, add-one, heads, entry_keys, entry_items}, removal.Asked.seen}
-use Rattle.bforest_core.proofs.{removal.Neighbours.up_above, rows.Zipper.spot, removal.Separating.{rekey_top, rekey_parent, rekey_first}}
+use Rattle.bforest_core.proofs.{Words.{rules, ◌+◌, ◌-◌, ◌<◌, ◌∷◌, ◌++◌, get_or, drop, arith, add-one, heads, entry_keys, entry_items}, removal.Lifted.seen}
+use Rattle.bforest_core.proofs.{removal.Lifted.{rekey_top, rekey_parent, rekey_first, up_above}, rows.Zipper.spot}
 use Rattle.bforest_core.proofs.path.Path.+update_separator.Goals as goal
 
 pub set_separator-requires : goal.set_separator-requires
@@ -16,11 +16,11 @@ update_separator-requires g t c κs within =
 pub returns-then-index-gt0 : goal.returns-then-index-gt0
 returns-then-index-gt0 g t c = λ w.
     let s = seen w.before w.x w.after w.above c.if-up-self.false c.index-self-up.result (omega arith) c.requires.height in let es = s.d.q.l ++ w.x ∷ s.d.q.r in
-    rekey_parent _ c.args.key s.d c.if-index-gt0.true (rw s.num_is at (c.set_separator.ensures (drop 1 (entry_keys es)) (entry_items es) s.slot_is))
+    rekey_parent s.d _ c.args.key c.if-index-gt0.true (rw s.num_is at (c.set_separator.ensures (drop 1 (entry_keys es)) (entry_items es) s.slot_is))
 
 pub returns-else-index-gt0 : goal.returns-else-index-gt0
 returns-else-index-gt0 g t c = λ w. let d = spot w.before w.x w.after w.above c.if-up-self.false in let u = up_above d in
-    rekey_first _ c.args.key d c.if-index-gt0.false (rw add-one at (c.update_separator.ensures (record { rows = d.q.rest; before = heads d.q.before; x = (u.0, get_or c.args.self.now.node c.args.up 0); after = heads d.q.after; above = rw add-one u.1 })))
+    rekey_first d _ c.args.key c.if-index-gt0.false (rw add-one at (c.update_separator.ensures (record { rows = d.q.rest; before = heads d.q.before; x = (u.0, get_or c.args.self.now.node c.args.up 0); after = heads d.q.after; above = rw add-one u.1 })))
 
 pub returns-then-up-self : goal.returns-then-up-self
 returns-then-up-self g t c = λ w. rekey_top w c.args.key c.if-up-self.true

@@ -1,6 +1,5 @@
 use Rattle.bforest_core.proofs.Words.{rules, suc, ◌∷◌, ◌++◌, length, set, refl, ◌∙◌, arith, get_or-set_same, get_or-set_other, Moved, TwoAbove}
-use Rattle.bforest_core.proofs.{path.Path.enter_next.Given.Over, removal.Neighbours.{over-above, must_move, entered_next}, removal.Asked.two_low}
-use Rattle.bforest_core.proofs.rows.Tops.{top-same}
+use Rattle.bforest_core.proofs.{path.Path.enter_next.Given.Over, removal.Lifted.{over-above, must_move, entered_next, two_low}, rows.Tops.top-same}
 use Rattle.bforest_core.proofs.path.Path.enter_next.Goals as goal
 
 pub next_node-moved-requires : goal.next_node-moved-requires
@@ -21,8 +20,10 @@ returns g c = let w = c.requires.pending in let s1 = c.next_node-moved.new.self 
     record {
       moved = λ v. entered_next (set s1.entry c.args.level 0) v.before v.x v.y v.after v.above (moved g c v) (λ i high. get_or-set_other s1.entry c.args.level i 0 0 (λ same. omega (arith, same, high)));
       first = get_or-set_same s1.entry c.args.level 0 0 (omega (arith, w.above.height, c.requires.height));
-      nodes_below = m.nodes_below;
-      entries_below = λ below low. get_or-set_other s1.entry c.args.level below 0 0 (λ same. omega (arith, same, low)) ∙ m.entries_below below (omega (arith, low));
-      same_top = top-same w.rows w.above e.0 (two_low w);
+      keeps = record {
+        nodes_below = m.nodes_below;
+        entries_below = λ below low. get_or-set_other s1.entry c.args.level below 0 0 (λ same. omega (arith, same, low)) ∙ m.entries_below below (omega (arith, low));
+        same_top = top-same w.rows w.above e.0 (two_low w);
+      };
       size = c.next_node-moved.ensures.size;
     }

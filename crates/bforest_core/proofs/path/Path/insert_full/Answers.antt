@@ -1,5 +1,5 @@
 use Rattle.bforest_core.proofs.Words.{Placing, rules, ◌≡◌, ℕ, ◌++◌, length, get_or, refl, ap, ◌∙◌, arith, sizes_of, need, leaf_content, PlacedUnder, tree_of}
-use Rattle.bforest_core.proofs.{Words.reserved, insertion.Insertion.{placed-under, under-low, growth-low, placed-mid, full-reserved, Put, put-split}}
+use Rattle.bforest_core.proofs.{Words.reserved, insertion.LeafPut.{inserts, placed-under, under-low, growth-low, placed-mid, full-reserved, Put, put-split}}
 use Rattle.bforest_core.proofs.{table.Allocating.{err_iff, err_is, reserved-free}, insertion.LeafSpot.leaf_spot, path.Path.insert_full.Given.Over}
 use Rattle.bforest_core.proofs.path.Path.insert_full.Goals as goal
 
@@ -42,14 +42,4 @@ returns-in_err-reserve g c = let t0 = c.args.pool.now in let e = err_is _ _ c.fr
     }
 
 pub returns : goal.returns
-returns g c = record {
-  inserted = λ at. rw c.root.ensures (put_at g c at.placed).is.changes;
-  account = λ at. (put_at g c at.placed).is.takes;
-  stands = λ at. rw c.root.ensures (put_at g c at.placed).is.stands;
-  same_root = λ at. rw c.root.ensures (put_at g c at.placed).is.same_root;
-  full = λ at. (λ is. absurd cc, λ short. absurd (omega (arith, (put_at g c at.placed).enough)));
-  memory = λ at is. absurd cc;
-  enough = λ at enough. refl;
-  refused_pool = tt;
-  refused_path = tt;
-}
+returns g c = inserts _ c.root.ensures (λ at. put_at g c at.placed)

@@ -1,8 +1,8 @@
-use Rattle.bforest_core.proofs.{Words.{rules, arith}, removal.PastEnd.{counted_asks, in_leaf, beside_asks, behind_all, one_follows}}
+use Rattle.bforest_core.proofs.{Words.{rules, arith}, removal.LeafAt.{left_asks, in_leaf, beside_asks, behind_all, one_follows}}
 use Rattle.bforest_core.proofs.path.Path.is_past_end.Goals as goal
 
 pub entries-requires : goal.entries-requires
-entries-requires g c = (search rules, counted_asks c.requires.lost.3 c.index-self-0.result (omega arith))
+entries-requires g c = (search rules, left_asks c.requires.lost.3 c.index-self-0.result (omega arith))
 
 pub returns-then-self-entries-clause-within : goal.returns-then-self-entries-clause-within
 returns-then-self-entries-clause-within g c = λ no old tree place l.

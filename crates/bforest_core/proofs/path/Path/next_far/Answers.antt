@@ -13,24 +13,10 @@ go_to_child-requires g c = let said = c.next_turn-turn.ensures in
     (search rules, (search rules, turn-goes _ _ _ c.requires.height said.within c.requires.last said.last c.if-turn-self.false (said.turns c.if-turn-self.false) c.requires.over))
 
 pub go_first-requires : goal.go_first-requires
-go_first-requires g c = let said = c.next_turn-turn.ensures in
-    let w' = c.go_to_child.ensures in (
-      search rules,
-      (
-        search rules,
-        (
-          omega arith,
-          (
-            c.args.self.now.node,
-            c.args.self.now.entry,
-            c.args.self.now.size,
-            turned c.args.pool.now.nodes c.args.self.now.node c.args.self.now.entry c.requires.height said.within c.requires.last said.last
-                c.if-turn-self.false (said.turns c.if-turn-self.false) (went w'.child w'.nodes w'.entry w'.entries),
-            c.requires.over,
-          ),
-        ),
-      ),
-    )
+go_first-requires g c = let said = c.next_turn-turn.ensures in let w' = c.go_to_child.ensures in let s = c.args.self.now in
+    let went-on = turned c.args.pool.now.nodes s.node s.entry c.requires.height said.within c.requires.last said.last
+    c.if-turn-self.false (said.turns c.if-turn-self.false) (went w'.child w'.nodes w'.entry w'.entries) in
+    (search rules, (search rules, (omega arith, (s.node, s.entry, s.size, went-on, c.requires.over))))
 
 pub returns-clause-moved : goal.returns-clause-moved
 returns-clause-moved g c = λ yes. let said = c.next_turn-turn.ensures in let w' = c.go_to_child.ensures in

@@ -31,23 +31,9 @@ returns-then-has_child g c = record {
 }
 
 pub next_far-requires : goal.next_far-requires
-next_far-requires g c = (
-  search rules,
-  (
-    search rules,
-    (
-      c.requires.height,
-      (
-        c.requires.over,
-        (
-          (λ e. c.if-level-self.false (add-one c.args.level ∙ e)),
-          here-last c.args.pool.now.nodes c.args.self.now.node c.args.self.now.entry (sym (add-one _))
-              (omega arith) c.has_child.ensures.within c.if-has_child.false,
-        ),
-      ),
-    ),
-  ),
-)
+next_far-requires g c = let s = c.args.self.now in
+    let last = here-last c.args.pool.now.nodes s.node s.entry (sym (add-one _)) (omega arith) c.has_child.ensures.within c.if-has_child.false in
+    (search rules, (search rules, (c.requires.height, (c.requires.over, ((λ e. c.if-level-self.false (add-one c.args.level ∙ e)), last)))))
 
 pub returns : goal.returns
 returns g c = record { moved = c.next_far.ensures.moved; last = c.next_far.ensures.last; same = c.next_far.ensures.same; size = c.next_far.ensures.size }

@@ -18,24 +18,10 @@ go_to_child-requires g c = let said = c.prev_turn-turn.ensures in
     (search rules, (search rules, before-goes c.args.pool.now.nodes c.args.self.now.node c.args.self.now.entry c.requires.height said.within said.first c.if-turn-self.false (said.turns c.if-turn-self.false) c.requires.over))
 
 pub go_last-requires : goal.go_last-requires
-go_last-requires g c = let said = c.prev_turn-turn.ensures in
-    let w' = c.go_to_child.ensures in (
-      search rules,
-      (
-        search rules,
-        (
-          omega (arith, said.within),
-          (
-            c.args.self.now.node,
-            c.args.self.now.entry,
-            c.args.self.now.size,
-            turned-back c.args.pool.now.nodes c.args.self.now.node c.args.self.now.entry c.requires.height said.within said.first
-                c.if-turn-self.false (said.turns c.if-turn-self.false) (went w'.child w'.nodes w'.entry w'.entries),
-            c.requires.over,
-          ),
-        ),
-      ),
-    )
+go_last-requires g c = let said = c.prev_turn-turn.ensures in let w' = c.go_to_child.ensures in let s = c.args.self.now in
+    let went-back = turned-back c.args.pool.now.nodes s.node s.entry c.requires.height said.within said.first
+    c.if-turn-self.false (said.turns c.if-turn-self.false) (went w'.child w'.nodes w'.entry w'.entries) in
+    (search rules, (search rules, (omega (arith, said.within), (s.node, s.entry, s.size, went-back, c.requires.over))))
 
 pub returns-clause-moved : goal.returns-clause-moved
 returns-clause-moved g c = λ yes. let said = c.prev_turn-turn.ensures in let w' = c.go_to_child.ensures in

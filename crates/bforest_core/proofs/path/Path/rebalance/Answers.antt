@@ -1,5 +1,5 @@
-use Rattle.bforest_core.proofs.removal.Rebalancing.{counted_asks, past_asks, past_heals, stay_heals, beside_asks, last_heals, balance_asks, rekey_asks}
-use Rattle.bforest_core.proofs.{Words.{rules, arith}, removal.Rebalancing.{rekey_heals, free_asks, free_joins}}
+use Rattle.bforest_core.proofs.{Words.{rules, arith}, removal.Rebalance.{counted_asks, past_asks, past_heals, stay_heals, beside_asks, last_heals}}
+use Rattle.bforest_core.proofs.removal.Rebalance.{balance_asks, rekey_asks, rekey_heals, free_asks, free_joins}
 use Rattle.bforest_core.proofs.path.Path.rebalance.Goals as goal
 
 pub entries-left-requires : goal.entries-left-requires
@@ -10,8 +10,8 @@ enter_next-requires g c = (search rules, (search rules, (c.requires.height, past
 
 pub returns-then-self-level-clause-healed : goal.returns-then-self-level-clause-healed
 returns-then-self-level-clause-healed g c = λ same w.
-    past_heals w _ (omega arith) c.requires.height _ c.entries-left.ensures.value c.if-left-least.true c.if-self-level.true _ _ c.enter_next.ensures.moved c.enter_next.ensures.first
-    c.enter_next.ensures.nodes_below c.enter_next.ensures.entries_below c.enter_next.ensures.same_top
+    past_heals w _ (omega arith) c.requires.height _ c.entries-left.ensures.value c.if-left-least.true c.if-self-level.true _ _ c.enter_next.ensures.moved
+    c.enter_next.ensures.first c.enter_next.ensures.keeps
 
 pub returns-else-self-level-clause-healed : goal.returns-else-self-level-clause-healed
 returns-else-self-level-clause-healed g c = λ same w. stay_heals w _ (omega arith) c.requires.height _ c.entries-left.ensures.value c.if-left-least.true c.if-self-level.false
@@ -38,30 +38,3 @@ returns-in-Some-balance_nodes-clause-healed g c = λ same w. rekey_heals w _ (om
 pub returns-in-None-balance_nodes-clause-joined : goal.returns-in-None-balance_nodes-clause-joined
 returns-in-None-balance_nodes-clause-joined g c = λ same w. free_joins w _ (omega arith) c.requires.height _ c.entries-left.ensures.value c.if-left-least.false
     c.in-Some.is c.right_sibling.ensures c.balance_nodes.ensures.balanced c.in-None-balance_nodes.is _ c.free_node.ensures.freed
-
-pub offset_bounds-self-level : goal.offset_bounds-self-level
-offset_bounds-self-level g c = omega arith
-
-pub listed : goal.listed
-listed g c = omega arith
-
-pub bounds-self-level : goal.bounds-self-level
-bounds-self-level g c = omega arith
-
-pub bounds-self-level-then-left-least : goal.bounds-self-level-then-left-least
-bounds-self-level-then-left-least g c = omega arith
-
-pub overflow_add-level : goal.overflow_add-level
-overflow_add-level g c = omega arith
-
-pub overflow_add-level-in-Some-balance_nodes : goal.overflow_add-level-in-Some-balance_nodes
-overflow_add-level-in-Some-balance_nodes g c = omega arith
-
-pub offset_bounds-self-level-in-None-balance_nodes : goal.offset_bounds-self-level-in-None-balance_nodes
-offset_bounds-self-level-in-None-balance_nodes g c = omega arith
-
-pub listed-in-None-balance_nodes : goal.listed-in-None-balance_nodes
-listed-in-None-balance_nodes g c = omega arith
-
-pub bounds-self-level-in-None-balance_nodes : goal.bounds-self-level-in-None-balance_nodes
-bounds-self-level-in-None-balance_nodes g c = omega arith

@@ -1,36 +1,28 @@
-use Rattle.bforest_core.proofs.{Words.{rules, arith, get_or_default}, removal.LeafEmptied.{free_asks, emptied_tree, above_asks, collapse_asks, drop_removed}}
-use Rattle.bforest_core.proofs.removal.Untrimmed.{stands_root}
+use Rattle.bforest_core.proofs.{Words.{rules, arith}, removal.LeafAt.{free_asks, leaf_emptied, leaf_asks, collapse_asks, drop_removed}}
+use Rattle.bforest_core.proofs.removal.Removing.{stands_root}
 use Rattle.bforest_core.proofs.path.Path.remove_leaf.Goals as goal
 
 pub free_node-requires : goal.free_node-requires
 free_node-requires g c = let w = c.requires.single in
-    (search rules, free_asks c.requires.capacity w.5 _ (get_or_default c.args.self.now.node 0 c.index-self-0.result 0 (omega arith)) w.3 c.requires.used)
+    (search rules, free_asks c.requires.capacity w.5 w.3 _ (omega arith) c.requires.used)
 
 pub returns-then-self-eq1-clause-emptied : goal.returns-then-self-eq1-clause-emptied
 returns-then-self-eq1-clause-emptied g c = λ none old tree place s alone.
-    emptied_tree c.requires.capacity alone _ (get_or_default c.args.self.now.node 0 c.index-self-0.result 0 (omega arith)) s c.free_node.new.self c.free_node.ensures.freed c.if-self-eq1.true
+    leaf_emptied c.requires.capacity alone s _ (omega arith) c.free_node.new.self c.free_node.ensures.freed c.if-self-eq1.true
 
 pub remove_emptied-requires : goal.remove_emptied-requires
 remove_emptied-requires g c = let w = c.requires.single in
-    (search rules, (search rules, (omega arith, above_asks c.requires.capacity w.5 _ (get_or_default c.args.self.now.node 0 c.index-self-0.result 0 (omega arith)) w.3 c.free_node.new.self c.free_node.ensures.freed (λ e. c.if-self-eq1.false e))))
+    (search rules, (search rules, (omega arith, leaf_asks c.requires.capacity w.5 w.3 _ (omega arith) c.free_node.new.self c.free_node.ensures.freed (λ e. c.if-self-eq1.false e))))
 
 pub collapse_root-top-requires : goal.collapse_root-top-requires
-collapse_root-top-requires g c = let w = c.requires.single in (
-  search rules,
-  (
-    search rules,
-    (
-      omega arith,
-      collapse_asks c.requires.capacity w.5 _ (get_or_default c.args.self.now.node 0 c.index-self-0.result 0 (omega arith)) w.3 c.free_node.new.self
-          c.free_node.ensures.freed (λ e. c.if-self-eq1.false e) c.remove_emptied.new.pool c.remove_emptied.ensures c.args.root w.4,
-    ),
-  ),
-)
+collapse_root-top-requires g c = let w = c.requires.single in
+    let asked = collapse_asks c.requires.capacity w.5 w.3 _ (omega arith) c.free_node.new.self c.free_node.ensures.freed (λ e. c.if-self-eq1.false e)
+    c.remove_emptied.new.pool c.remove_emptied.ensures c.args.root w.4 in
+    (search rules, (search rules, (omega arith, asked)))
 
 pub returns-clause-removed : goal.returns-clause-removed
 returns-clause-removed g c = λ old tree place s alone. let w = c.requires.single in
-    drop_removed c.requires.capacity alone _ (get_or_default c.args.self.now.node 0 c.index-self-0.result 0 (omega arith))
-    s c.free_node.new.self c.free_node.ensures.freed
+    drop_removed c.requires.capacity alone s _ (omega arith) c.free_node.new.self c.free_node.ensures.freed
     (λ e. c.if-self-eq1.false e) c.remove_emptied.new.pool c.remove_emptied.ensures c.args.root
     (stands_root c.args.root s w.3 w.4)
     c.collapse_root-top.new.pool c.collapse_root-top.new.self.node c.collapse_root-top.new.self.entry c.collapse_root-top.new.self.size c.collapse_root-top.result c.collapse_root-top.ensures.trimmed

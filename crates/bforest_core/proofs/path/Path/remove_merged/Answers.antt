@@ -1,24 +1,6 @@
-use Rattle.bforest_core.proofs.removal.RemovingMerged.{here, key_asks, remove_asks, same_parent, index_some, last_key_asks, rekey_asks, remove_last_asks}
-use Rattle.bforest_core.proofs.{Words.{rules, ◌+◌, arith, add-one}, removal.RemovingMerged.next_parent, removal.Asked.two_low}
+use Rattle.bforest_core.proofs.{Words.{rules, arith}, removal.Lifted.{here, key_asks, remove_asks, merge_same, index_some, last_key_asks, above_asks}}
+use Rattle.bforest_core.proofs.removal.Lifted.{remove_last_asks, merge_next}
 use Rattle.bforest_core.proofs.path.Path.remove_merged.Goals as goal
-
-pub bounds-self-up : goal.bounds-self-up
-bounds-self-up g c = omega (arith, two_low c.requires.pending)
-
-pub bounds-self-up-2 : goal.bounds-self-up-2
-bounds-self-up-2 g c = omega (arith, two_low c.requires.pending)
-
-pub listed : goal.listed
-listed g c = omega (arith, two_low c.requires.pending)
-
-pub offset_bounds-self-up : goal.offset_bounds-self-up
-offset_bounds-self-up g c = omega (arith, two_low c.requires.pending)
-
-pub overflow_add-up : goal.overflow_add-up
-overflow_add-up g c = omega (arith, two_low c.requires.pending)
-
-pub overflow_add-index : goal.overflow_add-index
-overflow_add-index g c = omega (arith, (here c.requires.pending c.index-self-up.result (omega arith) c.requires.height).small)
 
 pub entries-requires : goal.entries-requires
 entries-requires g c = (search rules, (here c.requires.pending c.index-self-up.result (omega arith) c.requires.height).node_asks)
@@ -44,22 +26,19 @@ separator-key-requires-else-index-entries g c =
 
 pub update_next_separator-requires : goal.update_next_separator-requires
 update_next_separator-requires g c = let w = c.requires.pending in
-    (search rules, (search rules, (c.requires.height, rekey_asks w c.index-self-up.result (omega arith) c.requires.height c.entries.result c.entries.ensures.value c.if-index-entries.false (c.args.up + 1) (add-one c.args.up))))
+    (search rules, (search rules, (c.requires.height, above_asks w c.index-self-up.result (omega arith) c.requires.height c.entries.result c.entries.ensures.value c.if-index-entries.false)))
 
 pub remove_child-answer-requires-else-index-entries : goal.remove_child-answer-requires-else-index-entries
-remove_child-answer-requires-else-index-entries g c = let w = c.requires.pending in (
-  search rules,
-  remove_last_asks w _ (omega arith) c.requires.height _ c.entries.ensures.value c.if-index-entries.false _
-      (add-one c.args.up) _ _ c.update_next_separator.ensures,
-)
+remove_child-answer-requires-else-index-entries g c = let w = c.requires.pending in
+    (search rules, remove_last_asks w _ (omega arith) c.requires.height _ c.entries.ensures.value c.if-index-entries.false _ _ c.update_next_separator.ensures)
 
 pub returns-then-index-entries : goal.returns-then-index-entries
-returns-then-index-entries g c = λ w. same_parent w c.index-self-up.result (omega arith) c.requires.height c.entries.result c.entries.ensures.value
+returns-then-index-entries g c = λ w. merge_same w c.index-self-up.result (omega arith) c.requires.height c.entries.result c.entries.ensures.value
     c.if-index-entries.true c.set_separator.new.pool c.separator-key.result c.set_separator.ensures c.remove_child-answer.new.pool c.saturating_sub.result
     c.saturating_sub.ensures c.separator-key.ensures c.remove_child-answer.ensures.node
 
 pub returns-else-index-entries : goal.returns-else-index-entries
-returns-else-index-entries g c = λ w. next_parent w c.index-self-up.result (omega arith) c.requires.height c.entries.result c.entries.ensures.value
-    c.if-index-entries.false (c.args.up + 1) (add-one c.args.up) c.update_next_separator.new.pool c.separator-key-else-index-entries.result
+returns-else-index-entries g c = λ w. merge_next w c.index-self-up.result (omega arith) c.requires.height c.entries.result c.entries.ensures.value
+    c.if-index-entries.false c.update_next_separator.new.pool c.separator-key-else-index-entries.result
     c.update_next_separator.ensures c.remove_child-answer-else-index-entries.new.pool c.separator-key-else-index-entries.ensures
     c.remove_child-answer-else-index-entries.ensures.node

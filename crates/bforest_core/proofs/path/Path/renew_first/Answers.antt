@@ -1,17 +1,17 @@
-use Rattle.bforest_core.proofs.{Words.{rules, arith, get_or_default}, removal.Taking.{behind, first_asks, above_asks, ahead}}
+use Rattle.bforest_core.proofs.{Words.{rules, arith}, removal.LeafAt.{behind, first_asks, above_asks, ahead}}
 use Rattle.bforest_core.proofs.path.Path.renew_first.Goals as goal
 
 pub returns-then-self-gt0 : goal.returns-then-self-gt0
-returns-then-self-gt0 g c = λ old tree place s h. behind s _ (get_or_default c.args.self.now.node 0 0 0 (omega arith)) h c.if-self-gt0.true
+returns-then-self-gt0 g c = λ old tree place s h. behind s h c.if-self-gt0.true
 
 pub leaf_key-key-requires : goal.leaf_key-key-requires
 leaf_key-key-requires g c = let w = c.requires.taken in
-    (search rules, first_asks w.3 _ (get_or_default c.args.self.now.node 0 c.index-self-0.result 0 (omega arith)) w.4 c.if-self-gt0.false)
+    (search rules, first_asks w.3 _ (omega arith) w.4 c.if-self-gt0.false)
 
 pub update_separator-requires : goal.update_separator-requires
 update_separator-requires g c = let w = c.requires.taken in
-    (search rules, (search rules, (omega arith, above_asks w.3 _ (get_or_default c.args.self.now.node 0 c.index-self-0.result 0 (omega arith)) w.4 c.if-self-gt0.false)))
+    (search rules, (search rules, (omega arith, above_asks w.3 w.4 c.if-self-gt0.false)))
 
 pub returns : goal.returns
 returns g c = λ old tree place s h.
-    ahead s _ (get_or_default c.args.self.now.node 0 c.index-self-0.result 0 (omega arith)) h c.if-self-gt0.false c.update_separator.new.pool c.leaf_key-key.result c.leaf_key-key.ensures c.update_separator.ensures
+    ahead s _ (omega arith) h c.if-self-gt0.false c.update_separator.new.pool c.leaf_key-key.result c.leaf_key-key.ensures c.update_separator.ensures

@@ -1,12 +1,11 @@
 use Rattle.bforest_core.proofs.Words.{rules, sym, ◌≤◌, ◌++◌, map, length, get_or, ap, arith, get_or_default, heads, sizes, need_above, gain_above}
-use Rattle.bforest_core.proofs.{insertion.Halving.leaf_full_is, insertion.LeafSpot.leaf_spot, insertion.LeafParted.{above_leaf, inserted}}
-use Rattle.bforest_core.proofs.{insertion.Rise.need_some, rows.Needs.leaf_need_full}
+use Rattle.bforest_core.proofs.{insertion.Parted.{leaf_full_is, need_some}, insertion.LeafSpot.{leaf_spot, above_leaf, inserted, leaf_need_full}}
 use Rattle.bforest_core.proofs.path.Path.split_leaf.Goals as goal
 
 pub halve_leaf-half-requires : goal.halve_leaf-half-requires
 halve_leaf-half-requires g c = let w = c.requires.placed in let ms = c.args.self.now.node in let d = leaf_spot w.2 in
     let full = leaf_full_is _ _ (get_or ms 0 0) (d.l ++ d.r) d.slot_is c.requires.full in
-    (search rules, (search rules, (omega (arith, w.3, leaf_need_full d full, need_some (length d.before) (map sizes w.0.above)), (c.requires.full, (w.0, w.1, w.2)))))
+    (search rules, (search rules, (omega (arith, w.3, leaf_need_full w.2 full, need_some (length d.before) (map sizes w.0.above)), (c.requires.full, (w.0, w.1, w.2)))))
 
 pub insert_above-requires : goal.insert_above-requires
 insert_above-requires g c = let w = c.requires.placed in let h = c.halve_leaf-half.ensures.halved w.0 w.1 w.2 in
