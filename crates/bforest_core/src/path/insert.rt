@@ -108,7 +108,7 @@ impl<K: Copy, V: Copy, const N: usize> Path<K, V, N> {
     }
 
     // How many nodes a split of the path's node below level `up` takes.
-    #[tactic(auto, using(crate::proofs::removal::Lifted::above_low))]
+    #[tactic(auto, using(crate::proofs::removal::Asked::above_low))]
     fn needed_above(&self, up: usize, pool: &NodePool<K, V, N>) -> u32
         requires height { self.now.size ≤ most_levels }
         requires pending { (rows : List (List (LevelNode K ℕ))) × (list : List (K × ℕ)) × (place : ℕ)

@@ -15,7 +15,7 @@ use bforest_nodes::Node;
 
 impl<K: Copy, V: Copy, const N: usize> Path<K, V, N> {
     // The right neighbour of the path's node below level `up`, which may have another parent, with the key between the two.
-    #[tactic(auto, using(crate::proofs::removal::Lifted::one_low, crate::proofs::removal::Lifted::one_small))]
+    #[tactic(auto, using(crate::proofs::removal::Asked::one_low, crate::proofs::removal::Asked::one_small))]
     pub(super) fn right_sibling(&self, up: usize, pool: &NodePool<K, V, N>) -> Option<(K, Node)>
         requires height { self.now.size ≤ most_levels }
         requires pending { OneAbove pool.now self.now.node self.now.entry up self.now.size }
@@ -41,7 +41,7 @@ impl<K: Copy, V: Copy, const N: usize> Path<K, V, N> {
     }
 
     // Updates the key between the path's node below level `up` and its right neighbour.
-    #[tactic(auto, using(crate::proofs::removal::Lifted::two_low, crate::proofs::removal::Lifted::two_small))]
+    #[tactic(auto, using(crate::proofs::removal::Asked::two_low, crate::proofs::removal::Asked::two_small))]
     pub(super) fn update_next_separator(&self, up: usize, key: K, pool: &mut NodePool<K, V, N>)
         requires height { self.now.size ≤ most_levels }
         requires pending { TwoAbove pool.old self.now.node self.now.entry up self.now.size }
@@ -94,7 +94,7 @@ impl<K: Copy, V: Copy, const N: usize> Path<K, V, N> {
     }
 
     // Removes the entry at the path from level `up`, and gives its key to the next one.
-    #[tactic(auto, using(crate::proofs::removal::Lifted::two_low, crate::proofs::removal::Lifted::two_small))]
+    #[tactic(auto, using(crate::proofs::removal::Asked::two_low, crate::proofs::removal::Asked::two_small))]
     fn remove_merged(&self, up: usize, pool: &mut NodePool<K, V, N>)
         requires height { self.now.size ≤ most_levels }
         requires pending { TwoAbove pool.old self.now.node self.now.entry up self.now.size }
@@ -119,7 +119,7 @@ impl<K: Copy, V: Copy, const N: usize> Path<K, V, N> {
 
     // Balances the path's node on `level`, which lost an entry, with its right neighbour, if it has fewer than `least` entries. Returns whether
     // it was merged into the neighbour, to which the path leads then.
-    #[tactic(auto, using(crate::proofs::removal::Rebalance::loses_low))]
+    #[tactic(auto, using(crate::proofs::removal::Rebalancing::loses_low))]
     #[inline(always)]
     pub(super) fn rebalance(
         &mut self,
@@ -162,7 +162,7 @@ impl<K: Copy, V: Copy, const N: usize> Path<K, V, N> {
     }
 
     // Removes the entry of the path's node below level `up`, which was merged into its right neighbour, and gives its key to the neighbour.
-    #[tactic(auto, using(crate::proofs::removal::Lifted::two_low))]
+    #[tactic(auto, using(crate::proofs::removal::Asked::two_low))]
     pub(super) fn merge_above(&mut self, up: usize, pool: &mut NodePool<K, V, N>)
         requires height { self.old.size ≤ most_levels }
         requires pending { TwoAbove pool.old self.old.node self.old.entry up self.old.size }
@@ -179,7 +179,7 @@ impl<K: Copy, V: Copy, const N: usize> Path<K, V, N> {
     }
 
     // Removes the entry of the path's node below level `up`, which was the rightmost and is empty, and the nodes that this empties.
-    #[tactic(auto, using(crate::proofs::removal::Lifted::last_low))]
+    #[tactic(auto, using(crate::proofs::removal::Asked::last_low))]
     pub(super) fn remove_emptied(&self, up: usize, pool: &mut NodePool<K, V, N>)
         requires height { self.now.size ≤ most_levels }
         requires pending { LastAbove pool.old self.now.node self.now.entry up self.now.size }

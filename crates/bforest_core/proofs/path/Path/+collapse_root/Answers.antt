@@ -1,5 +1,5 @@
-use Rattle.bforest_core.proofs.{Words.{rules, ◌-◌, ◌<◌, [], ◌∷◌, ◌++◌, arith}, removal.Removing.{trim_leaf, counted_asks, trim_stays, child_asks, free_asks}}
-use Rattle.bforest_core.proofs.removal.Removing.{trim_down, trim_then}
+use Rattle.bforest_core.proofs.Words.{rules, ◌-◌, ◌<◌, [], ◌∷◌, ◌++◌, arith}
+use Rattle.bforest_core.proofs.removal.Collapse.{trim_leaf, counted_asks, trim_stays, child_asks, free_asks, trim_down, trim_then}
 use Rattle.bforest_core.proofs.path.Path.+collapse_root.Goals as goal
 
 pub returns-then-self-eq1-clause-trimmed : goal.returns-then-self-eq1-clause-trimmed

@@ -1,5 +1,7 @@
-use Rattle.bforest_core.proofs.{Words.{rules, ◌<◌, [], map, length, ap, arith, sizes, ◌∙◌, ◌≡◌}, insertion.Parted.{gain-some, need_top}}
-use Rattle.bforest_core.proofs.insertion.Parted.{room_then, next_asks, next_takes}
+use Rattle.bforest_core.proofs.Words.{rules, ◌<◌, [], map, length, ap, arith, sizes, ◌∙◌, ◌≡◌}
+use Rattle.bforest_core.proofs.insertion.Parted.{gain-some}
+use Rattle.bforest_core.proofs.insertion.Rise.{need_top}
+use Rattle.bforest_core.proofs.insertion.HalvingNode.{room_then, next_asks, next_takes}
 use Rattle.bforest_core.proofs.path.Path.+insert_above.Goals as goal
 
 pub push_root-requires : goal.push_root-requires

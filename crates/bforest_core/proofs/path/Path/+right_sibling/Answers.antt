@@ -1,5 +1,5 @@
-use Rattle.bforest_core.proofs.{Words.{rules, arith}, removal.Lifted.{one_seen, one_asks, one_fewer, first_asks, item_asks, beside_same, none_right}}
-use Rattle.bforest_core.proofs.removal.Lifted.{beside_next}
+use Rattle.bforest_core.proofs.Words.{rules, arith}
+use Rattle.bforest_core.proofs.removal.Neighbours.{one_seen, one_asks, one_fewer, first_asks, item_asks, beside_same, none_right, beside_next}
 use Rattle.bforest_core.proofs.path.Path.+right_sibling.Goals as goal
 
 pub entries-requires : goal.entries-requires

@@ -1,4 +1,6 @@
-use Rattle.bforest_core.proofs.{Words.{rules, arith}, removal.Lifted.one_small, insertion.Parted.{put_asks, put_grows, put_full}}
+use Rattle.bforest_core.proofs.Words.{rules, arith}
+use Rattle.bforest_core.proofs.removal.Asked.{one_small}
+use Rattle.bforest_core.proofs.insertion.HalvingNode.{put_asks, put_grows, put_full}
 use Rattle.bforest_core.proofs.path.Path.insert_here.Goals as goal
 
 pub put_child-requires : goal.put_child-requires

@@ -1,0 +1,174 @@
+-- What the calls on the nodes of a path and on the rows above a level require and ensure.
+use Rattle.bforest_core.proofs.Words.{◌≡◌, ℕ, zero, suc, ◌-◌, ◌≤◌, List, [], ◌∷◌, ◌++◌, length, drop, set, slice_get, Some, refl, sym, ◌∙◌, inl, inr}
+use Rattle.bforest_core.proofs.Words.{append_assoc, length-append, arith, Heads, remove, append-nil, length-map, map-append, set_at, eqb_tells, Inner}
+use Rattle.bforest_core.proofs.Words.{without_child, inner_content, entry_keys, entry_items, ◌+◌, ◌<◌, Option, get_or, ap, Rows, IsFree, IsUsed, entry_count}
+use Rattle.bforest_core.proofs.Words.{with_key, Table, with_node, sizes, count, Above, LastAbove, NextIs, OneAbove, TwoAbove, get_or_default, subst, Row}
+use Rattle.bforest_core.proofs.Words.{flat_map, node, flat, heads, head_of, numbers, FitRow, RowIn, Distinct, Frees, add-one, nil_from_length, LoosenedRows}
+use Rattle.bforest_core.proofs.Words.{Rekeyed, ◌≢◌, true, false, map, None, Bool, Over, Moved, Keeps}
+use Rattle.bforest_core.proofs.table.Stored.{slice_get_at, some_same, key_count, item_count, read_same}
+use Rattle.bforest_core.proofs.rows.Zipper.{Spot, spot, above_two, stands_here, stands-same}
+use Rattle.bforest_core.proofs.table.Tables.{is_used, count-append, count-same, count-row, counts, row-put, row-same, rows-same, ne_from_count, Puts, puts}
+use Rattle.bforest_core.proofs.table.Tables.{row-split, row-join, puts-then}
+use Rattle.bforest_core.proofs.removal.Frees.{frees-puts, frees-refl, frees-wider, frees-after}
+use Rattle.bforest_core.proofs.rows.LevelRows.{least-pos, flat-append, heads-append, sizes-append, FitRow-join}
+
+-- removing the element between two lists
+pub remove_at : {A : Type 0} → (p : List A) (y : A) (ys : List A) (n : ℕ) → length p ≡ n → remove (p ++ y ∷ ys) n ≡ p ++ ys
+remove_at [] y ys zero e = refl
+remove_at [] y ys (suc n) e = absurd (omega arith)
+remove_at (z ∷ p) y ys zero e = absurd (omega arith)
+remove_at (z ∷ p) y ys (suc n) e = cc (remove_at p y ys n (omega arith))
+
+module _ {K : Type 0} (V : Type 0) where
+  -- removing one of two children or more removes the key before it
+  pub without_some : (ks : List K) (cs index : _) → 2 ≤ length cs → without_child {V = V} (Inner ks cs) index ≡ Inner (remove ks (index - 1)) (remove cs index)
+  without_some ks cs index two = elim (eqb_tells (length cs) 1) [ inl w ↦ absurd (let e = w.1 in omega arith) | inr w ↦ (let e = w.0 in rw e refl) ]
+
+  -- removing a child that another follows, with the removed child's key passed to the next
+  pub removed_same : (l : Heads K) (x y : K × ℕ) (r : Heads K) (key : K) (e : ℕ) → length l ≡ e → slice_get (drop 1 (entry_keys (l ++ x ∷ y ∷ r))) (e - 1) ≡ Some key →
+      without_child {V = V} (Inner (set (drop 1 (entry_keys (l ++ x ∷ y ∷ r))) e key) (entry_items (l ++ x ∷ y ∷ r))) e ≡ inner_content (l ++ (x.0, y.1) ∷ r)
+  removed_same [] x y r key zero e k = without_some (key ∷ entry_keys r) (x.1 ∷ y.1 ∷ entry_items r) 0 (omega arith)
+  removed_same [] x y r key (suc n) e k = absurd (omega arith)
+  removed_same (z ∷ l) x y r key zero e k = absurd (omega arith)
+  removed_same (z ∷ l) x y r key (suc n) e k = let kl : length (entry_keys l) ≡ n = length-map l (λ (w : K × ℕ). w.0) ∙ omega arith in
+      let kl2 : length (entry_keys l ++ x.0 ∷ []) ≡ suc n = length-append (entry_keys l) (x.0 ∷ []) ∙ omega arith in
+      let il : length (entry_items l) ≡ n = length-map l (λ (w : K × ℕ). w.1) ∙ omega arith in let keys_are = map-append (λ (w : K × ℕ). w.0) l (x ∷ y ∷ r) in
+      let less : suc n - 1 ≡ n = omega arith in
+      let key_is = some_same key x.0 (sym k ∙ rw (less, keys_are) (slice_get_at (entry_keys l) x.0 (y.0 ∷ entry_keys r) n kl)) in
+      let written : set (entry_keys (l ++ x ∷ y ∷ r)) (suc n) key ≡ entry_keys l ++ x.0 ∷ x.0 ∷ entry_keys r =
+      cc (append_assoc (entry_keys l) (x.0 ∷ []) (y.0 ∷ entry_keys r), set_at (entry_keys l ++ x.0 ∷ []) y.0 (entry_keys r) key (suc n) kl2, append_assoc (entry_keys l) (x.0 ∷ []) (key ∷ entry_keys r)) in
+      let two : 2 ≤ length (entry_items ((z ∷ l) ++ x ∷ y ∷ r)) = omega (arith, length-map ((z ∷ l) ++ x ∷ y ∷ r) (λ (w : K × ℕ). w.1), length-append l (x ∷ y ∷ r)) in
+      without_some (set (entry_keys (l ++ x ∷ y ∷ r)) (suc n) key) (entry_items ((z ∷ l) ++ x ∷ y ∷ r)) (suc n) two
+      ∙ rw (written, less, map-append (λ (w : K × ℕ). w.1) l (x ∷ y ∷ r), remove_at (entry_keys l) x.0 (x.0 ∷ entry_keys r) n kl, remove_at (entry_items l) x.1 (y.1 ∷ entry_items r) n il, map-append (λ (w : K × ℕ). w.0) l ((x.0, y.1) ∷ r), map-append (λ (w : K × ℕ). w.1) l ((x.0, y.1) ∷ r)) refl
+
+  -- removing the last child
+  pub removed_last : (z : K × ℕ) (l : Heads K) (x : K × ℕ) (e : ℕ) → suc (length l) ≡ e → without_child {V = V} (inner_content ((z ∷ l) ++ x ∷ [])) e ≡ inner_content (z ∷ l)
+  removed_last z l x zero e = absurd (omega arith)
+  removed_last z l x (suc n) e =
+      let kl : length (entry_keys l) ≡ n = length-map l (λ w. w.0) ∙ omega arith in
+      let il : length (entry_items l) ≡ n = length-map l (λ w. w.1) ∙ omega arith in let less : suc n - 1 ≡ n = omega arith in
+      let two : 2 ≤ length (entry_items ((z ∷ l) ++ x ∷ [])) = omega (arith, length-map ((z ∷ l) ++ x ∷ []) (λ w. w.1), length-append l (x ∷ [])) in
+      without_some (entry_keys (l ++ x ∷ [])) (entry_items ((z ∷ l) ++ x ∷ [])) (suc n) two
+      ∙ rw (less, map-append (λ w. w.0) l _, map-append (λ w. w.1) l _, remove_at _ _ _ n kl, remove_at _ _ _ n il, append-nil (entry_keys l), append-nil (entry_items l)) refl
+
+  -- the key before the last child
+  pub last_key : (z : K × ℕ) (l : Heads K) (x : K × ℕ) (e : ℕ) → suc (length l) ≡ e → slice_get (drop 1 (entry_keys ((z ∷ l) ++ x ∷ []))) (e - 1) ≡ Some x.0
+  last_key z l x e h = cc (map-append (λ w. w.0) l (x ∷ []), slice_get_at (entry_keys l) x.0 [] (e - 1) (length-map l (λ w. w.0) ∙ omega arith))
+
+-- a row without heads has no nodes
+pub no_nodes : {K X : Type 0} (half most : ℕ) → 1 ≤ half → (row : Row K X) → FitRow half most row → heads row ≡ [] → row ≡ []
+no_nodes half most one [] f e = refl
+no_nodes half most one (node n [] ∷ row) f e = absurd (omega (arith, least-pos half one row))
+no_nodes half most one (node n (x ∷ es) ∷ row) f e = absurd cc
+
+-- the first element of a list, and the others
+abbrev pub First : {A : Type 0} → List A → Type 0
+First {A} es = (y : A) × (others : List A) × (es ≡ y ∷ others)
+
+pub some_first : {A : Type 0} (es : List A) → 0 < length es → First es
+some_first [] low = absurd (omega arith)
+some_first (y ∷ es) low = (y, es, refl)
+
+module _ {K V : Type 0} where
+  -- a used node, whose entries are counted
+  abbrev pub NodeAt : Table K V → ℕ → Type 0
+  NodeAt t number = (content : _) × (slice_get t.nodes number ≡ Some content) × (¬ IsFree content)
+
+  -- an inner node with a separator of this index
+  abbrev pub KeyAt : Table K V → ℕ → ℕ → Type 0
+  KeyAt t number index = (keys : List K) × (children : _) × (slice_get t.nodes number ≡ Some (Inner keys children)) × (index < length keys)
+
+  -- an inner node with a child of this index
+  abbrev pub ChildAt : Table K V → ℕ → ℕ → Type 0
+  ChildAt t number index = (keys : List K) × (children : _) × (slice_get t.nodes number ≡ Some (Inner keys children)) × (index < length children)
+
+  -- the answer of a read of a separator
+  abbrev pub ReadsKey : Table K V → ℕ → ℕ → K → Type 0
+  ReadsKey t number index key = (keys : List K) (children : _) → slice_get t.nodes number ≡ Some (Inner keys children) → slice_get keys index ≡ Some key
+
+  abbrev pub ReadsChild : Table K V → ℕ → ℕ → ℕ → Type 0
+  ReadsChild t number index child = (keys : List K) (children : _) → slice_get t.nodes number ≡ Some (Inner keys children) → slice_get children index ≡ Some child
+
+  -- the answer of a count of a node's entries
+  abbrev pub Counts : Table K V → ℕ → ℕ → Type 0
+  Counts t number m = (content : _) → slice_get t.nodes number ≡ Some content → m ≡ entry_count content
+
+  -- the effect of writing a separator
+  abbrev pub Writes : Table K V → Table K V → ℕ → ℕ → K → Type 0
+  Writes t u number index key = (keys : List K) (children : _) → slice_get t.nodes number ≡ Some (Inner keys children) → u ≡ with_node t number (with_key (Inner keys children) index key)
+
+  -- the effect of removing a child
+  abbrev pub Removes : Table K V → Table K V → ℕ → ℕ → Type 0
+  Removes t u number index = (keys : List K) (children : _) → slice_get t.nodes number ≡ Some (Inner keys children) → u ≡ with_node t number (without_child (Inner keys children) index)
+
+  -- a path goes no higher than its levels, and is below the highest where a level has two nodes
+  pub above_low : {t : Table K V} {path indices level size rows list place : _} → Above t path indices level size rows list place → level ≤ size
+  above_low p = omega arith
+
+  pub one_low : {t : Table K V} {path indices : List ℕ} {up size : ℕ} → OneAbove t path indices up size → up ≤ size
+  one_low w = above_low w.above
+
+  pub two_low : {t : Table K V} {path indices : List ℕ} {up size : ℕ} → TwoAbove t path indices up size → up < size
+  two_low w = above_two _ _ _ _ _ w.above
+
+  -- an index above the leaves is that of one of 8 children
+  pub one_small : {t : Table K V} {path indices : List ℕ} {up size : ℕ} → OneAbove t path indices up size → up < size → get_or indices up 0 < 8
+  one_small w low = let d = spot _ _ _ w.above low in omega (arith, d.count_is, d.most_is)
+
+  pub two_small : {t : Table K V} {path indices : List ℕ} {up size : ℕ} → TwoAbove t path indices up size → get_or indices up 0 < 8
+  two_small w = let d = spot _ _ _ w.above (two_low w) in omega (arith, d.count_is, d.most_is)
+
+  pub last_low : {t : Table K V} {path indices : List ℕ} {up size : ℕ} → LastAbove t path indices up size → up < size
+  last_low w = above_two _ _ _ _ _ w.above
+
+  -- the answer of the call for the right neighbour
+  abbrev pub Beside : Table K V → List ℕ → List ℕ → ℕ → ℕ → Option (K × ℕ) → Type 0
+  Beside t path indices up size r = (w : OneAbove t path indices up size) → NextIs r w.after
+
+  -- the effect of the call that updates the key between two neighbours
+  abbrev pub Rekeys : Table K V → Table K V → List ℕ → List ℕ → ℕ → ℕ → K → Type 0
+  Rekeys u v path indices up size key =
+      (w : TwoAbove u path indices up size) → Rekeyed u v path indices up size w.rows (w.before ++ w.x ∷ (key, w.y.1) ∷ w.after) (length w.before)
+
+  -- the effect of the call that enters the next node
+  abbrev pub Enters : Table K V → List ℕ → List ℕ → List ℕ → List ℕ → ℕ → ℕ → Type 0
+  Enters t path indices path' indices' up size =
+      (w : TwoAbove t path indices (suc up) size) → Above t path' indices' (suc up) size w.rows (w.before ++ w.x ∷ w.y ∷ w.after) (suc (length w.before)) × (get_or path' up 0 ≡ w.y.1)
+
+  -- the path's node on a level above, by the number that was read, and what the calls on it require
+  pub record Seen (t : Table K V) (path indices : List ℕ) (up size : ℕ) (rows : Rows K) (a : Heads K) (x : K × ℕ) (b : Heads K) (r : ℕ) : Type 0 where
+    pub d : Spot t path indices up size rows a x b
+    pub small : get_or indices up 0 < 8
+    pub num_is : get_or path up r ≡ get_or path up 0
+    pub slot_is : slice_get t.nodes (get_or path up r) ≡ Some (inner_content (d.q.l ++ x ∷ d.q.r))
+    pub none_chain : count (get_or path up r) t.chain ≡ 0
+    pub used : IsUsed t (get_or path up r)
+    pub node_asks : NodeAt t (get_or path up r)
+    pub child_asks : ChildAt t (get_or path up r) (get_or indices up 0)
+    pub counted : (m : ℕ) → Counts t (get_or path up r) m → m ≡ length (d.q.l ++ x ∷ d.q.r)
+    pub low_key_asks : (i : ℕ) → i < get_or indices up 0 → KeyAt t (get_or path up r) i
+    pub key_asks : (m i : ℕ) → Counts t (get_or path up r) m → i + 1 < m → KeyAt t (get_or path up r) i
+
+  pub seen : {t path indices up size rows : _} (a x : _) (b : _) → Above t path indices up size rows (a ++ x ∷ b) (length a) → up < size → (r : ℕ) → length path
+      ≡ 17 → size ≤ 17 → Seen t path indices up size rows a x b r
+  seen {t} {path} {up} a x b p low r wide height =
+      let d = spot a x b p low in let es = d.q.l ++ x ∷ d.q.r in let num_is = get_or_default path up r 0 (omega arith) in
+      let slot = ap (λ z. slice_get t.nodes z) num_is ∙ d.f.slot_is in let none = ap (λ z. count z t.chain) num_is ∙ d.f.none_chain in
+      let counted : (m : ℕ) → Counts t (get_or path up r) m → m ≡ length es = λ m value. value (inner_content es) slot ∙ item_count es in
+      record {
+        d = d;
+        small = omega (arith, d.count_is, d.most_is);
+        num_is = num_is;
+        slot_is = slot;
+        none_chain = none;
+        used = is_used t (get_or path up r) (inner_content es) slot none;
+        node_asks = (inner_content es, slot, λ free. free);
+        child_asks = (drop 1 (entry_keys es), entry_items es, slot, omega (arith, item_count es, d.count_is));
+        counted = counted;
+        low_key_asks = λ i below. (drop 1 (entry_keys es), entry_items es, slot, omega (arith, d.count_is, key_count es));
+        key_asks = λ m i value more. (drop 1 (entry_keys es), entry_items es, slot, omega (arith, counted m value, key_count es));
+      }
+
+-- a path that is unchanged
+pub keeps-refl : {path indices : List ℕ} {level size : ℕ} → Keeps path indices path indices level size
+keeps-refl = record { nodes_below = λ i low. refl; entries_below = λ i low. refl; same_top = refl }

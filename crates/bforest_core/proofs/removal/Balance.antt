@@ -1,0 +1,149 @@
+-- Leaves and inner nodes as stored, for the calls on two neighbours.
+use Rattle.bforest_core.proofs.Words.{true, ◌≡◌, ℕ, suc, ◌+◌, ◌-◌, ◌/◌, ◌≤◌, ◌<◌, ◌≢◌, List, [], ◌∷◌, ◌++◌, length, slice_get, Option, Some, None, refl, sym}
+use Rattle.bforest_core.proofs.Words.{ap, ◌∙◌, subst, inl, inr, length-append, arith, length-map, map-append, cases_lt, Content, IsFree, IsSameKind}
+use Rattle.bforest_core.proofs.Words.{entry_count, entry_capacity, joined, IsCut, Balances, left_share, Table, with_node, IsBalancedAt, Frees, Bool, false}
+use Rattle.bforest_core.proofs.Words.{IsLeafCapacity, content_at, half_at, most_at, inner_content, leaf_content, le-leb, lt-leb, lt-ltb, le-ltb, zero, ◌*◌}
+use Rattle.bforest_core.proofs.Words.{◌⊎◌, map, set, get_or, append_assoc, Row, flat_map, append-nil, get_or-set_other, get_or-set_same, with_freed, node}
+use Rattle.bforest_core.proofs.Words.{flat, heads, sizes, numbers, least, rebalanced, count, Above, Rebuilt, OnLevel, Healed, Joined, add-one, get_or_default}
+use Rattle.bforest_core.proofs.Words.{Item, Heals, Joins, Loses, IsUsed, IsUnderflowedAt, FitRow, OneAbove, TwoAbove, NextIs, Keeps}
+use Rattle.bforest_core.proofs.removal.Frees.{frees-after, frees-puts, frees-refl, frees-wider, frees-one, freed_other}
+use Rattle.bforest_core.proofs.rows.LevelRows.{flat-append, heads-append, sizes-append, numbers-append, FitRow-join, least-le, least-pos}
+use Rattle.bforest_core.proofs.table.Stored.{some_same, Parts, inner_cuts, leaf_cuts}
+use Rattle.bforest_core.proofs.table.Tables.{count-same, puts, count-append, counts, count-row, row-same, row-put_two, row-drop_put, rows-same, row-split}
+use Rattle.bforest_core.proofs.table.Tables.{is_used}
+use Rattle.bforest_core.proofs.rows.Zipper.{cut, above_two, stands-same, apart_here}
+use Rattle.bforest_core.proofs.removal.Lifted.{above_same, headed, NextNode, next_of}
+use Rattle.bforest_core.proofs.removal.Asked.{NodeAt, Counts, Beside, Rekeys, Enters, no_nodes, keeps-refl, some_first, First}
+
+-- half of a node's capacity and the whole of it
+pub record IsHalf (half most : ℕ) : Type 0 where
+  pub two : 2 ≤ half
+  pub lo : most ≤ half + half
+  pub hi : half + half ≤ suc most
+
+-- how the nodes of a level are stored
+pub record IsStored {K V X : Type 0} (content : List (K × X) → Content K V) (n most : ℕ) : Type 0 where
+  pub count_is : (es : _) → entry_count (content es) ≡ length es
+  pub capacity_is : (es : _) → entry_capacity n (content es) ≡ most
+  pub used : (es : _) → ¬ IsFree (content es)
+  pub kind : (es fs : _) → IsSameKind (content es) (content fs)
+  pub joins : (e es f fs : _) → joined (content (e ∷ es)) f.0 (content (f ∷ fs)) ≡ content ((e ∷ es) ++ f ∷ fs)
+  pub cuts : (x xs y ys q left right key : _) → length (x ∷ xs) ≡ q → IsCut (content ((x ∷ xs) ++ y ∷ ys)) q left key right → Parts content (x ∷ xs) y ys left right key
+
+module _ {K : Type 0} where
+  -- inner nodes are stored with a capacity of 8
+  pub inner_stored : {V : Type 0} (n : ℕ) → IsStored {K = K} {V = V} inner_content n 8
+  inner_stored {V} n = record {
+    count_is = λ es. length-map es (λ w. w.1);
+    capacity_is = λ es. refl;
+    used = λ es free. free;
+    kind = λ es fs. tt;
+    joins = λ e es f fs. sym (cc (map-append (λ w. w.0) es (f ∷ fs), map-append (λ w. w.1) (e ∷ es) (f ∷ fs)));
+    cuts = inner_cuts V;
+  }
+
+  -- leaves are stored with a capacity of n
+  pub leaf_stored : {V : Type 0} (n : ℕ) → IsStored {K = K} {V = V} leaf_content n n
+  leaf_stored {V} n = record {
+    count_is = λ es. length-map es (λ w. w.0);
+    capacity_is = λ es. refl;
+    used = λ es free. free;
+    kind = λ es fs. tt;
+    joins = λ e es f fs. sym (cc (map-append (λ w. w.0) (e ∷ es) (f ∷ fs), map-append (λ w. w.1) (e ∷ es) (f ∷ fs)));
+    cuts = λ x xs y ys q left right key e c. leaf_cuts V _ y _ q _ _ key e c;
+  }
+
+-- a leaf is half full with half of its capacity, an inner node with 4 children
+pub kind_half : {n : ℕ} (leaf : Bool) → (leaf ≡ true → IsLeafCapacity n) → IsHalf (half_at leaf n) (most_at leaf n)
+kind_half true capacity = let c = capacity refl in record { two = omega arith; lo = omega arith; hi = omega arith }
+kind_half false capacity = record { two = omega arith; lo = omega arith; hi = omega arith }
+
+-- leaves and inner nodes are stored
+pub kind_stored : {K V : Type 0} (n leaf : _) → IsStored {K = K} {V = V} (content_at leaf) n (most_at leaf n)
+kind_stored n true = leaf_stored n
+kind_stored n false = inner_stored n
+
+module _ {K V X : Type 0} (content : List (K × X) → Content K V) where
+  -- two slots were written
+  pub record PutsTwo (t u : Table K V) (n q : ℕ) (c d : Content K V) : Type 0 where
+    pub here : slice_get u.nodes n ≡ Some c
+    pub there : slice_get u.nodes q ≡ Some d
+    pub same : (m : ℕ) → m ≢ n → m ≢ q → slice_get u.nodes m ≡ slice_get t.nodes m
+    pub frees : Frees t u (n ∷ q ∷ []) []
+
+  -- two writes in sequence write two slots
+  puts_two : (t u : Table K V) (n q c d old_n old_q : _) → slice_get t.nodes n ≡ Some old_n → slice_get t.nodes q ≡ Some old_q → n ≢ q → u ≡ with_node (with_node t n c) q d → PutsTwo t u n q c d
+  puts_two t u n q c d old_n old_q fn fq ne is = let v = with_node t n c in let own = n ∷ q ∷ [] in let one = puts t v n c old_n fn refl in
+      let two = puts v u q d old_q (one.same q (λ e. ne (sym e)) ∙ fq) is in
+      record {
+        here = two.same n ne ∙ one.here;
+        there = two.here;
+        same = λ m a b. two.same m b ∙ one.same m a;
+        frees = frees-after (λ m none. none) (frees-puts own (omega (arith, count-same n (q ∷ []))) one) (frees-puts own (omega (arith, count-same q [])) two);
+      }
+
+  -- both nodes were merged into the right one
+  pub record AllRight (t u : Table K V) (most n q : ℕ) (es fs : List (K × X)) : Type 0 where
+    pub fits : length es + length fs ≤ most
+    pub left_content : Content K V
+    pub two : PutsTwo t u n q left_content (content (es ++ fs))
+
+  -- both nodes share their entries
+  pub record Spread (t u : Table K V) (most n q : ℕ) (es fs : List (K × X)) (key : K) : Type 0 where
+    pub more : most < length es + length fs
+    pub x : K × X
+    pub xs : List (K × X)
+    pub y : K × X
+    pub ys : List (K × X)
+    pub whole : es ++ fs ≡ (x ∷ xs) ++ y ∷ ys
+    pub left_is : suc (length xs) ≡ (length es + length fs) - (length es + length fs) / 2
+    pub right_is : suc (length ys) ≡ (length es + length fs) / 2
+    pub key_is : key ≡ y.0
+    pub two : PutsTwo t u n q (content (x ∷ xs)) (content (y ∷ ys))
+
+  module _ (t u : Table K V) {cap most : ℕ} (n q : ℕ) (e : K × X) (es f fs : _) (s : IsStored content cap most) (ne : n ≢ q) (two : 2 ≤ most) (fn : slice_get t.nodes n ≡ Some (content (e ∷ es))) (fq : slice_get t.nodes q ≡ Some (content (f ∷ fs))) where
+    -- the balanced nodes are these two
+    balances_at : {got : Option K} (b : IsBalancedAt cap t n f.0 q got u) → Balances cap (content (e ∷ es)) f.0 (content (f ∷ fs)) got b.new_left b.new_right
+    balances_at {got} b = let under_is = some_same _ _ (cc) in
+        rw (← (some_same b.neighbour (content (f ∷ fs)) cc)) (subst (λ z. Balances cap z f.0 b.neighbour got b.new_left b.new_right) under_is b.balances)
+
+    whole_count : entry_count (content (e ∷ es)) + entry_count (content (f ∷ fs)) ≡ length (e ∷ es) + length (f ∷ fs)
+    whole_count = omega arith
+
+    -- where everything fits, balancing merges into the right node
+    pub all_right_at : IsBalancedAt cap t n f.0 q None u → AllRight t u most n q (e ∷ es) (f ∷ fs)
+    all_right_at b = let bal = balances_at b in
+        elim (cases_lt most (length (e ∷ es) + length (f ∷ fs))) [
+          | inl more ↦ absurd (let w = bal.shares (omega (arith, more)) in let g = w.1 in cc)
+          | inr less ↦ (let w = bal.merges (omega arith) in
+              record { fits = less; left_content = b.new_left; two = puts_two t u n q _ _ _ _ fn fq ne (cc (s.joins e es f fs)) })
+        ]
+
+    -- where not everything fits, balancing shares the entries
+    pub spread_at : {key : K} → IsBalancedAt cap t n f.0 q (Some key) u → Spread t u most n q (e ∷ es) (f ∷ fs) key
+    spread_at {key} b =
+        let bal = balances_at b in let full = s.capacity_is (e ∷ es) in let total = whole_count in let both = length (e ∷ es) + length (f ∷ fs) in
+        let len = length-append (e ∷ es) (f ∷ fs) in
+        elim (cases_lt most (length (e ∷ es) + length (f ∷ fs))) [
+          | inr less ↦ absurd (let w = bal.merges (omega arith) in let g = w.0 in cc)
+          | inl more ↦ (let w = bal.shares (omega (arith, more)) in
+              let c = cut ((e ∷ es) ++ f ∷ fs) (both - both / 2) (omega (arith, more, two)) in let h = some_first c.l (omega (arith, more, two)) in
+              let whole = c.es_is ∙ ap (λ z. z ++ c.x ∷ c.r) h.2 in let left = ap length (sym h.2) ∙ c.place_is in
+              let cuts : IsCut (content ((h.0 ∷ h.1) ++ c.x ∷ c.r)) (both - both / 2) b.new_left w.0 b.new_right =
+              subst (λ z. IsCut (content ((h.0 ∷ h.1) ++ c.x ∷ c.r)) (left_share z) b.new_left w.0 b.new_right) total
+              (subst (λ z. IsCut z (left_share (entry_count (content (e ∷ es)) + entry_count (content (f ∷ fs))))
+              b.new_left w.0 b.new_right) (s.joins e es f fs ∙ ap content whole) w.2) in
+              let p = s.cuts h.0 h.1 c.x c.r (both - both / 2) b.new_left b.new_right w.0 left cuts in
+              record {
+                more = more;
+                x = h.0;
+                xs = h.1;
+                y = c.x;
+                ys = c.r;
+                whole = whole;
+                left_is = left;
+                right_is = omega (arith, ap length whole, length-append (h.0 ∷ h.1) (c.x ∷ c.r));
+                key_is = some_same key w.0 w.1 ∙ p.key_is;
+                two = puts_two t u n q _ _ _ _ fn fq ne cc;
+              })
+        ]

@@ -1,0 +1,202 @@
+-- Discarding roots with a single child: from the root down, and in the sizes from the leaves up.
+use Rattle.bforest_core.proofs.Words.{◌≡◌, ◌≢◌, ℕ, suc, ◌+◌, ◌-◌, ◌≤◌, ◌<◌, Some, List, [], ◌∷◌, ◌++◌, map, length, drop, get_or, slice_get, refl, sym, ap}
+use Rattle.bforest_core.proofs.Words.{◌∙◌, append_assoc, append-nil, length-append, arith, Heads, Row, Rows, nil_from_length, flat_map, flat_map-append}
+use Rattle.bforest_core.proofs.Words.{Content, IsUsed, Table, with_freed, node, flat, heads, sizes, numbers, Stacked, Topped, trimmed, RowsIn, inner_content}
+use Rattle.bforest_core.proofs.Words.{entry_keys, entry_items, count, root_above, first_number, StandsAbove, UpTo, Trimmed, lt-ltb, le-ltb, zero, Option}
+use Rattle.bforest_core.proofs.Words.{None, true, false, Bool, if◌then◌else◌, option_map, loss, rebalanced, loss_above, nodes_up, subst, FitRow, RowIn, Above}
+use Rattle.bforest_core.proofs.Words.{TwoAbove, top_of, Frees, Rebuilt, Loosened, Healed, Joined, Loses, least, false≢true, remove, Tree, half_of}
+use Rattle.bforest_core.proofs.Words.{leaf_content, root_of, numbers_of, Stands, IsPathAt, StandsIn, Removed, sizes_of, ◌⊎◌, inr, LeafLoss, Solid, Keeps}
+use Rattle.bforest_core.proofs.table.Stored.{item_count, some_same}
+use Rattle.bforest_core.proofs.walks.RowNodes.{fit_full}
+use Rattle.bforest_core.proofs.rows.LevelRows.{least-pos, flat-append, heads-append, sizes-append, FitRow-join, FitRow-split, Solid-full}
+use Rattle.bforest_core.proofs.removal.Frees.{frees-refl, freed_other, frees-first, only_here, frees-then, frees-after, frees-wider}
+use Rattle.bforest_core.proofs.removal.Asked.{NodeAt, ChildAt, ReadsChild, Counts, some_first}
+use Rattle.bforest_core.proofs.table.Tables.{count-append, count-same, ne_from_count, rows-same, is_used, count-row, counts, row-same}
+use Rattle.bforest_core.proofs.rows.Zipper.{stands_here}
+use Rattle.bforest_core.proofs.rows.Tops.{root-stands, top_tree}
+use Rattle.bforest_core.proofs.removal.Rebalance.{enough, judged}
+
+-- a row has one size per node
+pub length-sizes : {K X : Type 0} (row : Row K X) → length (sizes row) ≡ length row
+length-sizes [] = refl
+length-sizes (node n es ∷ row) = ap suc (length-sizes row)
+
+-- a row has no fewer entries than heads
+pub heads-flat : {K X : Type 0} (row : Row K X) → length (heads row) ≤ length (flat row)
+heads-flat [] = omega arith
+heads-flat (node n [] ∷ row) = heads-flat row
+heads-flat (node n (e ∷ es) ∷ row) = omega (arith, heads-flat row, length-append es (flat row))
+
+module _ {K : Type 0} where
+  -- the rows up to a root, split below the root's row
+  pub record Top (rows : Rows K) (root : ℕ) : Type 0 where
+    pub init : Rows K
+    pub entries : Heads K
+    pub rows_are : rows ≡ init ++ (node root entries ∷ []) ∷ []
+    pub some : 1 ≤ length entries
+
+  top_here : (list row root : _) → Stacked list (row ∷ []) → root_above list (row ∷ []) ≡ root → Top (row ∷ []) root
+  top_here list [] root s is = absurd (omega arith)
+  top_here list (node n [] ∷ row) root s is = absurd (omega (arith, least-pos 4 (omega arith) row))
+  top_here list (node n (e ∷ es) ∷ []) root s is = record { init = []; entries = e ∷ es; rows_are = cc; some = omega arith }
+  top_here list (node n (e ∷ es) ∷ next ∷ row) root s is = absurd (omega (arith, fit_full 4 8 (omega arith) (node n (e ∷ es) ∷ next ∷ row) s.1))
+
+  -- nonempty rows have a root's row on top
+  top_of_rows : (list row rows root : _) → Stacked list (row ∷ rows) → root_above list (row ∷ rows) ≡ root → Top (row ∷ rows) root
+  top_of_rows list row [] root s is = top_here _ _ _ s is
+  top_of_rows list row (next ∷ rows) root s is =
+      let t = top_of_rows (heads row) next rows root s.2 is in record { init = row ∷ t.init; entries = t.entries; rows_are = cc; some = t.some }
+
+  -- the rows below a root with a single child have the child as their root
+  below-root : (list : Heads K) (init : Rows K) (root : ℕ) (x : K × ℕ) → Stacked list (init ++ (node root (x ∷ []) ∷ []) ∷ []) → Stacked list init × (root_above list init ≡ x.1)
+  below-root list [] root x s = (ap length (sym s.0), ap first_number (sym s.0))
+  below-root list (row ∷ init) root x s = let r = below-root (heads row) init root x s.2 in ((s.0, s.1, r.0), r.1)
+
+  -- a root with two children or more is over levels of two nodes or more
+  topped-here : (list : Heads K) (init : Rows K) (root : ℕ) (es : Heads K) → 2 ≤ length es → Stacked list (init ++ (node root es ∷ []) ∷ []) → (2 ≤ length list) × Topped list (init ++ (node root es ∷ []) ∷ [])
+  topped-here list [] root es two s = let low : 2 ≤ length list = omega (arith, ap length s.0, length-append es []) in (low, (low, tt))
+  topped-here list (row ∷ init) root es two s =
+      let t = topped-here (heads row) init root es two s.2 in let low : 2 ≤ length list = omega (arith, heads-flat row, ap length s.0) in (low, (low, t.1))
+
+  -- the trimmed sizes of a tree are those of its levels up to the first of one node
+  pub trimmed-is : (leaves : List ℕ) (list : Heads K) (rows gone : Rows K) → length leaves ≡ length list → Stacked list (rows ++ gone) → Stacked list rows → Topped list rows →
+      trimmed (leaves ∷ map sizes (rows ++ gone)) ≡ leaves ∷ map sizes rows
+  trimmed-is (size ∷ []) list [] gone len s one t = refl
+  trimmed-is (size ∷ next ∷ after) list (row ∷ rows) gone len s u t =
+      ap (λ z. (size ∷ next ∷ after) ∷ z) (trimmed-is (sizes row) (heads row) rows gone (length-sizes row ∙ sym (fit_full 4 8 (omega arith) row u.1)) s.2 u.2 t.1)
+  trimmed-is leaves list [] gone len s u t = absurd (omega arith)
+  trimmed-is leaves list (row ∷ rows) gone len s u t = absurd (omega arith)
+
+  -- rows of the same sizes over as many nodes have two nodes or more on the same levels
+  pub topped-sizes : (list list' : Heads K) (rows rows' : Rows K) → Stacked list rows → Stacked list' rows' → length list' ≡ length list → map sizes rows' ≡ map sizes rows → Topped list rows → Topped list' rows'
+  topped-sizes list list' rows [] s s' len same t = tt
+  topped-sizes list list' [] (row' ∷ rows') s s' len same t = absurd cc
+  topped-sizes list list' (row ∷ rows) (row' ∷ rows') s s' len same t =
+      let here : sizes row' ≡ sizes row = cc in let rest : map sizes rows' ≡ map sizes rows = cc in let a = fit_full 4 8 (omega arith) row s.1 in
+      let b = fit_full 4 8 (omega arith) row' s'.1 in
+      (omega arith, topped-sizes (heads row) (heads row') rows rows' s.2 s'.2 (omega (arith, length-sizes row, length-sizes row', ap length here)) rest t.1)
+
+  -- a path through the rows is a path through the lower ones
+  pub stands-below : (path indices : List ℕ) (level : ℕ) (list : Heads K) (rows gone : Rows K) (place : ℕ) → place < length list → Stacked list rows → StandsAbove path indices level (rows ++ gone) place → StandsAbove path indices level rows place
+  stands-below path indices level list [] gone place low s st = omega arith
+  stands-below path indices level list (row ∷ rows) gone place low s st = let at = st.0 in let full = fit_full 4 8 (omega arith) row s.1 in
+      let within : length at.before < length (heads row) = omega (arith, ap length at.row_is, length-append at.before (node (get_or path level 0) at.entries ∷ at.after)) in
+      (at, stands-below path indices (suc level) (heads row) rows gone (length at.before) within s.2 st.1)
+
+-- how often a number occurs in rows with a row of one node on top
+pub count_top : {K : Type 0} (m : ℕ) (init : Rows K) (root : ℕ) (es : Heads K) → count m (flat_map numbers (init ++ (node root es ∷ []) ∷ [])) ≡ count m (flat_map numbers init) + count m (root ∷ [])
+count_top m init root es = cc (flat_map-append _ _ _, count-append m (flat_map numbers init) (root ∷ []))
+
+module _ {K V : Type 0} where
+  -- the lower and the upper rows are each in the table
+  pub rows-parts : (slots : List (Content K V)) (rows more : _) → RowsIn slots (rows ++ more) → RowsIn slots rows × RowsIn slots more
+  rows-parts slots [] more i = (tt, i)
+  rows-parts slots (row ∷ rows) more i = let r = rows-parts slots rows more i.1 in ((i.0, r.0), r.1)
+
+  -- no root is discarded
+  unfoldable pub trim_none : {t : Table K V} {size rows list root : _} → UpTo t size rows list root → Topped list rows → Trimmed t t size size rows list root root []
+  trim_none {t} {rows} u topped = record {
+    rows' = rows;
+    discarded = [];
+    rows_are = sym (append-nil rows);
+    stacked = u.stacked;
+    topped = topped;
+    size_is = u.height;
+    freed_is = λ m. refl;
+    one_each = refl;
+    root_is = u.root_is;
+    same_root = λ e. refl;
+    old_root = λ ne. absurd (ne refl);
+    frees = frees-refl t [];
+  }
+
+  -- a leaf that is the root stays
+  pub trim_leaf : {t : Table K V} {size : ℕ} (rows : _) {list root : _} → UpTo t size rows list root → size ≡ 1 → Trimmed t t size size rows list root root []
+  trim_leaf [] u one = trim_none u tt
+  trim_leaf (row ∷ rows) u one = absurd (omega arith)
+
+  top_of_up : {t : Table K V} {size : ℕ} (rows : _) {list root : _} → UpTo t size rows list root → size ≢ 1 → Top rows root
+  top_of_up [] u more = absurd (more (sym u.height))
+  top_of_up (row ∷ rows) u more = top_of_rows _ _ _ _ u.stacked u.root_is
+
+  -- there is a level above the leaves
+  module _ {t : Table K V} {size rows list root : _} (u : UpTo t size rows list root) (more : size ≢ 1) where
+    pub root_row : Top rows root
+    root_row = top_of_up rows u more
+
+    rows_up : UpTo t size (root_row.init ++ (node root root_row.entries ∷ []) ∷ []) list root
+    rows_up = rw (← root_row.rows_are) u
+
+    pub inside : RowsIn t.nodes root_row.init × RowsIn t.nodes ((node root root_row.entries ∷ []) ∷ [])
+    inside = rows-parts _ _ _ rows_up.inside
+
+    slot_is : slice_get t.nodes root ≡ Some (inner_content root_row.entries)
+    slot_is = inside.1.0.0
+
+    none_else : (count root (flat_map numbers root_row.init) ≡ 0) × (count root t.chain ≡ 0)
+    none_else = let c = rows_up.apart root in let d = count-append root (flat_map numbers (root_row.init ++ (node root root_row.entries ∷ []) ∷ [])) t.chain in
+        let e = count_top root root_row.init root root_row.entries in (omega (arith, count-same root []), omega (arith, count-same root []))
+
+    -- the root meets what counting its children requires
+    pub counted_asks : NodeAt t root
+    counted_asks = (inner_content root_row.entries, slot_is, λ free. free)
+
+    module _ (n : ℕ) (counted : Counts t root n) where
+      pub count_is : n ≡ length root_row.entries
+      count_is = counted (inner_content root_row.entries) slot_is ∙ item_count _
+
+      -- a root with two children or more stays
+      pub trim_stays : 1 < n → Trimmed t t size size rows list root root []
+      trim_stays two = trim_none u (rw root_row.rows_are (topped-here _ _ _ _ (omega (arith, count_is)) rows_up.stacked).1)
+
+      -- the root has a single child
+      module _ (few : n ≤ 1) where
+        child : (x : _) × (root_row.entries ≡ x ∷ [])
+        child = let h = some_first root_row.entries root_row.some in (h.0, cc (nil_from_length h.1 (omega (arith, count_is, ap length h.2))))
+
+        -- the root meets what reading its child requires
+        pub child_asks : ChildAt t root 0
+        child_asks = (drop 1 (entry_keys root_row.entries), entry_items root_row.entries, slot_is, omega (arith, item_count root_row.entries, root_row.some))
+
+        -- the root meets what freeing it requires
+        pub free_asks : IsUsed t root
+        free_asks = is_used t _ _ slot_is none_else.1
+
+        module _ (only : ℕ) (reads : ReadsChild t root 0 only) (v : Table K V) (freed : v ≡ with_freed t root) where
+          only_is : child.0.1 ≡ only
+          only_is = some_same _ _ (ap (λ z. slice_get (entry_items z) 0) (sym child.1) ∙ reads (drop 1 (entry_keys root_row.entries)) (entry_items root_row.entries) slot_is)
+
+          below : Stacked list root_row.init × (root_above list root_row.init ≡ child.0.1)
+          below = below-root list root_row.init root child.0 (rw (← child.1) rows_up.stacked)
+
+          -- the rows below the root, after it was freed
+          pub trim_down : UpTo v (size - 1) root_row.init list only
+          trim_down = record {
+            stacked = below.0;
+            inside = rows-same _ _ _ (λ m some. freed_other t v root freed m (ne_from_count m _ _ some none_else.0)) inside.0;
+            height = omega (arith, rows_up.height, length-append root_row.init ((node root root_row.entries ∷ []) ∷ []));
+            root_is = below.1 ∙ only_is;
+            apart = λ m. omega (arith, rows_up.apart m, count_top m root_row.init root root_row.entries, ap (λ z. count m z.chain) freed, count-append);
+          }
+
+          -- the rows below the root, after further roots were discarded
+          pub trim_then : {w size' root' gone : _} → Trimmed v w (size - 1) size' root_row.init list only root' gone →
+              Trimmed t w size size' rows list root root' (gone ++ root ∷ [])
+          trim_then {size'} {gone} r = let row = node root root_row.entries ∷ [] in let c = λ (m : ℕ). count_top m r.discarded root root_row.entries in
+              let d = λ (m : ℕ). count-append m gone (root ∷ []) in
+              let parts = ap (λ z. count root z) (ap (flat_map numbers) r.rows_are ∙ flat_map-append numbers r.rows' r.discarded) ∙ count-append root (flat_map numbers r.rows') (flat_map numbers r.discarded) in
+              let less : size' < size = omega (arith, rows_up.height, ap length r.rows_are, length-append r.rows' r.discarded, length-append root_row.init (row ∷ [])) in
+              record {
+                rows' = r.rows';
+                discarded = r.discarded ++ row ∷ [];
+                rows_are = root_row.rows_are ∙ ap (λ z. z ++ row ∷ []) r.rows_are ∙ append_assoc r.rows' r.discarded (row ∷ []);
+                stacked = r.stacked;
+                topped = r.topped;
+                size_is = r.size_is;
+                freed_is = λ m. omega (arith, c m, d m, r.freed_is m);
+                one_each = omega (arith, length-append gone (root ∷ []), length-append r.discarded (row ∷ []));
+                root_is = r.root_is;
+                same_root = λ same. absurd (omega arith);
+                old_root = λ ne. omega (arith, d root, count-same root []);
+                frees = frees-first t _ _ _ slot_is freed (omega (arith, c root, count-same root [])) (omega (arith, none_else.0)) (λ m none. omega (arith, c m)) r.frees;
+              }

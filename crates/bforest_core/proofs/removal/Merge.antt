@@ -1,0 +1,214 @@
+-- Removing an entry from a level of leaves or inner nodes, and from the levels of sizes: its row is rebalanced, then those above.
+use Rattle.bforest_core.proofs.Words.{◌≡◌, ◌≢◌, ℕ, suc, ◌+◌, ◌-◌, ◌≤◌, ◌<◌, Some, List, [], ◌∷◌, ◌++◌, map, length, drop, get_or, slice_get, refl, sym, ap}
+use Rattle.bforest_core.proofs.Words.{◌∙◌, append_assoc, append-nil, length-append, arith, Heads, Row, Rows, nil_from_length, flat_map, flat_map-append}
+use Rattle.bforest_core.proofs.Words.{Content, IsUsed, Table, with_freed, node, flat, heads, sizes, numbers, Stacked, Topped, trimmed, RowsIn, inner_content}
+use Rattle.bforest_core.proofs.Words.{entry_keys, entry_items, count, root_above, first_number, StandsAbove, UpTo, Trimmed, lt-ltb, le-ltb, zero, Option}
+use Rattle.bforest_core.proofs.Words.{None, true, false, Bool, if◌then◌else◌, option_map, loss, rebalanced, loss_above, nodes_up, subst, FitRow, RowIn, Above}
+use Rattle.bforest_core.proofs.Words.{TwoAbove, top_of, Frees, Rebuilt, Loosened, Healed, Joined, Loses, least, false≢true, remove, Tree, half_of}
+use Rattle.bforest_core.proofs.Words.{leaf_content, root_of, numbers_of, Stands, IsPathAt, StandsIn, Removed, sizes_of, ◌⊎◌, inr, LeafLoss, Solid, Keeps}
+use Rattle.bforest_core.proofs.table.Stored.{item_count, some_same}
+use Rattle.bforest_core.proofs.walks.RowNodes.{fit_full}
+use Rattle.bforest_core.proofs.rows.LevelRows.{least-pos, flat-append, heads-append, sizes-append, FitRow-join, FitRow-split, Solid-full}
+use Rattle.bforest_core.proofs.removal.Frees.{frees-refl, freed_other, frees-first, only_here, frees-then, frees-after, frees-wider}
+use Rattle.bforest_core.proofs.removal.Asked.{NodeAt, ChildAt, ReadsChild, Counts, some_first}
+use Rattle.bforest_core.proofs.table.Tables.{count-append, count-same, ne_from_count, rows-same, is_used, count-row, counts, row-same}
+use Rattle.bforest_core.proofs.rows.Zipper.{stands_here}
+use Rattle.bforest_core.proofs.rows.Tops.{root-stands, top_tree}
+use Rattle.bforest_core.proofs.removal.Rebalance.{enough, judged}
+use Rattle.bforest_core.proofs.removal.Collapse.{inside}
+
+-- the index of the node after `k` others, if it is removed
+abbrev pub placed : ℕ → Bool → Option ℕ
+placed k b = if b then Some k else None
+
+one_placed : (k b : _) → option_map (λ index. suc index) (placed k b) ≡ placed (suc k) b
+one_placed k true = refl
+one_placed k false = refl
+
+-- the sizes after the node behind these lost an entry
+pub loss_at : {K X : Type 0} (q : ℕ) (before : Row K X) (m e after : _) → e < suc m → loss q (length (flat before) + e) (sizes before ++ suc m ∷ after) ≡ (placed (length before) (rebalanced q m after).0, sizes before ++ (rebalanced q m after).1)
+loss_at q [] m e after low = let z : 0 + e ≡ e = omega arith in let a = lt-ltb e (suc m) low in let s : suc m - 1 ≡ m = omega arith in rw (z, a, s) refl
+loss_at {K} {X} q (node k fs ∷ before) m e after low =
+    let len : length (flat (node k fs ∷ before)) + e ≡ length fs + (length (flat before) + e) = omega (arith, length-append fs (flat before)) in
+    let a = le-ltb (length fs + (length (flat before) + e)) (length fs) (omega arith) in
+    let s : length fs + (length (flat before) + e) - length fs ≡ length (flat before) + e = omega arith in let ih = loss_at q before m e after low in
+    rw (len, a, s) (cc (one_placed (length before) (rebalanced q m after).0))
+
+-- the levels after a removal at a place of the lowest, whose nodes have at most `q` entries
+abbrev pub lost : ℕ → ℕ → List (List ℕ) → List (List ℕ)
+lost q place [] = []
+lost q place (level ∷ levels) = (loss q place level).1 ∷ loss_above (loss q place level).0 levels
+
+-- a level of inner nodes is one of those above another
+pub lost_above : (place levels : _) → lost 8 place levels ≡ loss_above (Some place) levels
+lost_above place [] = refl
+lost_above place (level ∷ levels) = refl
+
+-- a removal in one level, for a known outcome of its rebalancing
+pub loss_level : {K X : Type 0} (q : ℕ) (before : Row K X) (m e p after levels all : _) → all ≡ (sizes before ++ suc m ∷ after) ∷ levels → e ≤ m → p ≡ length
+    (flat before) + e → lost q p all ≡ (sizes before ++ (rebalanced q m after).1) ∷ loss_above (placed (length before) (rebalanced q m after).0) levels
+loss_level q before m e p after levels all all_is low p_is =
+    ap (λ z. lost q p z) all_is ∙ rw p_is (ap (λ z. z.1 ∷ loss_above z.0 levels) (loss_at q _ m e _ (omega arith)))
+
+-- two paths that agree from a level up have the same nodes there
+pub nodes_up-same : (path path' : List ℕ) (level count : ℕ) → ((i : ℕ) → level ≤ i → get_or path' i 0 ≡ get_or path i 0) → nodes_up path' level count ≡ nodes_up path level count
+nodes_up-same path path' level zero same = refl
+nodes_up-same path path' level (suc count) same = cc (nodes_up-same path path' (suc level) count (λ i above. same i (omega arith)), same level (omega arith))
+
+-- a level that lost an entry is rebalanced, with the rows above it: its entries are `list`, nodes of these numbers
+-- were freed, and the path goes through one of its nodes
+pub record Restored {K V X : Type 0} (content : List (K × X) → Content K V) (half most : ℕ) (old new : Table K V) (path indices : List ℕ) (level size : ℕ)
+    (were : List (List ℕ)) (own : List ℕ) (list : List (K × X)) (place : ℕ) (freed : List ℕ) : Type 0 where
+  pub row : Row K X
+  pub front : Row K X
+  pub entries : List (K × X)
+  pub after : Row K X
+  pub rows : Rows K
+  pub row_is : row ≡ front ++ node (get_or path level 0) entries ∷ after
+  pub list_is : flat row ≡ list
+  pub fit : FitRow half most row
+  pub inside : RowIn content new.nodes row
+  pub above : Above new path indices (suc level) size rows (heads row) (length (heads front))
+  pub sizes_are : sizes row ∷ map sizes rows ≡ lost most place were
+  pub numbers_are : (m : ℕ) → count m (numbers row ++ flat_map numbers rows) + count m freed ≡ count m own
+  pub frees : Frees old new own freed
+  pub place_is : place ≡ length (flat front) + get_or indices level 0
+
+module _ {K V X : Type 0} {content : List (K × X) → Content K V} {half most old mid path indices level size : _}
+    {were own list place : _} (l : Loosened content half most old mid path indices level size were own list place) where
+  -- the level is rebalanced, and the path stands in it, where an entry follows
+  abbrev pub Restores : Table K V → List ℕ → List ℕ → List ℕ → Type 0
+  Restores new path' indices' freed =
+      (r : Restored content half most old new path' indices' level size were own list place freed) × (place < length list → get_or indices' level 0 < length r.entries)
+
+  abbrev num : ℕ
+  num = get_or path level 0
+
+  -- an entry follows the path's place
+  pub low : place < length list → get_or indices level 0 < length (l.entries ++ flat l.after)
+  low some = omega (arith, ap length l.list_is, ap length (flat-append l.before (node num l.entries ∷ l.after)), length-append (flat l.before) (l.entries ++ flat l.after))
+
+  abbrev outcome : Bool × List ℕ
+  outcome = rebalanced most (length l.entries) (sizes l.after)
+
+  pub lost_is : lost most place were ≡ (sizes l.before ++ outcome.1) ∷ loss_above (placed (length l.before) outcome.0) (map sizes l.rest)
+  lost_is = loss_level _ _ _ _ _ _ _ _ l.sizes_were l.on_level.entry_was l.place_is
+
+  -- the sizes, for a known outcome of the rebalancing
+  pub sizes_by : (o : Bool × List ℕ) → outcome ≡ o → (sizes l.before ++ o.1) ∷ loss_above (placed (length l.before) o.0) (map sizes l.rest) ≡ lost most place were
+  sizes_by o is = cc (lost_is)
+
+  -- a level whose node is half full or the last stays
+  abbrev pub kept_restored : outcome ≡ (false, length l.entries ∷ sizes l.after) → least half l.after ≤ length l.entries → Restored content half most old mid path indices level size were own list place []
+  kept_restored same enough = record {
+    row = l.before ++ node num l.entries ∷ l.after;
+    front = l.before;
+    entries = l.entries;
+    after = l.after;
+    rows = l.rest;
+    row_is = refl;
+    list_is = l.list_is;
+    fit = FitRow-join half most l.before (node num l.entries) l.after l.on_level.solid (enough, l.on_level.most_is, l.on_level.fits);
+    inside = l.on_level.inside;
+    above = l.on_level.above;
+    sizes_are = ap (λ z. z ∷ map sizes l.rest) (sizes-append _ _) ∙ sizes_by _ same;
+    numbers_are = λ m. omega arith;
+    frees = l.frees;
+    place_is = l.place_is;
+  }
+
+  -- a level whose node stays is rebalanced
+  abbrev pub healed_restored : {new path' indices' : _} → Healed content half most mid new path indices path' indices' level size l.before num l.entries l.after l.rest → Restores new path' indices' []
+  healed_restored {new} h = (
+    record {
+      row = h.before' ++ node h.number' h.entries' ∷ h.after';
+      front = h.before';
+      entries = h.entries';
+      after = h.after';
+      rows = h.rest';
+      row_is = cc;
+      list_is = cc;
+      fit = h.fit;
+      inside = h.inside;
+      above = h.above;
+      sizes_are = cc (lost_is);
+      numbers_are = λ m. omega (arith, counts m l.before num l.entries l.after l.rest mid.chain, counts m h.before' h.number' h.entries' h.after' h.rest' new.chain, ap (λ z. count m z) h.row_numbers, h.rest_numbers m, l.numbers_are m);
+      frees = frees-after (λ m none. omega arith) l.frees h.frees;
+      place_is = omega arith;
+    },
+    λ some. h.within (low some),
+  )
+
+  module _ {w path1 indices1 : _} (j : Joined content half most mid w path indices path1 indices1 level size l.before num l.entries l.after l.rest) where
+    -- the rows above meet what removing a merged node's entry requires; level and size are as in the code
+    abbrev pub merge_asks : (up' size' : ℕ) → up' ≡ suc level → size' ≡ size → TwoAbove w path1 indices1 up' size'
+    merge_asks up' size' up_is size_is = record { rows = l.rest; before = heads l.before; x = (j.first.0, num); y = (j.key, j.right); after = heads j.after'; above = rw (up_is, size_is) j.above }
+
+    -- a level is rebalanced once the rows above lost the entry of a merged node
+    pub joined_restored : {new : Table K V} {path' indices' freed : List ℕ} (r : Rebuilt w new path1 indices1 path' indices' (suc level) size l.rest (heads l.before ++ (j.first.0, j.right) ∷ heads j.after') (length (heads l.before))
+        (loss_above (Some (length (heads l.before))) (map sizes l.rest)) freed) → 1 ≤ half → Restores new path' indices' (freed ++ num ∷ [])
+    joined_restored {new} {path'} {indices'} {freed} r one = let both = l.entries ++ j.right_entries in let row = l.before ++ node j.right both ∷ j.after' in
+        let own1 = numbers (l.before ++ node num l.entries ∷ l.after) ++ flat_map numbers l.rest in let p = l.on_level in
+        let full = Solid-full half most one l.before p.solid in let c = λ (m : ℕ). counts m l.before num l.entries l.after l.rest mid.chain in
+        let c0 = λ (m : ℕ). ap (λ z. count m (num ∷ numbers z)) j.after_is in let list_is = sym (cc (heads-append _ _)) in
+        let fits = subst (λ z. FitRow half most z) j.after_is p.fits in
+        let left = frees-then (λ m none. omega (arith, c m)) (λ m here. only_here m num _ here (omega (arith, p.apart num, c num, count-same num (numbers l.after))))
+        (frees-wider own1 (λ m none. omega (arith, c m)) j.frees) r.frees in (
+          record {
+            row = row;
+            front = l.before;
+            entries = both;
+            after = j.after';
+            rows = r.rows';
+            row_is = ap (λ z. l.before ++ node z both ∷ j.after') (sym (cc (r.nodes_below level (omega arith))));
+            list_is = cc (flat-append _ _, append_assoc _ _ _, flat-append _ _);
+            fit = j.fit;
+            inside = row-same _ _ _ _ (λ m more. r.frees.others m (omega (arith, p.apart m, c0 m, c m, count-row m l.before j.right both j.after'))) j.inside;
+            above = subst (λ z. Above new path' indices' (suc level) size r.rows' z (length (heads l.before))) list_is r.above;
+            sizes_are = ap (λ z. z ∷ map sizes r.rows') (sizes-append _ _)
+                ∙ ap (λ z. (sizes l.before ++ length both ∷ sizes j.after') ∷ z) (cc) ∙ sizes_by _ j.outcome;
+            numbers_are = λ m. omega (arith, r.numbers_are m, c0 m, c m, counts m l.before j.right both j.after' r.rows' new.chain, count-append m freed (num ∷ []), l.numbers_are m);
+            frees = frees-after (λ m none. omega (arith, l.numbers_are m)) l.frees left;
+            place_is = omega arith;
+          },
+          λ some. omega (arith, length-append l.entries j.right_entries, least-pos half one j.after'),
+        )
+
+module _ {K V : Type 0} {t u : Table K V} {path indices : List ℕ} {up size : ℕ} (rows : Rows K) {hs : Heads K} {p : ℕ}
+    (l : Loosened inner_content 4 8 t u path indices up size (map sizes rows) (flat_map numbers rows) hs p) (at : p < length hs) where
+  -- the node that lost an entry, as rebalancing it requires it
+  abbrev pub loses_child : (num : ℕ) → Loses num 4 u path indices up size
+  loses_child num = record { leaf = false; capacity = λ is. absurd (false≢true is); least_is = refl; before = l.before; entries = l.entries; after = l.after; rest = l.rest; on = l.on_level; at_entry = λ some. low l at }
+
+  -- the rebalanced level is one of the rows
+  rebuilt : {v : Table K V} {path' indices' freed : _} → Restores l v path' indices' freed → Keeps path indices path' indices' up size →
+      Rebuilt t v path indices path' indices' up size rows hs p (loss_above (Some p) (map sizes rows)) freed
+  rebuilt {path'} restored kept =
+      let r = restored.0 in let n' = get_or path' up 0 in let solid = (FitRow-split 4 8 r.front (node n' r.entries) r.after (rw (← r.row_is) r.fit)).0 in
+      record {
+        rows' = r.row ∷ r.rows;
+        above = record {
+          stacked = (r.list_is, r.fit, r.above.stacked);
+          inside = (r.inside, r.above.inside);
+          stands = stands_here _ _ _ _ _ _ _ _ _ _ p solid r.row_is refl refl (restored.1 at) r.place_is r.above.stands;
+          height = omega arith;
+          apart = λ i. omega (arith, l.on_level.apart i, l.numbers_are i, r.numbers_are i, ap (λ z. count i z) r.frees.chain_is, ap (λ z. count i z) l.frees.chain_is, count-append);
+        };
+        sizes_are = cc (lost_above p _);
+        numbers_are = r.numbers_are;
+        frees = r.frees;
+        keeps = kept;
+      }
+
+  -- where the node stays, the level above stays too
+  pub merge_healed : {v : Table K V} {path' indices' : _} → Healed inner_content 4 8 u v path indices path' indices' up size l.before (get_or path up 0) l.entries l.after l.rest
+      → Rebuilt t v path indices path' indices' up size rows hs p (loss_above (Some p) (map sizes rows)) []
+  merge_healed h = rebuilt (healed_restored l h) h.keeps
+
+  -- where two nodes of the level merge, the level above loses an entry; level and size are as in the code
+  pub merge_joined : {v w : Table K V} {path1 indices1 path' indices' : _} (up' size' : ℕ) → (j : Joined inner_content 4 8 u w path indices path1 indices1 up size l.before (get_or path up 0) l.entries l.after l.rest) → up' ≡ suc up → size' ≡ size → (levels : ℕ) →
+      Rebuilt w v path1 indices1 path' indices' up' size' l.rest (heads l.before ++ (j.first.0, j.right) ∷ heads j.after') (length (heads l.before)) (loss_above (Some (length (heads l.before))) (map sizes l.rest)) (nodes_up path1 up' levels) →
+      Rebuilt t v path indices path' indices' up size rows hs p (loss_above (Some p) (map sizes rows)) (nodes_up path up (suc levels))
+  merge_joined {path1} up' size' j up_is size_is levels again =
+      let r = rw (up_is, size_is, nodes_up-same path path1 (suc up) levels (λ i above. j.nodes_above i (omega (arith, above)))) at again in
+      rebuilt (joined_restored l j r (omega arith)) (record { nodes_below = λ i low. r.nodes_below i (omega (arith, low)) ∙ j.nodes_below i low; entries_below = λ i low. r.entries_below i (omega (arith, low)) ∙ j.entries_below i low; same_top = r.same_top ∙ j.same_top })

@@ -1,0 +1,194 @@
+-- Removing the entry of a level's rightmost node, which was removed, and the nodes that this empties: the answers of `remove_emptied`.
+use Rattle.bforest_core.proofs.Words.{◌≡◌, ℕ, suc, ◌+◌, ◌≤◌, ◌<◌, Some, Option, List, [], ◌∷◌, ◌++◌, map, length, get_or, slice_get, refl, sym, ap, ◌∙◌}
+use Rattle.bforest_core.proofs.Words.{append_assoc, length-append, arith, Row, map-append, flat_map, remove, length-map, Content, without_entry, Table, node}
+use Rattle.bforest_core.proofs.Words.{flat, heads, numbers, FitRow, Solid, Tree, half_of, leaf_content, entry_keys, count, Distinct, numbers_of, Above}
+use Rattle.bforest_core.proofs.Words.{StandsIn, LeafLoss, None, Bool, true, false, not, is_some, nil_from_length, OneAbove, NextIs, get_or_default}
+use Rattle.bforest_core.proofs.Words.{entry_count, ◌≢◌, Leaf, HasOthers, IsSingle, IsUsed, with_node, head_of, entry_items, Rekeyed, ◌-◌, drop, Heads, Rows}
+use Rattle.bforest_core.proofs.Words.{append-nil, without_child, with_freed, sizes, loss_above, inner_content, root_above, LastAbove, nodes_up, Dropped}
+use Rattle.bforest_core.proofs.Words.{rebalanced, IsLeafCapacity, Topped, loss, root_of, IsPathAt, UpTo, Trimmed, Removed, Emptied, add-one, take}
+use Rattle.bforest_core.proofs.Words.{length-drop}
+use Rattle.bforest_core.proofs.table.Tables.{count-append, counts, count-same, row-split, row-put, row-same, Puts, is_used, puts, rows-same, ne_from_count}
+use Rattle.bforest_core.proofs.rows.LevelRows.{flat-append, sizes-append, Solid-full, heads-append, FitRow-join}
+use Rattle.bforest_core.proofs.rows.Zipper.{Cut_above, Facts, facts, Spot, above_two, LeafCut, cut_leaf}
+use Rattle.bforest_core.proofs.removal.Frees.{frees-after, frees-puts, freed_other, frees-first, frees-one}
+use Rattle.bforest_core.proofs.removal.Asked.{remove_at, NodeAt, Beside, some_first, no_nodes, Counts, Removes, Seen, seen, removed_last, First}
+use Rattle.bforest_core.proofs.removal.Lifted.{headed, top_one, above_top, above_written, rebuilt_same, heads-put, above_same, rows_above}
+use Rattle.bforest_core.proofs.table.Stored.{keys_count, read_same, some_same}
+use Rattle.bforest_core.proofs.removal.Collapse.{heads-flat}
+use Rattle.bforest_core.proofs.removal.Merge.{placed, loss_level, lost_above, loss_at}
+use Rattle.bforest_core.proofs.removal.Untrimmed.{Untrimmed, up_to, trimmed_removed}
+use Rattle.bforest_core.proofs.rows.Tops.{top_rows, root-stands}
+use Rattle.bforest_core.proofs.removal.Rebalance.{rebalanced_last}
+use Rattle.bforest_core.proofs.removal.Taking.{above, d, es, more, next, w}
+
+-- solid nodes fit as a row
+pub fit_solid : {K X : Type 0} (half most : ℕ) → 1 ≤ half → (row : Row K X) → Solid half most row → FitRow half most row
+fit_solid half most one [] s = tt
+fit_solid half most one (node m es ∷ []) s = (omega arith, s.1, tt)
+fit_solid half most one (node m es ∷ next ∷ ns) s = (s.0, s.1, fit_solid half most one (next ∷ ns) s.2)
+
+-- a row with an entry has a head
+some_heads : {K X : Type 0} (row : Row K X) → 1 ≤ length (flat row) → 1 ≤ length (heads row)
+some_heads [] some = some
+some_heads (node num [] ∷ row) some = some_heads row some
+some_heads (node num (e ∷ es) ∷ row) some = omega arith
+
+-- the last element of a list
+pub record LastOf {A : Type 0} (xs : List A) : Type 0 where
+  pub init : List A
+  pub last : A
+  pub is : xs ≡ init ++ last ∷ []
+
+pub last_of : {A : Type 0} (xs : List A) → 1 ≤ length xs → LastOf xs
+last_of [] some = absurd (omega arith)
+last_of (x ∷ []) some = record { init = []; last = x; is = refl }
+last_of (x ∷ y ∷ xs) some = let r = last_of (y ∷ xs) (omega arith) in record { init = x ∷ r.init; last = r.last; is = cc }
+
+module _ {K V : Type 0} where
+  -- the rows above a level, after its last node was freed
+  pub above_freed : {X : Type 0} {t : Table K V} (v : Table K V) {path indices up size : _} (num : ℕ) (before : Row K X) (x : K × X) {rest : _}
+      (o : LastOf (heads before)) →
+      Distinct ((numbers (before ++ node num (x ∷ []) ∷ []) ++ flat_map numbers rest) ++ t.chain) → v ≡ with_freed t num →
+      Above t path indices up size rest (heads (before ++ node num (x ∷ []) ∷ [])) (length (heads before)) →
+      Above v path indices up size rest (o.init ++ o.last ∷ (x.0, num) ∷ []) (suc (length o.init))
+  above_freed {t} v num before x {rest} o apart is p = let c = λ (m : ℕ). counts m before num (x ∷ []) [] rest t.chain in
+      let none : count num (flat_map numbers rest) ≡ 0 = omega (arith, apart num, c num, count-same num []) in
+      let list = heads-append before (node num (x ∷ []) ∷ []) ∙ ap (λ z. z ++ (x.0, num) ∷ []) o.is ∙ append_assoc o.init (o.last ∷ []) ((x.0, num) ∷ []) in
+      let len : length (heads before) ≡ suc (length o.init) = omega (arith, ap length o.is, length-append o.init (o.last ∷ [])) in
+      above_same v (λ m some. freed_other t v num is m (ne_from_count m num _ some none))
+      (λ m. omega (arith, apart m, c m, count-append m (flat_map numbers rest) v.chain, ap (λ z. count m z.chain) is)) (rw (list, len) at p)
+
+  -- what the call ensures
+  abbrev pub Drops : Table K V → Table K V → List ℕ → ℕ → ℕ → Rows K → Heads K → K × ℕ → Type 0
+  Drops t u path up size rows a y = (levels : ℕ) × Dropped t u path size rows (a ++ y ∷ []) (loss_above (Some (suc (length a))) (map sizes rows)) (nodes_up path up levels)
+
+  module _ {t : Table K V} {path indices up size rows a x : _} (d : Spot t path indices up size rows a x []) where
+    open d use {f, q.{before, l, r, after, rest}}
+
+    abbrev num : ℕ
+    num = get_or path up 0
+
+    -- the sizes of the rows without the entry
+    abbrev left : List (List ℕ)
+    left = loss_above (Some (length a)) (map sizes rows)
+
+    ends : (r ≡ []) × (after ≡ [])
+    ends = let len = length-append r (flat after) in let none = ap length d.q.b_is in
+        (nil_from_length r (omega arith), no_nodes 4 8 (omega arith) after f.fit.2 (nil_from_length (heads after) (omega (arith, heads-flat after))))
+
+    -- the path's row ends with the entry
+    whole : Cut_above t path indices up size before num l x [] [] rest
+    whole = let e = ends in rw (e.0, e.1) at d.whole
+
+    known : Facts t path indices up size before num l x [] [] rest
+    known = facts t _ _ _ _ _ _ _ x _ _ _ whole
+
+    pub lost : left ≡ (sizes before ++ (rebalanced 8 (length l) []).1) ∷ loss_above (placed (length before) (rebalanced 8 (length l) []).0) (map sizes rest)
+    lost =
+        let row = d.q.rows_are ∙ ap (λ z. (before ++ node num (l ++ x ∷ z) ∷ after) ∷ rest) ends.0 ∙ ap (λ z. (before ++ node num (l ++ x ∷ []) ∷ z) ∷ rest) ends.1 in
+        let len : length (l ++ x ∷ []) ≡ suc (length l) = length-append l (x ∷ []) ∙ omega arith in
+        sym (lost_above _ _) ∙ loss_level 8 before (length l) (length l) (length a) [] (map sizes rest) (map sizes rows)
+        (cc (sizes-append before (node num (l ++ x ∷ []) ∷ []))) (omega arith) (omega (arith, ap length d.q.a_is, length-append (flat before) l))
+
+    own_is : (m : ℕ) → count m (flat_map numbers rows) ≡ count m (numbers before) + count m (num ∷ []) + count m (flat_map numbers rest)
+    own_is m = omega (arith, ap (λ z. count m (flat_map numbers z)) d.q.rows_are, ap (λ z. count m (num ∷ numbers z)) ends.1, counts m before num (l ++ x ∷ r) after rest t.chain)
+
+    -- the node keeps other entries
+    drop_keep : (u : Table K V) → length (l ++ x ∷ r) ≢ 1 → u ≡ with_node t num (without_child (inner_content (l ++ x ∷ r)) (get_or indices up 0)) →
+        Dropped t u path size rows a left []
+    drop_keep u more u_is = let p = whole in let old = l ++ x ∷ [] in let row = before ++ node num l ∷ [] in
+        let old_is = ap (λ z. l ++ x ∷ z) ends.0 in let len : length old ≡ suc (length l) = length-append l (x ∷ []) ∙ omega arith in
+        let some : 1 ≤ length l = omega (arith, ap length old_is) in let first = some_first l some in
+        let gone = ap (λ z. without_child (inner_content z) (get_or indices up 0)) (old_is ∙ ap (λ z. z ++ x ∷ []) first.2)
+        ∙ removed_last V first.0 first.1 x (get_or indices up 0) (cc (d.q.entry_is)) ∙ ap (λ z. inner_content z) (sym first.2) in
+        let w = puts t u num _ _ known.slot_is (u_is ∙ ap (λ z. with_node t num z) gone) in
+        let high : up + length rest ≡ size - 1 = omega (arith, p.height) in let hs = heads-put before num old l [] (simp first.2) in
+        record {
+          rows' = row ∷ rest;
+          stacked = (cc (flat-append before (node num l ∷ []), append-nil l, d.q.a_is), FitRow-join 4 8 before (node num l) [] f.solid (some, omega (arith, known.fit.1), tt), rw (← hs) p.stacked.2);
+          inside = (row-put inner_content t.nodes u.nodes before num old l [] known.inside w.same w.here known.none, rows-same t.nodes u.nodes rest (λ m some. w.same m (ne_from_count m num (flat_map numbers rest) some f.none_rest)) p.inside.1);
+          height = cc (d.q.rows_are);
+          sizes_are = cc (sizes-append before (node num l ∷ []), lost, rebalanced_last 8 (length l) some);
+          numbers_are = λ m. omega (arith, own_is m, counts m before num l [] rest u.chain);
+          root_is = ap (λ z. root_above z rest) (sym hs) ∙ top_rows _ _ _ _ _ _ _ p.stacked p.stands ∙ ap (λ z. get_or path z 0) high;
+          frees = frees-puts (flat_map numbers rows) (omega (arith, own_is num, count-same num [])) w;
+        }
+
+    -- the node has no other entry: it was freed (v), and its own entry is removed above
+    module _ (v : Table K V) (one : length (l ++ x ∷ r) ≡ 1) (some : 1 ≤ length a) (v_is : v ≡ with_freed t num) where
+      l_none : l ≡ []
+      l_none = nil_from_length l (omega (arith, length-append l (x ∷ r)))
+
+      a_front : flat before ≡ a
+      a_front = cc (append-nil (flat before), l_none, d.q.a_is)
+
+      pub front : LastOf (heads before)
+      front = last_of _ (some_heads before (omega (arith, ap length a_front)))
+
+      last_above : Above v path indices (suc up) size rest (front.init ++ front.last ∷ (x.0, num) ∷ []) (suc (length front.init))
+      last_above = let e = ends in let apart = whole.apart in let p = rows_above d in
+          above_freed v num before x front (rw l_none at apart) v_is (rw (l_none, e.0, e.1) at p)
+
+      drop_empty : {u freed : _} → Dropped v u path size rest (front.init ++ front.last ∷ []) (loss_above (Some (suc (length front.init))) (map sizes rest)) freed → Dropped t u path size rows a left (freed ++ num ∷ [])
+      drop_empty below = let hs = front.is in let p = whole in
+          let len : length before ≡ suc (length front.init) = omega (arith, Solid-full 4 8 (omega arith) before f.solid, ap length hs, length-append front.init (front.last ∷ [])) in
+          let in_v = row-same _ _ _ _ (λ m some. freed_other t v num v_is m (ne_from_count m num (numbers before) some (omega (arith, known.none))))
+          (row-split _ _ _ _ known.inside).0 in
+          let c = λ (m : ℕ). counts m before num (l ++ x ∷ []) [] rest t.chain in
+          record {
+            rows' = before ∷ below.rows';
+            stacked = (a_front, fit_solid 4 8 (omega arith) _ f.solid, rw hs below.stacked);
+            inside = (row-same _ _ _ _ (λ m some. below.frees.others m (omega (arith, some, p.apart m, c m))) in_v, below.inside);
+            height = cc (d.q.rows_are, below.height);
+            sizes_are = simp (below.sizes_are, len, append-nil, lost, l_none);
+            numbers_are = λ m. omega (arith, own_is m, below.numbers_are m, count-append);
+            root_is = cc (below.root_is);
+            frees = frees-first t num _ _ known.slot_is v_is (omega (arith, own_is num, count-same num [])) f.none_rest (λ m none. omega (arith, own_is m)) below.frees;
+          }
+
+  module _ {t : Table K V} {path indices up size : _} (w : LastAbove t path indices up size) (r : ℕ) (wide : length path ≡ 17) (height : size ≤ 17) where
+    open w use {rows, before as a, y, x, above as p}
+
+    top : up < size
+    top = above_two rows a y x [] p
+
+    len_is : length (a ++ y ∷ []) ≡ suc (length a)
+    len_is = length-append a _ ∙ omega arith
+
+    -- the parent of the node
+    pub here : Seen t path indices up size rows (a ++ y ∷ []) x [] r
+    here = seen (a ++ y ∷ []) x [] (rw (append_assoc a _ _, len_is) p) top r wide height
+
+    pub drop_fewer : (s : ℕ) → size - up ≡ s → size - (up + 1) < s
+    drop_fewer s bound = let low = top in omega arith
+
+    module _ (cnt : ℕ) (value : Counts t (get_or path up r) cnt) where
+      -- the call ensures its effect where the node keeps other entries
+      pub keeps : (u : Table K V) → cnt ≢ 1 → Removes t u (get_or path up r) (get_or indices up 0) → Drops t u path up size rows a y
+      keeps u more removes = let s = here in let es = s.d.q.l ++ x ∷ s.d.q.r in let u_is = removes (drop 1 (entry_keys es)) (entry_items es) s.slot_is in
+          (0, rw (← len_is) (drop_keep s.d u (λ e. more (s.counted cnt value ∙ e)) (rw s.num_is at u_is)))
+
+      module _ (one : cnt ≡ 1) (v : Table K V) (freed : v ≡ with_freed t (get_or path up r)) where
+        pub one_child : length (here.d.q.l ++ x ∷ here.d.q.r) ≡ 1
+        one_child = sym (here.counted cnt value) ∙ one
+
+        pub some : 1 ≤ length (a ++ y ∷ [])
+        some = let e = len_is in omega arith
+
+        pub v_is : v ≡ with_freed t (get_or path up 0)
+        v_is = cc (here.num_is)
+
+        abbrev o : LastOf (heads here.d.q.before)
+        o = front here.d v one_child some v_is
+
+        pub above_is : Above v path indices (up + 1) size here.d.q.rest (o.init ++ o.last ∷ (x.0, get_or path up 0) ∷ []) (suc (length o.init))
+        above_is = rw add-one (last_above here.d v one_child some v_is)
+
+        -- the rows above meet what the call one level up requires
+        abbrev pub last_asks : LastAbove v path indices (up + 1) size
+        last_asks = record { rows = here.d.q.rest; before = o.init; y = o.last; x = (x.0, get_or path up 0); above = above_is }
+
+        -- what the call one level up ensures is what this one has to
+        pub empties : (u : Table K V) → ((w2 : LastAbove v path indices (up + 1) size) → Drops v u path (up + 1) size w2.rows w2.before w2.y) →
+            Drops t u path up size rows a y
+        empties u drops = let said = drops last_asks in (suc said.0, rw (← len_is) (drop_empty here.d v one_child some v_is (rw add-one at said.1)))
