@@ -1,18 +1,9 @@
 -- Splitting a full node, with a new entry in one half.
-use Rattle.bforest_core.proofs.Words.{◌≡◌, ◌⊎◌, ◌/◌, ℕ, suc, ◌+◌, ◌-◌, ◌≤◌, ◌<◌, nat_lt, if◌then◌else◌, Bool, true, false, Option, Some, None, List, [], ◌∷◌}
-use Rattle.bforest_core.proofs.Words.{◌++◌, length, refl, sym, ap, ◌∙◌, inl, inr, append_assoc, length-append, arith, Row, append-nil, node, flat, head_of}
-use Rattle.bforest_core.proofs.Words.{heads, sizes, FitRow, inner_gain, past, leaf_gain, IsAt, ◌≢◌, slice_get, subst, length-set, Content, IsCut, left_half}
-use Rattle.bforest_core.proofs.Words.{Table, with_node, with_front, front_of, IsUsed, IsFullAt, IsSplitAt, inner_content, leaf_content, count, false≢true}
-use Rattle.bforest_core.proofs.Words.{map, get_or, flat_map, length-map, numbers, Stacked, Topped, gain_above, RowIn, Distinct, StandsAbove, Above, Grown}
-use Rattle.bforest_core.proofs.Words.{Parted, top_of, Heads, Rows, Inner, need_above, Halved, PutsIn, set, get_or_default, get_or-set_same, get_or-set_other}
-use Rattle.bforest_core.proofs.Words.{with_child, entry_items, GrownBy, HalvedBy, OneAbove, PutsChild, add-one, le-leb, le-ltb, lt-leb, lt-ltb}
-use Rattle.bforest_core.proofs.rows.LevelRows.{flat-append, sizes-append, least-le, FitRow-split, FitRow-join, heads-append, Solid-full}
-use Rattle.bforest_core.proofs.table.Stored.{Parts, inner_cuts, some_same, item_count, keys_count, key_count, with_child_is}
-use Rattle.bforest_core.proofs.rows.Zipper.{cut, stands-same, Spot, stands_here, spot}
-use Rattle.bforest_core.proofs.table.Tables.{Puts, count-same, is_used, puts, takes, length-with_front, counts, count-append, row-same, row-changed}
-use Rattle.bforest_core.proofs.table.Tables.{rows-same, ne_from_count, absent_ne, Takes, row-put}
-use Rattle.bforest_core.proofs.removal.Lifted.{rows_above}
-use Rattle.bforest_core.proofs.table.Lists.{set-kept}
+use Rattle.bforest_core.proofs.Words.{◌≡◌, ℕ, suc, ◌+◌, ◌-◌, ◌≤◌, ◌<◌, Bool, true, false, Some, List, [], ◌∷◌, ◌++◌, length, refl, sym, ap, ◌∙◌, append_assoc}
+use Rattle.bforest_core.proofs.Words.{length-append, arith, head_of, ◌≢◌, slice_get, subst, length-set, Content, IsCut, left_half, Table, with_node}
+use Rattle.bforest_core.proofs.Words.{with_front, front_of, IsUsed, IsFullAt, IsSplitAt, inner_content, leaf_content, count, false≢true, PutsIn}
+use Rattle.bforest_core.proofs.{table.Tables.{Puts, count-same, is_used, puts, takes, length-with_front}, table.Stored.{Parts, inner_cuts, some_same}}
+use Rattle.bforest_core.proofs.{table.Stored.{item_count, keys_count}, table.Lists.set-kept, rows.Zipper.cut}
 use Rattle.bforest_nodes.specs.declared.node.SplitOff.{SplitOff}
 
 -- nodes of one kind, by their keys and their values or children

@@ -1,24 +1,15 @@
 -- Inserting a child into the path's inner node, or splitting the node and inserting it into one half.
-use Rattle.bforest_core.proofs.Words.{◌≡◌, ◌⊎◌, ◌/◌, ℕ, suc, ◌+◌, ◌-◌, ◌≤◌, ◌<◌, nat_lt, if◌then◌else◌, Bool, true, false, Option, Some, None, List, [], ◌∷◌}
-use Rattle.bforest_core.proofs.Words.{◌++◌, length, refl, sym, ap, ◌∙◌, inl, inr, append_assoc, length-append, arith, Row, append-nil, node, flat, head_of}
-use Rattle.bforest_core.proofs.Words.{heads, sizes, FitRow, inner_gain, past, leaf_gain, IsAt, ◌≢◌, slice_get, subst, length-set, Content, IsCut, left_half}
-use Rattle.bforest_core.proofs.Words.{Table, with_node, with_front, front_of, IsUsed, IsFullAt, IsSplitAt, inner_content, leaf_content, count, false≢true}
-use Rattle.bforest_core.proofs.Words.{map, get_or, flat_map, length-map, numbers, Stacked, Topped, gain_above, RowIn, Distinct, StandsAbove, Above, Grown}
-use Rattle.bforest_core.proofs.Words.{Parted, top_of, Heads, Rows, Inner, need_above, Halved, PutsIn, set, get_or_default, get_or-set_same, get_or-set_other}
-use Rattle.bforest_core.proofs.Words.{with_child, entry_items, GrownBy, HalvedBy, OneAbove, PutsChild, add-one, le-leb, le-ltb, lt-leb, lt-ltb}
-use Rattle.bforest_core.proofs.rows.LevelRows.{flat-append, sizes-append, least-le, FitRow-split, FitRow-join, heads-append, Solid-full}
-use Rattle.bforest_core.proofs.table.Stored.{Parts, inner_cuts, some_same, item_count, keys_count, key_count, with_child_is}
-use Rattle.bforest_core.proofs.rows.Zipper.{cut, stands-same, Spot, stands_here, spot}
-use Rattle.bforest_core.proofs.table.Tables.{Puts, count-same, is_used, puts, takes, length-with_front, counts, count-append, row-same, row-changed}
-use Rattle.bforest_core.proofs.table.Tables.{rows-same, ne_from_count, absent_ne, Takes, row-put}
-use Rattle.bforest_core.proofs.removal.Lifted.{rows_above}
-use Rattle.bforest_core.proofs.table.Lists.{set-kept}
+use Rattle.bforest_core.proofs.Words.{◌≡◌, ℕ, suc, ◌+◌, ◌-◌, ◌≤◌, ◌<◌, nat_lt, if◌then◌else◌, Bool, true, false, Some, List, [], ◌∷◌, ◌++◌, length, refl, sym}
+use Rattle.bforest_core.proofs.Words.{ap, ◌∙◌, append_assoc, length-append, arith, node, flat, head_of, heads, sizes, ◌≢◌, Table, with_node, front_of, IsUsed}
+use Rattle.bforest_core.proofs.Words.{IsFullAt, IsSplitAt, inner_content, map, get_or, gain_above, Grown, Heads, Inner, need_above, Halved, set}
+use Rattle.bforest_core.proofs.Words.{get_or_default, get_or-set_same, get_or-set_other, with_child, entry_items, GrownBy, HalvedBy, OneAbove, PutsChild}
+use Rattle.bforest_core.proofs.{Words.{add-one, le-ltb, lt-ltb}, insertion.Halving.{FullAt, Halves, PutAsks, Split, asks_put, counted, full_is, inner_parts}}
+use Rattle.bforest_core.proofs.{insertion.Halving.{into_left, into_right, left_used, put_fewer, put_in, put_past, split_at}, insertion.Rise.{need_full, rise}}
+use Rattle.bforest_core.proofs.{insertion.Rise.{settle_room, sizes_halved, step_is, step_most}, insertion.Grow.{InHalf, gain_full, gain_spot, head-grown}}
+use Rattle.bforest_core.proofs.{insertion.Grow.{in_left, in_right}, rows.LevelRows.{sizes-append, heads-append, Solid-full}, table.Stored.item_count}
+use Rattle.bforest_core.proofs.{table.Stored.{key_count, with_child_is}, table.Tables.{is_used, puts, takes}, rows.Zipper.{Spot, spot}}
+use Rattle.bforest_core.proofs.{removal.Lifted.rows_above, insertion.Parted.part}
 use Rattle.bforest_nodes.specs.declared.node.SplitOff.{SplitOff}
-use Rattle.bforest_core.proofs.insertion.Grow.{InHalf, gain_full, gain_spot, head-grown, in_left, in_right}
-use Rattle.bforest_core.proofs.insertion.Halving.{FullAt, Halves, PutAsks, Split, asks_put, counted, full_is, inner_parts, into_left, into_right, left_used}
-use Rattle.bforest_core.proofs.insertion.Halving.{put_fewer, put_in, put_past, split_at}
-use Rattle.bforest_core.proofs.insertion.Parted.{n, part}
-use Rattle.bforest_core.proofs.insertion.Rise.{need_full, rise, settle_room, sizes_halved, step_is, step_most}
 
 module _ {K V : Type 0} where
   module _ {t : Table K V} {ms js up size : _} (w : OneAbove t ms js up size) (i : ℕ) (within : up < size) (low : up < length ms) where

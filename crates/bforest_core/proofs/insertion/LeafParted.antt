@@ -1,25 +1,11 @@
 -- The tree after a full leaf was split, and what a level above the leaves needs.
-use Rattle.bforest_core.proofs.Words.{◌≡◌, ◌⊎◌, ℕ, suc, ◌+◌, ◌≤◌, ◌<◌, List, [], ◌∷◌, ◌++◌, map, length, take, drop, insert, get_or, slice_get, Some, None}
-use Rattle.bforest_core.proofs.Words.{inl, inr, refl, sym, ap, ◌∙◌, append_assoc, length-append, arith, Heads, Row, Rows, flat_map, cases_lt, length-map}
-use Rattle.bforest_core.proofs.Words.{Table, node, flat, heads, sizes, numbers, Stacked, Topped, Tree, IsFit, half_of, leaf_gain, leaf_content, count}
-use Rattle.bforest_core.proofs.Words.{StandsAbove, Stands, Placed, Inserted, Content, RowsIn, IsAt, ◌≢◌, Bool, if◌then◌else◌, Option, subst, IsLeafCapacity}
-use Rattle.bforest_core.proofs.Words.{head_of, gain_above, need_above, Above, LeafHalved, Grown, ◌-◌, ◌/◌, nat_le, true, false, set, get_or_default}
-use Rattle.bforest_core.proofs.Words.{get_or-set_same, get_or-set_other, Leaf, with_entry, IsUsed, IsFullAt, IsSplitAt, front_of, with_node, entry_keys}
-use Rattle.bforest_core.proofs.Words.{PutsEntry, IsTrue, add-one, ◌↔◌, false≢true, slice_get_within, IsFree, entry_count, entry_capacity, sizes_of, need}
-use Rattle.bforest_core.proofs.Words.{inner_content, le-leb, lt-leb}
-use Rattle.bforest_core.proofs.rows.LevelRows.{flat-append, least-pos, sizes-append, FitRow-split, heads-append, Solid-full}
-use Rattle.bforest_core.proofs.rows.Tops.{root-stands, root-points}
-use Rattle.bforest_core.proofs.rows.Zipper.{LeafCut, cut_leaf}
-use Rattle.bforest_core.proofs.table.Tables.{counts, row-put, rows-same, ne_from_count, absent_ne, Puts, count-append, is_used, puts}
-use Rattle.bforest_core.proofs.insertion.Grow.{FitRow-put, leaf_room, InHalf, leaf_full, in_left, in_right, gain_full, gain_room}
-use Rattle.bforest_core.proofs.insertion.Parted.{chain_is, halves, inside, numbers_are, others_same, over, part, same_top, stands_at, stands_over, tops}
-use Rattle.bforest_core.proofs.insertion.Halving.{Halves, Split, leaf_full_is, counted, split_at, left_used, into_left, into_right, middle_key, PutAsks}
-use Rattle.bforest_core.proofs.insertion.Halving.{asks_put, put_fewer, put_in, put_past, FullAt}
-use Rattle.bforest_core.proofs.table.Stored.{leaf_cuts, with_entry_is, keys_count, some_same, item_count}
-use Rattle.bforest_core.proofs.walks.Steps.{Spot, spot}
-use Rattle.bforest_nodes.specs.declared.node.SplitOff.{SplitOff}
-use Rattle.bforest_core.proofs.insertion.HalvingLeaf.{n, read}
-use Rattle.bforest_core.proofs.insertion.LeafSpot.{not_so}
+use Rattle.bforest_core.proofs.Words.{◌≡◌, ℕ, suc, ◌+◌, ◌≤◌, ◌<◌, List, ◌∷◌, ◌++◌, map, length, get_or, slice_get, Some, refl, sym, ap, ◌∙◌, arith, flat_map}
+use Rattle.bforest_core.proofs.Words.{Table, node, heads, sizes, numbers, IsFit, half_of, leaf_gain, count, Stands, Placed, Inserted, Content, ◌≢◌}
+use Rattle.bforest_core.proofs.Words.{if◌then◌else◌, Option, subst, gain_above, need_above, Above, LeafHalved, Grown, true, false, get_or_default, IsTrue}
+use Rattle.bforest_core.proofs.{Words.{add-one, ◌↔◌, slice_get_within, IsFree, entry_count, entry_capacity, inner_content}, insertion.Parted.chain_is}
+use Rattle.bforest_core.proofs.insertion.Parted.{halves, inside, numbers_are, others_same, over, same_top, stands_at, stands_over, tops}
+use Rattle.bforest_core.proofs.{rows.LevelRows.{sizes-append, FitRow-split}, rows.Tops.{root-stands, root-points}, table.Stored.{some_same, item_count}}
+use Rattle.bforest_core.proofs.{insertion.Grow.{gain_full, gain_room}, table.Tables.count-append, walks.Steps.{Spot, spot}, insertion.LeafSpot.not_so}
 
 module _ {K V : Type 0} where
   -- the need, or the sizes above, where the leaf is split

@@ -1,36 +1,16 @@
 -- Putting a value in at a key of the leaf in which a search for the key ends: the answers of `put_in_leaf`.
-use Rattle.bforest_core.proofs.Words.{drop-append_seam, ◌≡◌, ℕ, suc, ◌-◌, ◌^◌, ◌≤◌, ◌<◌, ◌≢◌, ◌↔◌, IsTrue, Option, Some, None, List, [], ◌∷◌, ◌++◌, drop, map}
-use Rattle.bforest_core.proofs.Words.{length, insert, slice_get, sym, ap, ◌∙◌, subst, inl, inr, length-append, arith, Heads, Row, Rows, flat_map, cases_lt}
-use Rattle.bforest_core.proofs.Words.{eqb_tells, length-map, Table, fresh_nodes, front_of, free_count, slot_count, room, reserved, IsFullAt, node, flat}
-use Rattle.bforest_core.proofs.Words.{heads, sizes, numbers, Stacked, Topped, Tree, sizes_of, leaf_gain, gain_above, growth, need, Stands, count, root_of}
-use Rattle.bforest_core.proofs.Words.{numbers_of, top_of, Placed, Inserted, tree_of, is_root, IsUnion, Changes, TakesNodes, PlacedUnder, StandsUnder}
-use Rattle.bforest_core.proofs.Words.{InsertsHere, Ok, Path, Placing, refl, put_answer, with_put, search_of-keys_of, value_for-absent, value_for-present}
-use Rattle.bforest_core.proofs.Words.{Bool, Result, Err, get_or, set, nat_lt, if◌then◌else◌, true, false, length-set, EndsIn, PutsInLeaf, Leaf, IsUsed}
-use Rattle.bforest_core.proofs.Words.{entry_count, entry_keys, is_present, leaf_content, place, value_for, search_of, with_entry, with_node, with_value_at}
-use Rattle.bforest_core.proofs.Words.{need_above, is_some, option_map, get_or-set_same, lt-ltb, ltb-true, PutsEntry}
-use Rattle.bforest_core.proofs.table.Lists.{slice_get-append_left}
-use Rattle.bforest_core.proofs.rows.Counts.{once_below, below-one, few-below}
-use Rattle.bforest_core.proofs.table.Chains.{length-fresh_nodes}
-use Rattle.bforest_core.proofs.table.Tables.{count-append, is_used}
-use Rattle.bforest_core.proofs.rows.Bounds.{climb-seventeen}
-use Rattle.bforest_core.proofs.union.Unions.{Rooted, rooted}
-use Rattle.bforest_core.proofs.union.Forests.{root-among}
-use Rattle.bforest_core.proofs.union.Exchange.{IsPlanted}
-use Rattle.bforest_core.proofs.union.Roots.{exchanged}
-use Rattle.bforest_core.proofs.rows.Tops.{root-stands}
-use Rattle.bforest_core.proofs.table.Allocating.{reserved-enough, reserved-free}
-use Rattle.bforest_core.proofs.union.Reserved.{reserved-union, reserved-roots, reserved-then}
-use Rattle.bforest_core.proofs.removal.Removal.{place_low}
-use Rattle.bforest_core.proofs.table.Stored.{keys_count, read_same}
-use Rattle.bforest_core.proofs.insertion.LeafSpot.{leaf_spot, room_gain}
-use Rattle.bforest_core.proofs.insertion.HalvingLeaf.{put_full, put_inserts}
-use Rattle.bforest_core.proofs.table.Read.{slot-is}
-use Rattle.bforest_core.proofs.walks.LeafSearch.{items-read}
-use Rattle.bforest_core.proofs.union.Written.{entry-used, value-written}
+use Rattle.bforest_core.proofs.Words.{◌≡◌, ℕ, ◌<◌, ◌↔◌, IsTrue, Option, Some, None, List, ◌∷◌, ◌++◌, map, length, insert, slice_get, sym, ap, ◌∙◌, subst}
+use Rattle.bforest_core.proofs.Words.{Table, IsFullAt, flat, sizes, sizes_of, gain_above, growth, Placed, tree_of, IsUnion, Changes, PlacedUnder, StandsUnder}
+use Rattle.bforest_core.proofs.Words.{Ok, refl, put_answer, with_put, search_of-keys_of, value_for-absent, value_for-present, Bool, Result, Err, get_or, set}
+use Rattle.bforest_core.proofs.Words.{nat_lt, if◌then◌else◌, true, false, length-set, EndsIn, PutsInLeaf, Leaf, IsUsed, entry_count, entry_keys, is_present}
+use Rattle.bforest_core.proofs.Words.{leaf_content, place, value_for, search_of, with_entry, with_node, with_value_at, need_above, is_some, option_map}
+use Rattle.bforest_core.proofs.{Words.{get_or-set_same, lt-ltb, ltb-true, PutsEntry}, union.Written.{entry-used, value-written}}
+use Rattle.bforest_core.proofs.{insertion.Insertion.{placed-under, put-here}, table.Stored.{keys_count, read_same}, insertion.HalvingLeaf.put_full}
+use Rattle.bforest_core.proofs.{insertion.HalvingLeaf.put_inserts, insertion.LeafSpot.{leaf_spot, room_gain}, walks.LeafSearch.items-read}
+use Rattle.bforest_core.proofs.{table.Tables.is_used, table.Read.slot-is}
 use Rattle.bforest_nodes.specs.Content.{with_value as content_with}
 use Rattle.bforest_nodes.specs.Entries.{with_value}
 use Rattle.std.specs.declared.cmp.Ordering.{Ordering}
-use Rattle.bforest_core.proofs.insertion.Insertion.{placed-under, put-here}
 
 -- a present key has a value
 pub valued : {K V : Type 0} (o : Option (K × V)) → is_some o ≡ true → ¬ (option_map (λ e. e.1) o ≡ None)

@@ -1,23 +1,12 @@
 -- The leaf where an entry may be inserted, and the insertion where the leaf has room.
-use Rattle.bforest_core.proofs.Words.{◌≡◌, ◌⊎◌, ℕ, suc, ◌+◌, ◌≤◌, ◌<◌, List, [], ◌∷◌, ◌++◌, map, length, take, drop, insert, get_or, slice_get, Some, None}
-use Rattle.bforest_core.proofs.Words.{inl, inr, refl, sym, ap, ◌∙◌, append_assoc, length-append, arith, Heads, Row, Rows, flat_map, cases_lt, length-map}
-use Rattle.bforest_core.proofs.Words.{Table, node, flat, heads, sizes, numbers, Stacked, Topped, Tree, IsFit, half_of, leaf_gain, leaf_content, count}
-use Rattle.bforest_core.proofs.Words.{StandsAbove, Stands, Placed, Inserted, Content, RowsIn, IsAt, ◌≢◌, Bool, if◌then◌else◌, Option, subst, IsLeafCapacity}
-use Rattle.bforest_core.proofs.Words.{head_of, gain_above, need_above, Above, LeafHalved, Grown, ◌-◌, ◌/◌, nat_le, true, false, set, get_or_default}
-use Rattle.bforest_core.proofs.Words.{get_or-set_same, get_or-set_other, Leaf, with_entry, IsUsed, IsFullAt, IsSplitAt, front_of, with_node, entry_keys}
-use Rattle.bforest_core.proofs.Words.{PutsEntry, IsTrue, add-one, ◌↔◌, false≢true, slice_get_within, IsFree, entry_count, entry_capacity, sizes_of, need}
-use Rattle.bforest_core.proofs.Words.{inner_content, le-leb, lt-leb}
-use Rattle.bforest_core.proofs.rows.LevelRows.{flat-append, least-pos, sizes-append, FitRow-split, heads-append, Solid-full}
-use Rattle.bforest_core.proofs.rows.Tops.{root-stands, root-points}
-use Rattle.bforest_core.proofs.rows.Zipper.{LeafCut, cut_leaf}
-use Rattle.bforest_core.proofs.table.Tables.{counts, row-put, rows-same, ne_from_count, absent_ne, Puts, count-append, is_used, puts}
-use Rattle.bforest_core.proofs.insertion.Grow.{FitRow-put, leaf_room, InHalf, leaf_full, in_left, in_right, gain_full, gain_room}
-use Rattle.bforest_core.proofs.insertion.Parted.{chain_is, halves, inside, numbers_are, others_same, over, part, same_top, stands_at, stands_over, tops}
-use Rattle.bforest_core.proofs.insertion.Halving.{Halves, Split, leaf_full_is, counted, split_at, left_used, into_left, into_right, middle_key, PutAsks}
-use Rattle.bforest_core.proofs.insertion.Halving.{asks_put, put_fewer, put_in, put_past, FullAt}
-use Rattle.bforest_core.proofs.table.Stored.{leaf_cuts, with_entry_is, keys_count, some_same, item_count}
-use Rattle.bforest_core.proofs.walks.Steps.{Spot, spot}
-use Rattle.bforest_nodes.specs.declared.node.SplitOff.{SplitOff}
+use Rattle.bforest_core.proofs.Words.{◌≡◌, ◌⊎◌, ℕ, suc, ◌+◌, ◌≤◌, ◌<◌, List, [], ◌∷◌, ◌++◌, map, length, take, drop, insert, get_or, Some, None, inl, inr}
+use Rattle.bforest_core.proofs.Words.{refl, sym, ap, ◌∙◌, append_assoc, length-append, arith, Heads, Row, Rows, flat_map, cases_lt, length-map, Table, node}
+use Rattle.bforest_core.proofs.Words.{flat, heads, sizes, numbers, Stacked, Topped, Tree, IsFit, half_of, leaf_gain, leaf_content, count, StandsAbove, Stands}
+use Rattle.bforest_core.proofs.Words.{Placed, Inserted, Content, RowsIn, IsAt, ◌≢◌, Bool, IsLeafCapacity, head_of, need_above, Above, LeafHalved, false}
+use Rattle.bforest_core.proofs.{Words.{IsTrue, ◌↔◌, false≢true}, table.Tables.{counts, row-put, rows-same, ne_from_count, absent_ne, Puts, count-append}}
+use Rattle.bforest_core.proofs.{rows.LevelRows.{flat-append, least-pos, sizes-append, FitRow-split, heads-append}, insertion.Grow.{FitRow-put, leaf_room}}
+use Rattle.bforest_core.proofs.{insertion.Grow.{InHalf, leaf_full}, rows.Tops.{root-stands, root-points}, rows.Zipper.{LeafCut, cut_leaf}}
+use Rattle.bforest_core.proofs.{insertion.Halving.Halves, insertion.Parted.part}
 
 module _ {K : Type 0} where
   -- a list with its first key replaced

@@ -1,21 +1,9 @@
 -- A level whose node was split, for leaves and inner nodes alike: what the split leaves, and what the levels above do to it.
-use Rattle.bforest_core.proofs.Words.{◌≡◌, ◌⊎◌, ◌/◌, ℕ, suc, ◌+◌, ◌-◌, ◌≤◌, ◌<◌, nat_lt, if◌then◌else◌, Bool, true, false, Option, Some, None, List, [], ◌∷◌}
-use Rattle.bforest_core.proofs.Words.{◌++◌, length, refl, sym, ap, ◌∙◌, inl, inr, append_assoc, length-append, arith, Row, append-nil, node, flat, head_of}
-use Rattle.bforest_core.proofs.Words.{heads, sizes, FitRow, inner_gain, past, leaf_gain, IsAt, ◌≢◌, slice_get, subst, length-set, Content, IsCut, left_half}
-use Rattle.bforest_core.proofs.Words.{Table, with_node, with_front, front_of, IsUsed, IsFullAt, IsSplitAt, inner_content, leaf_content, count, false≢true}
-use Rattle.bforest_core.proofs.Words.{map, get_or, flat_map, length-map, numbers, Stacked, Topped, gain_above, RowIn, Distinct, StandsAbove, Above, Grown}
-use Rattle.bforest_core.proofs.Words.{Parted, top_of, Heads, Rows, Inner, need_above, Halved, PutsIn, set, get_or_default, get_or-set_same, get_or-set_other}
-use Rattle.bforest_core.proofs.Words.{with_child, entry_items, GrownBy, HalvedBy, OneAbove, PutsChild, add-one, le-leb, le-ltb, lt-leb, lt-ltb}
-use Rattle.bforest_core.proofs.rows.LevelRows.{flat-append, sizes-append, least-le, FitRow-split, FitRow-join, heads-append, Solid-full}
-use Rattle.bforest_core.proofs.table.Stored.{Parts, inner_cuts, some_same, item_count, keys_count, key_count, with_child_is}
-use Rattle.bforest_core.proofs.rows.Zipper.{cut, stands-same, Spot, stands_here, spot}
-use Rattle.bforest_core.proofs.table.Tables.{Puts, count-same, is_used, puts, takes, length-with_front, counts, count-append, row-same, row-changed}
-use Rattle.bforest_core.proofs.table.Tables.{rows-same, ne_from_count, absent_ne, Takes, row-put}
-use Rattle.bforest_core.proofs.removal.Lifted.{rows_above}
-use Rattle.bforest_core.proofs.table.Lists.{set-kept}
-use Rattle.bforest_nodes.specs.declared.node.SplitOff.{SplitOff}
-use Rattle.bforest_core.proofs.insertion.Grow.{FitRow-halved, InHalf, flat-halved, heads-halved, one_more}
-use Rattle.bforest_core.proofs.insertion.Halving.{Halves}
+use Rattle.bforest_core.proofs.Words.{◌≡◌, ℕ, suc, ◌+◌, ◌-◌, ◌≤◌, if◌then◌else◌, Bool, Some, List, [], ◌∷◌, ◌++◌, length, ap, ◌∙◌, arith, Row, node, flat}
+use Rattle.bforest_core.proofs.Words.{heads, sizes, FitRow, IsAt, ◌≢◌, slice_get, Content, Table, count, map, get_or, flat_map, length-map, numbers, Stacked}
+use Rattle.bforest_core.proofs.{Words.{Topped, gain_above, RowIn, Distinct, StandsAbove, Above, Grown, Parted, top_of}, table.Tables.{count-same, counts}}
+use Rattle.bforest_core.proofs.{table.Tables.{count-append, row-same, row-changed, rows-same, ne_from_count, absent_ne}, insertion.Grow.FitRow-halved}
+use Rattle.bforest_core.proofs.{insertion.Grow.{InHalf, flat-halved, heads-halved, one_more}, rows.Zipper.stands-same, insertion.Halving.Halves}
 
 -- a level with a split node has a level above it
 pub gain-some : (p levels : _) → 1 ≤ length (gain_above (Some p) levels)

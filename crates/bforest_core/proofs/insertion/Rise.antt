@@ -1,22 +1,11 @@
 -- A level with a split node, and the levels above it.
-use Rattle.bforest_core.proofs.Words.{◌≡◌, ◌⊎◌, ◌/◌, ℕ, suc, ◌+◌, ◌-◌, ◌≤◌, ◌<◌, nat_lt, if◌then◌else◌, Bool, true, false, Option, Some, None, List, [], ◌∷◌}
-use Rattle.bforest_core.proofs.Words.{◌++◌, length, refl, sym, ap, ◌∙◌, inl, inr, append_assoc, length-append, arith, Row, append-nil, node, flat, head_of}
-use Rattle.bforest_core.proofs.Words.{heads, sizes, FitRow, inner_gain, past, leaf_gain, IsAt, ◌≢◌, slice_get, subst, length-set, Content, IsCut, left_half}
-use Rattle.bforest_core.proofs.Words.{Table, with_node, with_front, front_of, IsUsed, IsFullAt, IsSplitAt, inner_content, leaf_content, count, false≢true}
-use Rattle.bforest_core.proofs.Words.{map, get_or, flat_map, length-map, numbers, Stacked, Topped, gain_above, RowIn, Distinct, StandsAbove, Above, Grown}
-use Rattle.bforest_core.proofs.Words.{Parted, top_of, Heads, Rows, Inner, need_above, Halved, PutsIn, set, get_or_default, get_or-set_same, get_or-set_other}
-use Rattle.bforest_core.proofs.Words.{with_child, entry_items, GrownBy, HalvedBy, OneAbove, PutsChild, add-one, le-leb, le-ltb, lt-leb, lt-ltb}
-use Rattle.bforest_core.proofs.rows.LevelRows.{flat-append, sizes-append, least-le, FitRow-split, FitRow-join, heads-append, Solid-full}
-use Rattle.bforest_core.proofs.table.Stored.{Parts, inner_cuts, some_same, item_count, keys_count, key_count, with_child_is}
-use Rattle.bforest_core.proofs.rows.Zipper.{cut, stands-same, Spot, stands_here, spot}
-use Rattle.bforest_core.proofs.table.Tables.{Puts, count-same, is_used, puts, takes, length-with_front, counts, count-append, row-same, row-changed}
-use Rattle.bforest_core.proofs.table.Tables.{rows-same, ne_from_count, absent_ne, Takes, row-put}
-use Rattle.bforest_core.proofs.removal.Lifted.{rows_above}
-use Rattle.bforest_core.proofs.table.Lists.{set-kept}
-use Rattle.bforest_nodes.specs.declared.node.SplitOff.{SplitOff}
-use Rattle.bforest_core.proofs.insertion.Grow.{FitRow-put, gain_full, gain_room, gain_spot, head-grown}
-use Rattle.bforest_core.proofs.insertion.Parted.{Rises, chain_is, halves, inside, n, numbers_are, others_same, over, same_top, stands_at, stands_over, tops}
-use Rattle.bforest_core.proofs.insertion.Parted.{was}
+use Rattle.bforest_core.proofs.Words.{◌≡◌, ℕ, suc, ◌+◌, ◌-◌, ◌≤◌, ◌<◌, if◌then◌else◌, Bool, true, false, Some, List, [], ◌∷◌, ◌++◌, length, refl, sym, ap}
+use Rattle.bforest_core.proofs.Words.{◌∙◌, append_assoc, length-append, arith, node, flat, heads, sizes, ◌≢◌, subst, Table, inner_content, count, map, get_or}
+use Rattle.bforest_core.proofs.{Words.{flat_map, numbers, Topped, gain_above, Above, Grown, Heads, Rows, Inner, need_above, Halved}, insertion.Parted.Rises}
+use Rattle.bforest_core.proofs.insertion.Parted.{chain_is, halves, inside, n, numbers_are, others_same, over, same_top, stands_at, stands_over, tops}
+use Rattle.bforest_core.proofs.table.Tables.{Puts, count-same, counts, count-append, rows-same, ne_from_count, absent_ne, Takes, row-put}
+use Rattle.bforest_core.proofs.{insertion.Grow.{FitRow-put, gain_full, gain_room, gain_spot, head-grown}, rows.LevelRows.{flat-append, sizes-append}}
+use Rattle.bforest_core.proofs.{rows.LevelRows.heads-append, rows.Zipper.{stands-same, Spot, stands_here}}
 
 -- 1 where the path moved on, else 0
 abbrev pub step : Bool → ℕ

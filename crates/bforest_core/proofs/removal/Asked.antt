@@ -2,15 +2,9 @@
 use Rattle.bforest_core.proofs.Words.{◌≡◌, ℕ, zero, suc, ◌-◌, ◌≤◌, List, [], ◌∷◌, ◌++◌, length, drop, set, slice_get, Some, refl, sym, ◌∙◌, inl, inr}
 use Rattle.bforest_core.proofs.Words.{append_assoc, length-append, arith, Heads, remove, append-nil, length-map, map-append, set_at, eqb_tells, Inner}
 use Rattle.bforest_core.proofs.Words.{without_child, inner_content, entry_keys, entry_items, ◌+◌, ◌<◌, Option, get_or, ap, Rows, IsFree, IsUsed, entry_count}
-use Rattle.bforest_core.proofs.Words.{with_key, Table, with_node, sizes, count, Above, LastAbove, NextIs, OneAbove, TwoAbove, get_or_default, subst, Row}
-use Rattle.bforest_core.proofs.Words.{flat_map, node, flat, heads, head_of, numbers, FitRow, RowIn, Distinct, Frees, add-one, nil_from_length, LoosenedRows}
-use Rattle.bforest_core.proofs.Words.{Rekeyed, ◌≢◌, true, false, map, None, Bool, Over, Moved, Keeps}
-use Rattle.bforest_core.proofs.table.Stored.{slice_get_at, some_same, key_count, item_count, read_same}
-use Rattle.bforest_core.proofs.rows.Zipper.{Spot, spot, above_two, stands_here, stands-same}
-use Rattle.bforest_core.proofs.table.Tables.{is_used, count-append, count-same, count-row, counts, row-put, row-same, rows-same, ne_from_count, Puts, puts}
-use Rattle.bforest_core.proofs.table.Tables.{row-split, row-join, puts-then}
-use Rattle.bforest_core.proofs.removal.Frees.{frees-puts, frees-refl, frees-wider, frees-after}
-use Rattle.bforest_core.proofs.rows.LevelRows.{least-pos, flat-append, heads-append, sizes-append, FitRow-join}
+use Rattle.bforest_core.proofs.Words.{with_key, Table, with_node, count, Above, LastAbove, NextIs, OneAbove, TwoAbove, get_or_default, Row, node, heads}
+use Rattle.bforest_core.proofs.{Words.{FitRow, Rekeyed, Keeps}, table.Stored.{slice_get_at, some_same, key_count, item_count}, rows.Zipper.{Spot, spot}}
+use Rattle.bforest_core.proofs.{rows.Zipper.above_two, rows.LevelRows.least-pos, table.Tables.is_used}
 
 -- removing the element between two lists
 pub remove_at : {A : Type 0} → (p : List A) (y : A) (ys : List A) (n : ℕ) → length p ≡ n → remove (p ++ y ∷ ys) n ≡ p ++ ys

@@ -2,17 +2,10 @@
 use Rattle.bforest_core.proofs.Words.{set-set, length-remove, ◌≡◌, ◌≢◌, ℕ, ◌+◌, ◌/◌, ◌≤◌, ◌<◌, List, ◌∷◌, ◌++◌, None, Some, ap, arith, get_or, inl, inr}
 use Rattle.bforest_core.proofs.Words.{length, length-append, slice_get, ◌∙◌, nil_from_length, Content, Free, EntryTaken, HasOthers, IsSingle, IsUsed}
 use Rattle.bforest_core.proofs.Words.{LeafLoss, Removed, Shrinks, StandsIn, Unbalanced, Table, Tree, entry_keys, front_of, leaf_content, root_of, tree_of}
-use Rattle.bforest_core.proofs.Words.{with_freed, with_node, without_entry}
-use Rattle.bforest_core.proofs.removal.Asked.{Counts, NodeAt, some_first}
-use Rattle.bforest_core.proofs.removal.LeafAt.{alone_last, LeafAt, leaf_at, leaf_count}
-use Rattle.bforest_core.proofs.removal.Taking.{alone_loss}
-use Rattle.bforest_core.proofs.removal.LeafEmptied.{emptied_tree}
-use Rattle.bforest_core.proofs.rows.Tops.{root-stands}
-use Rattle.bforest_core.proofs.table.Tables.{is_used, puts}
-use Rattle.bforest_core.proofs.removal.Removing.{kept_removed}
-use Rattle.bforest_core.proofs.removal.Removal.{outcome, removal, stands_in}
-use Rattle.bforest_core.proofs.table.Stored.{keys_count}
-use Rattle.bforest_core.proofs.union.Unions.{rooted}
+use Rattle.bforest_core.proofs.{Words.{with_freed, with_node, without_entry}, removal.LeafAt.{alone_last, LeafAt, leaf_at, leaf_count}}
+use Rattle.bforest_core.proofs.{removal.Removal.{outcome, removal, stands_in}, removal.Asked.{Counts, NodeAt, some_first}, table.Tables.{is_used, puts}}
+use Rattle.bforest_core.proofs.{removal.LeafEmptied.emptied_tree, removal.Removing.kept_removed, rows.Tops.root-stands, removal.Taking.alone_loss}
+use Rattle.bforest_core.proofs.{table.Stored.keys_count, union.Unions.rooted}
 
 -- a node that is written and freed is a node that is freed
 freed_again : {K V : Type 0} (t : Table K V) (n c : _) → with_freed (with_node t n c) n ≡ with_freed t n

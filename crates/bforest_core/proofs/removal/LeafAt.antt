@@ -1,24 +1,12 @@
 -- The leaf where a path stands, cut at the path's entry, the leaf without it, and whether the path is past all entries then.
 use Rattle.bforest_core.proofs.Words.{◌≡◌, ℕ, suc, ◌+◌, ◌≤◌, ◌<◌, Some, Option, List, [], ◌∷◌, ◌++◌, map, length, get_or, slice_get, refl, sym, ap, ◌∙◌}
 use Rattle.bforest_core.proofs.Words.{append_assoc, length-append, arith, Row, map-append, flat_map, remove, length-map, Content, without_entry, Table, node}
-use Rattle.bforest_core.proofs.Words.{flat, heads, numbers, FitRow, Solid, Tree, half_of, leaf_content, entry_keys, count, Distinct, numbers_of, Above}
-use Rattle.bforest_core.proofs.Words.{StandsIn, LeafLoss, None, Bool, true, false, not, is_some, nil_from_length, OneAbove, NextIs, get_or_default}
-use Rattle.bforest_core.proofs.Words.{entry_count, ◌≢◌, Leaf, HasOthers, IsSingle, IsUsed, with_node, head_of, entry_items, Rekeyed, ◌-◌, drop, Heads, Rows}
-use Rattle.bforest_core.proofs.Words.{append-nil, without_child, with_freed, sizes, loss_above, inner_content, root_above, LastAbove, nodes_up, Dropped}
-use Rattle.bforest_core.proofs.Words.{rebalanced, IsLeafCapacity, Topped, loss, root_of, IsPathAt, UpTo, Trimmed, Removed, Emptied, add-one, take}
-use Rattle.bforest_core.proofs.Words.{length-drop}
-use Rattle.bforest_core.proofs.table.Tables.{count-append, counts, count-same, row-split, row-put, row-same, Puts, is_used, puts, rows-same, ne_from_count}
-use Rattle.bforest_core.proofs.rows.LevelRows.{flat-append, sizes-append, Solid-full, heads-append, FitRow-join}
-use Rattle.bforest_core.proofs.rows.Zipper.{Cut_above, Facts, facts, Spot, above_two, LeafCut, cut_leaf}
-use Rattle.bforest_core.proofs.removal.Frees.{frees-after, frees-puts, freed_other, frees-first, frees-one}
-use Rattle.bforest_core.proofs.removal.Asked.{remove_at, NodeAt, Beside, some_first, no_nodes, Counts, Removes, Seen, seen, removed_last, First}
-use Rattle.bforest_core.proofs.removal.Lifted.{headed, top_one, above_top, above_written, rebuilt_same, heads-put, above_same, rows_above}
-use Rattle.bforest_core.proofs.table.Stored.{keys_count, read_same, some_same}
-use Rattle.bforest_core.proofs.removal.Collapse.{heads-flat}
-use Rattle.bforest_core.proofs.removal.Merge.{placed, loss_level, lost_above, loss_at}
-use Rattle.bforest_core.proofs.removal.Untrimmed.{Untrimmed, up_to, trimmed_removed}
-use Rattle.bforest_core.proofs.rows.Tops.{top_rows, root-stands}
-use Rattle.bforest_core.proofs.removal.Rebalance.{rebalanced_last}
+use Rattle.bforest_core.proofs.Words.{flat, heads, numbers, Tree, half_of, leaf_content, entry_keys, count, numbers_of, Above, StandsIn, LeafLoss, None, Bool}
+use Rattle.bforest_core.proofs.Words.{true, false, not, is_some, nil_from_length, OneAbove, NextIs, get_or_default, entry_count, Rekeyed, drop, take}
+use Rattle.bforest_core.proofs.{Words.length-drop, table.Tables.{count-append, counts, count-same, row-split, row-put, row-same, Puts}}
+use Rattle.bforest_core.proofs.{removal.Asked.{remove_at, NodeAt, Beside, some_first, no_nodes, First}, rows.LevelRows.{flat-append, sizes-append}}
+use Rattle.bforest_core.proofs.{rows.LevelRows.{Solid-full, heads-append}, removal.Frees.{frees-after, frees-puts}, rows.Zipper.{LeafCut, cut_leaf}}
+use Rattle.bforest_core.proofs.{removal.Lifted.{headed, top_one}, table.Stored.keys_count, removal.Collapse.heads-flat}
 
 remove_map : {X Y : Type 0} (f : X → Y) (l r : List X) (x : X) → remove (map f (l ++ x ∷ r)) (length l) ≡ map f (l ++ r)
 remove_map f l r x = cc (map-append f l (x ∷ r), remove_at (map f l) (f x) (map f r) (length l) (length-map l f), map-append f l r)

@@ -1,27 +1,13 @@
 -- Removing the only entry of a leaf together with the leaf, which is the rightmost.
-use Rattle.bforest_core.proofs.Words.{◌≡◌, ℕ, suc, ◌+◌, ◌≤◌, ◌<◌, Some, Option, List, [], ◌∷◌, ◌++◌, map, length, get_or, slice_get, refl, sym, ap, ◌∙◌}
-use Rattle.bforest_core.proofs.Words.{append_assoc, length-append, arith, Row, map-append, flat_map, remove, length-map, Content, without_entry, Table, node}
-use Rattle.bforest_core.proofs.Words.{flat, heads, numbers, FitRow, Solid, Tree, half_of, leaf_content, entry_keys, count, Distinct, numbers_of, Above}
-use Rattle.bforest_core.proofs.Words.{StandsIn, LeafLoss, None, Bool, true, false, not, is_some, nil_from_length, OneAbove, NextIs, get_or_default}
-use Rattle.bforest_core.proofs.Words.{entry_count, ◌≢◌, Leaf, HasOthers, IsSingle, IsUsed, with_node, head_of, entry_items, Rekeyed, ◌-◌, drop, Heads, Rows}
-use Rattle.bforest_core.proofs.Words.{append-nil, without_child, with_freed, sizes, loss_above, inner_content, root_above, LastAbove, nodes_up, Dropped}
-use Rattle.bforest_core.proofs.Words.{rebalanced, IsLeafCapacity, Topped, loss, root_of, IsPathAt, UpTo, Trimmed, Removed, Emptied, add-one, take}
-use Rattle.bforest_core.proofs.Words.{length-drop}
-use Rattle.bforest_core.proofs.table.Tables.{count-append, counts, count-same, row-split, row-put, row-same, Puts, is_used, puts, rows-same, ne_from_count}
-use Rattle.bforest_core.proofs.rows.LevelRows.{flat-append, sizes-append, Solid-full, heads-append, FitRow-join}
-use Rattle.bforest_core.proofs.rows.Zipper.{Cut_above, Facts, facts, Spot, above_two, LeafCut, cut_leaf}
-use Rattle.bforest_core.proofs.removal.Frees.{frees-after, frees-puts, freed_other, frees-first, frees-one}
-use Rattle.bforest_core.proofs.removal.Asked.{remove_at, NodeAt, Beside, some_first, no_nodes, Counts, Removes, Seen, seen, removed_last, First}
-use Rattle.bforest_core.proofs.removal.Lifted.{headed, top_one, above_top, above_written, rebuilt_same, heads-put, above_same, rows_above}
-use Rattle.bforest_core.proofs.table.Stored.{keys_count, read_same, some_same}
-use Rattle.bforest_core.proofs.removal.Collapse.{heads-flat}
-use Rattle.bforest_core.proofs.removal.Merge.{placed, loss_level, lost_above, loss_at}
-use Rattle.bforest_core.proofs.removal.Untrimmed.{Untrimmed, up_to, trimmed_removed}
-use Rattle.bforest_core.proofs.rows.Tops.{top_rows, root-stands}
-use Rattle.bforest_core.proofs.removal.Rebalance.{rebalanced_last}
-use Rattle.bforest_core.proofs.removal.LeafAt.{LeafAt, leaf_at, leaf_count, remove_flat}
-use Rattle.bforest_core.proofs.removal.Taking.{above, es, more, next, single, w}
-use Rattle.bforest_core.proofs.removal.RemovingEmptied.{Drops, LastOf, above_freed, above_is, fit_solid, last_of, lost, one_child, some}
+use Rattle.bforest_core.proofs.Words.{◌≡◌, ℕ, suc, ◌+◌, ◌≤◌, ◌<◌, List, [], ◌∷◌, ◌++◌, map, length, get_or, slice_get, refl, sym, ap, ◌∙◌, length-append}
+use Rattle.bforest_core.proofs.Words.{arith, flat_map, Table, node, flat, heads, numbers, FitRow, Tree, half_of, leaf_content, count, Distinct, numbers_of}
+use Rattle.bforest_core.proofs.Words.{Above, StandsIn, nil_from_length, get_or_default, ◌≢◌, IsSingle, IsUsed, Heads, Rows, append-nil, with_freed, sizes}
+use Rattle.bforest_core.proofs.Words.{LastAbove, nodes_up, IsLeafCapacity, Topped, loss, root_of, IsPathAt, UpTo, Trimmed, Removed, Emptied}
+use Rattle.bforest_core.proofs.{table.Tables.{count-append, counts, count-same, row-split, row-same, ne_from_count}, removal.RemovingEmptied.{Drops, LastOf}}
+use Rattle.bforest_core.proofs.{removal.RemovingEmptied.{above_freed, fit_solid, last_of, one_child}, rows.LevelRows.{flat-append, sizes-append, Solid-full}}
+use Rattle.bforest_core.proofs.{rows.LevelRows.heads-append, removal.LeafAt.{LeafAt, leaf_at, leaf_count, remove_flat}, removal.Frees.freed_other}
+use Rattle.bforest_core.proofs.{removal.Frees.{frees-first, frees-one}, removal.Untrimmed.{Untrimmed, up_to, trimmed_removed}, rows.Tops.root-stands}
+use Rattle.bforest_core.proofs.{removal.Collapse.heads-flat, removal.Taking.{es, next}, removal.Merge.loss_at}
 
 -- no node follows a node of one entry
 none_after : {K X : Type 0} (half most m : ℕ) (es : List (K × X)) (after : _) → 2 ≤ half → length es ≡ 1 → FitRow half most (node m es ∷ after) → after ≡ []

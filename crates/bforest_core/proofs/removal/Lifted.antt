@@ -1,17 +1,11 @@
 -- The rows above a level in another table, and under a row whose keys were written: the answers of `update_separator` and `update_next_separator`.
-use Rattle.bforest_core.proofs.Words.{◌≡◌, ℕ, zero, suc, ◌-◌, ◌≤◌, List, [], ◌∷◌, ◌++◌, length, drop, set, slice_get, Some, refl, sym, ◌∙◌, inl, inr}
-use Rattle.bforest_core.proofs.Words.{append_assoc, length-append, arith, Heads, remove, append-nil, length-map, map-append, set_at, eqb_tells, Inner}
-use Rattle.bforest_core.proofs.Words.{without_child, inner_content, entry_keys, entry_items, ◌+◌, ◌<◌, Option, get_or, ap, Rows, IsFree, IsUsed, entry_count}
-use Rattle.bforest_core.proofs.Words.{with_key, Table, with_node, sizes, count, Above, LastAbove, NextIs, OneAbove, TwoAbove, get_or_default, subst, Row}
-use Rattle.bforest_core.proofs.Words.{flat_map, node, flat, heads, head_of, numbers, FitRow, RowIn, Distinct, Frees, add-one, nil_from_length, LoosenedRows}
-use Rattle.bforest_core.proofs.Words.{Rekeyed, ◌≢◌, true, false, map, None, Bool, Over, Moved, Keeps}
-use Rattle.bforest_core.proofs.table.Stored.{slice_get_at, some_same, key_count, item_count, read_same}
-use Rattle.bforest_core.proofs.rows.Zipper.{Spot, spot, above_two, stands_here, stands-same}
-use Rattle.bforest_core.proofs.table.Tables.{is_used, count-append, count-same, count-row, counts, row-put, row-same, rows-same, ne_from_count, Puts, puts}
-use Rattle.bforest_core.proofs.table.Tables.{row-split, row-join, puts-then}
-use Rattle.bforest_core.proofs.removal.Frees.{frees-puts, frees-refl, frees-wider, frees-after}
-use Rattle.bforest_core.proofs.rows.LevelRows.{least-pos, flat-append, heads-append, sizes-append, FitRow-join}
-use Rattle.bforest_core.proofs.removal.Asked.{First, keeps-refl}
+use Rattle.bforest_core.proofs.Words.{◌≡◌, ℕ, suc, ◌-◌, ◌≤◌, List, [], ◌∷◌, ◌++◌, length, set, slice_get, refl, sym, ◌∙◌, append_assoc, length-append, arith}
+use Rattle.bforest_core.proofs.Words.{Heads, length-map, map-append, set_at, inner_content, entry_keys, ◌+◌, ◌<◌, get_or, ap, with_key, Table, with_node}
+use Rattle.bforest_core.proofs.Words.{sizes, count, Above, subst, Row, flat_map, node, flat, heads, head_of, numbers, FitRow, RowIn, Distinct, Frees}
+use Rattle.bforest_core.proofs.{Words.{nil_from_length, Rekeyed}, table.Tables.{count-append, count-same, count-row, counts, row-put, row-same, rows-same}}
+use Rattle.bforest_core.proofs.{table.Tables.{ne_from_count, Puts, puts, row-split, row-join}, rows.LevelRows.{least-pos, flat-append, heads-append}}
+use Rattle.bforest_core.proofs.{rows.LevelRows.{sizes-append, FitRow-join}, removal.Frees.{frees-puts, frees-refl, frees-wider}, rows.Zipper.Spot}
+use Rattle.bforest_core.proofs.{rows.Zipper.stands_here, removal.Asked.{First, keeps-refl}}
 
 -- a node's first key does not change with a later entry's item
 pub head-other : {K X : Type 0} (n : ℕ) (l : List (K × X)) (k : K) (x y : X) (r s : List (K × X)) → head_of n (l ++ (k, x) ∷ r) ≡ head_of n (l ++ (k, y) ∷ s)

@@ -1,21 +1,11 @@
 -- Removing an entry from a level of leaves or inner nodes, and from the levels of sizes: its row is rebalanced, then those above.
-use Rattle.bforest_core.proofs.Words.{◌≡◌, ◌≢◌, ℕ, suc, ◌+◌, ◌-◌, ◌≤◌, ◌<◌, Some, List, [], ◌∷◌, ◌++◌, map, length, drop, get_or, slice_get, refl, sym, ap}
-use Rattle.bforest_core.proofs.Words.{◌∙◌, append_assoc, append-nil, length-append, arith, Heads, Row, Rows, nil_from_length, flat_map, flat_map-append}
-use Rattle.bforest_core.proofs.Words.{Content, IsUsed, Table, with_freed, node, flat, heads, sizes, numbers, Stacked, Topped, trimmed, RowsIn, inner_content}
-use Rattle.bforest_core.proofs.Words.{entry_keys, entry_items, count, root_above, first_number, StandsAbove, UpTo, Trimmed, lt-ltb, le-ltb, zero, Option}
-use Rattle.bforest_core.proofs.Words.{None, true, false, Bool, if◌then◌else◌, option_map, loss, rebalanced, loss_above, nodes_up, subst, FitRow, RowIn, Above}
-use Rattle.bforest_core.proofs.Words.{TwoAbove, top_of, Frees, Rebuilt, Loosened, Healed, Joined, Loses, least, false≢true, remove, Tree, half_of}
-use Rattle.bforest_core.proofs.Words.{leaf_content, root_of, numbers_of, Stands, IsPathAt, StandsIn, Removed, sizes_of, ◌⊎◌, inr, LeafLoss, Solid, Keeps}
-use Rattle.bforest_core.proofs.table.Stored.{item_count, some_same}
-use Rattle.bforest_core.proofs.walks.RowNodes.{fit_full}
-use Rattle.bforest_core.proofs.rows.LevelRows.{least-pos, flat-append, heads-append, sizes-append, FitRow-join, FitRow-split, Solid-full}
-use Rattle.bforest_core.proofs.removal.Frees.{frees-refl, freed_other, frees-first, only_here, frees-then, frees-after, frees-wider}
-use Rattle.bforest_core.proofs.removal.Asked.{NodeAt, ChildAt, ReadsChild, Counts, some_first}
-use Rattle.bforest_core.proofs.table.Tables.{count-append, count-same, ne_from_count, rows-same, is_used, count-row, counts, row-same}
-use Rattle.bforest_core.proofs.rows.Zipper.{stands_here}
-use Rattle.bforest_core.proofs.rows.Tops.{root-stands, top_tree}
-use Rattle.bforest_core.proofs.removal.Rebalance.{enough, judged}
-use Rattle.bforest_core.proofs.removal.Collapse.{inside}
+use Rattle.bforest_core.proofs.Words.{◌≡◌, ℕ, suc, ◌+◌, ◌-◌, ◌≤◌, ◌<◌, Some, List, [], ◌∷◌, ◌++◌, map, length, get_or, refl, sym, ap, ◌∙◌, append_assoc}
+use Rattle.bforest_core.proofs.Words.{length-append, arith, Heads, Row, Rows, flat_map, Content, Table, node, flat, heads, sizes, numbers, inner_content}
+use Rattle.bforest_core.proofs.Words.{count, lt-ltb, le-ltb, zero, Option, None, true, false, Bool, if◌then◌else◌, option_map, loss, rebalanced, loss_above}
+use Rattle.bforest_core.proofs.Words.{nodes_up, subst, FitRow, RowIn, Above, TwoAbove, Frees, Rebuilt, Loosened, Healed, Joined, Loses, least, false≢true}
+use Rattle.bforest_core.proofs.{Words.Keeps, rows.LevelRows.{least-pos, flat-append, heads-append, sizes-append, FitRow-join, FitRow-split, Solid-full}}
+use Rattle.bforest_core.proofs.{table.Tables.{count-append, count-same, count-row, counts, row-same}, removal.Frees.{only_here, frees-then, frees-after}}
+use Rattle.bforest_core.proofs.{removal.Frees.frees-wider, rows.Zipper.stands_here, removal.Rebalance.enough}
 
 -- the index of the node after `k` others, if it is removed
 abbrev pub placed : ℕ → Bool → Option ℕ

@@ -1,19 +1,10 @@
 -- The right neighbour of a node, under the same parent or another: the answers of `right_sibling`, and the move of a path there.
-use Rattle.bforest_core.proofs.Words.{◌≡◌, ℕ, zero, suc, ◌-◌, ◌≤◌, List, [], ◌∷◌, ◌++◌, length, drop, set, slice_get, Some, refl, sym, ◌∙◌, inl, inr}
-use Rattle.bforest_core.proofs.Words.{append_assoc, length-append, arith, Heads, remove, append-nil, length-map, map-append, set_at, eqb_tells, Inner}
-use Rattle.bforest_core.proofs.Words.{without_child, inner_content, entry_keys, entry_items, ◌+◌, ◌<◌, Option, get_or, ap, Rows, IsFree, IsUsed, entry_count}
-use Rattle.bforest_core.proofs.Words.{with_key, Table, with_node, sizes, count, Above, LastAbove, NextIs, OneAbove, TwoAbove, get_or_default, subst, Row}
-use Rattle.bforest_core.proofs.Words.{flat_map, node, flat, heads, head_of, numbers, FitRow, RowIn, Distinct, Frees, add-one, nil_from_length, LoosenedRows}
-use Rattle.bforest_core.proofs.Words.{Rekeyed, ◌≢◌, true, false, map, None, Bool, Over, Moved, Keeps}
-use Rattle.bforest_core.proofs.table.Stored.{slice_get_at, some_same, key_count, item_count, read_same}
-use Rattle.bforest_core.proofs.rows.Zipper.{Spot, spot, above_two, stands_here, stands-same}
-use Rattle.bforest_core.proofs.table.Tables.{is_used, count-append, count-same, count-row, counts, row-put, row-same, rows-same, ne_from_count, Puts, puts}
-use Rattle.bforest_core.proofs.table.Tables.{row-split, row-join, puts-then}
-use Rattle.bforest_core.proofs.removal.Frees.{frees-puts, frees-refl, frees-wider, frees-after}
-use Rattle.bforest_core.proofs.rows.LevelRows.{least-pos, flat-append, heads-append, sizes-append, FitRow-join}
-use Rattle.bforest_core.proofs.removal.Asked.{Beside, ChildAt, Counts, ReadsChild, ReadsKey, Seen, no_nodes, seen, some_first}
-use Rattle.bforest_core.proofs.removal.Lifted.{NextNode, headed, next_of, rows_above}
-use Rattle.bforest_core.proofs.removal.RemovingMerged.{o}
+use Rattle.bforest_core.proofs.Words.{◌≡◌, ℕ, suc, ◌-◌, ◌≤◌, List, [], ◌∷◌, ◌++◌, length, drop, slice_get, Some, refl, sym, ◌∙◌, append_assoc, length-append}
+use Rattle.bforest_core.proofs.Words.{arith, Heads, inner_content, entry_keys, entry_items, ◌+◌, ◌<◌, Option, get_or, ap, Rows, Table, Above, NextIs}
+use Rattle.bforest_core.proofs.Words.{OneAbove, subst, node, flat, heads, RowIn, add-one, nil_from_length, ◌≢◌, true, false, map, None, Bool, Over, Moved}
+use Rattle.bforest_core.proofs.{removal.Asked.{Beside, ChildAt, Counts, ReadsChild, ReadsKey, Seen, no_nodes, seen, some_first}, removal.Lifted.NextNode}
+use Rattle.bforest_core.proofs.{removal.Lifted.{headed, next_of, rows_above}, table.Stored.{slice_get_at, some_same, item_count}, rows.Zipper.Spot}
+use Rattle.bforest_core.proofs.{rows.Zipper.stands-same, table.Tables.row-split, removal.RemovingMerged.o}
 
 second : {X Y : Type 0} (f : X → Y) (l : List X) (x y : X) (r : List X) → slice_get (map f (l ++ x ∷ y ∷ r)) (suc (length l)) ≡ Some (f y)
 second f [] x y r = refl

@@ -1,20 +1,12 @@
 -- A node that lost an entry: it stays, or is balanced with its right neighbour.
-use Rattle.bforest_core.proofs.Words.{true, ◌≡◌, ℕ, suc, ◌+◌, ◌-◌, ◌/◌, ◌≤◌, ◌<◌, ◌≢◌, List, [], ◌∷◌, ◌++◌, length, slice_get, Option, Some, None, refl, sym}
-use Rattle.bforest_core.proofs.Words.{ap, ◌∙◌, subst, inl, inr, length-append, arith, length-map, map-append, cases_lt, Content, IsFree, IsSameKind}
-use Rattle.bforest_core.proofs.Words.{entry_count, entry_capacity, joined, IsCut, Balances, left_share, Table, with_node, IsBalancedAt, Frees, Bool, false}
-use Rattle.bforest_core.proofs.Words.{IsLeafCapacity, content_at, half_at, most_at, inner_content, leaf_content, le-leb, lt-leb, lt-ltb, le-ltb, zero, ◌*◌}
-use Rattle.bforest_core.proofs.Words.{◌⊎◌, map, set, get_or, append_assoc, Row, flat_map, append-nil, get_or-set_other, get_or-set_same, with_freed, node}
-use Rattle.bforest_core.proofs.Words.{flat, heads, sizes, numbers, least, rebalanced, count, Above, Rebuilt, OnLevel, Healed, Joined, add-one, get_or_default}
-use Rattle.bforest_core.proofs.Words.{Item, Heals, Joins, Loses, IsUsed, IsUnderflowedAt, FitRow, OneAbove, TwoAbove, NextIs, Keeps}
-use Rattle.bforest_core.proofs.removal.Frees.{frees-after, frees-puts, frees-refl, frees-wider, frees-one, freed_other}
-use Rattle.bforest_core.proofs.rows.LevelRows.{flat-append, heads-append, sizes-append, numbers-append, FitRow-join, least-le, least-pos}
-use Rattle.bforest_core.proofs.table.Stored.{some_same, Parts, inner_cuts, leaf_cuts}
-use Rattle.bforest_core.proofs.table.Tables.{count-same, puts, count-append, counts, count-row, row-same, row-put_two, row-drop_put, rows-same, row-split}
-use Rattle.bforest_core.proofs.table.Tables.{is_used}
-use Rattle.bforest_core.proofs.rows.Zipper.{cut, above_two, stands-same, apart_here}
-use Rattle.bforest_core.proofs.removal.Lifted.{above_same, headed, NextNode, next_of}
-use Rattle.bforest_core.proofs.removal.Asked.{NodeAt, Counts, Beside, Rekeys, Enters, no_nodes, keeps-refl, some_first, First}
-use Rattle.bforest_core.proofs.removal.Balance.{AllRight, IsHalf, PutsTwo, Spread}
+use Rattle.bforest_core.proofs.Words.{true, ◌≡◌, ℕ, suc, ◌+◌, ◌-◌, ◌/◌, ◌≤◌, ◌<◌, ◌≢◌, List, [], ◌∷◌, ◌++◌, length, refl, sym, ap, ◌∙◌, inl, inr}
+use Rattle.bforest_core.proofs.Words.{length-append, arith, Content, Table, Frees, false, le-leb, lt-leb, lt-ltb, le-ltb, zero, ◌*◌, ◌⊎◌, map, set, get_or}
+use Rattle.bforest_core.proofs.Words.{append_assoc, Row, flat_map, append-nil, get_or-set_other, get_or-set_same, with_freed, node, flat, heads, sizes}
+use Rattle.bforest_core.proofs.{Words.{numbers, least, rebalanced, count, Above, Rebuilt, OnLevel, Healed, Joined, Keeps}, table.Tables.count-same}
+use Rattle.bforest_core.proofs.{table.Tables.{count-append, counts, count-row, row-same, row-put_two, row-drop_put, rows-same}, rows.LevelRows.flat-append}
+use Rattle.bforest_core.proofs.{rows.LevelRows.{heads-append, sizes-append, numbers-append, FitRow-join, least-le}, removal.Frees.{frees-after, frees-refl}}
+use Rattle.bforest_core.proofs.{removal.Frees.{frees-wider, frees-one, freed_other}, removal.Balance.{AllRight, IsHalf, PutsTwo, Spread}}
+use Rattle.bforest_core.proofs.{rows.Zipper.{above_two, stands-same}, removal.Lifted.above_same, removal.Asked.keeps-refl}
 
 -- the last node, if not empty, stays
 pub rebalanced_last : (q m : ℕ) → 1 ≤ m → rebalanced q m [] ≡ (false, m ∷ [])

@@ -1,21 +1,12 @@
 -- Rebalancing a level, from what its calls state: the answers of `rebalance`.
-use Rattle.bforest_core.proofs.Words.{true, ◌≡◌, ℕ, suc, ◌+◌, ◌-◌, ◌/◌, ◌≤◌, ◌<◌, ◌≢◌, List, [], ◌∷◌, ◌++◌, length, slice_get, Option, Some, None, refl, sym}
-use Rattle.bforest_core.proofs.Words.{ap, ◌∙◌, subst, inl, inr, length-append, arith, length-map, map-append, cases_lt, Content, IsFree, IsSameKind}
-use Rattle.bforest_core.proofs.Words.{entry_count, entry_capacity, joined, IsCut, Balances, left_share, Table, with_node, IsBalancedAt, Frees, Bool, false}
-use Rattle.bforest_core.proofs.Words.{IsLeafCapacity, content_at, half_at, most_at, inner_content, leaf_content, le-leb, lt-leb, lt-ltb, le-ltb, zero, ◌*◌}
-use Rattle.bforest_core.proofs.Words.{◌⊎◌, map, set, get_or, append_assoc, Row, flat_map, append-nil, get_or-set_other, get_or-set_same, with_freed, node}
-use Rattle.bforest_core.proofs.Words.{flat, heads, sizes, numbers, least, rebalanced, count, Above, Rebuilt, OnLevel, Healed, Joined, add-one, get_or_default}
-use Rattle.bforest_core.proofs.Words.{Item, Heals, Joins, Loses, IsUsed, IsUnderflowedAt, FitRow, OneAbove, TwoAbove, NextIs, Keeps}
-use Rattle.bforest_core.proofs.removal.Frees.{frees-after, frees-puts, frees-refl, frees-wider, frees-one, freed_other}
-use Rattle.bforest_core.proofs.rows.LevelRows.{flat-append, heads-append, sizes-append, numbers-append, FitRow-join, least-le, least-pos}
-use Rattle.bforest_core.proofs.table.Stored.{some_same, Parts, inner_cuts, leaf_cuts}
-use Rattle.bforest_core.proofs.table.Tables.{count-same, puts, count-append, counts, count-row, row-same, row-put_two, row-drop_put, rows-same, row-split}
-use Rattle.bforest_core.proofs.table.Tables.{is_used}
-use Rattle.bforest_core.proofs.rows.Zipper.{cut, above_two, stands-same, apart_here}
-use Rattle.bforest_core.proofs.removal.Lifted.{above_same, headed, NextNode, next_of}
-use Rattle.bforest_core.proofs.removal.Asked.{NodeAt, Counts, Beside, Rekeys, Enters, no_nodes, keeps-refl, some_first, First}
-use Rattle.bforest_core.proofs.removal.Balance.{AllRight, IsHalf, IsStored, Spread, all_right_at, kind_half, kind_stored, spread_at}
-use Rattle.bforest_core.proofs.removal.Rebalance.{above_both, above_two_put, apart, settle_join, settle_move, settle_spread, settle_stay}
+use Rattle.bforest_core.proofs.Words.{◌≡◌, ℕ, suc, ◌+◌, ◌≤◌, ◌<◌, ◌≢◌, List, [], ◌∷◌, ◌++◌, length, slice_get, Option, Some, None, refl, ap, ◌∙◌, subst, inl}
+use Rattle.bforest_core.proofs.Words.{inr, length-append, arith, Content, Table, IsBalancedAt, content_at, half_at, most_at, set, get_or, Row, with_freed}
+use Rattle.bforest_core.proofs.Words.{node, flat, heads, numbers, count, Above, OnLevel, Healed, Joined, add-one, get_or_default, Item, Heals, Joins, Loses}
+use Rattle.bforest_core.proofs.{Words.{IsUsed, IsUnderflowedAt, FitRow, OneAbove, TwoAbove, NextIs, Keeps}, removal.Rebalance.{above_both, above_two_put}}
+use Rattle.bforest_core.proofs.{removal.Rebalance.{apart, settle_join, settle_move, settle_spread, settle_stay}, removal.Balance.{AllRight, IsHalf, IsStored}}
+use Rattle.bforest_core.proofs.{removal.Balance.{Spread, all_right_at, kind_half, kind_stored, spread_at}, removal.Asked.{NodeAt, Counts, Beside, Rekeys}}
+use Rattle.bforest_core.proofs.{removal.Asked.{Enters, no_nodes, some_first, First}, removal.Lifted.{headed, NextNode, next_of}, table.Tables.row-split}
+use Rattle.bforest_core.proofs.{table.Tables.is_used, rows.Zipper.apart_here, rows.LevelRows.least-pos}
 
 both_back : {A B : Type 0} (P : A → B → Type 0) (a c : A) (b d : B) → a ≡ c → b ≡ d → P c d → P a b
 both_back P a c b d e f w = rw (e, f) w

@@ -1,24 +1,11 @@
 -- A tree after a removal from a leaf that has other entries, from the calls that make it.
-use Rattle.bforest_core.proofs.removal.Collapse.{trim_none}
-use Rattle.bforest_core.proofs.Words.{◌≡◌, ◌≢◌, ℕ, suc, ◌+◌, ◌-◌, ◌≤◌, ◌<◌, Some, List, [], ◌∷◌, ◌++◌, map, length, drop, get_or, slice_get, refl, sym, ap}
-use Rattle.bforest_core.proofs.Words.{◌∙◌, append_assoc, append-nil, length-append, arith, Heads, Row, Rows, nil_from_length, flat_map, flat_map-append}
-use Rattle.bforest_core.proofs.Words.{Content, IsUsed, Table, with_freed, node, flat, heads, sizes, numbers, Stacked, Topped, trimmed, RowsIn, inner_content}
-use Rattle.bforest_core.proofs.Words.{entry_keys, entry_items, count, root_above, first_number, StandsAbove, UpTo, Trimmed, lt-ltb, le-ltb, zero, Option}
-use Rattle.bforest_core.proofs.Words.{None, true, false, Bool, if◌then◌else◌, option_map, loss, rebalanced, loss_above, nodes_up, subst, FitRow, RowIn, Above}
-use Rattle.bforest_core.proofs.Words.{TwoAbove, top_of, Frees, Rebuilt, Loosened, Healed, Joined, Loses, least, false≢true, remove, Tree, half_of}
-use Rattle.bforest_core.proofs.Words.{leaf_content, root_of, numbers_of, Stands, IsPathAt, StandsIn, Removed, sizes_of, ◌⊎◌, inr, LeafLoss, Solid, Keeps}
-use Rattle.bforest_core.proofs.table.Stored.{item_count, some_same}
-use Rattle.bforest_core.proofs.walks.RowNodes.{fit_full}
-use Rattle.bforest_core.proofs.rows.LevelRows.{least-pos, flat-append, heads-append, sizes-append, FitRow-join, FitRow-split, Solid-full}
-use Rattle.bforest_core.proofs.removal.Frees.{frees-refl, freed_other, frees-first, only_here, frees-then, frees-after, frees-wider}
-use Rattle.bforest_core.proofs.removal.Asked.{NodeAt, ChildAt, ReadsChild, Counts, some_first}
-use Rattle.bforest_core.proofs.table.Tables.{count-append, count-same, ne_from_count, rows-same, is_used, count-row, counts, row-same}
-use Rattle.bforest_core.proofs.rows.Zipper.{stands_here}
-use Rattle.bforest_core.proofs.rows.Tops.{root-stands, top_tree}
-use Rattle.bforest_core.proofs.removal.Rebalance.{enough, judged}
-use Rattle.bforest_core.proofs.removal.Collapse.{length-sizes, stands-below, topped-sizes}
-use Rattle.bforest_core.proofs.removal.Merge.{Restored, Restores, healed_restored, joined_restored, kept_restored, low, merge_asks, nodes_up-same}
-use Rattle.bforest_core.proofs.removal.Untrimmed.{Untrimmed, length-numbers, path-at, trimmed_removed, up_to}
+use Rattle.bforest_core.proofs.Words.{◌≡◌, ℕ, suc, ◌+◌, ◌≤◌, ◌<◌, Some, List, [], ◌∷◌, ◌++◌, map, length, get_or, refl, sym, ap, ◌∙◌, length-append, arith}
+use Rattle.bforest_core.proofs.Words.{Table, node, flat, heads, sizes, UpTo, Trimmed, loss_above, nodes_up, subst, FitRow, TwoAbove, top_of, Rebuilt, Healed}
+use Rattle.bforest_core.proofs.Words.{Joined, remove, Tree, half_of, leaf_content, root_of, numbers_of, Stands, IsPathAt, StandsIn, Removed, sizes_of, ◌⊎◌}
+use Rattle.bforest_core.proofs.{Words.{inr, LeafLoss, Solid}, removal.Merge.{Restored, Restores, healed_restored, joined_restored, kept_restored, low}}
+use Rattle.bforest_core.proofs.{removal.Merge.{merge_asks, nodes_up-same}, removal.Untrimmed.{Untrimmed, length-numbers, path-at, trimmed_removed, up_to}}
+use Rattle.bforest_core.proofs.{removal.Collapse.{trim_none, length-sizes, stands-below, topped-sizes}, rows.LevelRows.{least-pos, flat-append, FitRow-split}}
+use Rattle.bforest_core.proofs.{rows.LevelRows.Solid-full, rows.Tops.{root-stands, top_tree}, removal.Rebalance.{enough, judged}, walks.RowNodes.fit_full}
 
 module _ {K V : Type 0} {most : ℕ} {old mid : Table K V} {path indices size tree place : _} (s : StandsIn most old path indices size tree place) (l : LeafLoss most old mid path indices size tree place) {root : ℕ} (root_is : root_of tree ≡ root) where
   abbrev n : ℕ

@@ -1,25 +1,14 @@
 -- Removing the entry of a level's rightmost node, which was removed, and the nodes that this empties: the answers of `remove_emptied`.
-use Rattle.bforest_core.proofs.Words.{◌≡◌, ℕ, suc, ◌+◌, ◌≤◌, ◌<◌, Some, Option, List, [], ◌∷◌, ◌++◌, map, length, get_or, slice_get, refl, sym, ap, ◌∙◌}
-use Rattle.bforest_core.proofs.Words.{append_assoc, length-append, arith, Row, map-append, flat_map, remove, length-map, Content, without_entry, Table, node}
-use Rattle.bforest_core.proofs.Words.{flat, heads, numbers, FitRow, Solid, Tree, half_of, leaf_content, entry_keys, count, Distinct, numbers_of, Above}
-use Rattle.bforest_core.proofs.Words.{StandsIn, LeafLoss, None, Bool, true, false, not, is_some, nil_from_length, OneAbove, NextIs, get_or_default}
-use Rattle.bforest_core.proofs.Words.{entry_count, ◌≢◌, Leaf, HasOthers, IsSingle, IsUsed, with_node, head_of, entry_items, Rekeyed, ◌-◌, drop, Heads, Rows}
-use Rattle.bforest_core.proofs.Words.{append-nil, without_child, with_freed, sizes, loss_above, inner_content, root_above, LastAbove, nodes_up, Dropped}
-use Rattle.bforest_core.proofs.Words.{rebalanced, IsLeafCapacity, Topped, loss, root_of, IsPathAt, UpTo, Trimmed, Removed, Emptied, add-one, take}
-use Rattle.bforest_core.proofs.Words.{length-drop}
-use Rattle.bforest_core.proofs.table.Tables.{count-append, counts, count-same, row-split, row-put, row-same, Puts, is_used, puts, rows-same, ne_from_count}
-use Rattle.bforest_core.proofs.rows.LevelRows.{flat-append, sizes-append, Solid-full, heads-append, FitRow-join}
-use Rattle.bforest_core.proofs.rows.Zipper.{Cut_above, Facts, facts, Spot, above_two, LeafCut, cut_leaf}
-use Rattle.bforest_core.proofs.removal.Frees.{frees-after, frees-puts, freed_other, frees-first, frees-one}
-use Rattle.bforest_core.proofs.removal.Asked.{remove_at, NodeAt, Beside, some_first, no_nodes, Counts, Removes, Seen, seen, removed_last, First}
-use Rattle.bforest_core.proofs.removal.Lifted.{headed, top_one, above_top, above_written, rebuilt_same, heads-put, above_same, rows_above}
-use Rattle.bforest_core.proofs.table.Stored.{keys_count, read_same, some_same}
-use Rattle.bforest_core.proofs.removal.Collapse.{heads-flat}
-use Rattle.bforest_core.proofs.removal.Merge.{placed, loss_level, lost_above, loss_at}
-use Rattle.bforest_core.proofs.removal.Untrimmed.{Untrimmed, up_to, trimmed_removed}
-use Rattle.bforest_core.proofs.rows.Tops.{top_rows, root-stands}
-use Rattle.bforest_core.proofs.removal.Rebalance.{rebalanced_last}
-use Rattle.bforest_core.proofs.removal.Taking.{above, d, es, more, next, w}
+use Rattle.bforest_core.proofs.Words.{◌≡◌, ℕ, suc, ◌+◌, ◌≤◌, ◌<◌, Some, List, [], ◌∷◌, ◌++◌, map, length, get_or, refl, sym, ap, ◌∙◌, append_assoc}
+use Rattle.bforest_core.proofs.Words.{length-append, arith, Row, flat_map, Table, node, flat, heads, numbers, FitRow, Solid, entry_keys, count, Distinct}
+use Rattle.bforest_core.proofs.Words.{Above, nil_from_length, ◌≢◌, with_node, entry_items, ◌-◌, drop, Heads, Rows, append-nil, without_child, with_freed}
+use Rattle.bforest_core.proofs.Words.{sizes, loss_above, inner_content, root_above, LastAbove, nodes_up, Dropped, rebalanced, add-one}
+use Rattle.bforest_core.proofs.table.Tables.{count-append, counts, count-same, row-split, row-put, row-same, puts, rows-same, ne_from_count}
+use Rattle.bforest_core.proofs.{rows.LevelRows.{flat-append, sizes-append, Solid-full, heads-append, FitRow-join}, removal.Asked.{some_first, no_nodes}}
+use Rattle.bforest_core.proofs.{removal.Asked.{Counts, Removes, Seen, seen, removed_last}, rows.Zipper.{Cut_above, Facts, facts, Spot, above_two}}
+use Rattle.bforest_core.proofs.{removal.Frees.{frees-puts, freed_other, frees-first}, removal.Lifted.{heads-put, above_same, rows_above}}
+use Rattle.bforest_core.proofs.{removal.Merge.{placed, loss_level, lost_above}, removal.Rebalance.rebalanced_last, removal.Taking.{es, more, next}}
+use Rattle.bforest_core.proofs.{removal.Collapse.heads-flat, rows.Tops.top_rows}
 
 -- solid nodes fit as a row
 pub fit_solid : {K X : Type 0} (half most : ℕ) → 1 ≤ half → (row : Row K X) → Solid half most row → FitRow half most row

@@ -1,19 +1,13 @@
 -- Removing an entry from the row above a level, whose key passes to the next entry: the answers of `remove_merged`.
-use Rattle.bforest_core.proofs.Words.{◌≡◌, ℕ, zero, suc, ◌-◌, ◌≤◌, List, [], ◌∷◌, ◌++◌, length, drop, set, slice_get, Some, refl, sym, ◌∙◌, inl, inr}
-use Rattle.bforest_core.proofs.Words.{append_assoc, length-append, arith, Heads, remove, append-nil, length-map, map-append, set_at, eqb_tells, Inner}
-use Rattle.bforest_core.proofs.Words.{without_child, inner_content, entry_keys, entry_items, ◌+◌, ◌<◌, Option, get_or, ap, Rows, IsFree, IsUsed, entry_count}
-use Rattle.bforest_core.proofs.Words.{with_key, Table, with_node, sizes, count, Above, LastAbove, NextIs, OneAbove, TwoAbove, get_or_default, subst, Row}
-use Rattle.bforest_core.proofs.Words.{flat_map, node, flat, heads, head_of, numbers, FitRow, RowIn, Distinct, Frees, add-one, nil_from_length, LoosenedRows}
-use Rattle.bforest_core.proofs.Words.{Rekeyed, ◌≢◌, true, false, map, None, Bool, Over, Moved, Keeps}
-use Rattle.bforest_core.proofs.table.Stored.{slice_get_at, some_same, key_count, item_count, read_same}
-use Rattle.bforest_core.proofs.rows.Zipper.{Spot, spot, above_two, stands_here, stands-same}
-use Rattle.bforest_core.proofs.table.Tables.{is_used, count-append, count-same, count-row, counts, row-put, row-same, rows-same, ne_from_count, Puts, puts}
-use Rattle.bforest_core.proofs.table.Tables.{row-split, row-join, puts-then}
-use Rattle.bforest_core.proofs.removal.Frees.{frees-puts, frees-refl, frees-wider, frees-after}
-use Rattle.bforest_core.proofs.rows.LevelRows.{least-pos, flat-append, heads-append, sizes-append, FitRow-join}
-use Rattle.bforest_core.proofs.removal.Asked.{ChildAt, Counts, KeyAt, ReadsKey, Rekeys, Removes, Seen, Writes, last_key, removed_last, removed_same, seen}
-use Rattle.bforest_core.proofs.removal.Lifted.{Across, Other, above_top, above_written, across, flat_at, head-other, heads-put, lifted_above, n, next_in, old}
-use Rattle.bforest_core.proofs.removal.Lifted.{place_at, rebuilt_same, renamed, rows_above}
+use Rattle.bforest_core.proofs.Words.{◌≡◌, ℕ, suc, ◌-◌, ◌≤◌, List, [], ◌∷◌, ◌++◌, length, drop, set, slice_get, Some, refl, sym, ◌∙◌, append_assoc}
+use Rattle.bforest_core.proofs.Words.{length-append, arith, Heads, without_child, inner_content, entry_keys, entry_items, ◌+◌, ◌<◌, get_or, ap, IsUsed}
+use Rattle.bforest_core.proofs.Words.{entry_count, with_key, Table, with_node, sizes, count, Above, OneAbove, TwoAbove, Row, flat_map, node, flat, heads}
+use Rattle.bforest_core.proofs.{Words.{head_of, numbers, FitRow, RowIn, add-one, LoosenedRows, Rekeyed}, removal.Lifted.{Across, Other, above_top}}
+use Rattle.bforest_core.proofs.removal.Lifted.{above_written, across, flat_at, head-other, heads-put, lifted_above, n, next_in, old, place_at, rebuilt_same}
+use Rattle.bforest_core.proofs.{removal.Lifted.{renamed, rows_above}, removal.Asked.{ChildAt, Counts, KeyAt, ReadsKey, Rekeys, Removes, Seen, Writes}}
+use Rattle.bforest_core.proofs.{removal.Asked.{last_key, removed_last, removed_same, seen}, table.Tables.{is_used, count-same, count-row, counts, row-put}}
+use Rattle.bforest_core.proofs.{table.Tables.{row-same, Puts, puts, row-split, row-join, puts-then}, removal.Frees.{frees-puts, frees-wider, frees-after}}
+use Rattle.bforest_core.proofs.{table.Stored.{some_same, item_count, read_same}, rows.LevelRows.{heads-append, sizes-append}, rows.Zipper.{Spot, above_two}}
 
 module _ {K V : Type 0} where
   -- without a row above there is no key to update

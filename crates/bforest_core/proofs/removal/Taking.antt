@@ -1,25 +1,10 @@
 -- Removing the entry where a path stands from its leaf, which has others: the answers of `remove`.
-use Rattle.bforest_core.proofs.Words.{◌≡◌, ℕ, suc, ◌+◌, ◌≤◌, ◌<◌, Some, Option, List, [], ◌∷◌, ◌++◌, map, length, get_or, slice_get, refl, sym, ap, ◌∙◌}
-use Rattle.bforest_core.proofs.Words.{append_assoc, length-append, arith, Row, map-append, flat_map, remove, length-map, Content, without_entry, Table, node}
-use Rattle.bforest_core.proofs.Words.{flat, heads, numbers, FitRow, Solid, Tree, half_of, leaf_content, entry_keys, count, Distinct, numbers_of, Above}
-use Rattle.bforest_core.proofs.Words.{StandsIn, LeafLoss, None, Bool, true, false, not, is_some, nil_from_length, OneAbove, NextIs, get_or_default}
-use Rattle.bforest_core.proofs.Words.{entry_count, ◌≢◌, Leaf, HasOthers, IsSingle, IsUsed, with_node, head_of, entry_items, Rekeyed, ◌-◌, drop, Heads, Rows}
-use Rattle.bforest_core.proofs.Words.{append-nil, without_child, with_freed, sizes, loss_above, inner_content, root_above, LastAbove, nodes_up, Dropped}
-use Rattle.bforest_core.proofs.Words.{rebalanced, IsLeafCapacity, Topped, loss, root_of, IsPathAt, UpTo, Trimmed, Removed, Emptied, add-one, take}
-use Rattle.bforest_core.proofs.Words.{length-drop}
-use Rattle.bforest_core.proofs.table.Tables.{count-append, counts, count-same, row-split, row-put, row-same, Puts, is_used, puts, rows-same, ne_from_count}
-use Rattle.bforest_core.proofs.rows.LevelRows.{flat-append, sizes-append, Solid-full, heads-append, FitRow-join}
-use Rattle.bforest_core.proofs.rows.Zipper.{Cut_above, Facts, facts, Spot, above_two, LeafCut, cut_leaf}
-use Rattle.bforest_core.proofs.removal.Frees.{frees-after, frees-puts, freed_other, frees-first, frees-one}
-use Rattle.bforest_core.proofs.removal.Asked.{remove_at, NodeAt, Beside, some_first, no_nodes, Counts, Removes, Seen, seen, removed_last, First}
-use Rattle.bforest_core.proofs.removal.Lifted.{headed, top_one, above_top, above_written, rebuilt_same, heads-put, above_same, rows_above}
-use Rattle.bforest_core.proofs.table.Stored.{keys_count, read_same, some_same}
-use Rattle.bforest_core.proofs.removal.Collapse.{heads-flat}
-use Rattle.bforest_core.proofs.removal.Merge.{placed, loss_level, lost_above, loss_at}
-use Rattle.bforest_core.proofs.removal.Untrimmed.{Untrimmed, up_to, trimmed_removed}
-use Rattle.bforest_core.proofs.rows.Tops.{top_rows, root-stands}
-use Rattle.bforest_core.proofs.removal.Rebalance.{rebalanced_last}
-use Rattle.bforest_core.proofs.removal.LeafAt.{LeafAt, as_many_heads, leaf_at, leaf_count, leaf_loss, without_entry_is}
+use Rattle.bforest_core.proofs.Words.{◌≡◌, ℕ, ◌≤◌, ◌<◌, Some, List, [], ◌∷◌, ◌++◌, length, get_or, slice_get, refl, sym, ap, ◌∙◌, length-append, arith}
+use Rattle.bforest_core.proofs.Words.{Content, without_entry, Table, node, heads, leaf_content, entry_keys, Above, StandsIn, LeafLoss, nil_from_length}
+use Rattle.bforest_core.proofs.Words.{OneAbove, get_or_default, entry_count, ◌≢◌, Leaf, HasOthers, IsSingle, IsUsed, with_node, head_of, entry_items, Rekeyed}
+use Rattle.bforest_core.proofs.{removal.LeafAt.{LeafAt, as_many_heads, leaf_at, leaf_count, leaf_loss, without_entry_is}, removal.Lifted.above_top}
+use Rattle.bforest_core.proofs.{removal.Lifted.{above_written, rebuilt_same}, table.Stored.{keys_count, read_same, some_same}, table.Tables.{Puts, is_used}}
+use Rattle.bforest_core.proofs.{table.Tables.puts, removal.Asked.{NodeAt, some_first}, rows.LevelRows.heads-append}
 
 module _ {K V : Type 0} where
   -- a leaf with a key of this index

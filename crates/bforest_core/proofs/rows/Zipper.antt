@@ -2,8 +2,8 @@
 use Rattle.bforest_core.proofs.Words.{◌≡◌, ℕ, zero, suc, ◌+◌, ◌≤◌, ◌<◌, List, [], ◌∷◌, ◌++◌, length, get_or, slice_get, Some, refl, sym, ap, ◌∙◌}
 use Rattle.bforest_core.proofs.Words.{append_assoc, length-append, arith, Heads, Row, Rows, flat_map, Table, node, flat, heads, numbers, FitRow, Solid, RowIn}
 use Rattle.bforest_core.proofs.Words.{inner_content, count, Distinct, StandsAbove, Above, IsFit, Tree, half_of, IsIn, numbers_of, leaf_content, take, drop}
-use Rattle.bforest_core.proofs.{Words.{length-take-le, take-append-drop}, rows.LevelRows.{flat-append, FitRow-split, Solid-full}, table.Tables.count-append}
-use Rattle.bforest_core.proofs.table.Tables.{count-same, count-row, row-split}
+use Rattle.bforest_core.proofs.{Words.{length-take-le, take-append-drop}, table.Tables.{count-append, count-same, count-row, row-split}}
+use Rattle.bforest_core.proofs.rows.LevelRows.{flat-append, FitRow-split, Solid-full}
 
 -- two ways to cut one list at one place are the same
 pub cut_same : {A : Type 0} (p q : List A) (x y : A) (s t : List A) → p ++ x ∷ s ≡ q ++ y ∷ t → length p ≡ length q → (p ≡ q) × (x ≡ y) × (s ≡ t)

@@ -2,9 +2,8 @@
 use Rattle.bforest_core.proofs.Words.{◌≡◌, ℕ, zero, suc, ◌+◌, ◌<◌, ◌≢◌, if◌then◌else◌, nat_eq, Bool, true, false, List, [], ◌∷◌, ◌++◌, map, length, refl, sym}
 use Rattle.bforest_core.proofs.Words.{ap, ◌∙◌, subst, inl, inr, length-append, append_assoc, arith, Row, Rows, flat_map, sum_by, and_parts, cases_lt}
 use Rattle.bforest_core.proofs.Words.{false≢true, eqb_tells, sum_by-cons, Content, children_of, Table, node, sizes, numbers, sizes_of, Tree, count, root_of}
-use Rattle.bforest_core.proofs.{Words.{numbers_of, is_used, tree_of, is_root, IsForest, IsUnion}, table.Tables.count-other}
-use Rattle.bforest_core.proofs.rows.Counts.{once_below, below-one, sum-same, upto, count-upto}
-use Rattle.bforest_core.proofs.union.Forests.{root-counts, roots-once, tree-back, used_within}
+use Rattle.bforest_core.proofs.{Words.{numbers_of, is_used, tree_of, is_root, IsForest, IsUnion}, rows.Counts.{once_below, below-one, sum-same, upto}}
+use Rattle.bforest_core.proofs.{rows.Counts.count-upto, union.Forests.{root-counts, roots-once, tree-back, used_within}, table.Tables.count-other}
 
 -- the length of a list is a sum of ones
 length-sum : (xs : _) → length xs ≡ sum_by (λ (n : ℕ). 1) xs

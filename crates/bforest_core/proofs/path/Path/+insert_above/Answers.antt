@@ -1,7 +1,5 @@
-use Rattle.bforest_core.proofs.Words.{rules, ◌<◌, [], map, length, ap, arith, sizes, ◌∙◌, ◌≡◌}
-use Rattle.bforest_core.proofs.insertion.Parted.{gain-some}
-use Rattle.bforest_core.proofs.insertion.Rise.{need_top}
-use Rattle.bforest_core.proofs.insertion.HalvingNode.{room_then, next_asks, next_takes}
+use Rattle.bforest_core.proofs.{Words.{rules, ◌<◌, [], map, length, ap, arith, sizes, ◌∙◌, ◌≡◌}, insertion.HalvingNode.{room_then, next_asks, next_takes}}
+use Rattle.bforest_core.proofs.{insertion.Parted.gain-some, insertion.Rise.need_top}
 use Rattle.bforest_core.proofs.path.Path.+insert_above.Goals as goal
 
 pub push_root-requires : goal.push_root-requires

@@ -1,6 +1,5 @@
-use Rattle.bforest_core.proofs.Words.{rules, ◌+◌, ◌-◌, ◌<◌, suc, ◌∷◌, ◌++◌, length, length-append, arith, add-one, ◌∙◌}
-use Rattle.bforest_core.proofs.removal.Asked.{two_low}
-use Rattle.bforest_core.proofs.removal.Merge.{loses_child, merge_asks, merge_healed, merge_joined}
+use Rattle.bforest_core.proofs.{Words.{rules, ◌+◌, ◌-◌, ◌<◌, suc, ◌∷◌, ◌++◌, length, length-append, arith, add-one, ◌∙◌}, removal.Merge.loses_child}
+use Rattle.bforest_core.proofs.{removal.Merge.{merge_asks, merge_healed, merge_joined}, removal.Asked.two_low}
 use Rattle.bforest_core.proofs.path.Path.+merge_above.Goals as goal
 
 pub merge_above-requires : goal.merge_above-requires

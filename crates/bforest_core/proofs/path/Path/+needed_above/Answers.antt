@@ -1,5 +1,4 @@
-use Rattle.bforest_core.proofs.Words.{rules, arith, sym}
-use Rattle.bforest_core.proofs.insertion.LeafParted.{level_above, level_full, level_room, level_used, level_within}
+use Rattle.bforest_core.proofs.{Words.{rules, arith, sym}, insertion.LeafParted.{level_above, level_full, level_room, level_used, level_within}}
 use Rattle.bforest_core.proofs.insertion.Rise.{need_top}
 use Rattle.bforest_core.proofs.path.Path.+needed_above.Goals as goal
 

@@ -1,5 +1,4 @@
-use Rattle.bforest_core.proofs.Words.{rules, arith}
-use Rattle.bforest_core.proofs.removal.RemovingEmptied.{here, drop_fewer, keeps, last_asks, empties}
+use Rattle.bforest_core.proofs.{Words.{rules, arith}, removal.RemovingEmptied.{here, drop_fewer, keeps, last_asks, empties}}
 use Rattle.bforest_core.proofs.path.Path.+remove_emptied.Goals as goal
 
 pub entries-requires : goal.entries-requires

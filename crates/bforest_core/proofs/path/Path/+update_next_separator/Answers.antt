@@ -1,5 +1,4 @@
-use Rattle.bforest_core.proofs.Words.{rules, arith}
-use Rattle.bforest_core.proofs.removal.RemovingMerged.{here, above_fewer, same_parent, above_asks, next_parent}
+use Rattle.bforest_core.proofs.{Words.{rules, arith}, removal.RemovingMerged.{here, above_fewer, same_parent, above_asks, next_parent}}
 use Rattle.bforest_core.proofs.path.Path.+update_next_separator.Goals as goal
 
 pub entries-requires : goal.entries-requires

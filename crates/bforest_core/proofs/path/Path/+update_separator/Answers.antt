@@ -1,8 +1,5 @@
 use Rattle.bforest_core.proofs.Words.{rules, ◌+◌, ◌-◌, ◌<◌, ◌∷◌, ◌++◌, get_or, drop, arith, add-one, heads, entry_keys, entry_items}
-use Rattle.bforest_core.proofs.removal.Asked.{seen}
-use Rattle.bforest_core.proofs.removal.RemovingMerged.{rekey_top}
-use Rattle.bforest_core.proofs.removal.Lifted.{rekey_parent, rekey_first}
-use Rattle.bforest_core.proofs.removal.Neighbours.{up_above}
+use Rattle.bforest_core.proofs.{removal.Lifted.{rekey_parent, rekey_first}, removal.RemovingMerged.rekey_top, removal.Neighbours.up_above, removal.Asked.seen}
 use Rattle.bforest_core.proofs.rows.Zipper.{spot}
 use Rattle.bforest_core.proofs.path.Path.+update_separator.Goals as goal
 

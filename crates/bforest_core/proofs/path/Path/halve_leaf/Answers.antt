@@ -1,5 +1,4 @@
-use Rattle.bforest_core.proofs.Words.{rules, arith}
-use Rattle.bforest_core.proofs.insertion.HalvingLeaf.{full_asks, early_asks, early_halves, late_within, late_asks, late_halves}
+use Rattle.bforest_core.proofs.{Words.{rules, arith}, insertion.HalvingLeaf.{full_asks, early_asks, early_halves, late_within, late_asks, late_halves}}
 use Rattle.bforest_core.proofs.path.Path.halve_leaf.Goals as goal
 
 pub split_node-right-requires : goal.split_node-right-requires

@@ -1,5 +1,4 @@
-use Rattle.bforest_core.proofs.Words.{rules, ℕ, PlacedUnder, tree_of}
-use Rattle.bforest_core.proofs.insertion.Insertion.{inserts, placed-under, Put, put-here}
+use Rattle.bforest_core.proofs.{Words.{rules, ℕ, PlacedUnder, tree_of}, insertion.Insertion.{inserts, placed-under, Put, put-here}}
 use Rattle.bforest_core.proofs.path.Path.insert.Given.{Over}
 use Rattle.bforest_core.proofs.path.Path.insert.Goals as goal
 

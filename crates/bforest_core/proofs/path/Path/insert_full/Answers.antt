@@ -1,9 +1,6 @@
 use Rattle.bforest_core.proofs.Words.{Placing, rules, ◌≡◌, ℕ, ◌++◌, length, get_or, refl, ap, ◌∙◌, arith, sizes_of, need, leaf_content, PlacedUnder, tree_of}
-use Rattle.bforest_core.proofs.Words.{reserved}
-use Rattle.bforest_core.proofs.insertion.Insertion.{inserts, placed-under, under-low, growth-low, placed-mid, full-reserved, Put, put-split}
-use Rattle.bforest_core.proofs.table.Allocating.{err_iff, err_is, reserved-free}
-use Rattle.bforest_core.proofs.insertion.LeafSpot.{leaf_spot}
-use Rattle.bforest_core.proofs.path.Path.insert_full.Given.{Over}
+use Rattle.bforest_core.proofs.{Words.reserved, insertion.Insertion.{inserts, placed-under, under-low, growth-low, placed-mid, full-reserved, Put, put-split}}
+use Rattle.bforest_core.proofs.{table.Allocating.{err_iff, err_is, reserved-free}, insertion.LeafSpot.leaf_spot, path.Path.insert_full.Given.Over}
 use Rattle.bforest_core.proofs.path.Path.insert_full.Goals as goal
 
 pub needed_here-requires : goal.needed_here-requires

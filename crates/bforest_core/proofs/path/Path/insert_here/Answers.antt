@@ -1,6 +1,4 @@
-use Rattle.bforest_core.proofs.Words.{rules, arith}
-use Rattle.bforest_core.proofs.removal.Asked.{one_small}
-use Rattle.bforest_core.proofs.insertion.HalvingNode.{put_asks, put_grows, put_full}
+use Rattle.bforest_core.proofs.{Words.{rules, arith}, insertion.HalvingNode.{put_asks, put_grows, put_full}, removal.Asked.one_small}
 use Rattle.bforest_core.proofs.path.Path.insert_here.Goals as goal
 
 pub put_child-requires : goal.put_child-requires

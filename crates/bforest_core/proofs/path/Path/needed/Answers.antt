@@ -1,5 +1,4 @@
-use Rattle.bforest_core.proofs.Words.{tree_of, rules}
-use Rattle.bforest_core.proofs.insertion.Insertion.{placed-under, under-low}
+use Rattle.bforest_core.proofs.{Words.{tree_of, rules}, insertion.Insertion.{placed-under, under-low}}
 use Rattle.bforest_core.proofs.path.Path.needed.Goals as goal
 
 pub needed_here-requires : goal.needed_here-requires

@@ -1,6 +1,4 @@
-use Rattle.bforest_core.proofs.Words.{rules, arith}
-use Rattle.bforest_core.proofs.insertion.LeafSpot.{leaf_above}
-use Rattle.bforest_core.proofs.insertion.HalvingLeaf.{full_needs, room_needs, leaf_used, leaf_within}
+use Rattle.bforest_core.proofs.{Words.{rules, arith}, insertion.HalvingLeaf.{full_needs, room_needs, leaf_used, leaf_within}, insertion.LeafSpot.leaf_above}
 use Rattle.bforest_core.proofs.path.Path.needed_here.Goals as goal
 
 pub node-requires : goal.node-requires

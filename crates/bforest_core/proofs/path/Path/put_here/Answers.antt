@@ -1,5 +1,4 @@
-use Rattle.bforest_core.proofs.Words.{rules, arith}
-use Rattle.bforest_core.proofs.insertion.HalvingLeaf.{put_asks, put_inserts, put_full}
+use Rattle.bforest_core.proofs.{Words.{rules, arith}, insertion.HalvingLeaf.{put_asks, put_inserts, put_full}}
 use Rattle.bforest_core.proofs.path.Path.put_here.Goals as goal
 
 pub put_entry-requires : goal.put_entry-requires

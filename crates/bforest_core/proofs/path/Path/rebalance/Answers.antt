@@ -1,6 +1,5 @@
-use Rattle.bforest_core.proofs.Words.{rules, arith}
-use Rattle.bforest_core.proofs.removal.Rebalancing.{counted_asks, past_asks, past_heals, stay_heals, beside_asks, last_heals, balance_asks, rekey_asks}
-use Rattle.bforest_core.proofs.removal.Rebalancing.{rekey_heals, free_asks, free_joins}
+use Rattle.bforest_core.proofs.{Words.{rules, arith}, removal.Rebalancing.{counted_asks, past_asks, past_heals, stay_heals, beside_asks, last_heals}}
+use Rattle.bforest_core.proofs.removal.Rebalancing.{balance_asks, rekey_asks, rekey_heals, free_asks, free_joins}
 use Rattle.bforest_core.proofs.path.Path.rebalance.Goals as goal
 
 pub entries-left-requires : goal.entries-left-requires

@@ -1,8 +1,6 @@
-use Rattle.bforest_core.proofs.Words.{rules, ℕ, Some, sym, ◌∙◌, arith, IsPathAt, tree_of, StandsUnder}
+use Rattle.bforest_core.proofs.{Words.{rules, ℕ, Some, sym, ◌∙◌, arith, IsPathAt, tree_of, StandsUnder}, removal.Removal.{stands_in, removal, Said, outcome}}
+use Rattle.bforest_core.proofs.{removal.Removal.removes, removal.Taking.{counted_asks, leaf_used, single, others}, rows.Tops.root-stands}
 use Rattle.bforest_core.proofs.path.Path.remove.Given.{Over}
-use Rattle.bforest_core.proofs.removal.Taking.{counted_asks, leaf_used, single, others}
-use Rattle.bforest_core.proofs.removal.Removal.{stands_in, removal, Said, outcome, removes}
-use Rattle.bforest_core.proofs.rows.Tops.{root-stands}
 use Rattle.bforest_core.proofs.path.Path.remove.Goals as goal
 
 pub root-root-requires : goal.root-root-requires

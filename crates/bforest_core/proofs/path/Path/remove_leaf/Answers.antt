@@ -1,5 +1,4 @@
-use Rattle.bforest_core.proofs.Words.{rules, arith}
-use Rattle.bforest_core.proofs.removal.LeafEmptied.{free_asks, leaf_emptied, leaf_asks, collapse_asks, drop_removed}
+use Rattle.bforest_core.proofs.{Words.{rules, arith}, removal.LeafEmptied.{free_asks, leaf_emptied, leaf_asks, collapse_asks, drop_removed}}
 use Rattle.bforest_core.proofs.removal.Untrimmed.{stands_root}
 use Rattle.bforest_core.proofs.path.Path.remove_leaf.Goals as goal
 

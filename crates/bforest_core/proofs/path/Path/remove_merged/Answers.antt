@@ -1,6 +1,5 @@
-use Rattle.bforest_core.proofs.Words.{rules, arith}
-use Rattle.bforest_core.proofs.removal.RemovingMerged.{here, key_asks, remove_asks, merge_same, index_some, last_key_asks, above_asks, remove_last_asks}
-use Rattle.bforest_core.proofs.removal.RemovingMerged.{merge_next}
+use Rattle.bforest_core.proofs.{Words.{rules, arith}, removal.RemovingMerged.{here, key_asks, remove_asks, merge_same, index_some, last_key_asks, above_asks}}
+use Rattle.bforest_core.proofs.removal.RemovingMerged.{remove_last_asks, merge_next}
 use Rattle.bforest_core.proofs.path.Path.remove_merged.Goals as goal
 
 pub entries-requires : goal.entries-requires

@@ -1,5 +1,4 @@
-use Rattle.bforest_core.proofs.Words.{rules, arith}
-use Rattle.bforest_core.proofs.removal.Taking.{behind, first_asks, above_asks, ahead}
+use Rattle.bforest_core.proofs.{Words.{rules, arith}, removal.Taking.{behind, first_asks, above_asks, ahead}}
 use Rattle.bforest_core.proofs.path.Path.renew_first.Goals as goal
 
 pub returns-then-self-gt0 : goal.returns-then-self-gt0

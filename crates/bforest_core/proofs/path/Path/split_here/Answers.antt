@@ -1,5 +1,4 @@
-use Rattle.bforest_core.proofs.Words.{rules, arith}
-use Rattle.bforest_core.proofs.insertion.HalvingNode.{full_asks, early_asks, early_halves, late_asks, late_halves}
+use Rattle.bforest_core.proofs.{Words.{rules, arith}, insertion.HalvingNode.{full_asks, early_asks, early_halves, late_asks, late_halves}}
 use Rattle.bforest_core.proofs.removal.Asked.{one_small}
 use Rattle.bforest_core.proofs.path.Path.split_here.Goals as goal
 

@@ -1,8 +1,6 @@
 use Rattle.bforest_core.proofs.Words.{rules, sym, ◌≤◌, ◌++◌, map, length, get_or, ap, arith, get_or_default, heads, sizes, need_above, gain_above}
-use Rattle.bforest_core.proofs.insertion.Halving.{leaf_full_is}
+use Rattle.bforest_core.proofs.{insertion.LeafSpot.{leaf_spot, leaf_need_full}, insertion.LeafParted.{above_leaf, inserted}, insertion.Halving.leaf_full_is}
 use Rattle.bforest_core.proofs.insertion.Rise.{need_some}
-use Rattle.bforest_core.proofs.insertion.LeafSpot.{leaf_spot, leaf_need_full}
-use Rattle.bforest_core.proofs.insertion.LeafParted.{above_leaf, inserted}
 use Rattle.bforest_core.proofs.path.Path.split_leaf.Goals as goal
 
 pub halve_leaf-half-requires : goal.halve_leaf-half-requires

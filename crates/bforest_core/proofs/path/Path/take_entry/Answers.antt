@@ -1,5 +1,4 @@
-use Rattle.bforest_core.proofs.Words.{rules, arith}
-use Rattle.bforest_core.proofs.removal.Taking.{has_others, out_asks}
+use Rattle.bforest_core.proofs.{Words.{rules, arith}, removal.Taking.{has_others, out_asks}}
 use Rattle.bforest_core.proofs.path.Path.take_entry.Goals as goal
 
 pub remove_entry-requires : goal.remove_entry-requires

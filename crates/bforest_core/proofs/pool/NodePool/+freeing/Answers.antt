@@ -1,7 +1,7 @@
-use Rattle.bforest_core.proofs.Words.{false≢true, length-map, slice_get_within, IsInner, children_of, entry_count, numbers_down, Under, GivesAll, numbers_under}
-use Rattle.bforest_core.proofs.{Words.{rules, ◌≡◌, ℕ, ◌+◌, [], ◌∷◌, length, slice_get, suc, ◌≤◌, sym, ap, subst, ◌∙◌, arith}, table.Stored.some_same}
-use Rattle.bforest_core.proofs.union.Opened.{inner-children, under-open}
-use Rattle.bforest_core.proofs.{union.Sweep.{Sweeping, child_turn, gives-down, gives-leaf, sweep-first, sweep-last, sweep-next, sweeping}, table.Tables.is_used}
+use Rattle.bforest_core.proofs.Words.{false≢true, length-map, slice_get_within, IsInner, children_of, entry_count, numbers_down, Under, GivesAll}
+use Rattle.bforest_core.proofs.Words.{numbers_under, rules, ◌≡◌, ℕ, ◌+◌, [], ◌∷◌, length, slice_get, suc, ◌≤◌, sym, ap, subst, ◌∙◌, arith}
+use Rattle.bforest_core.proofs.union.Sweep.{Sweeping, child_turn, gives-down, gives-leaf, sweep-first, sweep-last, sweep-next, sweeping}
+use Rattle.bforest_core.proofs.{union.Opened.{inner-children, under-open}, table.Stored.some_same, table.Tables.is_used}
 use Rattle.bforest_core.proofs.pool.NodePool.+freeing.Goals as goal
 
 pub free_below-node-requires : goal.free_below-node-requires
