@@ -1,14 +1,10 @@
 -- How many nodes an insertion needs, counted from the leaf upwards.
 use Rattle.bforest_core.proofs.Words.{◌≡◌, ℕ, suc, ◌+◌, ◌≤◌, ◌<◌, ◌≢◌, IsTrue, true, false, Bool, add-one, ◌↔◌, ◌∷◌, ◌++◌, map, length, get_or, slice_get, Some}
-use Rattle.bforest_core.proofs.Words.{refl, sym, ap, ◌∙◌, arith, flat_map, false≢true, get_or_default, slice_get_within, Content, IsFree, entry_count}
+use Rattle.bforest_core.proofs.Words.{refl, sym, ap, ◌∙◌, arith, flat_map, get_or_default, slice_get_within, Content, IsFree, entry_count}
 use Rattle.bforest_core.proofs.Words.{entry_capacity, Table, node, heads, sizes, sizes_of, numbers, leaf_gain, need, need_above, count, inner_content}
 use Rattle.bforest_core.proofs.{Words.{leaf_content, Above, Placed}, table.Stored.{some_same, item_count}, insertion.LeafParted.full_gain}
 use Rattle.bforest_core.proofs.{insertion.Grow.{gain_full, gain_room}, insertion.LeafSpot.{LeafSpot, keys_count, leaf_spot, room_gain}}
-use Rattle.bforest_core.proofs.{rows.LevelRows.sizes-append, table.Tables.count-append, walks.Steps.{Spot, spot}}
-
--- a test that answers false disproves its condition
-not_so : {A : Type 0} {full : Bool} → full ≡ false → (IsTrue full ↔ A) → ¬ A
-not_so none h = λ a. false≢true (sym none ∙ h.1 a)
+use Rattle.bforest_core.proofs.{rows.LevelRows.sizes-append, table.Tables.count-append, walks.Reading.not_so, walks.Steps.{Spot, spot}}
 
 module _ {K V : Type 0} where
   -- the need at a full node, and at one with room

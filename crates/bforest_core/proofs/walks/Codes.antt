@@ -1,7 +1,7 @@
 -- The way of a code down rows of inner nodes, and a spot as such a way.
 use Rattle.bforest_core.proofs.Words.{Coded, CodedOver, HasNext, IsLeafAt, IsSpotAt, IsWay, IsNextOf, IsPrevOf, Leads, NumberAt, leaf_count, IsTrue, ◌≡◌, ◌≢◌}
 use Rattle.bforest_core.proofs.Words.{ℕ, zero, suc, ◌+◌, ◌-◌, ◌*◌, ◌/◌, ◌%◌, ◌≤◌, ◌<◌, List, [], ◌∷◌, length, drop, get_or, slice_get, Some, refl, sym, ap, ◌∙◌}
-use Rattle.bforest_core.proofs.Words.{arith, None, Heads, Row, Rows, Content, node, flat, heads, FitRow, RowIn, inner_content, IsUnion, Table, is_root, tree_of}
+use Rattle.bforest_core.proofs.Words.{arith, None, Heads, Row, Rows, Content, flat, heads, FitRow, RowIn, inner_content, IsUnion, Table, is_root, tree_of}
 use Rattle.bforest_core.proofs.{walks.Reading.{CountAsked, CountRead}, rows.LevelRows.some_leaf, walks.RowNodes.{NodeIn, fit_full, node-at, node-in, node-same}}
 use Rattle.bforest_core.proofs.{union.Unions.is-rooted, table.Stored.item_count}
 use Rattle.bforest_core.specs.declared.spot.Spot.{Spot}

@@ -1,5 +1,5 @@
 -- The codes of a tree's leaves are in the leaves' order.
-use Rattle.bforest_core.proofs.Words.{Coded, IsSpotAt, place_by, ◌≡◌, ℕ, ◌+◌, ◌/◌, ◌%◌, ◌≤◌, ◌<◌, List, [], ◌∷◌, ◌++◌, drop, length, refl, sym, ap, ◌∙◌, arith}
+use Rattle.bforest_core.proofs.Words.{Coded, IsSpotAt, place_by, ◌≡◌, ℕ, ◌+◌, ◌/◌, ◌%◌, ◌≤◌, ◌<◌, List, [], ◌∷◌, ◌++◌, drop, length, sym, ap, ◌∙◌, arith}
 use Rattle.bforest_core.proofs.Words.{length-append, inl, inr, IsAt, LevelNode, Table, cases_lt, flat, node, tree_of}
 use Rattle.bforest_core.proofs.{walks.Cousins.coded-place, walks.RowNodes.same-cut}
 use Rattle.bforest_core.specs.declared.spot.Spot.{Spot}

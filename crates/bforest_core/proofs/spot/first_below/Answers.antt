@@ -1,5 +1,6 @@
-use Rattle.bforest_core.proofs.{Words.{arith, rules, sym, ◌∙◌, false≢true}, walks.CodesDown.{FirstSaid, down-ask, down-asks, down-low, down-on, first-here}}
+use Rattle.bforest_core.proofs.{Words.{arith, rules}, walks.CodesDown.{FirstSaid, down-ask, down-asks, down-low, down-on, first-here}}
 use Rattle.bforest_core.proofs.{walks.Leading.first-turns, walks.TopNode.node_within}
+use Rattle.bforest_core.proofs.walks.Reading.{not_so}
 use Rattle.bforest_core.proofs.spot.first_below.Goals as goal
 
 pub loop-here-init : goal.loop-here-init
@@ -31,5 +32,5 @@ loop-here-preserved g c = let b = c.below-here.ensures in
 pub returns : goal.returns
 returns g c = record {
   first = c.loop-here.invariant.ends c.loop-here.here c.loop-here.first
-      (first-here c.requires.capacity c.node.ensures.value (λ i. false≢true (sym c.loop-here-test.false ∙ c.is_inner.ensures.inner.1 i)) c.loop-here.here);
+      (first-here c.requires.capacity c.node.ensures.value (not_so c.loop-here-test.false c.is_inner.ensures.inner) c.loop-here.here);
 }

@@ -1,5 +1,6 @@
-use Rattle.bforest_core.proofs.{Words.{arith, rules, sym, ◌∙◌, false≢true}, walks.CodesDown.{LastSaid, down-ask, down-asks, down-low, down-on, last-here}}
+use Rattle.bforest_core.proofs.{Words.{arith, rules}, walks.CodesDown.{LastSaid, down-ask, down-asks, down-low, down-on, last-here}}
 use Rattle.bforest_core.proofs.{walks.Leading.last-turns, walks.TopNode.{node_held, node_within}}
+use Rattle.bforest_core.proofs.walks.Reading.{not_so}
 use Rattle.bforest_core.proofs.spot.last_below.Goals as goal
 
 pub loop-index-init : goal.loop-index-init
@@ -35,5 +36,5 @@ loop-index-preserved g c = let b = c.below-here.ensures in
 pub returns : goal.returns
 returns g c = record {
   last = c.loop-index.invariant.ends c.loop-index.here c.loop-index.last
-      (last-here c.requires.capacity c.node.ensures.value (λ i. false≢true (sym c.loop-index-test.false ∙ c.is_inner.ensures.inner.1 i)) _);
+      (last-here c.requires.capacity c.node.ensures.value (not_so c.loop-index-test.false c.is_inner.ensures.inner) _);
 }

@@ -1,6 +1,5 @@
 use Rattle.bforest_core.proofs.Words.{Placing, sizes_under, rules, ℕ, refl, arith, IfOk, length, subst, ◌≡◌, ◌↔◌, PlacedUnder, Table, growth, tree_of}
 use Rattle.bforest_core.proofs.{insertion.Insertion.{placed-under, Put, put-here}, path.Path.insert.Given.Over}
-use Rattle.bforest_core.specs.declared.pool.OutOfMemory.TheVariants.{Full, Memory}
 use Rattle.bforest_core.proofs.path.Path.insert.Goals as goal
 
 pub put_here-requires : goal.put_here-requires

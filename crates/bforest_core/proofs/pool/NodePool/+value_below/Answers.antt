@@ -1,17 +1,18 @@
-use Rattle.bforest_core.proofs.Words.{rules, ◌∷◌, ◌+◌, sym, ◌∙◌, arith, false≢true}
+use Rattle.bforest_core.proofs.Words.{rules, ◌∷◌, ◌+◌, sym, ◌∙◌, arith}
 use Rattle.bforest_core.proofs.walks.Searches.{asks, deeper-low, leaf-asks, narrowed, one-down, step-leaf, within}
+use Rattle.bforest_core.proofs.walks.Reading.{not_so}
 use Rattle.bforest_core.proofs.pool.NodePool.+value_below.Goals as goal
 
 pub node-requires : goal.node-requires
 node-requires g t c = (search rules, (search rules, within (g.met.C.Comparator.total c.args.comp.now) c.requires.capacity c.requires.through.1))
 
 pub look_up-requires : goal.look_up-requires
-look_up-requires g t c = (search rules, (c.requires.capacity, leaf-asks (g.met.C.Comparator.total c.args.comp.now) c.requires.capacity c.requires.through.1 c.node.ensures.value (λ i. false≢true (sym c.if-not-is_inner.true ∙ c.is_inner.ensures.inner.1 i))))
+look_up-requires g t c = (search rules, (c.requires.capacity, leaf-asks (g.met.C.Comparator.total c.args.comp.now) c.requires.capacity c.requires.through.1 c.node.ensures.value (not_so c.if-not-is_inner.true c.is_inner.ensures.inner)))
 
 pub returns-then-not-is_inner : goal.returns-then-not-is_inner
 returns-then-not-is_inner g t c = λ leaves on.
-    let s = step-leaf (g.met.C.Comparator.total c.args.comp.now) c.requires.capacity on c.node.ensures.value (λ i. false≢true (sym c.if-not-is_inner.true ∙ c.is_inner.ensures.inner.1 i)) in
-    c.look_up.ensures.value (s.here.at.e ∷ s.here.at.es) s.here.slot_is ∙ sym (narrowed (g.met.C.Comparator.total c.args.comp.now) c.requires.capacity on c.node.ensures.value (λ i. false≢true (sym c.if-not-is_inner.true ∙ c.is_inner.ensures.inner.1 i))).value_is
+    let s = step-leaf (g.met.C.Comparator.total c.args.comp.now) c.requires.capacity on c.node.ensures.value (not_so c.if-not-is_inner.true c.is_inner.ensures.inner) in
+    c.look_up.ensures.value (s.here.at.e ∷ s.here.at.es) s.here.slot_is ∙ sym (narrowed (g.met.C.Comparator.total c.args.comp.now) c.requires.capacity on c.node.ensures.value (not_so c.if-not-is_inner.true c.is_inner.ensures.inner)).value_is
 
 pub follow-child-requires : goal.follow-child-requires
 follow-child-requires g t c = (search rules, asks (g.met.C.Comparator.total c.args.comp.now) c.requires.capacity c.requires.through.1 c.node.ensures.value (c.is_inner.ensures.inner.0 c.if-not-is_inner.false))
