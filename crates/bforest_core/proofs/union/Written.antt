@@ -40,7 +40,7 @@ module _ {K X : Type 0} where
   written-behind (e ∷ es) fs zero i v is = absurd (omega arith)
   written-behind (e ∷ es) fs (suc p) i v is = cc (written-behind es fs p i v (omega arith))
 
-module _ {K V : Type 0} (most : ℕ) (table : Table K V) (root place path indices size : _) (union : IsUnion most table) (s : StandsUnder table.nodes root path indices size place) where
+module _ {K V : Type 0} {most : ℕ} {table : Table K V} {root place path indices size : _} (union : IsUnion most table) (s : StandsUnder table.nodes root path indices size place) where
   abbrev r : Rooted most table root (tree_of table.nodes root)
   r = rooted _ _ _ union s.root_is
 

@@ -16,13 +16,13 @@ eights-pos zero = omega arith
 eights-pos (suc n) = omega (arith, eights-pos n)
 
 digits-low : (code x : ℕ) → code / 8 < x → code < 8 * x
-digits-low code x low = omega (arith, low)
+digits-low code x low = omega arith
 
 -- a code has no more digits than levels
 pub code-low : {K : Type 0} (n : ℕ) (rows : Rows K) (numbers : List ℕ) (code place : ℕ) → Coded numbers rows code place → length rows ≤ n → code < eights n
 code-low n [] numbers code place c low = omega (arith, eights-pos n)
-code-low zero (row ∷ rows) numbers code place c low = absurd (omega (arith, low))
-code-low (suc n) (row ∷ rows) numbers code place c low = digits-low _ _ (code-low n _ _ _ _ c.1 (omega (arith, low)))
+code-low zero (row ∷ rows) numbers code place c low = absurd (omega arith)
+code-low (suc n) (row ∷ rows) numbers code place c low = digits-low _ _ (code-low n _ _ _ _ c.1 (omega arith))
 
 module _ {K V : Type 0} (slots : List (Content K V)) (root code depth : ℕ) where
   -- the lowest node of a way, and the way to it
@@ -69,7 +69,7 @@ module _ {K V : Type 0} (slots : List (Content K V)) (root code depth : ℕ) whe
 
 -- a code, with one digit more
 pub digit-put : (above digit code : ℕ) → digit < 8 → code ≡ above * 8 + digit → (code % 8 ≡ digit) × (code / 8 ≡ above)
-digit-put above digit code low is = (omega (arith, low), omega (arith, low))
+digit-put above digit code low is = (omega arith, omega arith)
 
 module _ {K V : Type 0} {slots : List (Content K V)} {root code depth numbers rows list place : _} (p : CodedOver slots root code depth numbers rows list place) (some : depth ≢ 0) where
   abbrev pub here : Lowest slots root code depth numbers rows list place
@@ -156,7 +156,7 @@ module _ {K V : Type 0} {slots : List (Content K V)} {root code depth numbers ro
 
   -- a spot of this code
   pub way-of : (spot : Spot) → spot.code ≡ code → spot.height ≡ depth → (0 < depth → get_or numbers 0 0 ≡ spot.parent) → (1 < depth → get_or (drop 1 numbers) 0 0 ≡ spot.grand) → IsWay numbers spot rows place
-  way-of spot code_is height parent grand = record { coded = rw code_is p.coded; parent_is = λ low. parent (omega (arith, low, height)); grand_is = λ low. grand (omega (arith, low, height)); height_is = cc (height) }
+  way-of spot code_is height parent grand = record { coded = rw code_is p.coded; parent_is = λ low. parent (omega arith); grand_is = λ low. grand (omega arith); height_is = cc }
 
 -- the spot one level below another, at a child of this node
 pub record IsBelow (spot : Spot) (node index : ℕ) (next : Spot) : Type 0 where
@@ -174,7 +174,7 @@ module _ {K V : Type 0} {slots : List (Content K V)} {root : ℕ} (spot : Spot) 
   -- with no levels, the root
   pub root-leads : spot.code ≡ 0 → Leads slots root spot.code spot.height spot root
   root-leads code numbers rows list place p = (
-    way-of p spot refl refl (λ low. absurd (omega (arith, low, height))) (λ low. absurd (omega (arith, low, height))),
+    way-of p spot refl refl (λ low. absurd (omega arith)) (λ low. absurd (omega arith)),
     (way-none _ _ spot.code spot.height rows list p height).0,
   )
 

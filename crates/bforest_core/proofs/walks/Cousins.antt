@@ -96,7 +96,7 @@ module _ {K V : Type 0} {n : ℕ} {table : Table K V} (union : IsUnion n table) 
     where
       below : 0 < spot.height → suc place ≡ leaf_count table root
       below some = last-leaf union root s.root_is (none-next (spot-over union s) (other union s some) (its union s some) refl (counts union s some) (high union
-          s some last) (way-none _ _ _ _ _ _ (it union s some).over (omega (arith, some))).1)
+          s some last) (way-none _ _ _ _ _ _ (it union s some).over (omega arith)).1)
 
   -- a leaf without a grandparent and without a sibling before it is the first of the tree
   pub first-low : (HasPrev spot → ⊥) → spot.height < 2 → place ≡ 0
@@ -104,7 +104,7 @@ module _ {K V : Type 0} {n : ℕ} {table : Table K V} (union : IsUnion n table) 
     where
       below : 0 < spot.height → place ≡ 0
       below some = none-prev (spot-over union s) (other union s some) (its union s some) refl (nought union s some first)
-          (way-none _ _ _ _ _ _ (it union s some).over (omega (arith, some))).2
+          (way-none _ _ _ _ _ _ (it union s some).over (omega arith)).2
 
   -- the leaves with the same grandparent and another parent
   module _ (deep : 2 ≤ spot.height) where

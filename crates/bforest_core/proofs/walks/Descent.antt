@@ -137,8 +137,8 @@ module _ {K V : Type 0} {cmp : K → K → Ordering} (o : IsTotalOrder cmp) {mos
         record {
           leaf = d.leaf;
           stands = rw s.here.lower_is (subst (λ z. StandsTo path'' indices'' 1 (s.here.rows ++ s.here.row ∷ []) (length d.leaf.before) z) s.here.at.before_is more);
-          nodes_above = λ i low. d.nodes_above i (omega (arith, low)) ∙ set_but _ _ _ nodes i (λ z. omega (arith, low));
-          entries_above = λ i low. d.entries_above i (omega (arith, low)) ∙ set_but _ _ _ entries i (λ z. omega (arith, low));
+          nodes_above = λ i low. d.nodes_above i (omega arith) ∙ set_but _ _ _ nodes i (λ z. omega arith);
+          entries_above = λ i low. d.entries_above i (omega arith) ∙ set_but _ _ _ entries i (λ z. omega arith);
         }
 
   module _ (s : LeafStep cmp most slots leaves lower a first number b key) where
@@ -179,8 +179,8 @@ module _ {K V : Type 0} {cmp : K → K → Ordering} (o : IsTotalOrder cmp) {mos
       rw s.here.lower_is (record {
         leaf = placed _ _ (cc (get_or-set_same path 0 number 0 wide)) (cc (get_or-set_same indices 0 (place cmp entries key) 0 wide'));
         stands = s.here.at.before_is;
-        nodes_above = λ i low. set_but _ 0 _ nodes i (λ z. omega (arith, low));
-        entries_above = λ i low. set_but _ 0 _ indices_are i (λ z. omega (arith, low));
+        nodes_above = λ i low. set_but _ 0 _ nodes i (λ z. omega arith);
+        entries_above = λ i low. set_but _ 0 _ indices_are i (λ z. omega arith);
       }),
     )
 

@@ -118,7 +118,7 @@ module _ {K V : Type 0} {cmp : K → K → Ordering} {most : ℕ} {slots : List 
               above = s.here.row ∷ w.above;
               numbers = number ∷ w.numbers;
               on = one-down w.total w.capacity w.on found inner index says reads _ b.height;
-              way = child-way s.here d.within b.code b.parent b.grand b.height w.way d.place_is;
+              way = child-way s.here d.within b w.way d.place_is;
               join = rows-join s.here w.above ∙ w.join;
             }
 

@@ -6,11 +6,11 @@ returns-then-from-level-clause-moved g t c = λ path indices size turned. subst 
 
 pub last_index-last-requires : goal.last_index-last-requires
 last_index-last-requires g t c = let w = c.requires.turned in
-    (search rules, last-held _ _ _ (omega (arith, c.requires.within, c.if-from-level.false)) w.3 c.index-self-from.result (omega arith) w.4)
+    (search rules, last-held (omega (arith, c.requires.within, c.if-from-level.false)) w.3 c.index-self-from.result (omega arith) w.4)
 
 pub go_to_child-requires : goal.go_to_child-requires
 go_to_child-requires g t c = let w = c.requires.turned in
-    (search rules, (search rules, last-goes _ _ _ (omega (arith, c.requires.within, c.if-from-level.false)) w.3 c.index-self-from.result (omega arith) c.last_index-last.ensures.last w.4))
+    (search rules, (search rules, last-goes (omega (arith, c.requires.within, c.if-from-level.false)) w.3 c.index-self-from.result (omega arith) c.last_index-last.ensures.last w.4))
 
 pub go_last-requires : goal.go_last-requires
 go_last-requires g t c κs within = let w = c.requires.turned in
@@ -32,7 +32,7 @@ go_last-requires g t c κs within = let w = c.requires.turned in
                     w.0,
                     w.1,
                     w.2,
-                    back-turned _ _ _ (omega (arith, c.requires.within, c.if-from-level.false)) w.3 c.index-self-from.result (omega arith) c.last_index-last.ensures.last (went w'.child w'.nodes w'.entry w'.entries),
+                    back-turned (omega (arith, c.requires.within, c.if-from-level.false)) w.3 c.index-self-from.result (omega arith) c.last_index-last.ensures.last (went w'.child w'.nodes w'.entry w'.entries),
                     w.4,
                   ),
                 ),
@@ -45,4 +45,4 @@ go_last-requires g t c κs within = let w = c.requires.turned in
 
 pub returns-clause-moved : goal.returns-clause-moved
 returns-clause-moved g t c = λ path indices size turned. let w' = c.go_to_child.ensures in
-    c.go_last.ensures.moved path indices size (back-turned _ _ _ (omega (arith, c.requires.within, c.if-from-level.false)) turned c.index-self-from.result (omega arith) c.last_index-last.ensures.last (went w'.child w'.nodes w'.entry w'.entries))
+    c.go_last.ensures.moved path indices size (back-turned (omega (arith, c.requires.within, c.if-from-level.false)) turned c.index-self-from.result (omega arith) c.last_index-last.ensures.last (went w'.child w'.nodes w'.entry w'.entries))
