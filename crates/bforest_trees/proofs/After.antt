@@ -1,12 +1,9 @@
 -- What a call that may be refused leaves.
-use Rattle.bforest_trees.proofs.Changed.{becomes-new}
-use Rattle.bforest_trees.specs.Forest.{Becomes, Forest, free_of, slots_of}
+use Rattle.bforest_trees.specs.Forest.{Forest, free_of, slots_of}
 use Rattle.bforest_core.proofs.table.Chains.{length-down_from, length-fresh_nodes}
-use Rattle.bforest_core.specs.Change.{Changes}
 use Rattle.bforest_core.specs.Table.{down_from, free_count, fresh_nodes, front_of, reserved, slot_count, with_slots}
-use Rattle.bforest_core.specs.Trees.{is_root}
 use Rattle.std.proofs.lemmas.Result.{err_from_is_err_and}
-use Rattle.std.proofs.Common.{Err, IfOk, IsErrAnd, IsOk, IsTrue, List, None, Ok, OnErr, OnOk, Result, Some, ap, append-nil, arith, length-append, ◌+◌, ◌-◌, ◌∙◌, ◌≡◌, ◌≤◌, ℕ}
+use Rattle.std.proofs.Common.{Err, IsErrAnd, IsOk, Ok, OnErr, OnOk, Result, ap, append-nil, arith, length-append, ◌+◌, ◌-◌, ◌∙◌, ◌≡◌, ◌≤◌, ℕ}
 
 -- a fact that is stated for `Ok` holds of an answer that is `Ok`
 pub ok-then : {A E P : Type 0} (r : Result A E) → IsOk r → OnOk r P → P

@@ -63,7 +63,7 @@ module _ {K V : Type 0} {cmp : K → K → Ordering} (most : ℕ) {table : Table
         let said = answer_is ∙ ap (λ z. put_answer most (leaf_content es) z) found ∙ ap Ok (items-read es p ∙ sym (value_for-present cmp es key here)) in
         let after = new_is ∙ ap (λ z. with_node table leaf (with_put most (leaf_content es) z key value)) found in
         let at_index : with_value_at table (get_or path 0 0) (get_or js 0 0) value ≡ with_node table leaf (content_with (leaf_content es) p value) =
-        cc (index_is, slot-is table.nodes leaf (leaf_content es) e.slot_is) in
+        cc (index_is, slot-is table.nodes leaf e.slot_is) in
         let changes = subst (λ z. Changes most table z root root (with_value list at value) (sizes_of (tree_of table.nodes root))) (cc (after)) (value-written union (stands here) value).0 in
         record {
           ok = rw said (sym e.value_is);
@@ -93,10 +93,10 @@ module _ {K V : Type 0} {cmp : K → K → Ordering} (most : ℕ) {table : Table
       after = cc (found)
 
       has : HasRoom Leaf (λ keys vals. length keys) most table (get_or path 0 0) room
-      has keys vals is = subst (λ z. IsTrue room ↔ (entry_count z < most)) (sym (read_same table.nodes (get_or path 0 0) (leaf_content es) (Leaf keys vals) slot is)) (λ fits. ltb-true (entry_count (leaf_content es)) most fits, λ less. lt-ltb (entry_count (leaf_content es)) most less)
+      has keys vals is = subst (λ z. IsTrue room ↔ (entry_count z < most)) (sym (read_same table.nodes (get_or path 0 0) slot is)) (λ fits. ltb-true (entry_count (leaf_content es)) most fits, λ less. lt-ltb (entry_count (leaf_content es)) most less)
 
       wrote : Written Leaf (λ z. with_entry z (get_or js 0 0) key value) table new (get_or path 0 0) room
-      wrote keys vals is = subst (λ z. new ≡ with_node table (get_or path 0 0) (if room then with_entry z (get_or js 0 0) key value else z)) (sym (read_same table.nodes (get_or path 0 0) (leaf_content es) (Leaf keys vals) slot is)) (rw (e.leaf_is, index_is) after)
+      wrote keys vals is = subst (λ z. new ≡ with_node table (get_or path 0 0) (if room then with_entry z (get_or js 0 0) key value else z)) (sym (read_same table.nodes (get_or path 0 0) slot is)) (rw (e.leaf_is, index_is) after)
 
       gone : value_for cmp list key ≡ None
       gone = cc (value_for-absent cmp es key none)

@@ -64,7 +64,7 @@ module _ {K V : Type 0} where
       more = omega (arith, leaf_count es all (slice_get t.nodes (get_or path 0 0)) d.slot_is h.slot_was, length-append d.l (d.x ∷ d.r), length-append d.l d.r)
 
       w : Puts t u (get_or path 0 0) (leaf_content (d.l ++ d.r))
-      w = let n = get_or path 0 0 in let same = read_same _ n _ _ d.slot_is h.slot_was in
+      w = let n = get_or path 0 0 in let same = read_same _ n d.slot_is h.slot_was in
           puts t u n _ _ d.slot_is (cc (without_entry_is d.l d.x d.r (get_or indices 0 0) d.index_is))
 
       -- where the leaf is the whole tree, there is no row above that names it
@@ -109,6 +109,6 @@ module _ {K V : Type 0} where
             LeafLoss most t v path indices size tree place
         ahead v key reads rekeys = let n = get_or path 0 0 in
             let new : heads d.before ++ ((key, n) ∷ heads d.after) ≡ heads (d.before ++ node n (d.l ++ d.r) ∷ d.after) =
-            simp ((some_same _ _ (reads (entry_keys (next.0 ∷ next.1)) (entry_items (next.0 ∷ next.1)) slot_then)), next.2, heads-append) in
+            simp ((some_same (reads (entry_keys (next.0 ∷ next.1)) (entry_items (next.0 ∷ next.1)) slot_then)), next.2, heads-append) in
             leaf_loss d more w
             (rw (← new) (rekeys above_asks))

@@ -44,7 +44,7 @@ module _ {K V : Type 0} where
 
     module _ (content : Content K V) (read : slice_get t.nodes (get_or ms up r) ≡ Some content) where
       content_is : content ≡ inner_content level.entries
-      content_is = some_same _ _ (sym read ∙ level_slot)
+      content_is = some_same (sym read ∙ level_slot)
 
       pub level_used : ¬ IsFree content
       level_used = rw content_is (λ free. free)
@@ -90,7 +90,7 @@ module _ {K V : Type 0} where
 
       module _ (content : Content K V) (read : slice_get t.nodes (get_or ms 0 r) ≡ Some content) where
         leaf_content_is : content ≡ leaf_content (leaf.l ++ leaf.r)
-        leaf_content_is = some_same _ _ (sym read ∙ leaf_slot)
+        leaf_content_is = some_same (sym read ∙ leaf_slot)
 
         pub leaf_used : ¬ IsFree content
         leaf_used = rw leaf_content_is (λ free. free)

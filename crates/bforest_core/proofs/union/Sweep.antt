@@ -119,7 +119,7 @@ module _ {K V : Type 0} where
 -- the entry whose item is at an index
 item_at : {K : Type 0} (top : Heads K) (index child : ℕ) → slice_get (entry_items top) index ≡ Some child → (x : K × ℕ) × (slice_get top index ≡ Some x) × (x.1 ≡ child)
 item_at top index child found = let r = read top index (omega (arith, slice_get_within (entry_items top) index child found, length-map top (λ w. w.1))) in
-    (r.0, r.1, some_same _ _ (cc (items-read _ _, found)))
+    (r.0, r.1, some_same (cc (items-read _ _, found)))
 
 module _ {K V : Type 0} where
   -- the progress of freeing a node's children, and the node itself

@@ -19,7 +19,7 @@ ends-alone cmp o table root key union is leaf inc =
       | inl s ↦ (let step = leaf_step o one inc (all_through cmp u.first key) s in
           ends-in table root is (reached o one step (lone 0) (lone 0)
           (lone root) (lone 0) (omega arith) (omega arith) refl refl) (sym (ap (λ z. suc (length z)) s.lower_is)) refl refl)
-      | inr s ↦ absurd (subst IsLeaf (slot-is table.nodes root _ s.slot_is) leaf)
+      | inr s ↦ absurd (subst IsLeaf (slot-is table.nodes root s.slot_is) leaf)
     ]
 
 -- no row is above a path of one level

@@ -1,5 +1,5 @@
 -- The way down to the first leaf below a node, and to the last, as a spot: each answer of `first_below` and `last_below` is one of these.
-use Rattle.bforest_core.proofs.Words.{Coded, HasUnder, IsLeafAt, IsSpotAt, IsWay, NumberAt, OnUnder, leaf_count, ◌≡◌, ℕ, suc, ◌+◌, ◌-◌, ◌*◌, ◌≤◌, ◌<◌, List, []}
+use Rattle.bforest_core.proofs.Words.{Coded, HasUnder, IsLeafAt, IsSpotAt, IsWay, NumberAt, OnUnder, leaf_count, ◌≡◌, ℕ, suc, ◌+◌, ◌-◌, ◌≤◌, ◌<◌, List, []}
 use Rattle.bforest_core.proofs.Words.{◌∷◌, ◌++◌, IsTrue, length, slice_get, Some, refl, sym, ap, subst, ◌∙◌, arith, append_assoc, length-append, Heads, Row}
 use Rattle.bforest_core.proofs.Words.{Rows, Content, IsInner, IsLeafCapacity, IsUnion, flat, heads, node, Under, IsFirst, IsLast, append-nil, Table, is_root}
 use Rattle.bforest_core.proofs.{Words.tree_of, rows.LevelRows.some_leaf, walks.RowNodes.no_heads, walks.Standing.under-root}

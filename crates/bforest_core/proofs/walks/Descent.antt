@@ -114,7 +114,7 @@ module _ {K V : Type 0} {cmp : K → K → Ordering} (o : IsTotalOrder cmp) {mos
         let es_is = ap (λ z. at.e ∷ z) d.es_is ∙ ap (λ z. z ++ d.r) w.is ∙ append_assoc w.init (w.last ∷ []) d.r in
         let count_is : length w.init ≡ index = omega (arith, ap length w.is, length-append w.init (w.last ∷ [])) in
         let here = ap (λ z. slice_get z index) es_is ∙ slice_get_at _ _ _ _ count_is in
-        let child_is = some_same child w.last.1 (cc (items-read (at.e ∷ at.es) index, here)) in
+        let child_is = some_same {x = child} {y = w.last.1} (cc (items-read (at.e ∷ at.es) index, here)) in
         record {
           front = flat at.before ++ w.init;
           head = w.last.0;

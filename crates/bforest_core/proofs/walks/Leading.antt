@@ -10,7 +10,7 @@ use Rattle.bforest_core.proofs.walks.TopNode.{SameBut, none_flat, flat_parted, s
 child_cut : {K : Type 0} (es : Heads K) (index child : ℕ) → slice_get (entry_items es) index ≡ Some child → (l : Heads K) × (key : K)
     × (r : Heads K) × (es ≡ l ++ (key, child) ∷ r) × (length l ≡ index)
 child_cut [] index child found = absurd cc
-child_cut (y ∷ es) zero child found = ([], y.0, es, ap (λ z. (y.0, z) ∷ es) (some_same _ _ found), refl)
+child_cut (y ∷ es) zero child found = ([], y.0, es, ap (λ z. (y.0, z) ∷ es) (some_same found), refl)
 child_cut (y ∷ es) (suc index) child found = let r = child_cut _ _ _ found in (y ∷ r.0, r.1, r.2, ap (λ z. y ∷ z) r.3, ap suc r.4)
 
 -- a row ends with the last entry of its last node
@@ -51,7 +51,7 @@ module _ {K V : Type 0} {most : ℕ} {slots : List (Content K V)} {leaves lower 
 module _ {K V : Type 0} {most : _} {slots : List (Content K V)} {leaves lower a first number b : _} (s : InnerUnder most slots leaves lower a first number b)
     {content2 : Content K V} (read2 : slice_get slots number ≡ Some content2) where
   content_is : content2 ≡ inner_content (s.at.e ∷ s.at.es)
-  content_is = some_same _ _ (cc)
+  content_is = some_same (cc)
 
   -- the node meets what reading a child requires
   pub child_asks : (index : ℕ) → index ≤ length s.at.es → IsInner content2 × (index < entry_count content2)

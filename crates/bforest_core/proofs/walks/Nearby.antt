@@ -40,14 +40,14 @@ module _ {K X : Type 0} {cmp : K → K → Ordering} (o : IsTotalOrder cmp) (key
 
   all_at : (P : K → Type 0) (es : List (K × X)) (p e : _) → AllByRecursion P (keys_of es) → slice_get es p ≡ Some e → P e.0
   all_at P [] p e h here = absurd cc
-  all_at P (x ∷ es) zero e h here = rw (← some_same x e here) h.0
+  all_at P (x ∷ es) zero e h here = rw (← some_same here) h.0
   all_at P (x ∷ es) (suc p) e h here = all_at P es p e h.1 here
 
   -- a search from an entry on that is not greater, as in the whole list
   behind : (es : List (K × X)) (p e : _) → slice_get es p ≡ Some e → IsIncreasing cmp es → cmp e.0 key ≢ Greater → (n found : _) → (IsIncreasing cmp (e ∷ drop (suc p) es) → Finds cmp (e ∷ drop (suc p) es) key n found) → Finds cmp es key (p + n) found
   unfolding IsStrictlySortedBy
   behind [] p e here h ng n found f = absurd cc
-  behind (x ∷ es) zero e here h ng n found f = let same = some_same x e here in
+  behind (x ∷ es) zero e here h ng n found f = let same = some_same here in
       subst (λ z. Finds cmp (x ∷ es) key z found) (omega arith) (subst (λ z. Finds cmp (z ∷ es) key n found) (sym same) (f (subst (λ z. IsIncreasing cmp (z ∷ es)) same h)))
   behind (x ∷ es) (suc p) e here h ng n found f =
       subst (λ z. Finds cmp (x ∷ es) key z found) (omega arith) (later x (less_from o _ _ _ (all_at _ _ p e h.0 here) ng) (behind es p e here h.1 ng n found f))

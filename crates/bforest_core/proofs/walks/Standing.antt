@@ -67,7 +67,7 @@ pub on-leaf : {K V : Type 0} {most : ℕ} (table : Table K V) (root : ℕ) (path
 on-leaf table root path indices union is leaf node_is index_is = let u = under-root root union is in
     elim (node_under union.1.capacity _ [] u.first root [] u.under) [
       | inl s ↦ (let d = leaf_led _ _ s _ indices 0 (omega arith) (omega (arith, none_flat _ s.at.before_is)) node_is index_is (λ i ne. refl) (λ i ne. refl) in record { root_is = is; stands = led_stands _ 1 d (sym (ap (λ z. suc (length z)) s.lower_is)) })
-      | inr s ↦ absurd (subst IsLeaf (slot-is table.nodes root _ s.slot_is) leaf)
+      | inr s ↦ absurd (subst IsLeaf (slot-is table.nodes root s.slot_is) leaf)
     ]
 
 module _ {K X : Type 0} where

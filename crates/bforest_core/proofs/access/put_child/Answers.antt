@@ -16,4 +16,4 @@ returns-clause-room g c = λ keys children slot.
 
 pub returns-clause-node : goal.returns-clause-node
 returns-clause-node g c = λ keys children slot.
-    ap (λ z. with_node c.args.pool.now c.args.node z) (c.try_inner_insert.ensures.node ∙ ap (λ z. if c.try_inner_insert.result then with_child z c.args.index c.args.key c.args.child else z) (read_same c.args.pool.now.nodes c.args.node _ _ slot c.node_mut.ensures.value))
+    ap (λ z. with_node c.args.pool.now c.args.node z) (c.try_inner_insert.ensures.node ∙ ap (λ z. if c.try_inner_insert.result then with_child z c.args.index c.args.key c.args.child else z) (read_same c.args.pool.now.nodes c.args.node slot c.node_mut.ensures.value))

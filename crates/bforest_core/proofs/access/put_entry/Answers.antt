@@ -15,4 +15,4 @@ returns-clause-room g c = λ keys vals slot.
 
 pub returns-clause-node : goal.returns-clause-node
 returns-clause-node g c = λ keys vals slot.
-    ap (λ z. with_node c.args.pool.now c.args.node z) (c.try_leaf_insert.ensures.node ∙ ap (λ z. if c.try_leaf_insert.result then with_entry z c.args.index c.args.key c.args.value else z) (read_same c.args.pool.now.nodes c.args.node _ _ slot c.node_mut.ensures.value))
+    ap (λ z. with_node c.args.pool.now c.args.node z) (c.try_leaf_insert.ensures.node ∙ ap (λ z. if c.try_leaf_insert.result then with_entry z c.args.index c.args.key c.args.value else z) (read_same c.args.pool.now.nodes c.args.node slot c.node_mut.ensures.value))

@@ -10,14 +10,14 @@ pub below-here-requires-clause-code : goal.below-here-requires-clause-code
 below-here-requires-clause-code g c =
     let t = c.loop-here.invariant in let some = turn-more t c.loop-here-test.true in let e = turn-end t some in let way = turn-way e.way some c.requires.over in
     (stands-low (omega arith) e.way.leads way.4
-    (turn-at (omega arith) e.way.leads (λ other found. ap entry_count (some_same _ _ (sym e.slot_is ∙ found))) (omega arith) refl (turn-beside t some) way.4)
+    (turn-at (omega arith) e.way.leads (λ other found. ap entry_count (some_same (sym e.slot_is ∙ found))) (omega arith) refl (turn-beside t some) way.4)
     (turn-high e.way some c.requires.low)).0
 
 pub child-next-requires : goal.child-next-requires
 child-next-requires g c = let t = c.loop-here.invariant in let some = turn-more t c.loop-here-test.true in let e = turn-end t some in
     let way = turn-way e.way some c.requires.over in (
       search rules,
-      branch-asks (turn-at (omega arith) e.way.leads (λ other found. ap entry_count (some_same _ _ (sym e.slot_is ∙ found)))
+      branch-asks (turn-at (omega arith) e.way.leads (λ other found. ap entry_count (some_same (sym e.slot_is ∙ found)))
           (omega arith) refl (turn-beside t some) way.4).branch,
     )
 
@@ -25,7 +25,7 @@ pub loop-here-preserved : goal.loop-here-preserved
 loop-here-preserved g c = let t = c.loop-here.invariant in let some = turn-more t c.loop-here-test.true in let e = turn-end t some in
     let b = is-below c.below-here.ensures.code c.below-here.ensures.parent c.below-here.ensures.grand c.below-here.ensures.height in
     turn-down t some
-    (turn-said (omega arith) e.way.leads (λ other found. ap entry_count (some_same _ _ (sym e.slot_is ∙ found))) (omega arith) refl (turn-beside t some) b c.child-next.ensures)
+    (turn-said (omega arith) e.way.leads (λ other found. ap entry_count (some_same (sym e.slot_is ∙ found))) (omega arith) refl (turn-beside t some) b c.child-next.ensures)
     c.below-here.ensures.height
 
 pub returns : goal.returns

@@ -23,7 +23,7 @@ loop-left-preserved g c = let i = c.loop-left.invariant in
     let b = is-below c.below-here.ensures.code c.below-here.ensures.parent c.below-here.ensures.grand c.below-here.ensures.height in (
       turned i.0 c.loop-left-test.true b c.child-node.ensures,
       turning-on i.0 c.loop-left-test.true (c.lower_next-next.ensures.lower c.args.root i.0.leads) i.1 (λ content slot_is none end. last-said (omega arith)
-          i.0.leads (λ other found. ap entry_count (some_same content other (sym slot_is ∙ found))) (omega arith) refl refl end) b,
+          i.0.leads (λ other found. ap entry_count (some_same (sym slot_is ∙ found))) (omega arith) refl refl end) b,
     )
 
 pub returns : goal.returns

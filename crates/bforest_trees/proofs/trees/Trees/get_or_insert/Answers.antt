@@ -1,7 +1,7 @@
 use Rattle.bforest_trees.proofs.After.{handed-on}
 use Rattle.bforest_trees.proofs.Ensuring.{was-first, was-refused}
 use Rattle.bforest_trees.proofs.trees.Trees.get_or_insert.Goals as goal
-use Rattle.std.proofs.Common.{Err, None, ap, sym, ◌∙◌, ◌≡◌}
+use Rattle.std.proofs.Common.{None, sym, ◌∙◌, ◌≡◌}
 
 pub returns-in_err-put_first-in-None : goal.returns-in_err-put_first-in-None
 returns-in_err-put_first-in-None g c =

@@ -4,7 +4,7 @@ use Rattle.bforest_trees.proofs.Ensuring.{found-there, was-inserted, was-refused
 use Rattle.bforest_trees.proofs.Entering.{added, at-key, key-missed, refused}
 use Rattle.bforest_trees.proofs.trees.Trees.get_or_insert_under.Goals as goal
 use Rattle.bforest_core.specs.Paths.{list_under}
-use Rattle.std.proofs.Common.{Err, Some, ap, rules, ◌∙◌, ◌≡◌}
+use Rattle.std.proofs.Common.{Some, rules}
 
 pub find-requires : goal.find-requires
 find-requires g c =

@@ -6,7 +6,7 @@ use Rattle.bforest_trees.specs.Forest.{Forest, list_of}
 use Rattle.bforest_trees.specs.Place.{IsComputed, IsSpot}
 use Rattle.bforest_core.specs.Levels.{flat}
 use Rattle.bforest_core.specs.Trees.{tree_of}
-use Rattle.bforest_nodes.specs.Entries.{IsIncreasing, place, value_for}
+use Rattle.bforest_nodes.specs.Entries.{place, value_for}
 use Rattle.std.proofs.Common.{List, None, Option, Some, ap, rules, subst, sym, ◌∙◌, ◌≡◌, ℕ}
 
 pub returns-in_err-root : goal.returns-in_err-root

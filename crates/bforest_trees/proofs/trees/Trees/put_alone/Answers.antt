@@ -6,8 +6,19 @@ use Rattle.bforest_nodes.specs.Entries.{place}
 use Rattle.std.proofs.Common.{ap, get_or, rules, sym, ◌∙◌}
 
 pub put_in_leaf-requires : goal.put_in_leaf-requires
-put_in_leaf-requires g c = (search rules, (c.self.invariant, (c.args.root, lone c.args.root, lone 0, 1,
-    ends-at-root (g.met.C.Comparator.total c.args.comp.now) c.self.view_is c.self.invariant c.requires.live c.requires.leaf c.requires.increasing)))
+put_in_leaf-requires g c = (
+  search rules,
+  (
+    c.self.invariant,
+    (
+      c.args.root,
+      lone c.args.root,
+      lone 0,
+      1,
+      ends-at-root (g.met.C.Comparator.total c.args.comp.now) c.self.view_is c.self.invariant c.requires.live c.requires.leaf c.requires.increasing,
+    ),
+  ),
+)
 
 pub invariant_of-self : goal.invariant_of-self
 invariant_of-self g c =

@@ -1,9 +1,8 @@
 use Rattle.bforest_trees.proofs.After.{handed-on}
 use Rattle.bforest_trees.proofs.Entering.{AtGap, added, at-key, refused}
 use Rattle.bforest_trees.proofs.trees.Trees.put_at.Goals as goal
-use Rattle.bforest_core.specs.Paths.{Placing, list_under}
-use Rattle.bforest_nodes.specs.Entries.{place}
-use Rattle.std.proofs.Common.{Err, None, Ok, ap, refl, rules, sym, ◌∙◌, ◌≡◌}
+use Rattle.bforest_core.specs.Paths.{Placing}
+use Rattle.std.proofs.Common.{refl, rules}
 
 pub insert_full-requires : goal.insert_full-requires
 insert_full-requires g c =

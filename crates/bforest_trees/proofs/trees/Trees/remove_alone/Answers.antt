@@ -7,15 +7,33 @@ use Rattle.bforest_nodes.specs.Entries.{place}
 use Rattle.std.proofs.Common.{rules, set}
 
 pub take_from_leaf-requires : goal.take_from_leaf-requires
-take_from_leaf-requires g c = (search rules, (c.self.invariant, (c.args.root, lone c.args.root, lone 0, 1,
-    ends-at-root (g.met.C.Comparator.total c.args.comp.now) c.self.view_is c.self.invariant c.requires.live c.requires.leaf c.requires.increasing)))
+take_from_leaf-requires g c = (
+  search rules,
+  (
+    c.self.invariant,
+    (
+      c.args.root,
+      lone c.args.root,
+      lone 0,
+      1,
+      ends-at-root (g.met.C.Comparator.total c.args.comp.now) c.self.view_is c.self.invariant c.requires.live c.requires.leaf c.requires.increasing,
+    ),
+  ),
+)
 
 pub heal_alone-requires : goal.heal_alone-requires
 heal_alone-requires g c =
     let ends = ends-at-root (g.met.C.Comparator.total c.args.comp.now) c.self.view_is c.self.invariant c.requires.live c.requires.leaf c.requires.increasing in
-    let took = c.take_from_leaf.ensures.taken c.args.root _ _ _ ends in
-    (search rules, (c.self.inside.pool, place (g.C.Comparator.order c.args.comp.now) (list_under c.self.inside.pool c.args.root) c.args.key, lone c.args.root,
-    set (lone 0) 0 c.in_ok-taken.taken.0, lost (rw (← c.self.view_is) at c.requires.live) (rw (← c.self.view_is) at c.requires.increasing) took c.in_ok-taken.was))
+    let took = c.take_from_leaf.ensures.taken c.args.root _ _ _ ends in (
+      search rules,
+      (
+        c.self.inside.pool,
+        place (g.C.Comparator.order c.args.comp.now) (list_under c.self.inside.pool c.args.root) c.args.key,
+        lone c.args.root,
+        set (lone 0) 0 c.in_ok-taken.taken.0,
+        lost (rw (← c.self.view_is) at c.requires.live) (rw (← c.self.view_is) at c.requires.increasing) took c.in_ok-taken.was,
+      ),
+    )
 
 pub invariant_of-self : goal.invariant_of-self
 invariant_of-self g c =

@@ -1,7 +1,7 @@
 use Rattle.bforest_trees.proofs.Changed.{search-asks}
 use Rattle.bforest_trees.proofs.Cutting.{lost, removed-union, removes-absent, removes-present}
 use Rattle.bforest_trees.proofs.trees.Trees.remove_below.Goals as goal
-use Rattle.bforest_core.specs.Paths.{list_under, nodes_of}
+use Rattle.bforest_core.specs.Paths.{list_under}
 use Rattle.bforest_nodes.specs.Entries.{place}
 use Rattle.std.proofs.Common.{rules}
 
@@ -12,9 +12,17 @@ find_leaf-leaf-requires g c =
 pub heal-requires : goal.heal-requires
 heal-requires g c =
     let took = c.take_from_leaf.ensures.taken c.args.root _ _ _ c.find_leaf-leaf.ensures in
-    let lost = lost (rw (← c.self.view_is) at c.requires.live) (rw (← c.self.view_is) at c.requires.increasing) took c.in_ok-taken.was in
-    (search rules, (search rules, (c.self.inside.pool, place (g.C.Comparator.order c.args.comp.now) (list_under c.self.inside.pool c.args.root) c.args.key,
-    rw (c.set_index.ensures.node, c.set_index.ensures.entry, c.set_index.ensures.size) lost)))
+    let lost = lost (rw (← c.self.view_is) at c.requires.live) (rw (← c.self.view_is) at c.requires.increasing) took c.in_ok-taken.was in (
+      search rules,
+      (
+        search rules,
+        (
+          c.self.inside.pool,
+          place (g.C.Comparator.order c.args.comp.now) (list_under c.self.inside.pool c.args.root) c.args.key,
+          rw (c.set_index.ensures.node, c.set_index.ensures.entry, c.set_index.ensures.size) lost,
+        ),
+      ),
+    )
 
 pub invariant_of-self : goal.invariant_of-self
 invariant_of-self g c = rw ((c.take_from_leaf.ensures.taken c.args.root _ _ _ c.find_leaf-leaf.ensures).absent c.in_err-taken.was) c.self.invariant
