@@ -84,21 +84,21 @@ module _ {K V : Type 0} {n : ℕ} {table : Table K V} (union : IsUnion n table) 
   -- a leaf without a grandparent and without a sibling behind it is the last of the tree
   pub last-low : (HasNext table spot → ⊥) → spot.height < 2 → suc place ≡ leaf_count table root
   last-low last low = elim (eqb_tells spot.height 0) [
-    | inl none ↦ last-leaf union root s.root_is (way-none _ _ _ _ _ _ (spot-over union s) none.1).1
+    | inl none ↦ last-leaf union root s.root_is (way-none (spot-over union s) none.1).1
     | inr w ↦ below (omega arith)
   ]
     where
       below : 0 < spot.height → suc place ≡ leaf_count table root
       below some = last-leaf union root s.root_is (none-next (spot-over union s) (other union s some) (its union s some) refl (counts union s some) (high union
-          s some last) (way-none _ _ _ _ _ _ (it union s some).over (omega arith)).1)
+          s some last) (way-none (it union s some).over (omega arith)).1)
 
   -- a leaf without a grandparent and without a sibling before it is the first of the tree
   pub first-low : (HasPrev spot → ⊥) → spot.height < 2 → place ≡ 0
-  first-low first low = elim (eqb_tells spot.height 0) [ inl none ↦ (way-none _ _ _ _ _ _ (spot-over union s) none.1).2 | inr w ↦ below (omega arith) ]
+  first-low first low = elim (eqb_tells spot.height 0) [ inl none ↦ (way-none (spot-over union s) none.1).2 | inr w ↦ below (omega arith) ]
     where
       below : 0 < spot.height → place ≡ 0
       below some = none-prev (spot-over union s) (other union s some) (its union s some) refl (nought union s some first)
-          (way-none _ _ _ _ _ _ (it union s some).over (omega arith)).2
+          (way-none (it union s some).over (omega arith)).2
 
   -- the leaves with the same grandparent and another parent
   module _ (deep : 2 ≤ spot.height) where
@@ -114,7 +114,7 @@ module _ {K V : Type 0} {n : ℕ} {table : Table K V} (union : IsUnion n table) 
     up = (it union s some).over
 
     abbrev grand-is : spot.grand ≡ (here up more).number
-    grand-is = kept-same _ _ _ _ (s.grand_is (omega arith))
+    grand-is = kept-same _ _ (s.grand_is (omega arith))
 
     -- what the number of the grandparent's children asks
     pub grand-count : CountAsked table.nodes spot.grand

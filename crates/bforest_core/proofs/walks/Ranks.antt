@@ -29,9 +29,6 @@ module _ {K X : Type 0} where
 lower-digits : (c d : ℕ) → c < d → c / 8 ≡ d / 8 → c % 8 < d % 8
 lower-digits c d low same = omega arith
 
-lower-quotient : (c d : ℕ) → c < d → c / 8 ≤ d / 8
-lower-quotient c d low = omega arith
-
 module _ {K : Type 0} where
   -- one code has one place
   code-same : (m n : List ℕ) (rows : List (List (LevelNode K ℕ))) (c d p q : ℕ) → Coded m rows c p → Coded n rows d q → c ≡ d → p ≡ q

@@ -1,5 +1,5 @@
 use Rattle.bforest_core.proofs.Words.{rules, refl, arith}
-use Rattle.bforest_core.proofs.{walks.Codes.is-below, walks.Reading.not_so, walks.Searches.{search-asks, search-below, search-ends, search-held, search-on}}
+use Rattle.bforest_core.proofs.{walks.Reading.not_so, walks.Searches.{search-asks, search-below, search-ends, search-held, search-on}}
 use Rattle.bforest_core.proofs.spot.find_below.Goals as goal
 
 pub loop-key-init : goal.loop-key-init
@@ -23,9 +23,8 @@ loop-key-smaller g c = let w = c.requires.under in let f = c.follow-index.ensure
     omega (arith, search-below (c.loop-key.invariant w.0 w.1 w.2 w.3 w.4) c.node.ensures.value (c.is_inner.ensures.inner.0 c.loop-key-test.true) f.index f.child)
 
 pub loop-key-preserved : goal.loop-key-preserved
-loop-key-preserved g c = λ leaves upper numbers on w. let f = c.follow-index.ensures in let b = c.below-here.ensures in
-    search-on (c.loop-key.invariant leaves upper numbers on w) c.node.ensures.value (c.is_inner.ensures.inner.0 c.loop-key-test.true) f.index f.child
-    (is-below b.code b.parent b.grand b.height)
+loop-key-preserved g c = λ leaves upper numbers on w. let f = c.follow-index.ensures in
+    search-on (c.loop-key.invariant leaves upper numbers on w) c.node.ensures.value (c.is_inner.ensures.inner.0 c.loop-key-test.true) f.index f.child (search rules)
 
 pub returns : goal.returns
 returns g c = record {

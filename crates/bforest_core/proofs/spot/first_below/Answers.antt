@@ -1,4 +1,4 @@
-use Rattle.bforest_core.proofs.{Words.{arith, rules}, walks.CodesDown.{down-asks, down-low, down-on, first-here}, walks.Codes.is-below}
+use Rattle.bforest_core.proofs.{Words.{arith, rules}, walks.CodesDown.{down-asks, down-low, down-on, first-here}}
 use Rattle.bforest_core.proofs.{walks.Leading.first-turns, walks.Reading.not_so, walks.TopNode.node_within}
 use Rattle.bforest_core.proofs.spot.first_below.Goals as goal
 
@@ -20,8 +20,8 @@ loop-here-smaller g c =
     omega (arith, c.below-here.ensures.height, (down-low c.loop-here.invariant c.node.ensures.value (c.is_inner.ensures.inner.0 c.loop-here-test.true) first-turns).1)
 
 pub loop-here-preserved : goal.loop-here-preserved
-loop-here-preserved g c = let b = c.below-here.ensures in
-    down-on c.loop-here.invariant c.node.ensures.value (c.is_inner.ensures.inner.0 c.loop-here-test.true) first-turns c.child-first.ensures (is-below b.code b.parent b.grand b.height)
+loop-here-preserved g c =
+    down-on c.loop-here.invariant c.node.ensures.value (c.is_inner.ensures.inner.0 c.loop-here-test.true) first-turns c.child-first.ensures (search rules)
 
 pub returns : goal.returns
 returns g c = record {

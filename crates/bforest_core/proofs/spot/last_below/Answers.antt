@@ -1,4 +1,4 @@
-use Rattle.bforest_core.proofs.{Words.{arith, rules}, walks.CodesDown.{down-asks, down-low, down-on, last-here}, walks.Codes.is-below}
+use Rattle.bforest_core.proofs.{Words.{arith, rules}, walks.CodesDown.{down-asks, down-low, down-on, last-here}}
 use Rattle.bforest_core.proofs.{walks.Leading.last-turns, walks.Reading.not_so, walks.TopNode.{node_held, node_within}}
 use Rattle.bforest_core.proofs.spot.last_below.Goals as goal
 
@@ -25,8 +25,8 @@ loop-index-smaller g c = let turns = last-turns c.requires.capacity c.last_index
     omega (arith, c.below-here.ensures.height, (down-low c.loop-index.invariant c.node.ensures.value (c.is_inner.ensures.inner.0 c.loop-index-test.true) turns).1)
 
 pub loop-index-preserved : goal.loop-index-preserved
-loop-index-preserved g c = let b = c.below-here.ensures in let turns = last-turns c.requires.capacity c.last_index-index.ensures.last in
-    down-on c.loop-index.invariant c.node.ensures.value (c.is_inner.ensures.inner.0 c.loop-index-test.true) turns c.child-last.ensures (is-below b.code b.parent b.grand b.height)
+loop-index-preserved g c = let turns = last-turns c.requires.capacity c.last_index-index.ensures.last in
+    down-on c.loop-index.invariant c.node.ensures.value (c.is_inner.ensures.inner.0 c.loop-index-test.true) turns c.child-last.ensures (search rules)
 
 pub returns : goal.returns
 returns g c = record {

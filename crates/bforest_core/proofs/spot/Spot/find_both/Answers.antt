@@ -46,11 +46,10 @@ loop-index-smaller g c = let f = c.follow-index.ensures in
     omega (arith, search-below c.loop-index.invariant.0 c.node.ensures.value (c.is_inner.ensures.inner.0 c.loop-index-test.true) f.index f.child)
 
 pub loop-index-preserved : goal.loop-index-preserved
-loop-index-preserved g c = let f = c.follow-index.ensures in let inner = c.is_inner.ensures.inner.0 c.loop-index-test.true in
-    let b = is-below c.below-next.ensures.code c.below-next.ensures.parent c.below-next.ensures.grand c.below-next.ensures.height in (
-      search-on c.loop-index.invariant.0 c.node.ensures.value inner f.index f.child b,
+loop-index-preserved g c = let f = c.follow-index.ensures in let inner = c.is_inner.ensures.inner.0 c.loop-index-test.true in (
+      search-on c.loop-index.invariant.0 c.node.ensures.value inner f.index f.child (search rules),
       λ ordered. search-on (c.loop-index.invariant.1 ordered) c.node.ensures.value inner
-          (λ keys children found. c.goes_along.ensures.along c.if-not-goes_along.false _ _ _ found (f.index _ _ found) ordered) f.child b,
+          (λ keys children found. c.goes_along.ensures.along c.if-not-goes_along.false _ _ _ found (f.index _ _ found) ordered) f.child (search rules),
     )
 
 pub returns-then-is_gt : goal.returns-then-is_gt
