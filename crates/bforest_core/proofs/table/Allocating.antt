@@ -1,6 +1,7 @@
 -- Taking a free node and reserving nodes, over plain values.
 use Rattle.bforest_core.proofs.Words.{◌≡◌, ◌↔◌, ℕ, ◌-◌, ◌≤◌, ◌<◌, List, length, length-set, append-nil, Some, Result, Err, IsErrAnd, sym, ap, arith, ◌+◌, refl}
-use Rattle.bforest_core.proofs.Words.{err_from_is_err_and, Content, IsPool, chain_from, Table, IsUsed, NeedsGrowth, room, reserved, front_of, with_node, with_front, without_front}
+use Rattle.bforest_core.proofs.Words.{err_from_is_err_and, Content, IsPool, chain_from, Table, IsUsed, NeedsGrowth, room, reserved, front_of, with_node}
+use Rattle.bforest_core.proofs.Words.{with_front, without_front}
 use Rattle.bforest_core.proofs.{Words.{free_count, length-append, down_from, slot_count}, table.Pools.with_front-is, table.Chains.length-down_from}
 
 -- a result that is an error equal to `y` is `Err y`
@@ -28,7 +29,8 @@ module _ {K V : Type 0} where
   pub reserved-enough : (table : Table K V) (n : ℕ) → n ≤ free_count table → reserved table n ≡ table
   reserved-enough table n enough = let none : n - free_count table ≡ 0 = omega arith in rw none (ap (λ z. record table { nodes = z }) (append-nil table.nodes))
 
-  module _ (n : ℕ) {most : ℕ} {nodes : List (Content K V)} {first : _} {free limit len : ℕ} (pool : IsPool most nodes first free limit) {t : Table K V} (view : record { nodes = nodes; chain = chain_from nodes free first; limit = limit } ≡ t) (len_is : len ≡ length nodes) where
+  module _ (n : ℕ) {most : ℕ} {nodes : List (Content K V)} {first : _} {free limit len : ℕ} (pool : IsPool most nodes first free limit) {t : Table K V}
+      (view : record { nodes = nodes; chain = chain_from nodes free first; limit = limit } ≡ t) (len_is : len ≡ length nodes) where
     -- the fields of a pool as fields of its table
     fields_are : (length t.chain ≡ free) × (t.limit ≡ limit) × (length t.nodes ≡ len)
     fields_are = rw (← view) (pool.counted, refl, sym len_is)

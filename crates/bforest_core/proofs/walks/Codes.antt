@@ -62,7 +62,8 @@ module _ {K V : Type 0} {slots : List (Content K V)} {root code depth numbers pl
       }
 
   -- with no levels, the root
-  pub way-none : {rows list : _} → CodedOver slots root code depth numbers rows list place → depth ≡ 0 → NumberAt list place root × (suc place ≡ length list) × (place ≡ 0)
+  pub way-none : {rows list : _} → CodedOver slots root code depth numbers rows list place → depth ≡ 0 →
+      NumberAt list place root × (suc place ≡ length list) × (place ≡ 0)
   way-none {rows = []} {list = []} p none = absurd (omega arith)
   way-none {rows = []} {list = x ∷ y ∷ list} p none = absurd (omega arith)
   way-none {rows = []} {list = x ∷ []} p none = ((x.0, ap (λ z. slice_get (x ∷ []) z) p.coded.1 ∙ ap (λ z. Some (x.0, z)) p.root_is), omega arith, p.coded.1)
@@ -98,7 +99,8 @@ module _ {K V : Type 0} {slots : List (Content K V)} {root code depth numbers ro
     }
 
 -- the lowest node is the first of the numbers
-pub kept-same : {K V : Type 0} {slots : List (Content K V)} {root code depth numbers rows list place : _} (p : CodedOver slots root code depth numbers rows list place) (some : depth ≢ 0) {parent : ℕ}
+pub kept-same : {K V : Type 0} {slots : List (Content K V)} {root code depth numbers rows list place : _}
+    (p : CodedOver slots root code depth numbers rows list place) (some : depth ≢ 0) {parent : ℕ}
     → get_or numbers 0 0 ≡ parent → parent ≡ (lowest p some).number
 unfolding lowest
 kept-same {rows = []} p some is = absurd (some p.depth_is)
@@ -157,7 +159,13 @@ module _ {K V : Type 0} {slots : List (Content K V)} {root code depth numbers ro
 
   -- a spot of this code
   pub way-of : (spot : Spot) → spot.code ≡ code → spot.height ≡ depth → (0 < depth → get_or numbers 0 0 ≡ spot.parent) → (1 < depth → get_or (drop 1 numbers) 0 0 ≡ spot.grand) → IsWay numbers spot rows place
-  way-of spot code_is height parent grand = record { coded = rw code_is p.coded; parent_is = λ low. parent (omega arith); grand_is = λ low. grand (omega arith); height_is = cc }
+  way-of spot code_is height parent grand = record {
+    coded = rw code_is p.coded;
+    parent_is = λ low. parent (omega arith);
+    grand_is = λ low. grand
+        (omega arith);
+    height_is = cc;
+  }
 
 -- the spot one level below another, at a child of this node
 pub record IsBelow (spot : Spot) (node index : ℕ) (next : Spot) : Type 0 where

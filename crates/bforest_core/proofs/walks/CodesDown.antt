@@ -19,7 +19,8 @@ module _ {K V : Type 0} {most : _} {slots : List (Content K V)} {leaves lower a 
   rows-join upper = cc (append_assoc s.rows (s.row ∷ []) upper)
 
   -- the way to a child of an inner node, by the way to the node
-  pub child-way : {index : ℕ} → index ≤ length s.at.es → {spot next : Spot} → IsBelow spot number index next → {upper numbers : _} → IsWay numbers spot upper (length a)
+  pub child-way : {index : ℕ} → index ≤ length s.at.es → {spot next : Spot} → IsBelow spot number index next → {upper numbers : _} →
+      IsWay numbers spot upper (length a)
       → {place : ℕ} → place ≡ length (flat s.at.before) + index → IsWay (number ∷ numbers) next (s.row ∷ upper) place
   child-way low {spot} b {upper} {numbers} w place_is = record {
     coded = (
@@ -31,11 +32,14 @@ module _ {K V : Type 0} {most : _} {slots : List (Content K V)} {leaves lower a 
     height_is = cc;
   }
 
-module _ {K V : Type 0} {most : _} {slots : List (Content K V)} (capacity : IsLeafCapacity most) {leaves lower : _} (a : Heads K) (first : K) (number : ℕ) (b : Heads K) (u : Under most slots leaves lower (a ++ (first, number) ∷ b)) {content : Content K V} (read : slice_get slots number ≡ Some content) (other : IsInner content → ⊥) where
+module _ {K V : Type 0} {most : _} {slots : List (Content K V)} (capacity : IsLeafCapacity most) {leaves lower : _} (a : Heads K) (first : K) (number : ℕ)
+    (b : Heads K) (u : Under most slots leaves lower (a ++ (first, number) ∷ b)) {content : Content K V} (read : slice_get slots number ≡ Some content)
+    (other : IsInner content → ⊥) where
   ended : LeafUnder most slots leaves lower a first number b
   ended = leaf_under capacity a _ _ b u read other
 
-  way-here : {upper numbers : _} {spot : Spot} {place : ℕ} → IsWay numbers spot upper (length a) → length a ≡ place → (others : _) × IsWay others spot (lower ++ upper) place × NumberAt (heads leaves) place number
+  way-here : {upper numbers : _} {spot : Spot} {place : ℕ} → IsWay numbers spot upper (length a) → length a ≡ place →
+      (others : _) × IsWay others spot (lower ++ upper) place × NumberAt (heads leaves) place number
   way-here {upper = upper} {numbers = numbers} {spot = spot} w is =
       (numbers, rw ended.lower_is (subst (IsWay numbers spot upper) is w), rw (← is) (number-here _ a _ _ b u ended.lower_is))
 
@@ -60,7 +64,8 @@ module _ {K V : Type 0} {most : ℕ} {slots : List (Content K V)} (capacity : Is
     last-here leaves lower upper numbers a first b side u w = way-here capacity a first number b u read other w (ends capacity a first number b u read other side)
 
 -- a node on one side of its level, with what lies under it and the way to it
-record Sided {K V : Type 0} (most : ℕ) (slots : List (Content K V)) (Side : Heads K → Heads K → Type 0) (leaves : Row K V) (rows : Rows K) (spot : Spot) (number : ℕ) : Type 0 where
+record Sided {K V : Type 0} (most : ℕ) (slots : List (Content K V)) (Side : Heads K → Heads K → Type 0) (leaves : Row K V) (rows : Rows K) (spot : Spot)
+    (number : ℕ) : Type 0 where
   pub lower : Rows K
   pub upper : Rows K
   pub numbers : List ℕ
@@ -73,8 +78,10 @@ record Sided {K V : Type 0} (most : ℕ) (slots : List (Content K V)) (Side : He
   pub join : lower ++ upper ≡ rows
 
 -- a level down, to the child on that side
-module _ {K V : Type 0} {most : ℕ} {slots : List (Content K V)} (capacity : IsLeafCapacity most) {number : ℕ} {content : Content K V} (read : slice_get slots number ≡ Some content) (inner : IsInner content)
-    {Side : Heads K → Heads K → Type 0} {index : ℕ} {place : Row K V → ℕ} (turns : Turns most slots Side place number index) {leaves : Row K V} {rows : Rows K} {spot : Spot} (s : Sided most slots Side leaves rows spot number) where
+module _ {K V : Type 0} {most : ℕ} {slots : List (Content K V)} (capacity : IsLeafCapacity most) {number : ℕ} {content : Content K V}
+    (read : slice_get slots number ≡ Some content) (inner : IsInner content)
+    {Side : Heads K → Heads K → Type 0} {index : ℕ} {place : Row K V → ℕ} (turns : Turns most slots Side place number index) {leaves : Row K V}
+    {rows : Rows K} {spot : Spot} (s : Sided most slots Side leaves rows spot number) where
   abbrev here : InnerUnder most slots leaves s.lower s.before s.first number s.after
   here = inner_under capacity s.before _ _ s.after s.under read inner
 
@@ -85,9 +92,14 @@ module _ {K V : Type 0} {most : ℕ} {slots : List (Content K V)} (capacity : Is
   side-asks = (_, _, here.slot_is, omega (arith, low-here, item_count (here.at.e ∷ here.at.es)))
 
   side-low : length s.lower + spot.height ≤ 16 → (spot.code < 35184372088832) × (spot.height < 16) × (index < 8)
-  side-low low = (code-low 15 s.upper s.numbers spot.code _ s.way.coded (omega (arith, here.count_is)), omega (arith, here.count_is), omega (arith, low-here, here.room))
+  side-low low = (
+    code-low 15 s.upper s.numbers spot.code _ s.way.coded (omega (arith, here.count_is)),
+    omega (arith, here.count_is),
+    omega (arith, low-here, here.room),
+  )
 
-  side-on : {child : ℕ} → ChildRead slots number index child → {next : Spot} → IsBelow spot number index next → (d : Sided most slots Side leaves rows next child) × (length s.lower ≡ suc (length d.lower))
+  side-on : {child : ℕ} → ChildRead slots number index child → {next : Spot} → IsBelow spot number index next →
+      (d : Sided most slots Side leaves rows next child) × (length s.lower ≡ suc (length d.lower))
   side-on reads b = let c = child_under here here.slot_is index (reads _ _ here.slot_is) in (
     record {
       lower = here.rows;
@@ -111,10 +123,23 @@ pub record GoesDown {K V : Type 0} (most : ℕ) (slots : List (Content K V)) (Si
   pub under : HasUnder most slots Side here lower
   pub ends : (end : Spot) (leaf : ℕ) → OnUnder most slots Side here lower (Said end leaf) → OnUnder most slots Side start node (Said end leaf)
 
-module _ {K V : Type 0} {most : ℕ} {slots : List (Content K V)} {Side : Heads K → Heads K → Type 0} {Said : Spot → ℕ → Row K V → Rows K → Type 0} {start spot : Spot} {node number : ℕ} (w : GoesDown most slots Side Said start node spot number)
-    {content : Content K V} (read : slice_get slots number ≡ Some content) (inner : IsInner content) {index : ℕ} {place : Row K V → ℕ} (turns : Turns most slots Side place number index) where
+module _ {K V : Type 0} {most : ℕ} {slots : List (Content K V)} {Side : Heads K → Heads K → Type 0} {Said : Spot → ℕ → Row K V → Rows K → Type 0}
+    {start spot : Spot} {node number : ℕ} (w : GoesDown most slots Side Said start node spot number)
+    {content : Content K V} (read : slice_get slots number ≡ Some content) (inner : IsInner content) {index : ℕ} {place : Row K V → ℕ}
+    (turns : Turns most slots Side place number index) where
   abbrev asked : Sided most slots Side w.under.0 (w.under.1 ++ w.under.2) spot number
-  asked = let u = w.under in record { lower = u.1; upper = u.2; numbers = u.3; before = u.4; first = u.5; after = u.6; side = u.7; under = u.8; way = u.9; join = refl }
+  asked = let u = w.under in record {
+    lower = u.1;
+    upper = u.2;
+    numbers = u.3;
+    before = u.4;
+    first = u.5;
+    after = u.6;
+    side = u.7;
+    under = u.8;
+    way = u.9;
+    join = refl;
+  }
 
   pub down-asks : ChildAsked slots number index
   down-asks = side-asks w.capacity read inner turns asked
@@ -122,13 +147,25 @@ module _ {K V : Type 0} {most : ℕ} {slots : List (Content K V)} {Side : Heads 
   pub down-low : (spot.code < 35184372088832) × (spot.height < 16) × (index < 8)
   down-low = side-low w.capacity read inner turns asked w.under.10
 
-  pub down-on : {child : ℕ} → ChildRead slots number index child → {next : Spot} → IsBelow spot number index next → GoesDown most slots Side Said start node next child
+  pub down-on : {child : ℕ} → ChildRead slots number index child → {next : Spot} → IsBelow spot number index next →
+      GoesDown most slots Side Said start node next child
   down-on reads b = record {
     capacity = w.capacity;
     under = (let r = side-on w.capacity read inner turns asked reads b in let d = r.0 in
         (w.under.0, d.lower, d.upper, d.numbers, d.before, d.first, d.after, d.side, d.under, d.way, omega (arith, w.under.10, r.1, b.height)));
     ends = λ end leaf says. w.ends end leaf (λ leaves lower upper numbers before first after side under way.
-        let d = (side-on w.capacity read inner turns (record { lower = lower; upper = upper; numbers = numbers; before = before; first = first; after = after; side = side; under = under; way = way; join = refl }) reads b).0 in
+        let d = (side-on w.capacity read inner turns (record {
+          lower = lower;
+          upper = upper;
+          numbers = numbers;
+          before = before;
+          first = first;
+          after = after;
+          side = side;
+          under = under;
+          way = way;
+          join = refl;
+        }) reads b).0 in
         subst (Said end leaf leaves) d.join (says leaves d.lower d.upper d.numbers d.before d.first d.after d.side d.under d.way));
   }
 

@@ -33,7 +33,10 @@ module _ {K V : Type 0} {n : ℕ} {table : Table K V} (union : IsUnion n table) 
   there : {number digit to : ℕ} (b : Leaf number digit to) {above others : _} → CodedOver table.nodes root above (spot.height - 1) others (it union s some).rest
       (heads (it union s some).row) b.top → {code leaf : ℕ} → code ≡ above * 8 + digit → (1 < spot.height → get_or others 0 0 ≡ spot.grand)
       → ChildRead table.nodes number digit leaf → IsSpotAt table root (record spot { code = code; parent = number }) to × IsLeafAt table root to leaf
-  there b q code grand reads = (far-spot union s (way-of (branch-way b q refl) _ code refl (λ low. refl) grand), leaf-at union root s.root_is (branch-child b reads))
+  there b q code grand reads = (
+    far-spot union s (way-of (branch-way b q refl) _ code refl (λ low. refl) grand),
+    leaf-at union root s.root_is (branch-child b reads),
+  )
 
   -- how many children the parent has
   abbrev count : ℕ
@@ -60,7 +63,8 @@ module _ {K V : Type 0} {n : ℕ} {table : Table K V} (union : IsUnion n table) 
 module _ {K V : Type 0} {n : ℕ} {table : Table K V} (union : IsUnion n table) {root : ℕ} {spot : Spot} {place : ℕ} (s : IsSpotAt table root spot place) where
   module _ (h : HasNext table spot) where
     abbrev behind : Branch (spot-over union s) (other union s h.some) spot.parent (spot.code % 8 + 1) (suc place)
-    behind = next-own (spot-over union s) (other union s h.some) (its union s h.some) refl (λ content found. sym (cc (some_same (sym found ∙ h.parent), item_count h.entries))) h.within
+    behind = next-own (spot-over union s) (other union s h.some) (its union s h.some) refl
+        (λ content found. sym (cc (some_same (sym found ∙ h.parent), item_count h.entries))) h.within
 
     pub sibling-asks : ChildAsked table.nodes spot.parent (spot.code % 8 + 1)
     sibling-asks = branch-asks behind
@@ -139,7 +143,8 @@ module _ {K V : Type 0} {n : ℕ} {table : Table K V} (union : IsUnion n table) 
         -- the next leaf is that child
         pub cousin : {leaf : ℕ} → ChildRead table.nodes parent 0 leaf
             → IsSpotAt table root (record spot { code = (spot.code / 8 + 1) * 8; parent = parent }) (suc place) × IsLeafAt table root (suc place) leaf
-        cousin found = there union s some next-leaf (branch-way next-up (here up more).over {code1 = spot.code / 8 + 1} (omega arith)) (omega arith) (λ low. refl) found
+        cousin found = there union s some next-leaf (branch-way next-up (here up more).over {code1 = spot.code / 8 + 1} (omega arith)) (omega arith)
+            (λ low. refl) found
 
     module _ (first : HasPrev spot → ⊥) (low : 0 < spot.code / 8 % 8) where
       abbrev prev-up : Branch up more spot.grand (spot.code / 8 % 8 - 1) ((it union s some).top - 1)
@@ -168,7 +173,8 @@ module _ {K V : Type 0} {n : ℕ} {table : Table K V} (union : IsUnion n table) 
           -- the leaf before is the last child of the parent before
           pub cousin-before : {leaf : ℕ} → ChildRead table.nodes parent last leaf → (0 < place)
               × IsSpotAt table root (record spot { code = (spot.code / 8 - 1) * 8 + last; parent = parent }) (place - 1) × IsLeafAt table root (place - 1) leaf
-          cousin-before found = let r = there union s some leaf-before (branch-way prev-up (here up more).over {code1 = spot.code / 8 - 1} (omega arith)) refl (λ low. refl) found in
+          cousin-before found = let r = there union s some leaf-before (branch-way prev-up (here up more).over {code1 = spot.code / 8 - 1} (omega arith))
+              refl (λ low. refl) found in
               (last-some (spot-over union s) (other union s some) (its union s some) refl (nought union s some first) next-to parent-at says, r.0, r.1)
 
 -- what is said of the node behind or before, to which a way from the root leads, of a spot

@@ -100,7 +100,8 @@ module _ {K V : Type 0} {n : ℕ} (table : Table K V) (root : ℕ) (path : Path 
     ended f on at = record { value = cc; present = λ yes. rw f.place_is (on cc); absent = λ none. rw f.place_is (at cc) }
 
 -- a path that moved to the entry before a place
-module _ {K V : Type 0} {n : ℕ} {cmp : K → K → Ordering} (o : IsTotalOrder cmp) (table : Table K V) {root : _} (key : _) (increasing : IsIncreasing cmp (list_under table root)) (path : Path K V n) {answer : Option (K × V)} where
+module _ {K V : Type 0} {n : ℕ} {cmp : K → K → Ordering} (o : IsTotalOrder cmp) (table : Table K V) {root : _} (key : _)
+    (increasing : IsIncreasing cmp (list_under table root)) (path : Path K V n) {answer : Option (K × V)} where
   -- there is no entry before the place
   pub before-none : (p : ℕ) → answer ≡ entry_before (list_under table root) p → StandsOn table root path (p - 1) → IsUnion n table → IsUpTo cmp (drop p (list_under table root)) key → answer ≡ None → Ended table root path cmp key None
   before-none zero value on union up none =

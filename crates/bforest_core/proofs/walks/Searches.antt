@@ -76,7 +76,8 @@ module _ {K V : Type 0} {cmp : K → K → Ordering} (o : IsTotalOrder cmp) {mos
             (entry_keys es, entry_items (step.here.at.e ∷ es), step.here.slot_is, increasing_rest o step.here.at.e es step.increasing, omega (arith, item_count (step.here.at.e ∷ es)), omega (arith, to.within))
 
 -- a search that has come to the node of a spot: the rows from its leaves to the node, and those beside the way there, are these rows
-pub record Search {K V : Type 0} (cmp : K → K → Ordering) (most : ℕ) (slots : List (Content K V)) (leaves : Row K V) (rows : Rows K) (key : K) (spot : Spot) (number : ℕ) : Type 0 where
+pub record Search {K V : Type 0} (cmp : K → K → Ordering) (most : ℕ) (slots : List (Content K V)) (leaves : Row K V) (rows : Rows K) (key : K) (spot : Spot)
+    (number : ℕ) : Type 0 where
   pub total : IsTotalOrder cmp
   pub capacity : IsLeafCapacity most
   pub above : Rows K
@@ -85,7 +86,8 @@ pub record Search {K V : Type 0} (cmp : K → K → Ordering) (most : ℕ) (slot
   pub way : IsWay numbers spot above (length on.before)
   pub join : on.lower ++ above ≡ rows
 
-module _ {K V : Type 0} {cmp : K → K → Ordering} {most : ℕ} {slots : List (Content K V)} {leaves rows key : _} {spot : Spot} {number : ℕ} (w : Search cmp most slots leaves rows key spot number) where
+module _ {K V : Type 0} {cmp : K → K → Ordering} {most : ℕ} {slots : List (Content K V)} {leaves rows key : _} {spot : Spot} {number : ℕ}
+    (w : Search cmp most slots leaves rows key spot number) where
   pub search-held : number < length slots
   search-held = within w.total w.capacity w.on
 
@@ -103,10 +105,14 @@ module _ {K V : Type 0} {cmp : K → K → Ordering} {most : ℕ} {slots : List 
           (reads : ChildRead slots number index child) where
         -- what the spot of the child asks
         pub search-below : (spot.code < 35184372088832) × (spot.height < 16) × (index < 8)
-        search-below = let low = deeper-low w.total w.capacity w.on found inner in
-            (code-low 15 w.above w.numbers spot.code _ w.way.coded (omega (arith, w.way.height_is)), low, digit-low w.total w.capacity w.on found inner _ says reads)
+        search-below = let low = deeper-low w.total w.capacity w.on found inner in (
+          code-low 15 w.above w.numbers spot.code _ w.way.coded (omega (arith, w.way.height_is)),
+          low,
+          digit-low w.total w.capacity w.on found inner _ says reads,
+        )
 
-        pub search-along : (keys : List K) × (children : List ℕ) × (slice_get slots number ≡ Some (Inner keys children)) × IsStrictlySortedBy cmp keys × (length children ≡ suc (length keys)) × (index ≤ length keys)
+        pub search-along : (keys : List K) × (children : List ℕ) × (slice_get slots number ≡ Some (Inner keys children)) × IsStrictlySortedBy cmp keys
+            × (length children ≡ suc (length keys)) × (index ≤ length keys)
         search-along = along-asks w.total w.capacity w.on found inner _ says reads
 
         -- the search one level down
@@ -125,7 +131,8 @@ module _ {K V : Type 0} {cmp : K → K → Ordering} {most : ℕ} {slots : List 
 -- whatever lies about a node, a search through it goes on through this node below it, with the way there
 abbrev pub GoesOn : {K V : Type 0} → (K → K → Ordering) → ℕ → List (Content K V) → K → Spot → ℕ → Spot → ℕ → Type 0
 GoesOn {K} {V} cmp most slots key spot number next child =
-    (leaves : Row K V) (upper numbers : _) (on : SearchThrough cmp most slots leaves key number spot.height) → IsWay numbers spot upper (length on.before) → Search cmp most slots leaves (on.lower ++ upper) key next child
+    (leaves : Row K V) (upper numbers : _) (on : SearchThrough cmp most slots leaves key number spot.height) → IsWay numbers spot upper (length on.before) →
+    Search cmp most slots leaves (on.lower ++ upper) key next child
 
 -- the search at the root
 abbrev pub search-root : {K V : Type 0} {cmp : K → K → Ordering} {most : ℕ} {table : Table K V} {root key : _}
@@ -136,12 +143,24 @@ search-root {table = table} {root = root} union is increasing depth none = let u
 
 -- a search from the root on has come to this node, and its spot
 abbrev pub CameTo : {K V : Type 0} → (K → K → Ordering) → ℕ → Table K V → ℕ → K → Spot → ℕ → Type 0
-CameTo cmp most table root key spot number = Search cmp most table.nodes (tree_of table.nodes root).leaves ((tree_of table.nodes root).above ++ []) key spot number
+CameTo cmp most table root key spot number = Search cmp most table.nodes (tree_of table.nodes root).leaves ((tree_of table.nodes root).above ++ []) key spot
+    number
 
 -- at the root
-pub came-first : {K V : Type 0} {cmp : K → K → Ordering} → IsTotalOrder cmp → {most : ℕ} {table : Table K V} {root key : _} (union : IsUnion most table) (is : IsTrue (is_root table.nodes root)) → IsIncreasing cmp (flat (tree_of table.nodes root).leaves)
+pub came-first : {K V : Type 0} {cmp : K → K → Ordering} → IsTotalOrder cmp →
+    {most : ℕ} {table : Table K V} {root key : _} (union : IsUnion most table) (is : IsTrue (is_root table.nodes root)) →
+    IsIncreasing cmp (flat (tree_of table.nodes root).leaves)
     → {spot : Spot} → spot.code ≡ 0 → spot.height ≡ 0 → CameTo cmp most table root key spot root
-came-first o union is increasing {spot} code height = record { total = o; capacity = union.1.capacity; above = []; numbers = []; on = search-root union is increasing _ height; way = way-root spot code height; join = refl }
+came-first o union is increasing {spot} code height = record {
+  total = o;
+  capacity = union.1.capacity;
+  above = [];
+  numbers = [];
+  on = search-root union is
+      increasing _ height;
+  way = way-root spot code height;
+  join = refl;
+}
 
 -- from the root down: the leaf in which a search ends, and its spot
 module _ {K V : Type 0} {cmp : K → K → Ordering} {table : Table K V} {root : ℕ} (is : IsTrue (is_root table.nodes root)) {key : K} {spot : Spot} {number : ℕ} (e : EndsOn cmp table.nodes (tree_of table.nodes root).leaves ((tree_of table.nodes root).above ++ []) key spot number) where
@@ -158,7 +177,8 @@ module _ {K V : Type 0} {cmp : K → K → Ordering} {table : Table K V} {root :
   }
 
 -- both ends, where two searches were made
-pub both-end : {K V : Type 0} {cmp : K → K → Ordering} {table : Table K V} {root : ℕ} → IsTrue (is_root table.nodes root) → {from to : K} {first last : Spot} {leaf leaf' : ℕ}
+pub both-end : {K V : Type 0} {cmp : K → K → Ordering} {table : Table K V} {root : ℕ} → IsTrue (is_root table.nodes root) →
+    {from to : K} {first last : Spot} {leaf leaf' : ℕ}
     → EndsOn cmp table.nodes (tree_of table.nodes root).leaves ((tree_of table.nodes root).above ++ []) from first leaf
     → EndsOn cmp table.nodes (tree_of table.nodes root).leaves ((tree_of table.nodes root).above ++ []) to last leaf'
     → EndsBothAt cmp table root from to first leaf last leaf'

@@ -152,7 +152,11 @@ module _ {K V : Type 0} {n : ℕ} {table : Table K V} (union : IsUnion n table) 
     pointed-next none moved new goes nodes here above size =
         let m = goes (tree_of table.nodes root).above (heads (tree_of table.nodes root).leaves) (length to.points.before) pointed-over in
         let s = first_behind union.1.capacity tree_is.fit tree_is.inside pointed (cc) new.entry m nodes here above in
-        on-at table new (record { root_is = to.root_is; stands = subst (λ z. Stands new.node new.entry new.size (tree_of table.nodes root) z) (sym (behind none)) s })
+        on-at table new (record {
+          root_is = to.root_is;
+          stands = subst (λ z. Stands new.node new.entry new.size (tree_of table.nodes root) z)
+              (sym (behind none)) s;
+        })
 
     -- past the last entry of all, the path is at the end
     pub pointed-last : has ≡ false → ((rows list at : _) → Over table.nodes path.node path.entry 1 path.size rows list at → suc at ≡ length list) → (nodes entries : _) → AtUnder table.nodes root nodes entries 0 place

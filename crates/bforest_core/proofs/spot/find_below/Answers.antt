@@ -20,11 +20,16 @@ below-here-requires g c = let w = c.requires.under in let f = c.follow-index.ens
 
 pub loop-key-smaller : goal.loop-key-smaller
 loop-key-smaller g c = let w = c.requires.under in let f = c.follow-index.ensures in
-    omega (arith, search-below (c.loop-key.invariant w.0 w.1 w.2 w.3 w.4) c.node.ensures.value (c.is_inner.ensures.inner.0 c.loop-key-test.true) f.index f.child)
+    omega (
+      arith,
+      search-below (c.loop-key.invariant w.0 w.1 w.2 w.3 w.4) c.node.ensures.value (c.is_inner.ensures.inner.0 c.loop-key-test.true) f.index
+          f.child,
+    )
 
 pub loop-key-preserved : goal.loop-key-preserved
 loop-key-preserved g c = λ leaves upper numbers on w. let f = c.follow-index.ensures in
-    search-on (c.loop-key.invariant leaves upper numbers on w) c.node.ensures.value (c.is_inner.ensures.inner.0 c.loop-key-test.true) f.index f.child (search rules)
+    search-on (c.loop-key.invariant leaves upper numbers on w) c.node.ensures.value (c.is_inner.ensures.inner.0 c.loop-key-test.true) f.index f.child
+    (search rules)
 
 pub returns : goal.returns
 returns g c = record {

@@ -17,7 +17,12 @@ child-first-requires g c = (search rules, down-asks c.loop-here.invariant c.node
 
 pub loop-here-smaller : goal.loop-here-smaller
 loop-here-smaller g c =
-    omega (arith, c.below-here.ensures.height, (down-low c.loop-here.invariant c.node.ensures.value (c.is_inner.ensures.inner.0 c.loop-here-test.true) first-turns).1)
+    omega (
+      arith,
+      c.below-here.ensures.height,
+      (down-low c.loop-here.invariant c.node.ensures.value (c.is_inner.ensures.inner.0 c.loop-here-test.true)
+          first-turns).1,
+    )
 
 pub loop-here-preserved : goal.loop-here-preserved
 loop-here-preserved g c =

@@ -22,7 +22,12 @@ child-last-requires g c = let turns = last-turns c.requires.capacity c.last_inde
 
 pub loop-index-smaller : goal.loop-index-smaller
 loop-index-smaller g c = let turns = last-turns c.requires.capacity c.last_index-index.ensures.last in
-    omega (arith, c.below-here.ensures.height, (down-low c.loop-index.invariant c.node.ensures.value (c.is_inner.ensures.inner.0 c.loop-index-test.true) turns).1)
+    omega (
+      arith,
+      c.below-here.ensures.height,
+      (down-low c.loop-index.invariant c.node.ensures.value (c.is_inner.ensures.inner.0 c.loop-index-test.true)
+          turns).1,
+    )
 
 pub loop-index-preserved : goal.loop-index-preserved
 loop-index-preserved g c = let turns = last-turns c.requires.capacity c.last_index-index.ensures.last in

@@ -14,8 +14,12 @@ child-requires g c =
 
 pub returns-then-index-child_count : goal.returns-then-index-child_count
 returns-then-index-child_count g c = record {
-  lower = λ root leads. inl ((c.below.result, c.child.result), refl,
-      next-said c.requires.index leads c.child_count.ensures.value c.if-index-child_count.true (search rules) c.child.ensures, c.below.ensures.height);
+  lower = λ root leads. inl (
+    (c.below.result, c.child.result),
+    refl,
+    next-said c.requires.index leads c.child_count.ensures.value c.if-index-child_count.true (search rules) c.child.ensures,
+    c.below.ensures.height,
+  );
 }
 
 pub returns : goal.returns

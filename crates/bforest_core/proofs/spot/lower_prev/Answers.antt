@@ -10,7 +10,12 @@ child-requires g c = let w = c.requires.way in (search rules, branch-asks (prev-
 
 pub returns-then-index-gt0 : goal.returns-then-index-gt0
 returns-then-index-gt0 g c = record {
-  lower = λ root leads. inl ((c.below.result, c.child.result), refl, prev-said c.requires.index leads c.if-index-gt0.true (search rules) c.child.ensures, c.below.ensures.height);
+  lower = λ root leads. inl (
+    (c.below.result, c.child.result),
+    refl,
+    prev-said c.requires.index leads c.if-index-gt0.true (search rules) c.child.ensures,
+    c.below.ensures.height,
+  );
 }
 
 pub returns : goal.returns

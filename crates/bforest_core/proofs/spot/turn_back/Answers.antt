@@ -20,10 +20,10 @@ child-node-requires g c =
 
 pub loop-left-preserved : goal.loop-left-preserved
 loop-left-preserved g c = let i = c.loop-left.invariant in (
-      turned i.0 c.loop-left-test.true (search rules) c.child-node.ensures,
-      turning-on i.0 c.loop-left-test.true (c.lower_prev-before.ensures.lower c.args.root i.0.leads) i.1
-          (λ content slot_is none end. first-said (omega arith) i.0.leads (omega (arith, none)) refl refl end) (search rules),
-    )
+  turned i.0 c.loop-left-test.true (search rules) c.child-node.ensures,
+  turning-on i.0 c.loop-left-test.true (c.lower_prev-before.ensures.lower c.args.root i.0.leads) i.1
+      (λ content slot_is none end. first-said (omega arith) i.0.leads (omega (arith, none)) refl refl end) (search rules),
+)
 
 pub returns : goal.returns
 returns g c = let e = turning-ends c.loop-left.invariant.0 c.loop-left.invariant.1 c.loop-left-test.false in record { some = e.0; none = e.1 }

@@ -7,10 +7,18 @@ pub node-requires : goal.node-requires
 node-requires g t c = (search rules, (search rules, within (g.met.C.Comparator.total c.args.comp.now) c.requires.capacity c.requires.through.1))
 
 pub look_up-requires : goal.look_up-requires
-look_up-requires g t c = (search rules, (c.requires.capacity, leaf-asks (g.met.C.Comparator.total c.args.comp.now) c.requires.capacity c.requires.through.1 c.node.ensures.value (not_so c.if-not-is_inner.true c.is_inner.ensures.inner)))
+look_up-requires g t c = (
+  search rules,
+  (
+    c.requires.capacity,
+    leaf-asks (g.met.C.Comparator.total c.args.comp.now) c.requires.capacity c.requires.through.1
+        c.node.ensures.value (not_so c.if-not-is_inner.true c.is_inner.ensures.inner),
+  ),
+)
 
 pub returns-then-not-is_inner : goal.returns-then-not-is_inner
-returns-then-not-is_inner g t c = λ leaves on. let o = g.met.C.Comparator.total c.args.comp.now in let other = not_so c.if-not-is_inner.true c.is_inner.ensures.inner in
+returns-then-not-is_inner g t c = λ leaves on. let o = g.met.C.Comparator.total c.args.comp.now in
+    let other = not_so c.if-not-is_inner.true c.is_inner.ensures.inner in
     let s = step-leaf o c.requires.capacity on c.node.ensures.value other in
     c.look_up.ensures.value (s.here.at.e ∷ s.here.at.es) s.here.slot_is ∙ sym (narrowed o c.requires.capacity on c.node.ensures.value other).value_is
 

@@ -1,4 +1,5 @@
-use Rattle.bforest_core.proofs.Words.{get_or, slice_get_read, rules, ◌≡◌, ℕ, ◌-◌, ◌<◌, false, List, ◌∷◌, length, slice_get, nat_eq, Option, Some, refl, sym, ap, ◌∙◌}
+use Rattle.bforest_core.proofs.Words.{get_or, slice_get_read, rules, ◌≡◌, ℕ, ◌-◌, ◌<◌, false, List, ◌∷◌, length, slice_get, nat_eq, Option, Some, refl, sym}
+use Rattle.bforest_core.proofs.Words.{ap, ◌∙◌}
 use Rattle.bforest_core.proofs.{Words.{subst, arith, list_any, slice_get_within, Content, Free, IsFree, Table, chain_from, IsPool}, table.Chains.front_of-is}
 use Rattle.bforest_core.proofs.{table.Pools.{IsPool-taken, first_some, front_is_free}, table.Stored.read_same}
 use Rattle.bforest_core.proofs.pool.NodePool.take_slot.Goals as goal
@@ -29,7 +30,8 @@ module _ {K V : Type 0} {n : ℕ} {nodes : List (Content K V)} {first : Option �
       is_free : IsFree content
       is_free = subst IsFree (sym (read_same nodes number front.1 found)) tt
 
-      taken : {next : Option ℕ} → content ≡ Free next → IsPool n nodes next (free - 1) limit × (chain_from nodes free first ≡ number ∷ chain_from nodes (free - 1) next)
+      taken : {next : Option ℕ} → content ≡ Free next → IsPool n nodes next (free - 1) limit
+          × (chain_from nodes free first ≡ number ∷ chain_from nodes (free - 1) next)
           × (list_any (nat_eq number) (chain_from nodes (free - 1) next) ≡ false)
       taken {next} next_is = let w = IsPool-taken next free some here (found ∙ ap Some next_is) in (w.0, ap (λ z. chain_from nodes free z) first_is ∙ w.1, w.2)
 
@@ -48,11 +50,13 @@ overflow_sub-self g c = omega (arith, some c.self.invariant c.self.view_is c.req
 
 pub invariant_of-self : goal.invariant_of-self
 invariant_of-self g c = let s = c.self in
-    (taken s.invariant s.view_is c.requires.room c.expand.ensures.value c.unwrap-node.ensures c.number.ensures.value c.index.ensures c.next_free-self-inside.ensures).0
+    (taken s.invariant s.view_is c.requires.room c.expand.ensures.value c.unwrap-node.ensures c.number.ensures.value c.index.ensures
+    c.next_free-self-inside.ensures).0
 
 pub returns : goal.returns
 returns g c = let s = c.self in
-    let after = taken s.invariant s.view_is c.requires.room c.expand.ensures.value c.unwrap-node.ensures c.number.ensures.value c.index.ensures c.next_free-self-inside.ensures in
+    let after = taken s.invariant s.view_is c.requires.room c.expand.ensures.value c.unwrap-node.ensures c.number.ensures.value c.index.ensures
+    c.next_free-self-inside.ensures in
     let inside = within s.invariant s.view_is c.requires.room c.expand.ensures.value c.unwrap-node.ensures c.number.ensures.value in
     record {
       node = rw (← c.self.view_is) (front_of-is _ _ _ c.self.invariant.linked ∙ sym c.expand.ensures.value ∙ c.unwrap-node.ensures);

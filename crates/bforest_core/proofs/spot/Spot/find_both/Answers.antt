@@ -23,7 +23,8 @@ goes_along-requires g c = let f = c.follow-index.ensures in
 
 pub find_below-first-requires : goal.find_below-first-requires
 find_below-first-requires g c = let f = c.follow-index.ensures in let b = c.below-next.ensures in
-    let d = search-on c.loop-index.invariant.0 c.node.ensures.value (c.is_inner.ensures.inner.0 c.loop-index-test.true) f.index f.child (is-below b.code b.parent b.grand b.height) in
+    let d = search-on c.loop-index.invariant.0 c.node.ensures.value (c.is_inner.ensures.inner.0 c.loop-index-test.true) f.index f.child
+    (is-below b.code b.parent b.grand b.height) in
     (search rules, (d.capacity, (_, d.above, d.numbers, d.on, d.way)))
 
 pub find_below-requires : goal.find_below-requires
@@ -32,12 +33,14 @@ find_below-requires g c = let a = search-asks c.loop-index.invariant.0 c.node.en
     (search rules, (w.capacity, (_, w.above, w.numbers, w.on, w.way)))
 
 pub returns-then-not-goes_along : goal.returns-then-not-goes_along
-returns-then-not-goes_along g c = let f = c.follow-index.ensures in let b = c.below-next.ensures in let inner = c.is_inner.ensures.inner.0 c.loop-index-test.true in
+returns-then-not-goes_along g c = let f = c.follow-index.ensures in let b = c.below-next.ensures in
+    let inner = c.is_inner.ensures.inner.0 c.loop-index-test.true in
     let d = search-on c.loop-index.invariant.0 c.node.ensures.value inner f.index f.child (is-below b.code b.parent b.grand b.height) in
     let a = search-asks c.loop-index.invariant.0 c.node.ensures.value inner in
     let u = c.loop-index.invariant.1 (c.goes_along.ensures.ordered c.if-not-goes_along.true _ _ _ a.2 (f.index _ _ a.2)) in
     record {
-      some = both-end c.requires.root (rw (← d.join) (c.find_below-first.ensures.found _ _ _ d.on d.way)) (rw (← u.join) (c.find_below.ensures.found _ _ _ u.on u.way));
+      some = both-end c.requires.root (rw (← d.join) (c.find_below-first.ensures.found _ _ _ d.on d.way))
+          (rw (← u.join) (c.find_below.ensures.found _ _ _ u.on u.way));
       none = λ bad. absurd (let no = bad in cc);
     }
 
@@ -47,10 +50,10 @@ loop-index-smaller g c = let f = c.follow-index.ensures in
 
 pub loop-index-preserved : goal.loop-index-preserved
 loop-index-preserved g c = let f = c.follow-index.ensures in let inner = c.is_inner.ensures.inner.0 c.loop-index-test.true in (
-      search-on c.loop-index.invariant.0 c.node.ensures.value inner f.index f.child (search rules),
-      λ ordered. search-on (c.loop-index.invariant.1 ordered) c.node.ensures.value inner
-          (λ keys children found. c.goes_along.ensures.along c.if-not-goes_along.false _ _ _ found (f.index _ _ found) ordered) f.child (search rules),
-    )
+  search-on c.loop-index.invariant.0 c.node.ensures.value inner f.index f.child (search rules),
+  λ ordered. search-on (c.loop-index.invariant.1 ordered) c.node.ensures.value inner
+      (λ keys children found. c.goes_along.ensures.along c.if-not-goes_along.false _ _ _ found (f.index _ _ found) ordered) f.child (search rules),
+)
 
 pub returns-then-is_gt : goal.returns-then-is_gt
 returns-then-is_gt g c = record { some = tt; none = λ none. ap is_gt (sym c.cmp.ensures) ∙ sym c.is_gt.ensures ∙ c.if-is_gt.true }

@@ -13,7 +13,8 @@ child-leaf-requires g c = (search rules, cousin-asks c.requires.union c.requires
 
 pub returns-then-index-child_count : goal.returns-then-index-child_count
 returns-then-index-child_count g c = record {
-  some = λ place s. cousin c.requires.union s c.requires.deep c.requires.last c.child_count.ensures.value c.if-index-child_count.true c.child-parent.ensures c.child-leaf.ensures;
+  some = λ place s. cousin c.requires.union s c.requires.deep c.requires.last c.child_count.ensures.value c.if-index-child_count.true c.child-parent.ensures
+      c.child-leaf.ensures;
   none = λ bad. absurd (let no = bad in cc);
 }
 
@@ -24,7 +25,8 @@ pub overflow_mul-spot : goal.overflow_mul-spot
 overflow_mul-spot g c = omega (arith, spot-low c.requires.union c.requires.spot.1)
 
 pub returns-in_err-far-clause-none : goal.returns-in_err-far-clause-none
-returns-in_err-far-clause-none g c = λ none place s. last-leaf c.requires.union _ s.root_is (c.next_far.ensures.next.none c.in_err-far.was _ _ _ _ (spot-over c.requires.union s))
+returns-in_err-far-clause-none g c = λ none place s. last-leaf c.requires.union _ s.root_is
+    (c.next_far.ensures.next.none c.in_err-far.was _ _ _ _ (spot-over c.requires.union s))
 
 pub returns-clause-some : goal.returns-clause-some
 returns-clause-some g c = λ place s.

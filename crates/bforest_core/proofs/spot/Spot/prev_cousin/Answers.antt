@@ -31,7 +31,8 @@ child-leaf-requires g c = (
 pub returns-then-index-gt0 : goal.returns-then-index-gt0
 returns-then-index-gt0 g c = record {
   some = λ place s.
-      cousin-before c.requires.union s c.requires.deep c.requires.first c.if-index-gt0.true c.child-parent.ensures c.last_index-last.ensures.last c.child-leaf.ensures;
+      cousin-before c.requires.union s c.requires.deep c.requires.first c.if-index-gt0.true c.child-parent.ensures c.last_index-last.ensures.last
+      c.child-leaf.ensures;
   none = λ bad. absurd (let no = bad in cc);
 }
 
