@@ -90,7 +90,7 @@ module _ {K X : Type 0} {n : ℕ} (f : Forest K X) (path : Path K X n) where
   pub on-spot-of : (h : Option ℕ) (p : ℕ) → IsSpot f h path p → (¬ IsAtEnd path) → p < length (list_of f h)
   on-spot-of None p s some = absurd (some s.0)
   on-spot-of (Some root) p s some =
-      let on = on-within f root path p (record { root_is = s.root_is; stands = at_entry path.node path.entry (tree_of f.nodes root) p path.size some s.at }) in
+      let on = on-within f path (record { root_is = s.root_is; stands = at_entry path.node path.entry (tree_of f.nodes root) p path.size some s.at }) in
       omega (arith, on, ap length (list-root f root s.root_is))
 
 module _ {K X : Type 0} where

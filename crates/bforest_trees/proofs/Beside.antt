@@ -33,7 +33,7 @@ module _ {K V : Type 0} {table : Table K V} {handle : Option ℕ} where
 
   module _ {look other : Look K V} {s t : ℕ} (x : Holds table handle look s) (y : Holds table handle other t) where
     one-root : y.from.root ≡ x.from.root
-    one-root = some_same y.from.root x.from.root (sym y.from.handle_is ∙ x.from.handle_is)
+    one-root = some_same (sym y.from.handle_is ∙ x.from.handle_is)
 
     -- the leaves of one code are one leaf
     module _ (code : look.spot.code ≡ other.spot.code) where

@@ -155,7 +155,7 @@ module _ {K X : Type 0} where
       let t = spot-on f path h at.place at.spot at.within in
       let e : OnEntry f path = record { root = t.0; place = at.place; on = t.2 } in
       subst (λ (z : Option ℕ). IsTaken most f f' z at.place o) (sym t.1)
-      (taken most f f' t.0 at.place t.2.root_is (on-within f t.0 path at.place t.2) o (removed e) (account e) (same e) (last e) (λ z. ended z e) (λ z. none z e))
+      (taken most f f' t.0 at.place t.2.root_is (on-within f path t.2) o (removed e) (account e) (same e) (last e) (λ z. ended z e) (λ z. none z e))
 
   -- after a removal at a path of a handle, the path stands at the same place
   pub spot-at : (most : ℕ) (f f' : Forest K X) (h : Option ℕ) (path path' : Path K X most) (o : Option ℕ) (at : OnSpot f h path)
@@ -164,4 +164,4 @@ module _ {K X : Type 0} where
   spot-at most f f' h path path' o at stands last end =
       let t = spot-on f path h at.place at.spot at.within in
       let e : OnEntry f path = record { root = t.0; place = at.place; on = t.2 } in
-      spot-left most f f' t.0 at.place t.2.root_is (on-within f t.0 path at.place t.2) path' o (stands e) (last e) end
+      spot-left most f f' t.0 at.place t.2.root_is (on-within f path t.2) path' o (stands e) (last e) end

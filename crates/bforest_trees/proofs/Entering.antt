@@ -61,7 +61,7 @@ module _ {K X : Type 0} {most : ℕ} {cmp : K → K → Ordering} {f : Forest K 
 
   -- after the value was replaced, the path stands at the key's place
   pub key-spot : (f' : Forest K X) → StandsOn f' n path (place cmp (list_under f n) k) → IsSpot f' (Some n) path (place cmp (list_at f n) k)
-  key-spot f' on = rw (list-root f n (live-root f n s.live)) (on-at f' n path _ on)
+  key-spot f' on = rw (list-root f n (live-root f n s.live)) (on-at f' path on)
 
 module _ {K X : Type 0} {most : ℕ} {cmp : K → K → Ordering} {f : Forest K X} {n : ℕ} {k : K} {path : Path K X most} (s : AtGap cmp f n k path) where
   abbrev at : ℕ
@@ -84,7 +84,7 @@ module _ {K X : Type 0} {most : ℕ} {cmp : K → K → Ordering} {f : Forest K 
 
   -- the path points to the key's place where nothing has changed
   abbrev pub to-key : {f' : Forest K X} {path' : Path K X most} → f' ≡ f → path' ≡ path → Pointing f' path'
-  to-key same is = record { root = n; place = at; to = rw (same, is) (placed-points f n path at s.placed) }
+  to-key same is = record { root = n; place = at; to = rw (same, is) (placed-points f path s.placed) }
 
   module _ {result : Result ℕ OutOfMemory} (full : (result ≡ Err Full) ↔ IsTooMany (need most at (sizes_under f n)) f) where
     -- `insert` of an absent key that was refused
@@ -103,7 +103,7 @@ module _ {K X : Type 0} {most : ℕ} {cmp : K → K → Ordering} {f : Forest K 
 
   -- after an insertion the path stands at the key's place
   pub new-spot : (f' : Forest K X) {root' : ℕ} {path' : Path K X most} → StandsOn f' root' path' at → IsSpot f' (Some root') path' (place cmp (list_at f n) k)
-  new-spot f' {root'} {path'} on = rw (list-root f n root) (on-at f' root' path' at on)
+  new-spot f' {root'} {path'} on = rw (list-root f n root) (on-at f' path' on)
 
   -- after a refusal the path stands at the key's place
   pub old-spot : {path' : Path K X most} → StandsAt f n path' at → IsSpot f (Some n) path' (place cmp (list_at f n) k)

@@ -80,7 +80,7 @@ module _ {K V : Type 0} {table : Table K V} {handle : Option ℕ} {spot : Spot} 
 
   -- the root is the handle's
   pub from-root : (root : ℕ) → handle ≡ Some root → f.root ≡ root
-  from-root root is = some_same f.root root (sym f.handle_is ∙ is)
+  from-root root is = some_same (sym f.handle_is ∙ is)
 
   pub from-spot : (root : ℕ) → handle ≡ Some root → IsSpotAt table root spot f.place
   from-spot root is = subst (λ z. IsSpotAt table z spot f.place) (from-root root is) f.on
@@ -125,17 +125,17 @@ keyless none = ap length none.keys
 -- what is read by the number of a spot's leaf
 module _ {K V : Type 0} {table : Table K V} {handle : Option ℕ} {spot : Spot} {number start : ℕ} (f : LeafFrom table handle spot number start) {content : Content K V} (found : slice_get table.nodes number ≡ Some content) where
   pub leaf-read : IsLeaf content
-  leaf-read = subst IsLeaf (read_same table.nodes number content (leaf_content f.leaf.entries) found f.leaf.slot_is) tt
+  leaf-read = subst IsLeaf (read_same table.nodes number found f.leaf.slot_is) tt
 
   module _ {keys : List K} {vals : List V} (is : content ≡ Leaf keys vals) where
     keys-read : keys ≡ entry_keys f.leaf.entries
-    keys-read = sym (ap keys_of is) ∙ sym (ap keys_of (read_same table.nodes number content (leaf_content f.leaf.entries) found f.leaf.slot_is))
+    keys-read = sym (ap keys_of is) ∙ sym (ap keys_of (read_same table.nodes number found f.leaf.slot_is))
 
     pub count-read : length keys ≡ length f.leaf.entries
     count-read = ap length keys-read ∙ length-map f.leaf.entries (λ e. e.0)
 
     vals-read : vals ≡ entry_items f.leaf.entries
-    vals-read = sym (ap vals_of is) ∙ sym (ap vals_of (read_same table.nodes number content (leaf_content f.leaf.entries) found f.leaf.slot_is))
+    vals-read = sym (ap vals_of is) ∙ sym (ap vals_of (read_same table.nodes number found f.leaf.slot_is))
 
 -- a look that holds the leaf of a spot
 pub holds-leaf : {K V : Type 0} {table : Table K V} {handle : Option ℕ} {number start : ℕ} {content : Content K V} {look : Look K V}

@@ -26,7 +26,7 @@ module _ {K X : Type 0} (most : ℕ) (cmp : K → K → Ordering) (f : Forest K 
       put = told.put;
       sizes = told.sizes;
       same_number = λ is. ap Some (told.same_root.1 (ap length (sizes-kept most cmp f (Some n) k (present-told cmp (list_at f n) k (ap is_some found ∙ is)))));
-      same_levels = (λ same. ap length told.sizes ∙ told.same_root.0 (some_same n' n same), λ e. ap Some (told.same_root.1 (sym (ap length told.sizes) ∙ e)));
+      same_levels = (λ same. ap length told.sizes ∙ told.same_root.0 (some_same same), λ e. ap Some (told.same_root.1 (sym (ap length told.sizes) ∙ e)));
       account = told.account;
       increasing = subst (IsIncreasing cmp) (sym told.put.list) rises;
       full = (λ bad. absurd (cc), λ bad. absurd (low bad));

@@ -21,14 +21,14 @@ use Rattle.std.specs.Iterator.{MakesProgress, YieldsFirst, YieldsLast, item_coun
 
 -- a node that is read by a leaf's number is that leaf
 pub held-leaf : {K V : Type 0} (slots : List (Content K V)) (number : ℕ) (content : Content K V) (entries : List (K × V)) → slice_get slots number ≡ Some content → slice_get slots number ≡ Some (leaf_content entries) → IsLeaf content
-held-leaf slots number content entries found leaf = subst IsLeaf (read_same slots number content (leaf_content entries) found leaf) tt
+held-leaf slots number content entries found leaf = subst IsLeaf (read_same slots number found leaf) tt
 
 -- a node that is read by a leaf's number has the leaf's keys and values
 held : {K V : Type 0} (slots : List (Content K V)) (number : ℕ) (content : Content K V) (entries : List (K × V)) (keys : List K)
     (vals : List V) → slice_get slots number ≡ Some content → slice_get slots number ≡ Some (leaf_content entries)
     → content ≡ Leaf keys vals → (keys ≡ entry_keys entries) × (vals ≡ entry_items entries)
 held slots number content entries keys vals found leaf is =
-    let same = read_same slots number content (leaf_content entries) found leaf in (
+    let same = read_same slots number found leaf in (
       sym (ap keys_of is) ∙ sym (ap keys_of same),
       sym (ap vals_of is) ∙ sym (ap vals_of same),
     )

@@ -17,12 +17,12 @@ module _ {K V : Type 0} {n : ℕ} where
   -- the entries from a path that points to a place
   pub pointing : (table : Table K V) (root : ℕ) (path : Path K V n) (place : ℕ) → IsUnion n table → PointsTo table root path place → entries_from table path ≡ drop place (list_under table root)
   pointing table root path place union to =
-      ap (λ r. drop (spot table r path) (list_under table r)) (points-root n table root path place union to)
-      ∙ ap (λ z. drop z (list_under table root)) (points-spot n table root path place union to)
+      ap (λ r. drop (spot table r path) (list_under table r)) (points-root path union to)
+      ∙ ap (λ z. drop z (list_under table root)) (points-spot path union to)
 
   -- the entries from a path that stands on an entry
   pub standing : (table : Table K V) (root : ℕ) (path : Path K V n) (place : ℕ) → IsUnion n table → StandsOn table root path place → entries_from table path ≡ drop place (list_under table root)
-  standing table root path place union on = pointing table root path place union (on-points table root path place on)
+  standing table root path place union on = pointing table root path place union (on-points table path on)
 
   -- no entries are left from a path at the end
   pub ended : (table : Table K V) (path : Path K V n) → IsAtEnd path → entries_from table path ≡ []
@@ -66,8 +66,8 @@ module _ {K V : Type 0} {n : ℕ} (table : Table K V) (path path' : Path K V n) 
         let at = r.stands w.1 in
         let list = list_under table at.root in
         let next = s.stands at in
-        let e = read list at.place (on-within table at.root path at.place at.on) in
-        let value : o ≡ Some e.0 = s.value (record { root = at.root; place = at.place; at = on-at table at.root path at.place at.on }) ∙ e.1 in
+        let e = read list at.place (on-within table path at.on) in
+        let value : o ≡ Some e.0 = s.value (record { root = at.root; place = at.place; at = on-at table path at.on }) ∙ e.1 in
         record {
           on = record { union = r.union; stands = λ some. record { root = at.root; place = suc at.place; on = record { root_is = next.root_is; stands = at_entry path'.node path'.entry (tree_of table.nodes at.root) (suc at.place) path'.size some next.at } } };
           yields = subst (λ (z : Option (K × V)). YieldsFirst (λ (entries : List (K × V)). entries) (entries_from table path) z

@@ -42,7 +42,7 @@ module _ {F K X : Type 0} {most : ℕ} {step : F → K → X → Bool → X → 
   sifting-first {path} union s ready = record {
     place = 0;
     changes = changes-none most old first union s.root_is;
-    at = on-at old first path 0 s;
+    at = on-at old path s;
     ready = ready;
     rest = λ ks us r. r;
     gives = gives-none old (sizes_under old first);
@@ -85,7 +85,7 @@ module _ {F K X : Type 0} {most : ℕ} {step : F → K → X → Bool → X → 
 
       -- the path stands on the entry at its place
       pub sifting-stands : StandsOn now root path s.place
-      sifting-stands = at-on now root path s.place s.at (slice_get_within (list_under now root) s.place (k, v) (sym here))
+      sifting-stands = at-on now path s.at (slice_get_within (list_under now root) s.place (k, v) (sym here))
 
       -- the sifting of the rest after one answer is the sifting of the whole list
       asked_on : (stays : Bool) (w : X) (f' : F) → step f k v stays w f' → (xs' : List (K × X)) (sizes' : List (List ℕ)) (place' : ℕ)

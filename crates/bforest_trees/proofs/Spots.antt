@@ -29,12 +29,12 @@ module _ {K X : Type 0} where
     spot-on None p s low = absurd (omega (arith, low))
     spot-on (Some n) p s low =
         let same = ap length (list-root f n s.root_is) in
-        (n, refl, at-on f n path p s (omega (arith, low, same)))
+        (n, refl, at-on f path s (omega (arith, low, same)))
 
   -- a path stands at one place alone, which `spot_of` computes
   pub computed : (most : ℕ) (f : Forest K X) (h : Option ℕ) → IsUnion most f → IsComputed most f h
   computed most f None union path p s = sym s.1
-  computed most f (Some root) union path p s = at-spot most f root path p union s
+  computed most f (Some root) union path p s = at-spot path union s
 
   -- a search ends at the entry of its key, or at the place for it
   pub found-points : {m : ℕ} (cmp : K → K → Ordering) (f : Forest K X) (n : ℕ) (path : Path K X m) (k : K) →
@@ -42,5 +42,5 @@ module _ {K X : Type 0} where
   found-points cmp f n path k here gone = go (is_present cmp (list_under f n) k) refl
     where
       go : (b : Bool) → is_present cmp (list_under f n) k ≡ b → PointsTo f n path (place cmp (list_under f n) k)
-      go true e = on-points f n path (place cmp (list_under f n) k) (here e)
-      go false e = placed-points f n path (place cmp (list_under f n) k) (gone e)
+      go true e = on-points f path (here e)
+      go false e = placed-points f path (gone e)

@@ -25,7 +25,7 @@ module _ {K X : Type 0} {n : ℕ} (f : Forest K X) (path : Path K X n) where
       let list = ap length (list-root f root s.root_is) in
       elim (eqb_tells path.size 0) [
         | inl w ↦ omega (arith, list, at_end path.node path.entry (tree_of f.nodes root) p path.size w.1 s.at)
-        | inr w ↦ omega (arith, list, on-within f root path p (record { root_is = s.root_is; stands = at_entry path.node path.entry (tree_of f.nodes root) p path.size w.1 s.at }))
+        | inr w ↦ omega (arith, list, on-within f path (record { root_is = s.root_is; stands = at_entry path.node path.entry (tree_of f.nodes root) p path.size w.1 s.at }))
       ]
 
   module _ (path' : Path K X n) (o : Option (K × X)) where
@@ -55,7 +55,7 @@ module _ {K X : Type 0} {n : ℕ} (f : Forest K X) (path : Path K X n) where
               let on : StandsOn f root path p = record { root_is = s.root_is; stands = at_entry path.node path.entry tree p path.size w.1 s.at } in
               let at : OnEntry f path = record { root = root; place = p; on = on } in
               let one : suc p ≡ p + 1 = omega arith in
-              let here : suc p ≡ min (p + 1) (length (list_of f (Some root))) = omega (arith, on-within f root path p on, ap length list) in
+              let here : suc p ≡ min (p + 1) (length (list_of f (Some root))) = omega (arith, on-within f path on, ap length list) in
               record {
                 value = value at ∙ (λ j. slice_get (sym list j) (one j));
                 spot = subst (λ (z : ℕ). StandsAt f root path' z) here (stands at);
@@ -74,7 +74,7 @@ module _ {K X : Type 0} {n : ℕ} (f : Forest K X) (path : Path K X n) where
         let same : m ≡ root = cc in
         let there : StandsAt f root path p = subst (λ (z : ℕ). StandsAt f z path p) same s in
         let at : StandingUnder f root path = record { place = p; at = there } in
-        subst (λ (o : Option ℕ). IsPrev o p) (sym e) (record { value = value at ∙ ap (λ l. entry_before l p) (sym (list-root f root there.root_is)); spot = on-at f root path' (p - 1) (stands at) })
+        subst (λ (o : Option ℕ). IsPrev o p) (sym e) (record { value = value at ∙ ap (λ l. entry_before l p) (sym (list-root f root there.root_is)); spot = on-at f path' (stands at) })
 
   -- the entry of a handle's list at the place where a path stands
   pub entry-at : (o : Option (K × X)) (h : Option ℕ) (p : ℕ) → IsSpot f h path p → ((at : Standing f path) → o ≡ slice_get (list_under f at.root) at.place) → (IsAtEnd path → o ≡ None) → o ≡ slice_get (list_of f h) p

@@ -21,7 +21,7 @@ module _ {K X : Type 0} {m : ℕ} (f : Forest K X) (h : Option ℕ) (path : Path
       let n : ℕ = t.0 in
       let p : ℕ = at.place in
       let f' = with_value_at f (leaf_of path) (index_of path) w in
-      let v = value-written m f n p path.node path.entry path.size union t.2 w in
+      let v = value-written union t.2 w in
       let es = list_under f n in
       subst (λ (z : Option ℕ). IsWritten f f' z path p w) (sym t.1)
       (record {
@@ -29,7 +29,7 @@ module _ {K X : Type 0} {m : ℕ} (f : Forest K X) (h : Option ℕ) (path : Path
         sizes = sizes-new m f f' n n (with_value es p w) (tree_sizes (tree_of f.nodes n)) v.0 ∙ sym (sizes-root f n t.2.root_is);
         slots = length-set _ _ _;
         free = refl;
-        spot = on-at f' n path p v.1;
+        spot = on-at f' path v.1;
         computed = computed m f' (Some n) v.0.union;
       })
 
@@ -38,4 +38,4 @@ module _ {K X : Type 0} {m : ℕ} (f : Forest K X) (h : Option ℕ) (path : Path
   value-here v is =
       let t = spot-on f path h at.place at.spot at.within in
       ap (λ (z : Option ℕ). value_at_place (list_of f z) at.place) t.1 ∙ ap (λ (l : List (K × X)). value_at_place l at.place) (list-root f t.0 t.2.root_is)
-      ∙ sym (is ∙ value-under m f t.0 at.place path.node path.entry path.size union t.2)
+      ∙ sym (is ∙ value-under union t.2)

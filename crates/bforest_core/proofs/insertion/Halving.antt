@@ -81,7 +81,7 @@ module _ {K V X : Type 0} (content : List (K × X) → Content K V) where
     sp = rw num_is at split
 
     whole_is : sp.whole ≡ content es
-    whole_is = some_same _ _ (sym sp.was ∙ was)
+    whole_is = some_same (sym sp.was ∙ was)
 
     -- the number of entries in the left half
     pub counted : parts.lhs_entries ≡ left_half cap (content es) e

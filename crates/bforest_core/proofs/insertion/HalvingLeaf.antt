@@ -128,7 +128,7 @@ module _ {K V : Type 0} {most : ℕ} {t : Table K V} {ms js size tree place : _}
 
     module _ (content : Content K V) (is : slice_get t.nodes read ≡ Some content) where
       leaf_content_is : content ≡ leaf_content (l ++ r)
-      leaf_content_is = some_same _ _ (cc (num_is, d.slot_is))
+      leaf_content_is = some_same (cc (num_is, d.slot_is))
 
       pub leaf_used : ¬ IsFree content
       leaf_used = rw leaf_content_is (λ free. free)

@@ -57,7 +57,7 @@ module _ {K V : Type 0} where
   -- a level above the leaves, and the test whether the path's node there is full
   module _ {t : Table K V} {ms js up size rows list p : _} (ab : Above t ms js up size rows list p) (other : up ≢ size) (wide : size ≤ length ms) (r : ℕ) where
     abbrev level : Spot t.nodes ms js up size rows list p
-    level = spot t.nodes ms js up size rows list p (record { stacked = ab.stacked; inside = ab.inside; stands = ab.stands; height = ab.height }) other
+    level = spot (record { stacked = ab.stacked; inside = ab.inside; stands = ab.stands; height = ab.height }) other
 
     level_slot : slice_get t.nodes (get_or ms up r) ≡ Some (inner_content level.entries)
     level_slot = cc (get_or_default ms up r 0 (omega arith), level.slot_is)
@@ -79,7 +79,7 @@ module _ {K V : Type 0} where
 
     module _ (content : Content K V) (read : slice_get t.nodes (get_or ms up r) ≡ Some content) where
       content_is : content ≡ inner_content level.entries
-      content_is = some_same _ _ (sym read ∙ level_slot)
+      content_is = some_same (sym read ∙ level_slot)
 
       pub level_used : ¬ IsFree content
       level_used = rw content_is (λ free. free)

@@ -50,7 +50,7 @@ module _ {K V : Type 0} {cmp : K → K → Ordering} (most : ℕ) {table : Table
   is_placed none = placed-under _ _ union (placed none)
 
   used_by : (b : Bool) → is_present cmp es key ≡ b → IsUsed table leaf
-  used_by true here = rw (← e.leaf_is) (entry-used most table root at path js size union (stands here)).0
+  used_by true here = rw (← e.leaf_is) (entry-used union (stands here)).0
   used_by false none = rw (← e.leaf_is) (is_used table (get_or path 0 0) (leaf_content es) slot (leaf_spot (is_placed none)).none_chain)
 
   -- the leaf is used
@@ -64,8 +64,8 @@ module _ {K V : Type 0} {cmp : K → K → Ordering} (most : ℕ) {table : Table
         let said = answer_is ∙ ap (λ z. put_answer most (leaf_content es) z) found ∙ ap Ok (items-read es p ∙ sym (value_for-present cmp es key here)) in
         let after = new_is ∙ ap (λ z. with_node table leaf (with_put most (leaf_content es) z key value)) found in
         let at_index : with_value_at table (get_or path 0 0) (get_or js 0 0) value ≡ with_node table leaf (content_with (leaf_content es) p value) =
-        cc (index_is, slot-is table.nodes leaf (leaf_content es) e.slot_is) in
-        let changes = subst (λ z. Changes most table z root root (with_value list at value) (sizes_of (tree_of table.nodes root))) (cc (after)) (value-written _ _ _ at path js size union (stands here) value).0 in
+        cc (index_is, slot-is table.nodes leaf e.slot_is) in
+        let changes = subst (λ z. Changes most table z root root (with_value list at value) (sizes_of (tree_of table.nodes root))) (cc (after)) (value-written union (stands here) value).0 in
         record {
           ok = rw said (sym e.value_is);
           slots = cc (after, length-set _ _ _);
@@ -95,8 +95,8 @@ module _ {K V : Type 0} {cmp : K → K → Ordering} (most : ℕ) {table : Table
 
       put_says : PutsEntry most table new (get_or path 0 0) (get_or js 0 0) key value has_room
       put_says = record {
-        room = λ keys vals is. subst (λ z. IsTrue has_room ↔ (entry_count z < most)) (sym (read_same table.nodes (get_or path 0 0) (leaf_content es) (Leaf keys vals) slot is)) (λ fits. ltb-true (entry_count (leaf_content es)) most fits, λ less. lt-ltb (entry_count (leaf_content es)) most less);
-        node = λ keys vals is. subst (λ z. new ≡ with_node table (get_or path 0 0) (if has_room then with_entry z (get_or js 0 0) key value else z)) (sym (read_same table.nodes (get_or path 0 0) (leaf_content es) (Leaf keys vals) slot is)) (rw (e.leaf_is, index_is) after);
+        room = λ keys vals is. subst (λ z. IsTrue has_room ↔ (entry_count z < most)) (sym (read_same table.nodes (get_or path 0 0) slot is)) (λ fits. ltb-true (entry_count (leaf_content es)) most fits, λ less. lt-ltb (entry_count (leaf_content es)) most less);
+        node = λ keys vals is. subst (λ z. new ≡ with_node table (get_or path 0 0) (if has_room then with_entry z (get_or js 0 0) key value else z)) (sym (read_same table.nodes (get_or path 0 0) slot is)) (rw (e.leaf_is, index_is) after);
       }
 
       gone : value_for cmp list key ≡ None

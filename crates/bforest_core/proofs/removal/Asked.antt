@@ -28,7 +28,7 @@ module _ {K : Type 0} (V : Type 0) where
       let kl2 : length (entry_keys l ++ x.0 ∷ []) ≡ suc n = length-append (entry_keys l) (x.0 ∷ []) ∙ omega arith in
       let il : length (entry_items l) ≡ n = length-map l (λ (w : K × ℕ). w.1) ∙ omega arith in let keys_are = map-append (λ (w : K × ℕ). w.0) l (x ∷ y ∷ r) in
       let less : suc n - 1 ≡ n = omega arith in
-      let key_is = some_same key x.0 (sym k ∙ rw (less, keys_are) (slice_get_at (entry_keys l) x.0 (y.0 ∷ entry_keys r) n kl)) in
+      let key_is = some_same {x = key} {y = x.0} (sym k ∙ rw (less, keys_are) (slice_get_at (entry_keys l) x.0 (y.0 ∷ entry_keys r) n kl)) in
       let written : set (entry_keys (l ++ x ∷ y ∷ r)) (suc n) key ≡ entry_keys l ++ x.0 ∷ x.0 ∷ entry_keys r =
       cc (append_assoc (entry_keys l) (x.0 ∷ []) (y.0 ∷ entry_keys r), set_at (entry_keys l ++ x.0 ∷ []) y.0 (entry_keys r) key (suc n) kl2, append_assoc (entry_keys l) (x.0 ∷ []) (key ∷ entry_keys r)) in
       let two : 2 ≤ length (entry_items ((z ∷ l) ++ x ∷ y ∷ r)) = omega (arith, length-map ((z ∷ l) ++ x ∷ y ∷ r) (λ (w : K × ℕ). w.1), length-append l (x ∷ y ∷ r)) in

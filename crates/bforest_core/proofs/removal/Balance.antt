@@ -95,8 +95,8 @@ module _ {K V X : Type 0} (content : List (K × X) → Content K V) where
   module _ (t u : Table K V) {cap most : ℕ} (n q : ℕ) (e : K × X) (es f fs : _) (s : IsStored content cap most) (ne : n ≢ q) (two : 2 ≤ most) (fn : slice_get t.nodes n ≡ Some (content (e ∷ es))) (fq : slice_get t.nodes q ≡ Some (content (f ∷ fs))) where
     -- the balanced nodes are these two
     balances_at : {got : Option K} (b : IsBalancedAt cap t n f.0 q got u) → Balances cap (content (e ∷ es)) f.0 (content (f ∷ fs)) got b.new_left b.new_right
-    balances_at {got} b = let under_is = some_same _ _ (cc) in
-        rw (← (some_same b.neighbour (content (f ∷ fs)) cc)) (subst (λ z. Balances cap z f.0 b.neighbour got b.new_left b.new_right) under_is b.balances)
+    balances_at {got} b = let under_is = some_same (cc) in
+        rw (← (some_same {x = b.neighbour} {y = content (f ∷ fs)} cc)) (subst (λ z. Balances cap z f.0 b.neighbour got b.new_left b.new_right) under_is b.balances)
 
     whole_count : entry_count (content (e ∷ es)) + entry_count (content (f ∷ fs)) ≡ length (e ∷ es) + length (f ∷ fs)
     whole_count = omega arith
@@ -134,7 +134,7 @@ module _ {K V X : Type 0} (content : List (K × X) → Content K V) where
                 whole = whole;
                 left_is = left;
                 right_is = omega (arith, ap length whole, length-append (h.0 ∷ h.1) (c.x ∷ c.r));
-                key_is = some_same key w.0 w.1 ∙ p.key_is;
+                key_is = some_same w.1 ∙ p.key_is;
                 two = puts_two t u n q _ _ _ _ fn fq ne cc;
               })
         ]

@@ -155,7 +155,7 @@ module _ {K V : Type 0} where
 
         module _ (only : ℕ) (reads : ReadsChild t root 0 only) (v : Table K V) (freed : v ≡ with_freed t root) where
           only_is : child.0.1 ≡ only
-          only_is = some_same _ _ (ap (λ z. slice_get (entry_items z) 0) (sym child.1) ∙ reads (drop 1 (entry_keys root_row.entries)) (entry_items root_row.entries) slot_is)
+          only_is = some_same (ap (λ z. slice_get (entry_items z) 0) (sym child.1) ∙ reads (drop 1 (entry_keys root_row.entries)) (entry_items root_row.entries) slot_is)
 
           below : Stacked list root_row.init × (root_above list root_row.init ≡ child.0.1)
           below = below-root list root_row.init root child.0 (rw (← child.1) rows_up.stacked)

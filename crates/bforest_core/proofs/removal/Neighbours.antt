@@ -36,7 +36,7 @@ module _ {K V : Type 0} where
       Moved path indices path' indices' level rows (a ++ x ∷ y ∷ b) (suc (length a)) → ((i : ℕ) → suc level ≤ i → get_or indices2 i 0 ≡ get_or indices' i 0) → Above t path' indices2 (suc level) size rows (a ++ x ∷ y ∷ b) (suc (length a)) × (get_or path' level 0 ≡ y.1)
   entered_next indices2 a x y b p m same = let len : length (a ++ x ∷ []) ≡ suc (length a) = length-append a _ ∙ omega arith in
       let found = ap (λ z. slice_get z (suc (length a))) (sym (append_assoc a _ _)) ∙ slice_get_at _ y b _ len in
-      let head_is = some_same m.head y (cc) in (
+      let head_is = some_same {x = m.head} {y = y} (cc) in (
         record { stacked = p.stacked; inside = p.inside; stands = stands-same _ _ _ _ _ _ _ (λ i high. refl) same m.stands; height = p.height; apart = p.apart },
         cc,
       )
@@ -96,8 +96,8 @@ module _ {K V : Type 0} where
       beside_same key child more reads_key reads_child =
           let es = at_one.q.l ++ x ∷ at_one.q.r in let w = some_first at_one.q.r (omega (arith, one_seen.counted m value, at_one.count_is)) in
           let high : suc (length at_one.q.l) ≡ get_or indices up 0 + 1 = omega (arith, at_one.q.entry_is) in
-          let key_is = some_same _ _ (cc (second_key at_one.q.l x w.0 w.1, at_one.q.entry_is, reads_key (drop 1 (entry_keys es)) (entry_items es) one_seen.slot_is)) in
-          let child_is = some_same _ _ (cc (second (λ z. z.1) _ x _ _, reads_child (drop 1 (entry_keys es)) (entry_items es) one_seen.slot_is)) in
+          let key_is = some_same (cc (second_key at_one.q.l x w.0 w.1, at_one.q.entry_is, reads_key (drop 1 (entry_keys es)) (entry_items es) one_seen.slot_is)) in
+          let child_is = some_same (cc (second (λ z. z.1) _ x _ _, reads_child (drop 1 (entry_keys es)) (entry_items es) one_seen.slot_is)) in
           (w.1 ++ flat at_one.q.after, at_one.q.b_is ∙ ap (λ z. z ++ flat at_one.q.after) w.2 ∙ ap (λ z. (z, w.0.1) ∷ (w.1 ++ flat at_one.q.after)) key_is ∙ ap (λ z. (key, z) ∷ (w.1 ++ flat at_one.q.after)) child_is)
 
       module _ (less : m ≤ get_or indices up 0 + 1) where
@@ -112,5 +112,5 @@ module _ {K V : Type 0} where
         pub beside_next : (o : Option (K × ℕ)) (next : _) (is : o ≡ Some next) (beside : Beside t path indices (up + 1) size o) (child : ℕ) →
             ReadsChild t next.1 0 child → NextIs (Some (next.0, child)) b
         beside_next o next is beside child reads = let w = next_one o next is beside in
-            let child_is = some_same _ _ (reads (drop 1 (entry_keys (w.f ∷ w.fs))) (entry_items (w.f ∷ w.fs)) (n_slot o next is beside)) in
+            let child_is = some_same (reads (drop 1 (entry_keys (w.f ∷ w.fs))) (entry_items (w.f ∷ w.fs)) (n_slot o next is beside)) in
             (w.fs ++ flat w.rest, behind ∙ ap (λ z. flat z) w.after_is ∙ ap (λ z. (z, w.f.1) ∷ (w.fs ++ flat w.rest)) (sym w.k_is) ∙ ap (λ z. (next.0, z) ∷ (w.fs ++ flat w.rest)) child_is)

@@ -65,7 +65,7 @@ module _ {K V : Type 0} where
           };
           list_is = flat_at d es ((x.0, y.1) ∷ b) ns o.2;
           place_is = place_at d;
-          was = λ fs slot. omega (arith, item_count fs, item_count was, ap entry_count (read_same t.nodes num (inner_content was) (inner_content fs) f.slot_is slot));
+          was = λ fs slot. omega (arith, item_count fs, item_count was, ap entry_count (read_same t.nodes num f.slot_is slot));
           sizes_were = let same = o.0 in cc (sizes-append _ _);
           numbers_are = λ i. omega (arith, c i, c2 i, c3 i, above.numbers_are i, ap (λ z. count i (flat_map numbers z)) d.q.rows_are);
           frees = rw d.q.rows_are (frees-after (λ i none. none) (frees-wider own (λ i none. omega (arith, c i)) above.frees) (frees-puts own (omega (arith, c num, count-same num (numbers after))) w));
@@ -118,7 +118,7 @@ module _ {K V : Type 0} where
 
       -- the key that the code read is that of the removed entry
       moved_key : (key : K) → slice_get (drop 1 (entry_keys (old d))) (get_or indices up 0 - 1) ≡ Some key → key ≡ x.0
-      moved_key key is = some_same key x.0 (cc (old_is, last_key ℕ _ _ x _ index_is))
+      moved_key key is = some_same (cc (old_is, last_key ℕ _ _ x _ index_is))
 
       -- removing the entry where the next parent's key was written first
       take_over : {v : Table K V} (u : Table K V) → Rekeyed t v path indices (suc up) size rest (names x.0) (length (heads before)) →

@@ -32,7 +32,7 @@ module _ {K V : Type 0} where
       more = omega (arith, leaf_count es (h.x ∷ h.y ∷ h.more) (slice_get t.nodes n) d.slot_is h.slot_was, length-append l (x ∷ r), length-append l r)
 
       pub w : Puts t u n (leaf_content (l ++ r))
-      w = let same = read_same _ n _ _ d.slot_is h.slot_was in puts t u n _ _ d.slot_is (cc (without_entry_is l x r (get_or indices 0 0) d.index_is))
+      w = let same = read_same _ n d.slot_is h.slot_was in puts t u n _ _ d.slot_is (cc (without_entry_is l x r (get_or indices 0 0) d.index_is))
 
       -- where the leaf is the whole tree, there is no row above that names it
       pub alone_loss : size ≤ 1 → LeafLoss most t u path indices size tree place
@@ -118,5 +118,5 @@ module _ {K V : Type 0} where
             LeafLoss most t v path indices size tree place
         ahead v key reads rekeys = let f = next h first in
             let new : heads before ++ ((key, n) ∷ heads after) ≡ heads (before ++ node n (l ++ r) ∷ after) =
-            simp ((some_same _ _ (reads (entry_keys (f.0 ∷ f.1)) (entry_items (f.0 ∷ f.1)) slot_then)), f.2, heads-append) in
+            simp ((some_same (reads (entry_keys (f.0 ∷ f.1)) (entry_items (f.0 ∷ f.1)) slot_then)), f.2, heads-append) in
             leaf_loss d (more h) (w h) (rw (← new) (rekeys (above_asks h first)))

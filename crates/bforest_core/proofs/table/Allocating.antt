@@ -1,6 +1,7 @@
 -- Taking a free node and reserving nodes, over plain values.
 use Rattle.bforest_core.proofs.Words.{◌≡◌, ◌↔◌, ℕ, ◌-◌, ◌≤◌, ◌<◌, List, length, length-set, append-nil, Some, Result, Err, IsErrAnd, sym, ap, arith, ◌+◌, refl}
-use Rattle.bforest_core.proofs.Words.{err_from_is_err_and, Content, Table, IsUsed, NeedsGrowth, room, reserved, front_of, with_node, with_front, without_front}
+use Rattle.bforest_core.proofs.Words.{err_from_is_err_and, Content, IsPool, chain_from, Table, IsUsed, NeedsGrowth, room, reserved, front_of, with_node}
+use Rattle.bforest_core.proofs.Words.{with_front, without_front}
 use Rattle.bforest_core.proofs.{Words.{free_count, length-append, down_from, slot_count}, table.Pools.with_front-is, table.Chains.length-down_from}
 
 -- a result that is an error equal to `y` is `Err y`
@@ -28,10 +29,11 @@ module _ {K V : Type 0} where
   pub reserved-enough : (table : Table K V) (n : ℕ) → n ≤ free_count table → reserved table n ≡ table
   reserved-enough table n enough = let none : n - free_count table ≡ 0 = omega arith in rw none (ap (λ z. record table { nodes = z }) (append-nil table.nodes))
 
-  module _ {t : Table K V} (nodes : List (Content K V)) (chain : _) {free : ℕ} (limit len n : ℕ) (view : record { nodes = nodes; chain = chain; limit = limit } ≡ t) (counted : length chain ≡ free) (len_is : len ≡ length nodes) where
+  module _ (n : ℕ) {most : ℕ} {nodes : List (Content K V)} {first : _} {free limit len : ℕ} (pool : IsPool most nodes first free limit) {t : Table K V}
+      (view : record { nodes = nodes; chain = chain_from nodes free first; limit = limit } ≡ t) (len_is : len ≡ length nodes) where
     -- the fields of a pool as fields of its table
     fields_are : (length t.chain ≡ free) × (t.limit ≡ limit) × (length t.nodes ≡ len)
-    fields_are = rw (← view) (counted, refl, sym len_is)
+    fields_are = rw (← view) (pool.counted, refl, sym len_is)
 
     -- with enough free nodes there is room
     pub has_room : n ≤ free → room t < n → ⊥
@@ -55,5 +57,6 @@ module _ {K V : Type 0} where
     stays_reserved enough = sym (reserved-enough t n (omega (arith, fields_are.0)))
 
   -- a table within a limit of 32 bits has at most 4294967295 slots
-  pub few_slots : {t : Table K V} (nodes : List (Content K V)) (chain limit : _) → record { nodes = nodes; chain = chain; limit = limit } ≡ t → length nodes ≤ limit → limit ≤ 4294967295 → length t.nodes ≤ 4294967295
-  few_slots nodes chain limit view within most = let e = ap (λ z. length z.nodes) view in omega arith
+  pub few_slots : {most : ℕ} {nodes : List (Content K V)} {first : _} {free limit : ℕ} → IsPool most nodes first free limit → {t : Table K V}
+      → record { nodes = nodes; chain = chain_from nodes free first; limit = limit } ≡ t → length t.nodes ≤ 4294967295
+  few_slots pool view = let e = ap (λ z. length z.nodes) view in omega arith

@@ -33,19 +33,19 @@ zip-back (e ∷ es) = cc (zip-back es)
 
 module _ {K V : Type 0} where
   -- the content of a slot that is read
-  pub slot-is : (slots : List (Content K V)) (m content : _) → slice_get slots m ≡ Some content → slot slots m ≡ content
-  slot-is slots m content found = get_or_from_slice_get _ m _ _ found
+  pub slot-is : (slots : List (Content K V)) (m : _) {content : _} → slice_get slots m ≡ Some content → slot slots m ≡ content
+  slot-is slots m found = get_or_from_slice_get _ m _ _ found
 
   -- the children of a row are the items of its entries
   pub children-row : (slots : List (Content K V)) (row : _) → RowIn inner_content slots row → flat_map (λ m. children_of (slot slots m)) (numbers row) ≡ entry_items (flat row)
   children-row slots [] i = refl
   children-row slots (node m es ∷ ns) i =
-      rw (slot-is _ m _ i.0, map-append (λ (e : K × ℕ). e.1) _ _) (ap (λ z. entry_items es ++ z) (children-row slots ns i.1))
+      rw (slot-is _ m i.0, map-append (λ (e : K × ℕ). e.1) _ _) (ap (λ z. entry_items es ++ z) (children-row slots ns i.1))
 
   -- leaves have no children
   pub children-leaves : (slots : List (Content K V)) (row : _) → RowIn leaf_content slots row → flat_map (λ m. children_of (slot slots m)) (numbers row) ≡ []
   children-leaves slots [] i = refl
-  children-leaves slots (node m es ∷ ns) i = rw (slot-is _ m _ i.0) (children-leaves slots ns i.1)
+  children-leaves slots (node m es ∷ ns) i = rw (slot-is _ m i.0) (children-leaves slots ns i.1)
 
   -- one level down, from the nodes of a level to their children
   down-row : (slots : List (Content K V)) (f ms cs up : _) → flat_map (λ m. children_of (slot slots m)) ms ≡ cs → 1 ≤ length cs → levels_below slots (suc f) ms up ≡ levels_below slots f cs (ms ∷ up)
@@ -64,11 +64,11 @@ module _ {K V : Type 0} where
   -- the row of the leaves is read back
   leaves-back : (slots : List (Content K V)) (row : _) → RowIn leaf_content slots row → leaf_row slots (numbers row) ≡ row
   leaves-back slots [] l = refl
-  leaves-back slots (node m es ∷ ns) l = rw ((ap entries_of (slot-is _ m _ l.0) ∙ zip-back es), leaves-back slots ns l.1) refl
+  leaves-back slots (node m es ∷ ns) l = rw ((ap entries_of (slot-is _ m l.0) ∙ zip-back es), leaves-back slots ns l.1) refl
 
   inners-back : (slots : List (Content K V)) (row : _) → RowIn inner_content slots row → inner_row slots (flat row) (numbers row) ≡ row
   inners-back slots [] i = refl
-  inners-back slots (node m es ∷ ns) i = let a = ap (λ z. length (children_of z)) (slot-is _ m _ i.0) ∙ length-map es (λ e. e.1) in
+  inners-back slots (node m es ∷ ns) i = let a = ap (λ z. length (children_of z)) (slot-is _ m i.0) ∙ length-map es (λ e. e.1) in
       rw (a, take_at es (flat ns) (length es) refl, drop_at es (flat ns) (length es) refl, inners-back slots ns i.1) refl
 
   rows-back : (slots : List (Content K V)) (hs rows : _) → Stacked hs rows → RowsIn slots rows → inner_rows slots hs (map numbers rows) ≡ rows

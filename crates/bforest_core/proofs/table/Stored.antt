@@ -4,16 +4,16 @@ use Rattle.bforest_core.proofs.Words.{subst, append_assoc, length-append, arith,
 use Rattle.bforest_core.proofs.Words.{Leaf, Free, IsFree, IsInner, IsCut, children_of, entry_count, with_child, with_entry, inner_content, leaf_content}
 use Rattle.bforest_core.proofs.Words.{entry_keys, entry_items}
 
-pub some_same : {A : Type 0} → (x y : A) → Some x ≡ Some y → x ≡ y
-some_same x y e = cc
+pub some_same : {A : Type 0} → {x y : A} → Some x ≡ Some y → x ≡ y
+some_same e = cc
 
 -- two reads of a slot agree
-pub read_same : {A : Type 0} → (list : List A) (n : ℕ) (x y : A) → slice_get list n ≡ Some x → slice_get list n ≡ Some y → y ≡ x
-read_same list n x y first second = some_same y x (cc)
+pub read_same : {A : Type 0} → (list : List A) (n : ℕ) {x y : A} → slice_get list n ≡ Some x → slice_get list n ≡ Some y → y ≡ x
+read_same list n first second = some_same (cc)
 
 -- what holds of one read of a slot holds of another
 pub read_as : {A : Type 0} {x y : A} (list : List A) (n : ℕ) → slice_get list n ≡ Some x → slice_get list n ≡ Some y → (P : A → Type 0) → P x → P y
-read_as list n first second P said = subst P (sym (some_same _ _ cc)) said
+read_as list n first second P said = subst P (sym (some_same cc)) said
 
 pub slice_get_at : {A : Type 0} → (p : List A) (y : A) (ys : List A) (n : ℕ) → length p ≡ n → slice_get (p ++ y ∷ ys) n ≡ Some y
 slice_get_at [] y ys zero e = refl
@@ -86,7 +86,7 @@ module _ {K : Type 0} (V : Type 0) where
       record {
         left_is = rw (k, i, take_at (entry_keys xs) (y.0 ∷ entry_keys ys) (q - 1) kl, take_at (entry_items (x ∷ xs)) (y.1 ∷ entry_items ys) q il) at c.left_is;
         right_is = rw (k, i, drop-behind (entry_keys xs) y.0 (entry_keys ys) q kl2, drop_at (entry_items (x ∷ xs)) (y.1 ∷ entry_items ys) q il) at c.right_is;
-        key_is = some_same key y.0 (cc (slice_get_at (entry_keys xs) y.0 (entry_keys ys) (q - 1) kl));
+        key_is = some_same (cc (slice_get_at (entry_keys xs) y.0 (entry_keys ys) (q - 1) kl));
       }
 
   -- inserting an entry into a leaf
@@ -101,5 +101,5 @@ module _ {K : Type 0} (V : Type 0) where
       record {
         left_is = rw (k, i, take_at (entry_keys xs) (y.0 ∷ entry_keys ys) q kl, take_at (entry_items xs) (y.1 ∷ entry_items ys) q il) at c.left_is;
         right_is = rw (k, i, drop_at (entry_keys xs) (y.0 ∷ entry_keys ys) q kl, drop_at (entry_items xs) (y.1 ∷ entry_items ys) q il) at c.right_is;
-        key_is = some_same key y.0 (cc (slice_get_at (entry_keys xs) y.0 (entry_keys ys) q kl));
+        key_is = some_same (cc (slice_get_at (entry_keys xs) y.0 (entry_keys ys) q kl));
       }

@@ -126,7 +126,7 @@ module _ {K V : Type 0} where
       record {
         here = cc (slice_get-set_same _ n c low);
         same = λ k ne. cc (slice_get-set_apart _ n k c ne);
-        chain_is = cc (same);
+        chain_is = cc;
         slots_are = cc (length-set _ n c);
         limit_is = cc;
       }

@@ -113,8 +113,8 @@ module _ {K V : Type 0} where
   others-keep {most = most} {old = old} {new = new} before gone come after f g other none none' =
       let cf = root-counts f other in let cg = root-counts g other in let a = count_roots other before gone after in
       let b = count_roots other before come after in (
-        (λ root. cf.1 (omega (arith, cg.0 root)), λ root. cg.1 (omega (arith, cf.0 root))),
-        λ root. (let t = outer_tree most before after other (omega (arith, cf.0 root)) in t.1 new come g ∙ sym (t.1 old gone f)),
+        (λ root. cf.1 (omega arith), λ root. cg.1 (omega arith)),
+        λ root. (let t = outer_tree most before after other (omega arith) in t.1 new come g ∙ sym (t.1 old gone f)),
       )
 
   -- a root of the replaced trees that none of the new ones has is not a root

@@ -1,6 +1,6 @@
 -- Free slots: those of a list, of a freed node, and those that a change leaves free.
-use Rattle.bforest_core.proofs.Words.{◌≡◌, ℕ, ◌<◌, List, [], ◌∷◌, slice_get, subst, inl, inr, arith, eqb_tells, unwrap_or-slice_get, Content, Free, IsFree}
-use Rattle.bforest_core.proofs.{Words.{Table, front_of, slot_count, with_freed, count, slot, Every}, table.Tables.{count-same, count-other}, table.Read.slot-is}
+use Rattle.bforest_core.proofs.Words.{◌≡◌, ℕ, ◌<◌, List, [], ◌∷◌, slice_get, subst, inl, inr, arith, eqb_tells, unwrap_or-slice_get, Content, IsFree}
+use Rattle.bforest_core.proofs.{Words.{Table, slot_count, with_freed, count, slot, Every}, table.Tables.{count-same, count-other}, table.Read.slot-is}
 use Rattle.bforest_core.proofs.table.Lists.{slice_get-set_same}
 
 module _ {K V : Type 0} where
@@ -24,4 +24,4 @@ module _ {K V : Type 0} where
 
   -- the slot of a freed node is free
   pub freed-slot : (table : Table K V) (m : ℕ) → m < slot_count table → IsFree (slot (with_freed table m).nodes m)
-  freed-slot table m low = rw (slot-is (with_freed table m).nodes m (Free (front_of table.chain)) (slice_get-set_same _ m _ low)) tt
+  freed-slot table m low = rw (slot-is (with_freed table m).nodes m (slice_get-set_same _ m _ low)) tt

@@ -57,7 +57,7 @@ module _ {K V : Type 0} where
           under = subst (λ z. Under most slots leaves s.rows z) (cc (append-nil es)) s.under;
           counted = λ m. omega (arith, ap (λ z. count m (flat_map numbers z)) s.lower_is, ap (λ z. count m z) (flat_map-append numbers s.rows (s.row ∷ [])), ap (λ z. count m z) (append-nil (numbers s.row)), ap (λ z. count m (numbers z)) row, count-append);
           height = λ some. sym s.count_is;
-          down = cc (slot-is _ _ _ s.slot_is);
+          down = cc (slot-is _ _ s.slot_is);
         }
 
     pub under-open : {lower : _} {first number : _} → Under most slots leaves lower ((first, number) ∷ []) → Opened most slots leaves lower number

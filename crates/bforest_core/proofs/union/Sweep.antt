@@ -112,14 +112,14 @@ module _ {K V : Type 0} where
         let left = under_none most capacity (subst (λ z. Under most old.nodes s.left_leaves s.left_rows z) (drop_all _ _ past) s.under) in
         let whole = s.order ∙ ap (λ z. flat_map (numbers_down old.nodes (length rows)) (reverse z)) (take_all index _ (omega (arith, length-map top (λ e. e.1)))) in
         rw (← whole) (record {
-          frees = frees-wider _ (λ m zero. omega (arith, zero, s.split m)) s.frees;
-          counted = λ m. omega (arith, s.counted m, s.split m, left m);
+          frees = frees-wider _ (λ m zero. omega arith) s.frees;
+          counted = λ m. omega arith;
         })
 
 -- the entry whose item is at an index
 item_at : {K : Type 0} (top : Heads K) (index child : ℕ) → slice_get (entry_items top) index ≡ Some child → (x : K × ℕ) × (slice_get top index ≡ Some x) × (x.1 ≡ child)
 item_at top index child found = let r = read top index (omega (arith, slice_get_within (entry_items top) index child found, length-map top (λ w. w.1))) in
-    (r.0, r.1, some_same _ _ (cc (items-read _ _, found)))
+    (r.0, r.1, some_same (cc (items-read _ _, found)))
 
 module _ {K V : Type 0} where
   -- the progress of freeing a node's children, and the node itself
@@ -151,12 +151,7 @@ module _ {K V : Type 0} where
       let apart : (m : ℕ) → 0 < count m below → count m (number ∷ []) ≡ 0 =
       λ m some. elim (cases_lt 0 (count m (number ∷ []))) [ inl here ↦ absurd (omega (arith, all.counted m, only_here m _ _ here s.alone)) | inr past ↦ omega arith ] in
       rw s.opened.down (record {
-        frees = frees-then (λ m zero. omega (arith, zero, s.opened.counted m)) apart (frees-wider _ (λ m zero. omega (
-          arith,
-          zero,
-          s.opened.counted
-              m,
-        )) all.frees)
+        frees = frees-then (λ m zero. omega arith) apart (frees-wider _ (λ m zero. omega arith) all.frees)
             (frees-one now (with_freed now number) number s.opened.content (number ∷ []) s.slot_is refl (omega (arith, count-same number [])));
         counted = λ m. omega (arith, s.opened.counted m, all.counted m);
       })
@@ -174,5 +169,5 @@ module _ {K V : Type 0} where
   pub child_turn : {most : ℕ} (capacity : IsLeafCapacity most) {old now : _} {leaves lower number index : _} {child : ℕ} → (s : Sweeping most old now leaves lower number index)
       → slice_get (children_of s.opened.content) index ≡ Some child → (x : K × ℕ) × (x.1 ≡ child) × (index < length s.opened.top)
       × Turn capacity old s.opened.low s.opened.rows s.opened.top now index x
-  child_turn capacity {now = now} {index = index} {child = child} s found = let i = item_at s.opened.top index child (cc (found)) in
+  child_turn capacity {now = now} {index = index} {child = child} s found = let i = item_at s.opened.top index child (cc) in
       (i.0, i.2, slice_get_within _ _ _ i.1, sweep-turn _ _ _ s.opened.rows s.opened.top now index i.0 s.apart s.swept i.1)

@@ -40,7 +40,7 @@ module _ {K X : Type 0} where
   written-behind (e ∷ es) fs zero i v is = absurd (omega arith)
   written-behind (e ∷ es) fs (suc p) i v is = cc (written-behind es fs p i v (omega arith))
 
-module _ {K V : Type 0} (most : ℕ) (table : Table K V) (root place path indices size : _) (union : IsUnion most table) (s : StandsUnder table.nodes root path indices size place) where
+module _ {K V : Type 0} {most : ℕ} {table : Table K V} {root place path indices size : _} (union : IsUnion most table) (s : StandsUnder table.nodes root path indices size place) where
   abbrev r : Rooted most table root (tree_of table.nodes root)
   r = rooted _ _ _ union s.root_is
 
@@ -69,7 +69,7 @@ module _ {K V : Type 0} (most : ℕ) (table : Table K V) (root place path indice
       × StandsUnder (with_value_at table (get_or path 0 0) (get_or indices 0 0) v).nodes root path indices size place
   value-written v = let n = get_or path 0 0 in let i = get_or indices 0 0 in let tree = tree_of table.nodes root in let new = with_value_at table n i v in
       let w = puts table new n (leaf_content (with_value at.entries i v)) (leaf_content at.entries) leaf_at (ap (λ z. with_node table n z)
-      (simp (slot-is table.nodes n (leaf_content at.entries) leaf_at, keys-written at.entries i v, items-written at.entries i v))) in
+      (simp (slot-is table.nodes n leaf_at, keys-written at.entries i v, items-written at.entries i v))) in
       let row' = at.before ++ node n (with_value at.entries i v) ∷ at.after in let tree' : Tree K V = record { leaves = row'; above = tree.above } in
       let hs : heads row' ≡ heads tree.leaves = heads-append at.before _ ∙ ap (λ z. heads at.before ++ (z ++ heads at.after)) (head-written n at.entries i v) ∙ sym (simp (at.row_is, heads-append)) in
       let ns : numbers row' ≡ numbers tree.leaves = numbers-append at.before _ ∙ sym (simp (at.row_is, numbers-append)) in

@@ -19,13 +19,13 @@ ends-alone cmp o table root key union is leaf inc =
       | inl s ↦ (let step = leaf_step o one inc (all_through cmp u.first key) s in
           ends-in table root is (reached o one step (lone 0) (lone 0)
           (lone root) (lone 0) (omega arith) (omega arith) refl refl) (sym (ap (λ z. suc (length z)) s.lower_is)) refl refl)
-      | inr s ↦ absurd (subst IsLeaf (slot-is table.nodes root _ s.slot_is) leaf)
+      | inr s ↦ absurd (subst IsLeaf (slot-is table.nodes root s.slot_is) leaf)
     ]
 
 -- no row is above a path of one level
 none-above : {K : Type 0} (path indices path' indices' : List ℕ) (rows : List (List (LevelNode K ℕ))) (place : ℕ) → 1 ≡ suc (length rows) → StandsAbove path indices 1 rows place → StandsAbove path' indices' 1 rows place
 none-above path indices path' indices' [] place low s = s
-none-above path indices path' indices' (row ∷ rows) place low s = absurd (omega (arith, low))
+none-above path indices path' indices' (row ∷ rows) place low s = absurd (omega arith)
 
 -- of a path of one level only the leaf and the index there tell where an entry may be inserted
 pub placed-alone : {K V : Type 0} (slots : List (Content K V)) (root : ℕ) (path indices path' indices' : List ℕ) {place : ℕ} → get_or path 0 0 ≡ get_or path' 0 0 → get_or indices 0 0 ≡ get_or indices' 0 0 → PlacedUnder slots root path indices 1 place → PlacedUnder slots root path' indices' 1 place

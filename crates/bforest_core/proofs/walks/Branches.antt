@@ -25,7 +25,7 @@ module _ {K V : Type 0} {slots : List (Content K V)} {root code depth numbers ro
   -- what the child is, as it was read
   pub branch-child : {child : ℕ} → ChildRead slots number index child → NumberAt list to child
   branch-child reads = let w = b.at in let e = read w.entries index b.low in let item = items-read w.entries index ∙ ap (λ z. option_map (λ x. x.1) z) e.1 in
-      let same = some_same _ _ (sym item ∙ reads (drop 1 (entry_keys w.entries)) (entry_items w.entries) w.slot_is) in (
+      let same = some_same (sym item ∙ reads (drop 1 (entry_keys w.entries)) (entry_items w.entries) w.slot_is) in (
         e.0.0,
         ap (λ z. slice_get z to) (sym (here p some).flat_is) ∙ ap (λ z. slice_get (flat (here p some).row) z) b.to_is
             ∙ entry_at w.before number w.entries w.after index w.row_is e.1 ∙ ap (λ z. Some (e.0.0, z)) same,

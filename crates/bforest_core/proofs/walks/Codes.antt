@@ -16,13 +16,13 @@ eights-pos zero = omega arith
 eights-pos (suc n) = omega (arith, eights-pos n)
 
 digits-low : (code x : ℕ) → code / 8 < x → code < 8 * x
-digits-low code x low = omega (arith, low)
+digits-low code x low = omega arith
 
 -- a code has no more digits than levels
 pub code-low : {K : Type 0} (n : ℕ) (rows : Rows K) (numbers : List ℕ) (code place : ℕ) → Coded numbers rows code place → length rows ≤ n → code < eights n
 code-low n [] numbers code place c low = omega (arith, eights-pos n)
-code-low zero (row ∷ rows) numbers code place c low = absurd (omega (arith, low))
-code-low (suc n) (row ∷ rows) numbers code place c low = digits-low _ _ (code-low n _ _ _ _ c.1 (omega (arith, low)))
+code-low zero (row ∷ rows) numbers code place c low = absurd (omega arith)
+code-low (suc n) (row ∷ rows) numbers code place c low = digits-low _ _ (code-low n _ _ _ _ c.1 (omega arith))
 
 module _ {K V : Type 0} (slots : List (Content K V)) (root code depth : ℕ) where
   -- the lowest node of a way, and the way to it
@@ -41,9 +41,10 @@ module _ {K V : Type 0} (slots : List (Content K V)) (root code depth : ℕ) whe
     pub over : CodedOver slots root (code / 8) (depth - 1) (drop 1 numbers) rest (heads row) top
     pub low : length rest ≤ depth - 1
 
-  pub lowest : {numbers : _} (rows : _) {list place : _} → CodedOver slots root code depth numbers rows list place → depth ≢ 0 → Lowest numbers rows list place
-  lowest [] p some = absurd (some p.depth_is)
-  lowest {numbers = numbers} (row ∷ rest) p some = let at = p.coded.0 in
+module _ {K V : Type 0} {slots : List (Content K V)} {root code depth numbers place : _} where
+  pub lowest : {rows list : _} → CodedOver slots root code depth numbers rows list place → depth ≢ 0 → Lowest slots root code depth numbers rows list place
+  lowest {rows = []} p some = absurd (some p.depth_is)
+  lowest {rows = row ∷ rest} p some = let at = p.coded.0 in
       record {
         row = row;
         rest = rest;
@@ -61,19 +62,20 @@ module _ {K V : Type 0} (slots : List (Content K V)) (root code depth : ℕ) whe
       }
 
   -- with no levels, the root
-  pub way-none : {numbers : _} (rows list : _) {place : _} → CodedOver slots root code depth numbers rows list place → depth ≡ 0 → NumberAt list place root × (suc place ≡ length list) × (place ≡ 0)
-  way-none [] [] p none = absurd (omega arith)
-  way-none [] (x ∷ y ∷ list) p none = absurd (omega arith)
-  way-none [] (x ∷ []) p none = ((x.0, ap (λ z. slice_get (x ∷ []) z) p.coded.1 ∙ ap (λ z. Some (x.0, z)) p.root_is), omega arith, p.coded.1)
-  way-none (row ∷ rest) list p none = absurd (omega arith)
+  pub way-none : {rows list : _} → CodedOver slots root code depth numbers rows list place → depth ≡ 0 →
+      NumberAt list place root × (suc place ≡ length list) × (place ≡ 0)
+  way-none {rows = []} {list = []} p none = absurd (omega arith)
+  way-none {rows = []} {list = x ∷ y ∷ list} p none = absurd (omega arith)
+  way-none {rows = []} {list = x ∷ []} p none = ((x.0, ap (λ z. slice_get (x ∷ []) z) p.coded.1 ∙ ap (λ z. Some (x.0, z)) p.root_is), omega arith, p.coded.1)
+  way-none {rows = row ∷ rest} p none = absurd (omega arith)
 
 -- a code, with one digit more
 pub digit-put : (above digit code : ℕ) → digit < 8 → code ≡ above * 8 + digit → (code % 8 ≡ digit) × (code / 8 ≡ above)
-digit-put above digit code low is = (omega (arith, low), omega (arith, low))
+digit-put above digit code low is = (omega arith, omega arith)
 
 module _ {K V : Type 0} {slots : List (Content K V)} {root code depth numbers rows list place : _} (p : CodedOver slots root code depth numbers rows list place) (some : depth ≢ 0) where
   abbrev pub here : Lowest slots root code depth numbers rows list place
-  here = lowest slots root code depth rows p some
+  here = lowest p some
 
   -- what going on above asks
   pub above-asks : (numbers : _) × (rows : _) × (list : _) × (place : ℕ) × CodedOver slots root (code / 8) (depth - 1) numbers rows list place
@@ -97,11 +99,12 @@ module _ {K V : Type 0} {slots : List (Content K V)} {root code depth numbers ro
     }
 
 -- the lowest node is the first of the numbers
-pub kept-same : {K V : Type 0} {slots : List (Content K V)} {root code depth numbers : _} (rows : _) {list place : _} (p : CodedOver slots root code depth numbers rows list place) (some : depth ≢ 0) (parent : ℕ)
-    → get_or numbers 0 0 ≡ parent → parent ≡ (lowest slots root code depth rows p some).number
+pub kept-same : {K V : Type 0} {slots : List (Content K V)} {root code depth numbers rows list place : _}
+    (p : CodedOver slots root code depth numbers rows list place) (some : depth ≢ 0) {parent : ℕ}
+    → get_or numbers 0 0 ≡ parent → parent ≡ (lowest p some).number
 unfolding lowest
-kept-same [] p some parent is = absurd (some p.depth_is)
-kept-same (row ∷ rest) p some parent is = sym is
+kept-same {rows = []} p some is = absurd (some p.depth_is)
+kept-same {rows = row ∷ rest} p some is = sym is
 
 module _ {K V : Type 0} {n : ℕ} {table : Table K V} (union : IsUnion n table) (root : ℕ) (is : IsTrue (is_root table.nodes root)) where
   -- the leaf that is the node at this place of the lowest level
@@ -127,7 +130,7 @@ module _ {K V : Type 0} {n : ℕ} {table : Table K V} (union : IsUnion n table) 
     it = here spot-over other
 
     abbrev pub its : spot.parent ≡ (here spot-over other).number
-    its = kept-same _ _ _ _ (s.parent_is some)
+    its = kept-same _ _ (s.parent_is some)
 
     pub spot-count : CountAsked table.nodes spot.parent
     spot-count = (inner_content (here spot-over other).at.entries, (node-here spot-over other its).slot_is, tt)
@@ -152,11 +155,17 @@ module _ {K V : Type 0} {n : ℕ} {table : Table K V} (union : IsUnion n table) 
 module _ {K V : Type 0} {slots : List (Content K V)} {root code depth numbers rows list place : _} (p : CodedOver slots root code depth numbers rows list place) where
   -- the node that was read is the first of the numbers
   pub first-kept : (some : depth ≢ 0) (parent : ℕ) → ((numbers rows list place : _) → CodedOver slots root (code / 8) (depth - 1) numbers rows list place → NumberAt list place parent) → get_or numbers 0 0 ≡ parent
-  first-kept some parent says = kept-same _ p _ _ refl ∙ sym (read-same p some parent says)
+  first-kept some parent says = kept-same p _ refl ∙ sym (read-same p some parent says)
 
   -- a spot of this code
   pub way-of : (spot : Spot) → spot.code ≡ code → spot.height ≡ depth → (0 < depth → get_or numbers 0 0 ≡ spot.parent) → (1 < depth → get_or (drop 1 numbers) 0 0 ≡ spot.grand) → IsWay numbers spot rows place
-  way-of spot code_is height parent grand = record { coded = rw code_is p.coded; parent_is = λ low. parent (omega (arith, low, height)); grand_is = λ low. grand (omega (arith, low, height)); height_is = cc (height) }
+  way-of spot code_is height parent grand = record {
+    coded = rw code_is p.coded;
+    parent_is = λ low. parent (omega arith);
+    grand_is = λ low. grand
+        (omega arith);
+    height_is = cc;
+  }
 
 -- the spot one level below another, at a child of this node
 pub record IsBelow (spot : Spot) (node index : ℕ) (next : Spot) : Type 0 where
@@ -174,12 +183,12 @@ module _ {K V : Type 0} {slots : List (Content K V)} {root : ℕ} (spot : Spot) 
   -- with no levels, the root
   pub root-leads : spot.code ≡ 0 → Leads slots root spot.code spot.height spot root
   root-leads code numbers rows list place p = (
-    way-of p spot refl refl (λ low. absurd (omega (arith, low, height))) (λ low. absurd (omega (arith, low, height))),
-    (way-none _ _ spot.code spot.height rows list p height).0,
+    way-of p spot refl refl (λ low. absurd (omega arith)) (λ low. absurd (omega arith)),
+    (way-none p height).0,
   )
 
   pub root-last : IsNextOf slots root spot.code spot.height None
-  root-last = record { some = tt; none = λ none numbers rows list place p. (way-none _ _ spot.code spot.height rows list p height).1 }
+  root-last = record { some = tt; none = λ none numbers rows list place p. (way-none p height).1 }
 
   pub root-first : IsPrevOf slots root spot.code spot.height None
-  root-first = record { some = tt; none = λ none numbers rows list place p. (way-none _ _ spot.code spot.height rows list p height).2 }
+  root-first = record { some = tt; none = λ none numbers rows list place p. (way-none p height).2 }

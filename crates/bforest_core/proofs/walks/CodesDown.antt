@@ -1,10 +1,10 @@
 -- The way down to the first leaf below a node, and to the last, as a spot: each answer of `first_below` and `last_below` is one of these.
-use Rattle.bforest_core.proofs.Words.{Coded, HasUnder, IsLeafAt, IsSpotAt, IsWay, NumberAt, OnUnder, leaf_count, ◌≡◌, ℕ, suc, ◌+◌, ◌-◌, ◌*◌, ◌≤◌, ◌<◌, List, []}
+use Rattle.bforest_core.proofs.Words.{Coded, HasUnder, IsLeafAt, IsSpotAt, IsWay, NumberAt, OnUnder, leaf_count, ◌≡◌, ℕ, suc, ◌+◌, ◌-◌, ◌≤◌, ◌<◌, List, []}
 use Rattle.bforest_core.proofs.Words.{◌∷◌, ◌++◌, IsTrue, length, slice_get, Some, refl, sym, ap, subst, ◌∙◌, arith, append_assoc, length-append, Heads, Row}
 use Rattle.bforest_core.proofs.Words.{Rows, Content, IsInner, IsLeafCapacity, IsUnion, flat, heads, node, Under, IsFirst, IsLast, append-nil, Table, is_root}
 use Rattle.bforest_core.proofs.{Words.tree_of, rows.LevelRows.some_leaf, walks.RowNodes.no_heads, walks.Standing.under-root}
 use Rattle.bforest_core.proofs.{walks.Reading.{ChildAsked, ChildRead, LastAsked}, walks.TopNode.{InnerUnder, LeafUnder, inner_under, leaf_under, node_held}}
-use Rattle.bforest_core.proofs.{table.Stored.{item_count, slice_get_at}, walks.Leading.{Turns, child_under}, walks.Codes.{code-low, digit-put, leaf-at}}
+use Rattle.bforest_core.proofs.{table.Stored.{item_count, slice_get_at}, walks.Leading.{Turns, child_under}, walks.Codes.{IsBelow, code-low, digit-put, leaf-at}}
 use Rattle.bforest_core.specs.declared.spot.Spot.{Spot}
 
 -- the node at a place of the lowest level
@@ -19,57 +19,33 @@ module _ {K V : Type 0} {most : _} {slots : List (Content K V)} {leaves lower a 
   rows-join upper = cc (append_assoc s.rows (s.row ∷ []) upper)
 
   -- the way to a child of an inner node, by the way to the node
-  pub child-way : {index : ℕ} → index ≤ length s.at.es → {spot next : Spot} → next.code ≡ spot.code * 8 + index → next.parent ≡ number → next.grand ≡ spot.parent → next.height ≡ suc spot.height
-      → {upper numbers : _} → IsWay numbers spot upper (length a) → {place : ℕ} → place ≡ length (flat s.at.before) + index → IsWay (number ∷ numbers) next (s.row ∷ upper) place
-  child-way low {spot} code parent grand height {upper} {numbers} w place_is = record {
+  pub child-way : {index : ℕ} → index ≤ length s.at.es → {spot next : Spot} → IsBelow spot number index next → {upper numbers : _} →
+      IsWay numbers spot upper (length a)
+      → {place : ℕ} → place ≡ length (flat s.at.before) + index → IsWay (number ∷ numbers) next (s.row ∷ upper) place
+  child-way low {spot} b {upper} {numbers} w place_is = record {
     coded = (
       record { before = s.at.before; entries = s.at.e ∷ s.at.es; after = s.at.after; row_is = s.at.row_is; within = omega arith; place_is = omega arith },
-      rw (digit-put _ _ _ (omega arith) code).1 (subst (λ z. Coded numbers upper spot.code z) (sym s.at.before_is) w.coded),
+      rw (digit-put _ _ _ (omega arith) b.code).1 (subst (λ z. Coded numbers upper spot.code z) (sym s.at.before_is) w.coded),
     );
-    parent_is = λ some. sym parent;
-    grand_is = λ some. w.parent_is (omega arith) ∙ sym grand;
+    parent_is = λ some. sym b.parent;
+    grand_is = λ some. w.parent_is (omega arith) ∙ sym b.grand;
     height_is = cc;
   }
 
-module _ {K V : Type 0} {most : _} {slots : List (Content K V)} (capacity : IsLeafCapacity most) {leaves lower : _} (a : Heads K) (first : K) (number : ℕ) (b : Heads K) (u : Under most slots leaves lower (a ++ (first, number) ∷ b)) {content : Content K V} (read : slice_get slots number ≡ Some content) where
-  -- at a leaf the way has ended
-  module _ (other : IsInner content → ⊥) where
-    ended : LeafUnder most slots leaves lower a first number b
-    ended = leaf_under capacity a _ _ b u read other
+module _ {K V : Type 0} {most : _} {slots : List (Content K V)} (capacity : IsLeafCapacity most) {leaves lower : _} (a : Heads K) (first : K) (number : ℕ)
+    (b : Heads K) (u : Under most slots leaves lower (a ++ (first, number) ∷ b)) {content : Content K V} (read : slice_get slots number ≡ Some content)
+    (other : IsInner content → ⊥) where
+  ended : LeafUnder most slots leaves lower a first number b
+  ended = leaf_under capacity a _ _ b u read other
 
-    way-here : {upper numbers : _} {spot : Spot} {place : ℕ} → IsWay numbers spot upper (length a) → length a ≡ place → (others : _) × IsWay others spot (lower ++ upper) place × NumberAt (heads leaves) place number
-    way-here {upper = upper} {numbers = numbers} {spot = spot} w is =
-        (numbers, rw ended.lower_is (subst (IsWay numbers spot upper) is w), rw (← is) (number-here _ a _ _ b u ended.lower_is))
+  way-here : {upper numbers : _} {spot : Spot} {place : ℕ} → IsWay numbers spot upper (length a) → length a ≡ place →
+      (others : _) × IsWay others spot (lower ++ upper) place × NumberAt (heads leaves) place number
+  way-here {upper = upper} {numbers = numbers} {spot = spot} w is =
+      (numbers, rw ended.lower_is (subst (IsWay numbers spot upper) is w), rw (← is) (number-here _ a _ _ b u ended.lower_is))
 
-    ends : b ≡ [] → length a ≡ length leaves - 1
-    ends none = let s = ended.at in let after = no_heads _ _ (some_leaf capacity) _ s.after_fit (cc) in
-        omega (arith, ap length after, ap length s.row_is, length-append s.before (node number (s.e ∷ s.es) ∷ s.after))
-
-  -- a level down
-  module _ (inner : IsInner content) where
-    below : InnerUnder most slots leaves lower a first number b
-    below = inner_under capacity a _ _ b u read inner
-
-    child-at : (index : ℕ) → index ≤ length below.at.es → ChildAsked slots number index
-    child-at index low = (_, _, below.slot_is, omega (arith, item_count (below.at.e ∷ below.at.es)))
-
-    way-low : {upper : Rows K} {numbers : List ℕ} {spot : Spot} {place : ℕ} → IsWay numbers spot upper place → length lower + spot.height ≤ 16 → (spot.code < 35184372088832) × (spot.height < 16)
-    way-low {upper} {numbers} {spot} {place} w low = (code-low 15 upper numbers spot.code place w.coded (omega (arith, below.count_is)), omega (arith, below.count_is))
-
-    -- the spot of the child at an index, and what lies under it
-    record Down (upper : Rows K) (numbers : List ℕ) (next : Spot) (index child : ℕ) : Type 0 where
-      pub front : Heads K
-      pub key : K
-      pub back : Heads K
-      pub under : Under most slots leaves below.rows (front ++ (key, child) ∷ back)
-      pub way : IsWay (number ∷ numbers) next (below.row ∷ upper) (length front)
-      pub front_is : length front ≡ length (flat below.at.before) + index
-      pub sum_is : length front + suc (length back) ≡ length (flat below.row)
-
-    module _ {index child : ℕ} (low : index ≤ length below.at.es) (reads : ChildRead slots number index child) {spot next : Spot} (code : next.code ≡ spot.code * 8 + index) (parent : next.parent ≡ number) (grand : next.grand ≡ spot.parent) (height : next.height ≡ suc spot.height) {upper numbers : _} (w : IsWay numbers spot upper (length a)) where
-      down : Down upper numbers next index child
-      down = let c = child_under below below.slot_is index (reads _ _ below.slot_is) in
-          record { front = c.0; key = c.1; back = c.2; under = c.3; way = child-way below low code parent grand height w c.4; front_is = c.4; sum_is = c.5 }
+  ends : b ≡ [] → length a ≡ length leaves - 1
+  ends none = let s = ended.at in let after = no_heads _ _ (some_leaf capacity) _ s.after_fit (cc) in
+      omega (arith, ap length after, ap length s.row_is, length-append s.before (node number (s.e ∷ s.es) ∷ s.after))
 
 -- what is said of the first leaf, and of the last, as the end of a way
 module _ {K V : Type 0} (end : Spot) (leaf : ℕ) (leaves : Row K V) (rows : Rows K) where
@@ -87,46 +63,111 @@ module _ {K V : Type 0} {most : ℕ} {slots : List (Content K V)} (capacity : Is
     pub last-here : OnUnder most slots IsLast spot number (LastSaid spot number)
     last-here leaves lower upper numbers a first b side u w = way-here capacity a first number b u read other w (ends capacity a first number b u read other side)
 
-  module _ (inner : IsInner content) {Side : Heads K → Heads K → Type 0} {index : ℕ} {place : Row K V → ℕ} (turns : Turns most slots Side place number index) where
-    module _ {spot : Spot} (asked : HasUnder most slots Side spot number) where
-      low-here : index ≤ length (below capacity asked.4 asked.5 number asked.6 asked.8 read inner).at.es
-      low-here = turns.within asked.0 asked.1 asked.4 asked.5 asked.6 (below capacity asked.4 asked.5 number asked.6 asked.8 read inner) asked.7
+-- a node on one side of its level, with what lies under it and the way to it
+record Sided {K V : Type 0} (most : ℕ) (slots : List (Content K V)) (Side : Heads K → Heads K → Type 0) (leaves : Row K V) (rows : Rows K) (spot : Spot)
+    (number : ℕ) : Type 0 where
+  pub lower : Rows K
+  pub upper : Rows K
+  pub numbers : List ℕ
+  pub before : Heads K
+  pub first : K
+  pub after : Heads K
+  pub side : Side before after
+  pub under : Under most slots leaves lower (before ++ (first, number) ∷ after)
+  pub way : IsWay numbers spot upper (length before)
+  pub join : lower ++ upper ≡ rows
 
-      pub down-asks : ChildAsked slots number index
-      down-asks = child-at _ asked.4 asked.5 number asked.6 asked.8 read _ _ low-here
+-- a level down, to the child on that side
+module _ {K V : Type 0} {most : ℕ} {slots : List (Content K V)} (capacity : IsLeafCapacity most) {number : ℕ} {content : Content K V}
+    (read : slice_get slots number ≡ Some content) (inner : IsInner content)
+    {Side : Heads K → Heads K → Type 0} {index : ℕ} {place : Row K V → ℕ} (turns : Turns most slots Side place number index) {leaves : Row K V}
+    {rows : Rows K} {spot : Spot} (s : Sided most slots Side leaves rows spot number) where
+  abbrev here : InnerUnder most slots leaves s.lower s.before s.first number s.after
+  here = inner_under capacity s.before _ _ s.after s.under read inner
 
-      pub down-low : (spot.code < 35184372088832) × (spot.height < 16) × (index < 8)
-      down-low = let r = way-low capacity asked.4 asked.5 number asked.6 asked.8 read inner asked.9 asked.10 in
-          (r.0, r.1, omega (arith, low-here, (below capacity asked.4 asked.5 number asked.6 asked.8 read inner).room))
+  low-here : index ≤ length here.at.es
+  low-here = turns.within here s.side
 
-    module _ {child : ℕ} (reads : ChildRead slots number index child) {spot next : Spot} (code : next.code ≡ spot.code * 8 + index)
-        (parent : next.parent ≡ number) (grand : next.grand ≡ spot.parent) (height : next.height ≡ suc spot.height) where
-      module _ (leaves lower : _) (upper : Rows K) (numbers : _) (a : Heads K) (first : K) (b : Heads K) (side : Side a b) (u : Under most slots leaves lower (a ++ (first, number) ∷ b)) (w : IsWay numbers spot upper (length a)) where
-        abbrev here : InnerUnder most slots leaves lower a first number b
-        here = below capacity a first number b u read inner
+  side-asks : ChildAsked slots number index
+  side-asks = (_, _, here.slot_is, omega (arith, low-here, item_count (here.at.e ∷ here.at.es)))
 
-        went : Down capacity a first number b u read inner upper numbers next index child
-        went = down capacity a first number b u read inner (turns.within leaves lower a first b here side) reads code parent grand height w
+  side-low : length s.lower + spot.height ≤ 16 → (spot.code < 35184372088832) × (spot.height < 16) × (index < 8)
+  side-low low = (
+    code-low 15 s.upper s.numbers spot.code _ s.way.coded (omega (arith, here.count_is)),
+    omega (arith, here.count_is),
+    omega (arith, low-here, here.room),
+  )
 
-        kept : Side went.front went.back
-        kept = turns.keeps leaves lower a first b here side went.front went.back went.front_is went.sum_is
-
-      pub down-ask : HasUnder most slots Side spot number → HasUnder most slots Side next child
-      down-ask asked = let s = here asked.0 asked.1 asked.2 asked.3 asked.4 asked.5 asked.6 asked.7 asked.8 asked.9 in
-          let d = went asked.0 asked.1 asked.2 asked.3 asked.4 asked.5 asked.6 asked.7 asked.8 asked.9 in
-          let side = kept asked.0 asked.1 asked.2 asked.3 asked.4 asked.5 asked.6 asked.7 asked.8 asked.9 in
-          (asked.0, s.rows, s.row ∷ asked.2, number ∷ asked.3, d.front, d.key, d.back, side, d.under, d.way, omega arith)
-
-      pub down-on : (Said : Row K V → Rows K → Type 0) → OnUnder most slots Side next child Said → OnUnder most slots Side spot number Said
-      down-on Said says leaves lower upper numbers a first b side u w =
-          let s = here leaves lower upper numbers a first b side u w in let d = went leaves lower upper numbers a first b side u w in
-          subst (Said leaves) (rows-join s upper) (says leaves s.rows (s.row ∷ upper) (number ∷ numbers) d.front d.key d.back (kept leaves lower upper numbers a first b side u w) d.under d.way)
+  side-on : {child : ℕ} → ChildRead slots number index child → {next : Spot} → IsBelow spot number index next →
+      (d : Sided most slots Side leaves rows next child) × (length s.lower ≡ suc (length d.lower))
+  side-on reads b = let c = child_under here here.slot_is index (reads _ _ here.slot_is) in (
+    record {
+      lower = here.rows;
+      upper = here.row ∷ s.upper;
+      numbers = number ∷ s.numbers;
+      before = c.0;
+      first = c.1;
+      after = c.2;
+      side = turns.keeps here s.side c.0 c.2 c.4 c.5;
+      under = c.3;
+      way = child-way here low-here b s.way c.4;
+      join = rows-join here s.upper ∙ s.join;
+    },
+    here.count_is,
+  )
 
 -- from a node on one side of its level the way down has come to a node further down, and it ends where the way from there ends
 pub record GoesDown {K V : Type 0} (most : ℕ) (slots : List (Content K V)) (Side : Heads K → Heads K → Type 0) (Said : Spot → ℕ → Row K V → Rows K → Type 0)
     (start : Spot) (node : ℕ) (here : Spot) (lower : ℕ) : Type 0 where
+  pub capacity : IsLeafCapacity most
   pub under : HasUnder most slots Side here lower
   pub ends : (end : Spot) (leaf : ℕ) → OnUnder most slots Side here lower (Said end leaf) → OnUnder most slots Side start node (Said end leaf)
+
+module _ {K V : Type 0} {most : ℕ} {slots : List (Content K V)} {Side : Heads K → Heads K → Type 0} {Said : Spot → ℕ → Row K V → Rows K → Type 0}
+    {start spot : Spot} {node number : ℕ} (w : GoesDown most slots Side Said start node spot number)
+    {content : Content K V} (read : slice_get slots number ≡ Some content) (inner : IsInner content) {index : ℕ} {place : Row K V → ℕ}
+    (turns : Turns most slots Side place number index) where
+  abbrev asked : Sided most slots Side w.under.0 (w.under.1 ++ w.under.2) spot number
+  asked = let u = w.under in record {
+    lower = u.1;
+    upper = u.2;
+    numbers = u.3;
+    before = u.4;
+    first = u.5;
+    after = u.6;
+    side = u.7;
+    under = u.8;
+    way = u.9;
+    join = refl;
+  }
+
+  pub down-asks : ChildAsked slots number index
+  down-asks = side-asks w.capacity read inner turns asked
+
+  pub down-low : (spot.code < 35184372088832) × (spot.height < 16) × (index < 8)
+  down-low = side-low w.capacity read inner turns asked w.under.10
+
+  pub down-on : {child : ℕ} → ChildRead slots number index child → {next : Spot} → IsBelow spot number index next →
+      GoesDown most slots Side Said start node next child
+  down-on reads b = record {
+    capacity = w.capacity;
+    under = (let r = side-on w.capacity read inner turns asked reads b in let d = r.0 in
+        (w.under.0, d.lower, d.upper, d.numbers, d.before, d.first, d.after, d.side, d.under, d.way, omega (arith, w.under.10, r.1, b.height)));
+    ends = λ end leaf says. w.ends end leaf (λ leaves lower upper numbers before first after side under way.
+        let d = (side-on w.capacity read inner turns (record {
+          lower = lower;
+          upper = upper;
+          numbers = numbers;
+          before = before;
+          first = first;
+          after = after;
+          side = side;
+          under = under;
+          way = way;
+          join = refl;
+        }) reads b).0 in
+        subst (Said end leaf leaves) d.join (says leaves d.lower d.upper d.numbers d.before d.first d.after d.side d.under d.way));
+  }
 
 -- the way from the root down, at its beginning
 pub way-root : {K : Type 0} (spot : Spot) → spot.code ≡ 0 → spot.height ≡ 0 → IsWay {K = K} [] spot [] 0

@@ -31,10 +31,10 @@ module _ {K V : Type 0} {n : ℕ} {table : Table K V} (union : IsUnion n table) 
 
   -- the way to the leaf, and the leaf as it was read
   there : {number digit to : ℕ} (b : Leaf number digit to) {above others : _} → CodedOver table.nodes root above (spot.height - 1) others (it union s some).rest
-      (heads (it union s some).row) b.top → {next : Spot} {leaf : ℕ} → next.code ≡ above * 8 + digit → next.parent ≡ number → next.height ≡ spot.height → (1 <
-      spot.height → get_or others 0 0 ≡ next.grand) → ChildRead table.nodes number digit leaf → IsSpotAt table root next to × IsLeafAt table root to leaf
-  there b q {next} code parent height grand reads = (
-    far-spot union s (way-of (branch-way b q refl) next code height (λ low. sym parent) grand),
+      (heads (it union s some).row) b.top → {code leaf : ℕ} → code ≡ above * 8 + digit → (1 < spot.height → get_or others 0 0 ≡ spot.grand)
+      → ChildRead table.nodes number digit leaf → IsSpotAt table root (record spot { code = code; parent = number }) to × IsLeafAt table root to leaf
+  there b q code grand reads = (
+    far-spot union s (way-of (branch-way b q refl) _ code refl (λ low. refl) grand),
     leaf-at union root s.root_is (branch-child b reads),
   )
 
@@ -46,7 +46,7 @@ module _ {K V : Type 0} {n : ℕ} {table : Table K V} (union : IsUnion n table) 
   slot = cc (its union s some, (it union s some).at.slot_is)
 
   counts : CountRead table.nodes spot.parent count
-  counts content found = sym (cc (some_same _ _ (sym found ∙ slot), item_count (it union s some).at.entries))
+  counts content found = sym (cc (some_same (sym found ∙ slot), item_count (it union s some).at.entries))
 
   -- where no sibling is behind it, the leaf is the last of its parent
   high : (HasNext table spot → ⊥) → count ≤ spot.code % 8 + 1
@@ -63,48 +63,46 @@ module _ {K V : Type 0} {n : ℕ} {table : Table K V} (union : IsUnion n table) 
 module _ {K V : Type 0} {n : ℕ} {table : Table K V} (union : IsUnion n table) {root : ℕ} {spot : Spot} {place : ℕ} (s : IsSpotAt table root spot place) where
   module _ (h : HasNext table spot) where
     abbrev behind : Branch (spot-over union s) (other union s h.some) spot.parent (spot.code % 8 + 1) (suc place)
-    behind = next-own _ _ (its union s h.some) refl (λ content found. sym (cc (some_same _ _ (sym found ∙ h.parent), item_count h.entries))) h.within
+    behind = next-own (spot-over union s) (other union s h.some) (its union s h.some) refl
+        (λ content found. sym (cc (some_same (sym found ∙ h.parent), item_count h.entries))) h.within
 
     pub sibling-asks : ChildAsked table.nodes spot.parent (spot.code % 8 + 1)
     sibling-asks = branch-asks behind
 
-    pub sibling-behind : {next : Spot} {child : ℕ} → next.code ≡ spot.code + 1 → next.parent ≡ spot.parent → next.grand ≡ spot.grand → next.height ≡ spot.height
-        → ChildRead table.nodes spot.parent (spot.code % 8 + 1) child → IsSpotAt table root next (suc place) × IsLeafAt table root (suc place) child
-    sibling-behind code parent grand height reads =
-        there union s h.some behind (it union s h.some).over (omega arith) parent height (λ low. s.grand_is low ∙ sym grand) reads
+    pub sibling-behind : {child : ℕ} → ChildRead table.nodes spot.parent (spot.code % 8 + 1) child
+        → IsSpotAt table root (record spot { code = spot.code + 1 }) (suc place) × IsLeafAt table root (suc place) child
+    sibling-behind reads = there union s h.some behind (it union s h.some).over (omega arith) s.grand_is reads
 
   module _ (h : HasPrev spot) where
     abbrev before : Branch (spot-over union s) (other union s h.0) spot.parent (spot.code % 8 - 1) (place - 1)
-    before = prev-own _ _ (its union s h.0) refl h.1
+    before = prev-own (spot-over union s) (other union s h.0) (its union s h.0) refl h.1
 
     pub before-asks : ChildAsked table.nodes spot.parent (spot.code % 8 - 1)
     before-asks = branch-asks before
 
-    pub sibling-before : {next : Spot} {child : ℕ} → next.code ≡ spot.code - 1 → next.parent ≡ spot.parent → next.grand ≡ spot.grand → next.height ≡ spot.height
-        → ChildRead table.nodes spot.parent (spot.code % 8 - 1) child → (0 < place) × IsSpotAt table root next (place - 1) × IsLeafAt table root
-        (place - 1) child
-    sibling-before code parent grand height reads =
-        let r = there union s h.0 before (it union s h.0).over (omega arith) parent height (λ low. s.grand_is low ∙ sym grand) reads in
+    pub sibling-before : {child : ℕ} → ChildRead table.nodes spot.parent (spot.code % 8 - 1) child
+        → (0 < place) × IsSpotAt table root (record spot { code = spot.code - 1 }) (place - 1) × IsLeafAt table root (place - 1) child
+    sibling-before reads = let r = there union s h.0 before (it union s h.0).over (omega arith) s.grand_is reads in
         (prev-some (spot-over union s) (other union s h.0) (its union s h.0) refl h.1, r.0, r.1)
 
   -- a leaf without a grandparent and without a sibling behind it is the last of the tree
   pub last-low : (HasNext table spot → ⊥) → spot.height < 2 → suc place ≡ leaf_count table root
   last-low last low = elim (eqb_tells spot.height 0) [
-    | inl none ↦ last-leaf union root s.root_is (way-none _ _ _ _ _ _ (spot-over union s) none.1).1
+    | inl none ↦ last-leaf union root s.root_is (way-none (spot-over union s) none.1).1
     | inr w ↦ below (omega arith)
   ]
     where
       below : 0 < spot.height → suc place ≡ leaf_count table root
       below some = last-leaf union root s.root_is (none-next (spot-over union s) (other union s some) (its union s some) refl (counts union s some) (high union
-          s some last) (way-none _ _ _ _ _ _ (it union s some).over (omega (arith, some))).1)
+          s some last) (way-none (it union s some).over (omega arith)).1)
 
   -- a leaf without a grandparent and without a sibling before it is the first of the tree
   pub first-low : (HasPrev spot → ⊥) → spot.height < 2 → place ≡ 0
-  first-low first low = elim (eqb_tells spot.height 0) [ inl none ↦ (way-none _ _ _ _ _ _ (spot-over union s) none.1).2 | inr w ↦ below (omega arith) ]
+  first-low first low = elim (eqb_tells spot.height 0) [ inl none ↦ (way-none (spot-over union s) none.1).2 | inr w ↦ below (omega arith) ]
     where
       below : 0 < spot.height → place ≡ 0
       below some = none-prev (spot-over union s) (other union s some) (its union s some) refl (nought union s some first)
-          (way-none _ _ _ _ _ _ (it union s some).over (omega (arith, some))).2
+          (way-none (it union s some).over (omega arith)).2
 
   -- the leaves with the same grandparent and another parent
   module _ (deep : 2 ≤ spot.height) where
@@ -120,7 +118,7 @@ module _ {K V : Type 0} {n : ℕ} {table : Table K V} (union : IsUnion n table) 
     up = (it union s some).over
 
     abbrev grand-is : spot.grand ≡ (here up more).number
-    grand-is = kept-same _ _ _ _ (s.grand_is (omega arith))
+    grand-is = kept-same _ _ (s.grand_is (omega arith))
 
     -- what the number of the grandparent's children asks
     pub grand-count : CountAsked table.nodes spot.grand
@@ -143,10 +141,10 @@ module _ {K V : Type 0} {n : ℕ} {table : Table K V} (union : IsUnion n table) 
         cousin-asks = branch-asks next-leaf
 
         -- the next leaf is that child
-        pub cousin : {next : Spot} {leaf : ℕ} → next.code ≡ (spot.code / 8 + 1) * 8 → next.parent ≡ parent → next.grand ≡ spot.grand
-            → next.height ≡ spot.height → ChildRead table.nodes parent 0 leaf → IsSpotAt table root next (suc place) × IsLeafAt table root (suc place) leaf
-        cousin code parent_is grand height found = there union s some next-leaf (branch-way next-up (here up more).over {code1 =
-            spot.code / 8 + 1} (omega arith)) (omega arith) parent_is height (λ low. sym grand) found
+        pub cousin : {leaf : ℕ} → ChildRead table.nodes parent 0 leaf
+            → IsSpotAt table root (record spot { code = (spot.code / 8 + 1) * 8; parent = parent }) (suc place) × IsLeafAt table root (suc place) leaf
+        cousin found = there union s some next-leaf (branch-way next-up (here up more).over {code1 = spot.code / 8 + 1} (omega arith)) (omega arith)
+            (λ low. refl) found
 
     module _ (first : HasPrev spot → ⊥) (low : 0 < spot.code / 8 % 8) where
       abbrev prev-up : Branch up more spot.grand (spot.code / 8 % 8 - 1) ((it union s some).top - 1)
@@ -173,34 +171,33 @@ module _ {K V : Type 0} {n : ℕ} {table : Table K V} (union : IsUnion n table) 
           cousin-before-asks = branch-asks leaf-before
 
           -- the leaf before is the last child of the parent before
-          pub cousin-before : {next : Spot} {leaf : ℕ} → next.code ≡ (spot.code / 8 - 1) * 8 + last → next.parent ≡ parent → next.grand ≡ spot.grand
-              → next.height ≡ spot.height → ChildRead table.nodes parent last leaf → (0 < place) × IsSpotAt table root next (place - 1)
-              × IsLeafAt table root (place - 1) leaf
-          cousin-before code parent_is grand height found =
-              let r = there union s some leaf-before (branch-way prev-up (here up more).over (omega arith)) code parent_is height (λ low. sym grand) found in
+          pub cousin-before : {leaf : ℕ} → ChildRead table.nodes parent last leaf → (0 < place)
+              × IsSpotAt table root (record spot { code = (spot.code / 8 - 1) * 8 + last; parent = parent }) (place - 1) × IsLeafAt table root (place - 1) leaf
+          cousin-before found = let r = there union s some leaf-before (branch-way prev-up (here up more).over {code1 = spot.code / 8 - 1} (omega arith))
+              refl (λ low. refl) found in
               (last-some (spot-over union s) (other union s some) (its union s some) refl (nought union s some first) next-to parent-at says, r.0, r.1)
 
 -- what is said of the node behind or before, to which a way from the root leads, of a spot
 module _ {K V : Type 0} {n : ℕ} {table : Table K V} (union : IsUnion n table) {root : ℕ} {spot far : Spot} {leaf : ℕ} where
   pub far-behind : IsNextOf table.nodes root spot.code spot.height (Some (far, leaf)) → (place : ℕ) → IsSpotAt table root spot place
       → IsSpotAt table root far (suc place) × IsLeafAt table root (suc place) leaf
-  far-behind says place s = let r = says.some s.numbers (tree_of table.nodes root).above (heads (tree_of table.nodes root).leaves) place (spot-over union s) in
+  far-behind says place s = let r = says.some _ _ _ _ (spot-over union s) in
       (subst (IsSpotAt table root far) r.1 (far-spot union s r.3), rw (← r.1) (leaf-at union root s.root_is r.4))
 
   pub far-before : IsPrevOf table.nodes root spot.code spot.height (Some (far, leaf)) → (place : ℕ) → IsSpotAt table root spot place → (0 < place)
       × IsSpotAt table root far (place - 1) × IsLeafAt table root (place - 1) leaf
-  far-before says place s = let r = says.some s.numbers (tree_of table.nodes root).above (heads (tree_of table.nodes root).leaves) place (spot-over union s) in
+  far-before says place s = let r = says.some _ _ _ _ (spot-over union s) in
       let to : r.0 ≡ place - 1 = omega arith in
       (omega arith, subst (IsSpotAt table root far) to (far-spot union s r.3), rw (← to) (leaf-at union root s.root_is r.4))
 
 -- a spot is told by its code and its ancestors, since all leaves of a tree have one height
-pub same-spot : {K V : Type 0} {table : Table K V} {root : ℕ} {here far spot : Spot} {place to : ℕ} → IsSpotAt table root here place → IsSpotAt table root far to →
-    spot.code ≡ far.code → spot.parent ≡ far.parent → spot.grand ≡ far.grand → spot.height ≡ here.height → IsSpotAt table root spot to
-same-spot h f code parent grand height = record {
+pub same-spot : {K V : Type 0} {table : Table K V} {root : ℕ} {here far : Spot} {place to : ℕ} → IsSpotAt table root here place → IsSpotAt table root far to
+    → IsSpotAt table root (record far { height = here.height }) to
+same-spot h f = record {
   root_is = f.root_is;
   numbers = f.numbers;
-  coded = rw code f.coded;
-  parent_is = λ low. cc (f.parent_is (omega arith));
-  grand_is = λ low. f.grand_is (omega arith) ∙ sym grand;
-  height_is = cc;
+  coded = f.coded;
+  parent_is = λ low. f.parent_is (omega arith);
+  grand_is = λ low. f.grand_is (omega arith);
+  height_is = h.height_is;
 }

@@ -114,7 +114,7 @@ module _ {K V : Type 0} {cmp : K → K → Ordering} (o : IsTotalOrder cmp) {mos
         let es_is = ap (λ z. at.e ∷ z) d.es_is ∙ ap (λ z. z ++ d.r) w.is ∙ append_assoc w.init (w.last ∷ []) d.r in
         let count_is : length w.init ≡ index = omega (arith, ap length w.is, length-append w.init (w.last ∷ [])) in
         let here = ap (λ z. slice_get z index) es_is ∙ slice_get_at _ _ _ _ count_is in
-        let child_is = some_same child w.last.1 (cc (items-read (at.e ∷ at.es) index, here)) in
+        let child_is = some_same {x = child} {y = w.last.1} (cc (items-read (at.e ∷ at.es) index, here)) in
         record {
           front = flat at.before ++ w.init;
           head = w.last.0;
@@ -137,8 +137,8 @@ module _ {K V : Type 0} {cmp : K → K → Ordering} (o : IsTotalOrder cmp) {mos
         record {
           leaf = d.leaf;
           stands = rw s.here.lower_is (subst (λ z. StandsTo path'' indices'' 1 (s.here.rows ++ s.here.row ∷ []) (length d.leaf.before) z) s.here.at.before_is more);
-          nodes_above = λ i low. d.nodes_above i (omega (arith, low)) ∙ set_but _ _ _ nodes i (λ z. omega (arith, low));
-          entries_above = λ i low. d.entries_above i (omega (arith, low)) ∙ set_but _ _ _ entries i (λ z. omega (arith, low));
+          nodes_above = λ i low. d.nodes_above i (omega arith) ∙ set_but _ _ _ nodes i (λ z. omega arith);
+          entries_above = λ i low. d.entries_above i (omega arith) ∙ set_but _ _ _ entries i (λ z. omega arith);
         }
 
   module _ (s : LeafStep cmp most slots leaves lower a first number b key) where
@@ -179,8 +179,8 @@ module _ {K V : Type 0} {cmp : K → K → Ordering} (o : IsTotalOrder cmp) {mos
       rw s.here.lower_is (record {
         leaf = placed _ _ (cc (get_or-set_same path 0 number 0 wide)) (cc (get_or-set_same indices 0 (place cmp entries key) 0 wide'));
         stands = s.here.at.before_is;
-        nodes_above = λ i low. set_but _ 0 _ nodes i (λ z. omega (arith, low));
-        entries_above = λ i low. set_but _ 0 _ indices_are i (λ z. omega (arith, low));
+        nodes_above = λ i low. set_but _ 0 _ nodes i (λ z. omega arith);
+        entries_above = λ i low. set_but _ 0 _ indices_are i (λ z. omega arith);
       }),
     )
 

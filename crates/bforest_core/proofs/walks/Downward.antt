@@ -19,7 +19,7 @@ last_of x (y ∷ xs) = let r = last_of y xs in record { init = x ∷ r.init; las
 -- a place at a node of a row
 abbrev pub at_node : {K X : Type 0} {row : Row K X} (before : Row K X) {n : ℕ} (es : List (K × X)) (after : _) {m j index place : ℕ} → row ≡ before ++ node n es ∷ after → m ≡ n → j ≡ index → index < length es → place ≡ length (flat before) + index → IsAt row m j place
 at_node before es after row_is m_is j_is low place_is =
-    record { before = before; entries = es; after = after; row_is = cc (row_is); within = omega arith; place_is = cc }
+    record { before = before; entries = es; after = after; row_is = cc; within = omega arith; place_is = cc }
 
 module _ {K : Type 0} where
   pub stacked_last : (list : Heads K) (rows : Rows K) (row : Row K ℕ) (top : Heads K) → StackedTo list (rows ++ row ∷ []) top → StackedTo list rows (flat row) × FitRow 4 8 row × (heads row ≡ top)
@@ -33,10 +33,10 @@ module _ {K : Type 0} where
   -- one more row on top
   pub stands_more : (path indices : List ℕ) (level : ℕ) (rows : Rows K) {row : Row K ℕ} (place : ℕ) {q : ℕ} (high : ℕ) → StandsTo path indices level rows place q → high ≡ level + length rows → (at : IsAt row (get_or path high 0) (get_or indices high 0) q) →
       StandsTo path indices level (rows ++ row ∷ []) place (length at.before)
-  stands_more path indices level [] place high s e at = let h : high ≡ level = omega (arith, e) in
+  stands_more path indices level [] place high s e at = let h : high ≡ level = omega arith in
       (record { before = at.before; entries = at.entries; after = at.after; row_is = rw h at at.row_is; within = rw h at at.within; place_is = s ∙ (rw h at at.place_is) }, refl)
   stands_more path indices level (r ∷ rows) place high s e at =
-      (s.0, stands_more path indices (suc level) rows (length s.0.before) high s.1 (omega (arith, e)) at)
+      (s.0, stands_more path indices (suc level) rows (length s.0.before) high s.1 (omega arith) at)
 
 -- the node of a row whose head is between these heads
 pub record Seen {K X : Type 0} (half most : ℕ) (row : Row K X) (a : Heads K) (first : K) (number : ℕ) (b : Heads K) : Type 0 where

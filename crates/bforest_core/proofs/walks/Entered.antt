@@ -11,7 +11,7 @@ pub pair_answer : {K X : Type 0} (es : List (K × X)) (i : ℕ) (o : Option (K �
 pair_answer [] i None k x = refl
 pair_answer [] i (Some e) k x = absurd cc
 pair_answer (y ∷ es) zero None k x = absurd cc
-pair_answer (y ∷ es) zero (Some e) k x = ap (λ z. Some (z, e.1)) (some_same e.0 y.0 k) ∙ ap (λ z. Some (y.0, z)) (some_same e.1 y.1 x)
+pair_answer (y ∷ es) zero (Some e) k x = ap (λ z. Some (z, e.1)) (some_same k) ∙ ap (λ z. Some (y.0, z)) (some_same x)
 pair_answer (y ∷ es) (suc i) o k x = pair_answer es i o k x
 
 -- an entry from its key and its value
@@ -20,7 +20,7 @@ pair_read es i e f = sym (pair_answer _ i _ (sym e) (sym f))
 
 -- the content read at a path's leaf is that leaf
 pub leaf_is : {K V : Type 0} (slots : List (Content K V)) (path r : _) {content : Content K V} (es : List (K × V)) → 0 < length path → slice_get slots (get_or path 0 r) ≡ Some content → slice_get slots (get_or path 0 0) ≡ Some (leaf_content es) → content ≡ leaf_content es
-leaf_is slots path r es some found slot = some_same _ _ (sym found ∙ at_index _ _ r some refl slot)
+leaf_is slots path r es some found slot = some_same (sym found ∙ at_index _ _ r some refl slot)
 
 -- a leaf has as many entries as keys
 pub key_total : {K V : Type 0} (es : List (K × V)) → entry_count (leaf_content es) ≡ length es

@@ -129,7 +129,7 @@ module _ {K V : Type 0} {slots : List (Content K V)} {root code height : ℕ} {H
           content (digit f some) → IsBesideOf slots root here.code here.height Beside AtEnd None → IsBesideOf slots root (here.code * 8 + digit f some) (suc
           here.height) Beside AtEnd None) → IsBelow here node (digit f some) next → Turning slots root code height HasBeside Beside AtEnd (left - 1) next found
       turning-on lower t ends b = elim lower [
-        | inl w ↦ record { some = λ turn is. rw (← some_same w.0 turn (cc)) (turn-here w.2 w.3); none = λ none. absurd (let no = sym w.1 ∙ none in cc) }
+        | inl w ↦ record { some = λ turn is. rw (← some_same {x = w.0} {y = turn} (cc)) (turn-here w.2 w.3); none = λ none. absurd (let no = sym w.1 ∙ none in cc) }
         | inr w ↦ record {
           some = λ turn is. turn-above w.1 w.2 (t.some turn (cc));
           none = λ none. moved (λ c d. IsBesideOf slots root c d Beside AtEnd None) b (ends w.0 w.1 w.2 (t.none (sym w.3 ∙ none)));

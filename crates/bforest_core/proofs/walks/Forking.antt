@@ -73,7 +73,7 @@ module _ {K V : Type 0} {cmp : K → K → Ordering} (o : IsTotalOrder cmp) (slo
 
   module _ {keys : List K} {children : List ℕ} (found : slice_get slots node ≡ Some (Inner keys children)) where
     same-keys : asked.0 ≡ keys
-    same-keys = ap keys_of (some_same _ _ (sym asked.2 ∙ found))
+    same-keys = ap keys_of (some_same (sym asked.2 ∙ found))
 
     sorted-keys : IsStrictlySortedBy cmp keys
     sorted-keys = subst (IsStrictlySortedBy cmp) same-keys asked.3
@@ -94,7 +94,7 @@ module _ {K V : Type 0} {cmp : K → K → Ordering} (o : IsTotalOrder cmp) (slo
   pub along-below : {s : K} → ((keys : List K) (children : _) → slice_get slots node ≡ Some (Inner keys children)
       → slice_get keys index ≡ Some s) → cmp key s ≡ Less → GoesAlong
   along-below {s} reads less from keys children found at ordered =
-      cc (same-child o from key ordered keys (sorted-keys found) (λ z read. let is = some_same z s (sym read ∙ ap (slice_get keys) (sym at) ∙ reads keys children found) in simp (is, o.antisymm s key, less)))
+      cc (same-child o from key ordered keys (sorted-keys found) (λ z read. let is = some_same (sym read ∙ ap (slice_get keys) (sym at) ∙ reads keys children found) in simp (is, o.antisymm s key, less)))
 
   -- the separator behind the child is not greater, so the key is not less than one whose search goes to the child
   pub not-along : {s : K} → ((keys : List K) (children : _) → slice_get slots node ≡ Some (Inner keys children)

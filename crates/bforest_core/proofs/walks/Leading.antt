@@ -10,7 +10,7 @@ use Rattle.bforest_core.proofs.walks.TopNode.{SameBut, none_flat, flat_parted, s
 child_cut : {K : Type 0} (es : Heads K) (index child : ℕ) → slice_get (entry_items es) index ≡ Some child → (l : Heads K) × (key : K)
     × (r : Heads K) × (es ≡ l ++ (key, child) ∷ r) × (length l ≡ index)
 child_cut [] index child found = absurd cc
-child_cut (y ∷ es) zero child found = ([], y.0, es, ap (λ z. (y.0, z) ∷ es) (some_same _ _ found), refl)
+child_cut (y ∷ es) zero child found = ([], y.0, es, ap (λ z. (y.0, z) ∷ es) (some_same found), refl)
 child_cut (y ∷ es) (suc index) child found = let r = child_cut _ _ _ found in (y ∷ r.0, r.1, r.2, ap (λ z. y ∷ z) r.3, ap suc r.4)
 
 -- a row ends with the last entry of its last node
@@ -29,8 +29,8 @@ module _ {K V : Type 0} {most : ℕ} {slots : List (Content K V)} {leaves lower 
   leaf_led s path' indices' place within place_is m_is j_is nodes entries = rw s.lower_is (record {
     leaf = seen_at s.at m_is j_is within place_is;
     stands = s.at.before_is;
-    nodes_above = λ i low. nodes i (λ z. omega (arith, low));
-    entries_above = λ i low. entries i (λ z. omega (arith, low));
+    nodes_above = λ i low. nodes i (λ z. omega arith);
+    entries_above = λ i low. entries i (λ z. omega arith);
   })
 
   -- the path, once it was written at an inner node, leads on from a child
@@ -44,14 +44,14 @@ module _ {K V : Type 0} {most : ℕ} {slots : List (Content K V)} {leaves lower 
       record {
         leaf = d.leaf;
         stands = rw s.lower_is (subst (λ z. StandsTo path2 indices2 1 (s.rows ++ s.row ∷ []) (length d.leaf.before) z) s.at.before_is more);
-        nodes_above = λ i low. d.nodes_above i (omega (arith, low)) ∙ nodes i (λ z. omega (arith, low));
-        entries_above = λ i low. d.entries_above i (omega (arith, low)) ∙ entries i (λ z. omega (arith, low));
+        nodes_above = λ i low. d.nodes_above i (omega arith) ∙ nodes i (λ z. omega arith);
+        entries_above = λ i low. d.entries_above i (omega arith) ∙ entries i (λ z. omega arith);
       }
 
 module _ {K V : Type 0} {most : _} {slots : List (Content K V)} {leaves lower a first number b : _} (s : InnerUnder most slots leaves lower a first number b)
     {content2 : Content K V} (read2 : slice_get slots number ≡ Some content2) where
   content_is : content2 ≡ inner_content (s.at.e ∷ s.at.es)
-  content_is = some_same _ _ (cc)
+  content_is = some_same (cc)
 
   -- the node meets what reading a child requires
   pub child_asks : (index : ℕ) → index ≤ length s.at.es → IsInner content2 × (index < entry_count content2)
@@ -62,7 +62,7 @@ module _ {K V : Type 0} {most : _} {slots : List (Content K V)} {leaves lower a 
       leaves s.rows (front ++ (key, child) ∷ back) × (length front ≡ length (flat s.at.before) + index) × (length front + suc (length back) ≡ length
       (flat s.row))
   child_under index {child = child} found =
-      let c = child_cut (s.at.e ∷ s.at.es) index child (cc (content_is)) in let front = flat s.at.before ++ c.0 in let back = c.2 ++ flat s.at.after in
+      let c = child_cut (s.at.e ∷ s.at.es) index child (cc) in let front = flat s.at.before ++ c.0 in let back = c.2 ++ flat s.at.after in
       let flat_is = ap flat s.at.row_is ∙ flat_parted s.at.before number c.0 (c.1, child) c.2 s.at.after c.3 in
       let under = rw flat_is at s.under in (front, c.1, back, under, cc (length-append _ _), sym (cc (length-append front ((c.1, child) ∷ back))))
 
@@ -107,29 +107,29 @@ module _ {K V : Type 0} (most : ℕ) (slots : List (Content K V)) (Side : Heads 
     (number index : ℕ) where
   -- the way down one side of a tree goes on from a node to its child at this index, and ends at this index of a leaf, at this place
   pub record Turns : Type 0 where
-    pub within : (leaves lower a first b : _) (s : InnerUnder most slots leaves lower a first number b) → Side a b → index ≤ length s.at.es
-    pub keeps : (leaves lower a first b : _) (s : InnerUnder most slots leaves lower a first number b) → Side a b → (front back : _)
+    pub within : {leaves lower a first b : _} (s : InnerUnder most slots leaves lower a first number b) → Side a b → index ≤ length s.at.es
+    pub keeps : {leaves lower a first b : _} (s : InnerUnder most slots leaves lower a first number b) → Side a b → (front back : _)
         → length front ≡ length (flat s.at.before) + index → length front + suc (length back) ≡ length (flat s.row) → Side front back
-    pub low : (leaves lower a first b : _) (s : LeafUnder most slots leaves lower a first number b) → Side a b → index ≤ length s.at.es
-    pub ends : (leaves lower a first b : _) (s : LeafUnder most slots leaves lower a first number b) → Side a b
+    pub low : {leaves lower a first b : _} (s : LeafUnder most slots leaves lower a first number b) → Side a b → index ≤ length s.at.es
+    pub ends : {leaves lower a first b : _} (s : LeafUnder most slots leaves lower a first number b) → Side a b
         → place leaves ≡ length (flat s.at.before) + index
 
 module _ {K V : Type 0} {most : ℕ} {slots : List (Content K V)} where
   pub first-turns : {number : ℕ} → Turns most slots IsFirst (λ leaves. 0) number 0
   first-turns = record {
-    within = λ leaves lower a first b s side. omega arith;
-    keeps = λ leaves lower a first b s side front back front_is sum_is. nil_from_length front (omega (arith, none_flat s.at.before cc));
-    low = λ leaves lower a first b s side. omega arith;
-    ends = λ leaves lower a first b s side. omega (arith, none_flat s.at.before cc);
+    within = λ s side. omega arith;
+    keeps = λ s side front back front_is sum_is. nil_from_length front (omega (arith, none_flat s.at.before cc));
+    low = λ s side. omega arith;
+    ends = λ s side. omega (arith, none_flat s.at.before cc);
   }
 
   pub last-turns : {number last : ℕ} (capacity : IsLeafCapacity most) → LastRead slots number last
       → Turns most slots IsLast (λ leaves. length (flat leaves) - 1) number last
   last-turns {number} {last} capacity says = record {
-    within = λ leaves lower a first b s side. omega (arith, index s);
-    keeps = λ leaves lower a first b s side front back front_is sum_is. nil_from_length back (omega (arith, index s, last-end (omega arith) b s.at side));
-    low = λ leaves lower a first b s side. omega (arith, at-leaf s);
-    ends = λ leaves lower a first b s side. omega (arith, at-leaf s, last-end (some_leaf capacity) b s.at side);
+    within = λ s side. omega (arith, index s);
+    keeps = λ s side front back front_is sum_is. nil_from_length back (omega (arith, index s, last-end (omega arith) _ s.at side));
+    low = λ s side. omega (arith, at-leaf s);
+    ends = λ s side. omega (arith, at-leaf s, last-end (some_leaf capacity) _ s.at side);
   }
     where
       index : {leaves lower a first b : _} (s : InnerUnder most slots leaves lower a first number b) → last ≡ length s.at.es
@@ -146,7 +146,7 @@ module _ {K V : Type 0} {most : ℕ} (capacity : IsLeafCapacity most) {slots : L
       → path1 ≡ set path level number → indices1 ≡ set indices level index → OnBelow most slots Side number level
       (λ leaves lower top. Led leaves lower (place leaves) top path indices path1 indices1)
   led-ends none {indices1} here path_is indices_are leaves lower a first b side u level_is = let s = leaf_at capacity a first number b u (omega arith) in
-      leaf_led _ _ s _ indices1 (place leaves) (turns.low leaves lower a first b s side) (turns.ends leaves lower a first b s side)
+      leaf_led _ _ s _ indices1 (place leaves) (turns.low s side) (turns.ends s side)
       (cc) (cc)
       (λ i ne. set_but _ _ _ path_is i (λ e. ne (e ∙ none)))
       (λ i ne. set_but _ _ _ indices_are i (λ e. ne (e ∙ none)))
@@ -155,13 +155,13 @@ module _ {K V : Type 0} {most : ℕ} (capacity : IsLeafCapacity most) {slots : L
     -- what reading the child requires
     pub led-asks : HasBelow most slots Side number level → ChildAsked slots number index
     led-asks w = let s = inner_at capacity _ _ _ _ w.6 (λ z. some (w.7 ∙ z)) in
-        (_, _, s.slot_is, omega (arith, turns.within w.0 w.1 w.2 w.3 w.4 s w.5, item_count (s.at.e ∷ s.at.es)))
+        (_, _, s.slot_is, omega (arith, turns.within s w.5, item_count (s.at.e ∷ s.at.es)))
 
     module _ {child : ℕ} (says : ChildRead slots number index child) where
       -- what the call capacity level down requires
       pub led-goes : HasBelow most slots Side number level → HasBelow most slots Side child (level - 1)
       led-goes w = let s = inner_at capacity _ _ _ _ w.6 (λ z. some (w.7 ∙ z)) in let c = child_under s s.slot_is index (says _ _ s.slot_is) in
-          (w.0, s.rows, c.0, c.1, c.2, turns.keeps w.0 w.1 w.2 w.3 w.4 s w.5 c.0 c.2 c.4 c.5, c.3, omega arith)
+          (w.0, s.rows, c.0, c.1, c.2, turns.keeps s w.5 c.0 c.2 c.4 c.5, c.3, omega arith)
 
       pub led-on : {path indices path1 indices1 path2 indices2 : _} → (get_or path1 level 0 ≡ number) × (get_or indices1 level 0 ≡ index)
           → path1 ≡ set path level number → indices1 ≡ set indices level index → OnBelow most slots Side child (level - 1)
@@ -169,6 +169,6 @@ module _ {K V : Type 0} {most : ℕ} (capacity : IsLeafCapacity most) {slots : L
           → OnBelow most slots Side number level (λ leaves lower top. Led leaves lower (place leaves) top path indices path2 indices2)
       led-on {indices2 = indices2} here path_is indices_are leads leaves lower a first b side u level_is =
           let s = inner_at capacity a _ _ b u (λ z. some cc) in let c = child_under s s.slot_is index (says _ _ s.slot_is) in
-          let d = leads leaves s.rows c.0 c.1 c.2 (turns.keeps leaves lower a first b s side c.0 c.2 c.4 c.5) c.3 (omega arith) in
-          inner_led _ _ s _ indices2 level (cc) (turns.within leaves lower a first b s side) c.4 d here.0 here.1
+          let d = leads leaves s.rows c.0 c.1 c.2 (turns.keeps s side c.0 c.2 c.4 c.5) c.3 (omega arith) in
+          inner_led _ _ s _ indices2 level (cc) (turns.within s side) c.4 d here.0 here.1
           (set_but _ _ _ path_is) (set_but _ _ _ indices_are)

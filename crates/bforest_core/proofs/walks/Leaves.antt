@@ -14,7 +14,7 @@ leaf-rest {path = path} s = let front = flat s.leaf.before in let entries = s.le
 -- a root that is no inner node is a leaf
 pub root-leaf : {K V : Type 0} {most : ℕ} {table : Table K V} (union : IsUnion most table) (root : ℕ) (content : Content K V) → IsTrue (is_root table.nodes root) → slice_get table.nodes root ≡ Some content → (IsInner content → ⊥) → IsLeaf (slot table.nodes root)
 root-leaf {table = table} union root content is found other = let u = whole_under (is-rooted root union is) in
-    subst IsLeaf (sym (slot-is table.nodes root _ (leaf_under union.1.capacity [] u.0 root [] u.1 found other).slot_is)) tt
+    subst IsLeaf (sym (slot-is table.nodes root (leaf_under union.1.capacity [] u.0 root [] u.1 found other).slot_is)) tt
 
 module _ {K V : Type 0} {n : ℕ} {table : Table K V} (union : IsUnion n table) {root : ℕ} where
   -- a path on a leaf's first entry, with all entries of the leaf

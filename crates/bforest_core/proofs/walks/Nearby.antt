@@ -25,7 +25,7 @@ no-value {K} {X} cmp key es none here =
 -- where the entry at a place is greater than the key, the key is less than the list from there on
 upto_at : {K X : Type 0} (cmp : K → K → Ordering) (key : K) (es : List (K × X)) (p e : _) → slice_get es p ≡ Some e → cmp e.0 key ≡ Greater → IsUpTo cmp (drop p es) key
 upto_at cmp key [] p e here t = absurd cc
-upto_at cmp key (x ∷ es) zero e here t = cc (some_same x.0 e.0 (ap (λ z. option_map (λ w. w.0) z) here))
+upto_at cmp key (x ∷ es) zero e here t = cc
 upto_at cmp key (x ∷ es) (suc p) e here t = upto_at cmp key es p e here t
 
 module _ {K X : Type 0} {cmp : K → K → Ordering} (o : IsTotalOrder cmp) (key : K) where
@@ -40,14 +40,14 @@ module _ {K X : Type 0} {cmp : K → K → Ordering} (o : IsTotalOrder cmp) (key
 
   all_at : (P : K → Type 0) (es : List (K × X)) (p e : _) → AllByRecursion P (keys_of es) → slice_get es p ≡ Some e → P e.0
   all_at P [] p e h here = absurd cc
-  all_at P (x ∷ es) zero e h here = rw (← some_same x e here) h.0
+  all_at P (x ∷ es) zero e h here = rw (← some_same here) h.0
   all_at P (x ∷ es) (suc p) e h here = all_at P es p e h.1 here
 
   -- a search from an entry on that is not greater, as in the whole list
   behind : (es : List (K × X)) (p e : _) → slice_get es p ≡ Some e → IsIncreasing cmp es → cmp e.0 key ≢ Greater → (n found : _) → (IsIncreasing cmp (e ∷ drop (suc p) es) → Finds cmp (e ∷ drop (suc p) es) key n found) → Finds cmp es key (p + n) found
   unfolding IsStrictlySortedBy
   behind [] p e here h ng n found f = absurd cc
-  behind (x ∷ es) zero e here h ng n found f = let same = some_same x e here in
+  behind (x ∷ es) zero e here h ng n found f = let same = some_same here in
       subst (λ z. Finds cmp (x ∷ es) key z found) (omega arith) (subst (λ z. Finds cmp (z ∷ es) key n found) (sym same) (f (subst (λ z. IsIncreasing cmp (z ∷ es)) same h)))
   behind (x ∷ es) (suc p) e here h ng n found f =
       subst (λ z. Finds cmp (x ∷ es) key z found) (omega arith) (later x (less_from o _ _ _ (all_at _ _ p e h.0 here) ng) (behind es p e here h.1 ng n found f))
@@ -100,12 +100,13 @@ module _ {K V : Type 0} {n : ℕ} (table : Table K V) (root : ℕ) (path : Path 
     ended f on at = record { value = cc; present = λ yes. rw f.place_is (on cc); absent = λ none. rw f.place_is (at cc) }
 
 -- a path that moved to the entry before a place
-module _ {K V : Type 0} {n : ℕ} {cmp : K → K → Ordering} (o : IsTotalOrder cmp) (table : Table K V) (root key : _) (increasing : IsIncreasing cmp (list_under table root)) (path : Path K V n) {answer : Option (K × V)} where
+module _ {K V : Type 0} {n : ℕ} {cmp : K → K → Ordering} (o : IsTotalOrder cmp) (table : Table K V) {root : _} (key : _)
+    (increasing : IsIncreasing cmp (list_under table root)) (path : Path K V n) {answer : Option (K × V)} where
   -- there is no entry before the place
   pub before-none : (p : ℕ) → answer ≡ entry_before (list_under table root) p → StandsOn table root path (p - 1) → IsUnion n table → IsUpTo cmp (drop p (list_under table root)) key → answer ≡ None → Ended table root path cmp key None
   before-none zero value on union up none =
       ended table root path cmp key (finds_first o key (list_under table root) increasing up) (λ some. never some refl) (λ none. placed-first table root path union on)
-  before-none (suc p) value on union up none = let r = read (list_under table root) p (omega (arith, on-within table root path (suc p - 1) on)) in absurd (cc)
+  before-none (suc p) value on union up none = let r = read (list_under table root) p (omega (arith, on-within table path on)) in absurd (cc)
 
   -- the entry before the place has an equal key
   pub before-equal : (p : ℕ) → answer ≡ entry_before (list_under table root) p → StandsOn table root path (p - 1) → {e : K × V} → answer ≡ Some e → cmp key e.0 ≡ Equal → Ended table root path cmp key (Some e.1)
@@ -124,7 +125,7 @@ module _ {K V : Type 0} {n : ℕ} {cmp : K → K → Ordering} (o : IsTotalOrder
       (subst (λ z. StandsOn table root path z) (omega arith) on) same index_is above size_is)
 
 -- a path at a place
-module _ {K V : Type 0} {n : ℕ} (table : Table K V) (root : ℕ) (path : Path K V n) (p : ℕ) (at : StandsAt table root path p) where
+module _ {K V : Type 0} {n : ℕ} (table : Table K V) {root : ℕ} (path : Path K V n) {p : ℕ} (at : StandsAt table root path p) where
   -- a path at the end has no entries left
   pub none-left : (cmp : K → K → Ordering) (key : K) → path.size ≡ 0 → IsUpTo cmp (drop p (list_under table root)) key
   none-left cmp key none =
@@ -135,7 +136,7 @@ module _ {K V : Type 0} {n : ℕ} (table : Table K V) (root : ℕ) (path : Path 
   some-on some = record { root_is = at.root_is; stands = at_entry _ _ _ p _ (λ none. omega arith) at.at }
 
 -- a path on an entry
-module _ {K V : Type 0} {n : ℕ} {table : Table K V} (root : ℕ) (path : Path K V n) (p : ℕ) (union : IsUnion n table) (on : StandsOn table root path p) where
+module _ {K V : Type 0} {n : ℕ} {table : Table K V} {root : ℕ} {path : Path K V n} {p : ℕ} (union : IsUnion n table) (on : StandsOn table root path p) where
   -- the path's leaf has the entry
   pub here-leaf : (entries : List (K × V)) × (slice_get table.nodes (leaf_of path) ≡ Some (leaf_content entries)) × (index_of path < length entries)
   here-leaf = (on.stands.leaf.entries, (on-leaf-in union path on).node.slot_is, on.stands.leaf.within)

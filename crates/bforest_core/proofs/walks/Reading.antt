@@ -1,5 +1,10 @@
 -- What reading a node asks and says: a child of an inner node, how many entries a node has, and the index of its last.
 use Rattle.bforest_core.proofs.Words.{◌≡◌, ℕ, ◌-◌, ◌≤◌, ◌<◌, List, length, slice_get, Some, Content, Inner, IsInner, entry_count}
+use Rattle.bforest_core.proofs.Words.{Bool, IsTrue, false, false≢true, sym, ◌∙◌, ◌↔◌}
+
+-- a test that answers false disproves its condition
+pub not_so : {A : Type 0} {test : Bool} → test ≡ false → (IsTrue test ↔ A) → ¬ A
+not_so none tells a = false≢true (sym none ∙ tells.1 a)
 
 module _ {K V : Type 0} (slots : List (Content K V)) (number : ℕ) where
   -- what reading a child of a node asks

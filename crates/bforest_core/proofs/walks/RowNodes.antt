@@ -61,7 +61,7 @@ module _ {K V X : Type 0} (content : List (K × X) → Content K V) (slots : Lis
 
     pub node-at : (number place : ℕ) → NumberAt (heads row) place number → NodeIn row number place
     node-at number place m = let c = cut (heads row) place (slice_get_within (heads row) place (m.0, number) m.1) in
-        let same = some_same c.x (m.0, number) (cc (slice_get_at c.l c.x c.r place c.place_is)) in let s = seen half most one row c.l m.0 number c.r fit (cc) in
+        let same = some_same {x = c.x} {y = (m.0, number)} (cc (slice_get_at c.l c.x c.r place c.place_is)) in let s = seen half most one row c.l m.0 number c.r fit (cc) in
         node-in _ _ _ _ _ s.row_is (cc)
 
 module _ {K V X : Type 0} {content : List (K × X) → Content K V} {slots most row number place : _} (a : NodeIn content slots most row number place) where

@@ -1,21 +1,13 @@
 -- The way down to the leaf in which a search ends: each answer of `value_below` and, as a spot, of `find_below` is one of these.
-use Rattle.bforest_core.proofs.Words.{entry_items, entry_keys, IsSpotAt, IsWay, leaf_place, length-map, ◌≡◌, ℕ, suc, ◌+◌, ◌*◌, ◌≤◌, ◌<◌, List, [], ◌∷◌, ◌++◌}
-use Rattle.bforest_core.proofs.Words.{IsTrue, length, slice_get, Some, refl, sym, subst, arith, Row, Rows, Content, EndsOn, Inner, IsInner, IsIncreasing}
+use Rattle.bforest_core.proofs.Words.{EndsBothAt, entry_items, entry_keys, IsSpotAt, IsWay, leaf_place, length-map, ◌≡◌, ℕ, suc, ◌≤◌, ◌<◌, List, [], ◌∷◌, ◌++◌}
+use Rattle.bforest_core.proofs.Words.{IsTrue, length, slice_get, Some, refl, sym, ◌∙◌, subst, arith, Row, Rows, Content, EndsOn, Inner, IsInner, IsIncreasing}
 use Rattle.bforest_core.proofs.Words.{IsTotalOrder, IsStrictlySortedBy, IsUnion, Narrows, SearchEndsAt, SearchThrough, Table, child_index, flat, is_root}
 use Rattle.bforest_core.proofs.{Words.{leaf_content, place, tree_of, IsLeafCapacity}, walks.CodesDown.{child-way, rows-join, way-root, way-spot}}
-use Rattle.bforest_core.proofs.{walks.Codes.code-low, table.Stored.item_count, walks.Cousins.place-is, walks.Whole.all_through, walks.Reading.ChildRead}
+use Rattle.bforest_core.proofs.{walks.Codes.{IsBelow, code-low}, table.Stored.item_count, walks.Cousins.place-is, walks.Whole.all_through, walks.Reading.ChildRead}
 use Rattle.bforest_core.proofs.{walks.Standing.under-root, walks.TopNode.{inner_under, leaf_under, node_within}, walks.Rising.increasing_rest}
 use Rattle.bforest_core.proofs.walks.Descent.{Below, InnerStep, LeafStep, below, follow_asks, inner_step, leaf_found, leaf_step, leaf_value, placed}
 use Rattle.bforest_core.specs.declared.spot.Spot.{Spot}
 use Rattle.std.specs.declared.cmp.Ordering.{Ordering}
-
--- the search one level down, with the way there, below these rows
-pub record WayBelow {K V : Type 0} (cmp : K → K → Ordering) (most : ℕ) (slots : List (Content K V)) (leaves : Row K V) (lower upper : Rows K) (key : K) (next : Spot) (child : ℕ) : Type 0 where
-  pub above : Rows K
-  pub numbers : List ℕ
-  pub on : SearchThrough cmp most slots leaves key child next.height
-  pub way : IsWay numbers next above (length on.before)
-  pub join : on.lower ++ above ≡ lower ++ upper
 
 module _ {K V : Type 0} {cmp : K → K → Ordering} (o : IsTotalOrder cmp) {most : ℕ} (capacity : IsLeafCapacity most) {slots : List (Content K V)} {leaves key number depth : _} (t : SearchThrough cmp most slots leaves key number depth) where
   -- the node is in the slots
@@ -83,26 +75,64 @@ module _ {K V : Type 0} {cmp : K → K → Ordering} (o : IsTotalOrder cmp) {mos
         along-asks = let es = step.here.at.es in let count = length-map es (λ w. w.0) in
             (entry_keys es, entry_items (step.here.at.e ∷ es), step.here.slot_is, increasing_rest o step.here.at.e es step.increasing, omega (arith, item_count (step.here.at.e ∷ es)), omega (arith, to.within))
 
-        module _ {upper : Rows K} {numbers : List ℕ} {spot : Spot} (height_is : depth ≡ spot.height) (w : IsWay numbers spot upper (length t.before)) where
-          -- a digit more fits
-          pub code-low-here : spot.code < 35184372088832
-          code-low-here = code-low 15 upper numbers spot.code (length t.before) w.coded (omega (arith, deeper-low))
+-- a search that has come to the node of a spot: the rows from its leaves to the node, and those beside the way there, are these rows
+pub record Search {K V : Type 0} (cmp : K → K → Ordering) (most : ℕ) (slots : List (Content K V)) (leaves : Row K V) (rows : Rows K) (key : K) (spot : Spot)
+    (number : ℕ) : Type 0 where
+  pub total : IsTotalOrder cmp
+  pub capacity : IsLeafCapacity most
+  pub above : Rows K
+  pub numbers : List ℕ
+  pub on : SearchThrough cmp most slots leaves key number spot.height
+  pub way : IsWay numbers spot above (length on.before)
+  pub join : on.lower ++ above ≡ rows
 
-          module _ (next : Spot) (code : next.code ≡ spot.code * 8 + index) (parent : next.parent ≡ number) (grand : next.grand ≡ spot.parent) (height : next.height ≡ suc spot.height) where
-            -- the search capacity level down, with the way there
-            pub down : WayBelow cmp most slots leaves t.lower upper key next child
-            down = record {
-              above = step.here.row ∷ upper;
-              numbers = number ∷ numbers;
-              on = one-down _ cc;
-              way = child-way step.here to.within code parent grand height w to.place_is;
-              join = rows-join step.here upper;
+module _ {K V : Type 0} {cmp : K → K → Ordering} {most : ℕ} {slots : List (Content K V)} {leaves rows key : _} {spot : Spot} {number : ℕ}
+    (w : Search cmp most slots leaves rows key spot number) where
+  pub search-held : number < length slots
+  search-held = within w.total w.capacity w.on
+
+  module _ {content : Content K V} (found : slice_get slots number ≡ Some content) where
+    -- where it ends
+    pub search-ends : (IsInner content → ⊥) → EndsOn cmp slots leaves rows key spot number
+    search-ends other = rw (← w.join) (ends-on w.total w.capacity w.on found other w.way)
+
+    module _ (inner : IsInner content) where
+      pub search-asks : (keys : List K) × (children : _) × (slice_get slots number ≡ Some (Inner keys children)) × IsStrictlySortedBy cmp keys
+      search-asks = asks w.total w.capacity w.on found inner
+
+      module _ {index : ℕ} {child : ℕ}
+          (says : (keys : List K) (children : _) → slice_get slots number ≡ Some (Inner keys children) → index ≡ child_index cmp keys key)
+          (reads : ChildRead slots number index child) where
+        -- what the spot of the child asks
+        pub search-below : (spot.code < 35184372088832) × (spot.height < 16) × (index < 8)
+        search-below = let low = deeper-low w.total w.capacity w.on found inner in (
+          code-low 15 w.above w.numbers spot.code _ w.way.coded (omega (arith, w.way.height_is)),
+          low,
+          digit-low w.total w.capacity w.on found inner _ says reads,
+        )
+
+        pub search-along : (keys : List K) × (children : List ℕ) × (slice_get slots number ≡ Some (Inner keys children)) × IsStrictlySortedBy cmp keys
+            × (length children ≡ suc (length keys)) × (index ≤ length keys)
+        search-along = along-asks w.total w.capacity w.on found inner _ says reads
+
+        -- the search one level down
+        pub search-on : {next : Spot} → IsBelow spot number index next → Search cmp most slots leaves rows key next child
+        search-on b = let s = step w.total w.capacity w.on found inner in let d = to w.total w.capacity w.on found inner index says reads in
+            record {
+              total = w.total;
+              capacity = w.capacity;
+              above = s.here.row ∷ w.above;
+              numbers = number ∷ w.numbers;
+              on = one-down w.total w.capacity w.on found inner index says reads _ b.height;
+              way = child-way s.here d.within b w.way d.place_is;
+              join = rows-join s.here w.above ∙ w.join;
             }
 
 -- whatever lies about a node, a search through it goes on through this node below it, with the way there
 abbrev pub GoesOn : {K V : Type 0} → (K → K → Ordering) → ℕ → List (Content K V) → K → Spot → ℕ → Spot → ℕ → Type 0
 GoesOn {K} {V} cmp most slots key spot number next child =
-    (leaves : Row K V) (upper numbers : _) (on : SearchThrough cmp most slots leaves key number spot.height) → IsWay numbers spot upper (length on.before) → WayBelow cmp most slots leaves on.lower upper key next child
+    (leaves : Row K V) (upper numbers : _) (on : SearchThrough cmp most slots leaves key number spot.height) → IsWay numbers spot upper (length on.before) →
+    Search cmp most slots leaves (on.lower ++ upper) key next child
 
 -- the search at the root
 abbrev pub search-root : {K V : Type 0} {cmp : K → K → Ordering} {most : ℕ} {table : Table K V} {root key : _}
@@ -113,21 +143,24 @@ search-root {table = table} {root = root} union is increasing depth none = let u
 
 -- a search from the root on has come to this node, and its spot
 abbrev pub CameTo : {K V : Type 0} → (K → K → Ordering) → ℕ → Table K V → ℕ → K → Spot → ℕ → Type 0
-CameTo cmp most table root key spot number = WayBelow cmp most table.nodes (tree_of table.nodes root).leaves (tree_of table.nodes root).above [] key spot number
+CameTo cmp most table root key spot number = Search cmp most table.nodes (tree_of table.nodes root).leaves ((tree_of table.nodes root).above ++ []) key spot
+    number
 
-module _ {K V : Type 0} {cmp : K → K → Ordering} {most : ℕ} (table : Table K V) (root key : _) where
-  -- at the root
-  pub came-first : (union : IsUnion most table) (is : IsTrue (is_root table.nodes root)) → IsIncreasing cmp (flat (tree_of table.nodes root).leaves) → (spot : Spot) → spot.code ≡ 0 → spot.height ≡ 0 → CameTo cmp most table root key spot root
-  came-first union is increasing spot code height = record { above = []; numbers = []; on = search-root union is increasing _ height; way = way-root spot code height; join = refl }
-
-  module _ {spot : Spot} {number : ℕ} (w : CameTo cmp most table root key spot number) where
-    -- further down
-    pub came-on : {next : Spot} {child : ℕ} → WayBelow cmp most table.nodes (tree_of table.nodes root).leaves w.on.lower w.above key next child → CameTo cmp most table root key next child
-    came-on d = record { above = d.above; numbers = d.numbers; on = d.on; way = d.way; join = cc }
-
-    -- where it ends from there
-    pub came-end : {end : Spot} {leaf : ℕ} → EndsOn cmp table.nodes (tree_of table.nodes root).leaves (w.on.lower ++ w.above) key end leaf → EndsOn cmp table.nodes (tree_of table.nodes root).leaves ((tree_of table.nodes root).above ++ []) key end leaf
-    came-end e = rw (← w.join) e
+-- at the root
+pub came-first : {K V : Type 0} {cmp : K → K → Ordering} → IsTotalOrder cmp →
+    {most : ℕ} {table : Table K V} {root key : _} (union : IsUnion most table) (is : IsTrue (is_root table.nodes root)) →
+    IsIncreasing cmp (flat (tree_of table.nodes root).leaves)
+    → {spot : Spot} → spot.code ≡ 0 → spot.height ≡ 0 → CameTo cmp most table root key spot root
+came-first o union is increasing {spot} code height = record {
+  total = o;
+  capacity = union.1.capacity;
+  above = [];
+  numbers = [];
+  on = search-root union is
+      increasing _ height;
+  way = way-root spot code height;
+  join = refl;
+}
 
 -- from the root down: the leaf in which a search ends, and its spot
 module _ {K V : Type 0} {cmp : K → K → Ordering} {table : Table K V} {root : ℕ} (is : IsTrue (is_root table.nodes root)) {key : K} {spot : Spot} {number : ℕ} (e : EndsOn cmp table.nodes (tree_of table.nodes root).leaves ((tree_of table.nodes root).above ++ []) key spot number) where
@@ -137,8 +170,16 @@ module _ {K V : Type 0} {cmp : K → K → Ordering} {table : Table K V} {root :
   pub spot-found : IsSpotAt table root spot (leaf_place table root spot)
   spot-found = rw (place-is on-spot) on-spot
 
-  pub search-ends : SearchEndsAt cmp table root key (leaf_place table root spot) number
-  search-ends = record {
+  pub search-leaf : SearchEndsAt cmp table root key (leaf_place table root spot) number
+  search-leaf = record {
     leaf = record { before = e.before; entries = e.entries; after = e.after; leaves_are = e.leaves_are; at = sym (place-is on-spot); slot_is = e.slot_is; some = e.some };
     tells = e.tells;
   }
+
+-- both ends, where two searches were made
+pub both-end : {K V : Type 0} {cmp : K → K → Ordering} {table : Table K V} {root : ℕ} → IsTrue (is_root table.nodes root) →
+    {from to : K} {first last : Spot} {leaf leaf' : ℕ}
+    → EndsOn cmp table.nodes (tree_of table.nodes root).leaves ((tree_of table.nodes root).above ++ []) from first leaf
+    → EndsOn cmp table.nodes (tree_of table.nodes root).leaves ((tree_of table.nodes root).above ++ []) to last leaf'
+    → EndsBothAt cmp table root from to first leaf last leaf'
+both-end is e h = record { front_at = spot-found is e; first_ends = search-leaf is e; back_at = spot-found is h; last_ends = search-leaf is h }

@@ -67,7 +67,7 @@ pub on-leaf : {K V : Type 0} {most : ℕ} (table : Table K V) (root : ℕ) (path
 on-leaf table root path indices union is leaf node_is index_is = let u = under-root root union is in
     elim (node_under union.1.capacity _ [] u.first root [] u.under) [
       | inl s ↦ (let d = leaf_led _ _ s _ indices 0 (omega arith) (omega (arith, none_flat _ s.at.before_is)) node_is index_is (λ i ne. refl) (λ i ne. refl) in record { root_is = is; stands = led_stands _ 1 d (sym (ap (λ z. suc (length z)) s.lower_is)) })
-      | inr s ↦ absurd (subst IsLeaf (slot-is table.nodes root _ s.slot_is) leaf)
+      | inr s ↦ absurd (subst IsLeaf (slot-is table.nodes root s.slot_is) leaf)
     ]
 
 module _ {K X : Type 0} where
@@ -81,7 +81,7 @@ module _ {K X : Type 0} where
         | inr w ↦ (λ j. if w.0 j then index else length xs + place_in (before ++ node n es ∷ after) n index) ∙ omega (arith, length-append xs (flat before))
       ]
 
-module _ {K V : Type 0} {n : ℕ} (table : Table K V) (root : ℕ) (path : Path K V n) (place : ℕ) where
+module _ {K V : Type 0} {n : ℕ} (table : Table K V) {root : ℕ} (path : Path K V n) {place : ℕ} where
   -- the place of a path that stands on an entry is less than the length
   pub on-within : StandsOn table root path place → place < length (list_under table root)
   on-within on = let at = on.stands.leaf in
@@ -141,7 +141,7 @@ module _ {K V : Type 0} {n : ℕ} {table : Table K V} (union : IsUnion n table) 
   module _ {has : Bool} (test : (entries : List (K × V)) → slice_get table.nodes (leaf_of path) ≡ Some (leaf_content entries) → IsTrue has ↔ (index_of path < length entries)) where
     -- the path is at an entry of the leaf
     pub pointed-here : has ≡ true → StandsAt table root path place
-    pointed-here is = on-at table root path place (record { root_is = to.root_is; stands = stands-pointed to.points ((test to.points.entries pointed.node.slot_is).0 is) })
+    pointed-here is = on-at table path (record { root_is = to.root_is; stands = stands-pointed to.points ((test to.points.entries pointed.node.slot_is).0 is) })
 
     behind : has ≡ false → place ≡ length (flat to.points.before) + length to.points.entries
     behind none = omega (arith, not_less (index_of path) (length to.points.entries) (λ low. false≢true (sym none ∙ (test to.points.entries pointed.node.slot_is).1 low)))
@@ -152,7 +152,11 @@ module _ {K V : Type 0} {n : ℕ} {table : Table K V} (union : IsUnion n table) 
     pointed-next none moved new goes nodes here above size =
         let m = goes (tree_of table.nodes root).above (heads (tree_of table.nodes root).leaves) (length to.points.before) pointed-over in
         let s = first_behind union.1.capacity tree_is.fit tree_is.inside pointed (cc) new.entry m nodes here above in
-        on-at table root new place (record { root_is = to.root_is; stands = subst (λ z. Stands new.node new.entry new.size (tree_of table.nodes root) z) (sym (behind none)) s })
+        on-at table new (record {
+          root_is = to.root_is;
+          stands = subst (λ z. Stands new.node new.entry new.size (tree_of table.nodes root) z)
+              (sym (behind none)) s;
+        })
 
     -- past the last entry of all, the path is at the end
     pub pointed-last : has ≡ false → ((rows list at : _) → Over table.nodes path.node path.entry 1 path.size rows list at → suc at ≡ length list) → (nodes entries : _) → AtUnder table.nodes root nodes entries 0 place
@@ -160,7 +164,7 @@ module _ {K V : Type 0} {n : ℕ} {table : Table K V} (union : IsUnion n table) 
         record { root_is = to.root_is; at = behind none ∙ leaf_last union.1.capacity tree_is.fit tree_is.inside pointed (last (tree_of table.nodes root).above (heads (tree_of table.nodes root).leaves) (length to.points.before) pointed-over) }
 
 -- a path in a union of trees
-module _ {K V : Type 0} {n : ℕ} (most : ℕ) (table : Table K V) (root : ℕ) (path : Path K V n) (place : ℕ) (union : IsUnion most table) where
+module _ {K V : Type 0} {n : ℕ} {most : ℕ} {table : Table K V} {root : ℕ} (path : Path K V n) {place : ℕ} (union : IsUnion most table) where
   -- the root of a path that points to a place under a root
   pub points-root : PointsTo table root path place → path_root path ≡ root
   points-root to = let r = rooted _ _ _ union to.root_is in cc (root-points _ _ _ _ _ _ (omega arith) r.fit to.points)
@@ -183,7 +187,7 @@ module _ {K V : Type 0} {n : ℕ} (most : ℕ) (table : Table K V) (root : ℕ) 
 
   -- a path that stands on an entry has its place computed
   pub on-spot : StandsOn table root path place → spot table root path ≡ place
-  on-spot on = points-spot (on-points table root path place on)
+  on-spot on = points-spot (on-points table path on)
 
   -- a path on an entry or at the end has its place computed
   pub at-spot : StandsAt table root path place → spot table root path ≡ place

@@ -56,9 +56,9 @@ module _ {K V : Type 0} where
     pub inside : RowIn inner_content slots row
     pub over : Over slots path indices (suc up) size rest (heads row) (length before)
 
-  pub spot : (slots : List (Content K V)) (path indices up size rows list place : _) → Over slots path indices up size rows list place → up ≢ size → Spot slots path indices up size rows list place
-  spot slots path indices up size [] list place p other = absurd (other (omega arith))
-  spot slots path indices up size (row ∷ rest) list place p other = let at = p.stands.0 in
+  pub spot : {slots : List (Content K V)} {path indices up size rows list place : _} → Over slots path indices up size rows list place → up ≢ size → Spot slots path indices up size rows list place
+  spot {rows = []} p other = absurd (other (omega arith))
+  spot {slots} {path} {up = up} {rows = row ∷ rest} p other = let at = p.stands.0 in
       record {
         row = row;
         rest = rest;

@@ -30,14 +30,14 @@ module _ {K V : Type 0} where
   module _ {slots : List (Content K V)} {path indices : _} {level up : ℕ} {size rows list place : _}
       (p : Over slots path indices (suc level) size rows list place) (up_is : up ≡ suc level) (other : up ≢ size) (height : size ≤ 17) where
     pub here : Spot slots path indices up size rows list place
-    here = spot slots path indices up size rows list place (rw up_is p) other
+    here = spot (rw up_is p) other
 
     abbrev stay : Within inner_content slots 8 path indices up here.row here.rest (length here.before)
     stay = record { node = node-in _ _ 8 4 (omega arith) _ here.fit here.inside _ _ _ _ _ here.row_is refl; stands = here.over.stands }
 
     -- the node meets what the test for a child requires
     pub has_asks : (up ≤ 16) × ((entries : _) × (slice_get slots (get_or path up 0) ≡ Some (inner_content entries)))
-    has_asks = (omega (arith, here.over.height), (here.entries, here.slot_is))
+    has_asks = (omega arith, (here.entries, here.slot_is))
 
     -- the index is less than 8
     pub index_low : get_or indices up 0 < 8
@@ -58,7 +58,7 @@ module _ {K V : Type 0} where
 
       -- the node meets what going to that child requires
       pub turn_asks : ChildAt slots path1 level index
-      turn_asks = (omega (arith, here.over.height), (omega arith, (t.on.node.entries, slot_below, t.low)))
+      turn_asks = (omega arith, (omega arith, (t.on.node.entries, slot_below, t.low)))
 
       -- the path that went there is at the place
       pub turn_moves : {path' indices' : _} → Went slots path1 indices1 level index path' indices' → Moved path indices path' indices' level rows list to
@@ -69,10 +69,10 @@ module _ {K V : Type 0} where
           record {
             head = e.0;
             head_is = cc (here.flat_is, entry_at w.node.before (get_or path1 up 0) w.node.entries w.node.after index w.node.row_is e.1);
-            node_is = some_same _ _ (cc (g.child w.node.entries slot_below, items-read _ _));
+            node_is = some_same (cc (g.child w.node.entries slot_below, items-read _ _));
             stands = rw (← up_is) (subst (λ z. StandsAbove path' indices' up z to) (sym here.rows_are) stands);
-            nodes_below = λ i low. g.nodes i (λ e. omega (arith, low)) ∙ t.nodes_below i (omega (arith, low));
-            entries_below = λ i low. g.entries i (λ e. omega (arith, low)) ∙ t.entries_below i (omega (arith, low));
+            nodes_below = λ i low. g.nodes i (λ e. omega arith) ∙ t.nodes_below i (omega arith);
+            entries_below = λ i low. g.entries i (λ e. omega arith) ∙ t.entries_below i (omega arith);
           }
 
     -- the previous child
@@ -140,10 +140,10 @@ module _ {K V : Type 0} where
 
       -- the node meets what reading its last index requires
       pub back_asks : LastAsked slots (get_or path1 up r)
-      back_asks = last_asks back_node item_count r (omega (arith, here.over.height))
+      back_asks = last_asks back_node item_count r (omega arith)
 
       pub last_turn : get_or indices up 0 ≤ 0 → {last : ℕ} → LastRead slots (get_or path1 up r) last → (0 < place) × Turn path1 indices1 last (place - 1)
-      last_turn none says = let last = last_is back_node item_count r (omega (arith, here.over.height)) says in
+      last_turn none says = let last = last_is back_node item_count r (omega arith) says in
           let seam_is = seam back_node.node stay.node (omega (arith, back.0)) in (
             omega (arith, here.place_is),
             record {

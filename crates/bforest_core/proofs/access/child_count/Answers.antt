@@ -9,4 +9,4 @@ unwrap_inner-requires g c = (search rules, read_as c.args.pool.now.nodes c.args.
 
 pub returns-clause-value : goal.returns-clause-value
 returns-clause-value g c = λ content slot.
-    sym (ap entry_count (sym (read_same c.args.pool.now.nodes c.args.node content c.node.result.now slot c.node.ensures.value) ∙ c.unwrap_inner.ensures.value))
+    sym (ap entry_count (sym (read_same c.args.pool.now.nodes c.args.node slot c.node.ensures.value) ∙ c.unwrap_inner.ensures.value))

@@ -9,7 +9,7 @@ entries-requires g c = (search rules, read_as c.args.pool.now.nodes c.args.node 
 
 pub returns-clause-value : goal.returns-clause-value
 returns-clause-value g c = λ content slot.
-    c.entries.ensures.value ∙ ap entry_count (read_same c.args.pool.now.nodes c.args.node content c.node.result.now slot c.node.ensures.value)
+    c.entries.ensures.value ∙ ap entry_count (read_same c.args.pool.now.nodes c.args.node slot c.node.ensures.value)
 
 pub returns-clause-most : goal.returns-clause-most
 returns-clause-most g c = c.entries.ensures.most

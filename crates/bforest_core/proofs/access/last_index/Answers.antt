@@ -9,12 +9,12 @@ entries-requires g c =
     let w = c.requires.some in (search rules, read_as c.args.pool.now.nodes c.args.node w.1 c.node.ensures.value (λ z. ¬ IsFree z) (not_free w.0 w.2))
 
 pub overflow_sub-result : goal.overflow_sub-result
-overflow_sub-result g c = let w = c.requires.some in let is = read_same c.args.pool.now.nodes c.args.node w.0 c.node.result.now w.1 c.node.ensures.value in
+overflow_sub-result g c = let w = c.requires.some in let is = read_same c.args.pool.now.nodes c.args.node w.1 c.node.ensures.value in
     omega (arith, w.2, c.entries.ensures.value, ap entry_count is)
 
 pub returns-clause-last : goal.returns-clause-last
 returns-clause-last g c = λ content slot.
-    ap (λ z. z - 1) (c.entries.ensures.value ∙ ap entry_count (read_same c.args.pool.now.nodes c.args.node content c.node.result.now slot c.node.ensures.value))
+    ap (λ z. z - 1) (c.entries.ensures.value ∙ ap entry_count (read_same c.args.pool.now.nodes c.args.node slot c.node.ensures.value))
 
 pub returns-clause-most : goal.returns-clause-most
 returns-clause-most g c = omega (arith, c.entries.ensures.most)

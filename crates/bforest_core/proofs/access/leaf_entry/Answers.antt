@@ -7,8 +7,8 @@ pub node-requires : goal.node-requires
 node-requires g c = (search rules, (search rules, slice_get_within c.args.pool.now.nodes c.args.node (leaf_content c.requires.0) c.requires.1))
 
 pub get_entry-requires : goal.get_entry-requires
-get_entry-requires g c = (search rules, subst IsLeaf (some_same (leaf_content c.requires.0) c.node.result.now (sym c.requires.1 ∙ c.node.ensures.value)) tt)
+get_entry-requires g c = (search rules, subst IsLeaf (some_same (sym c.requires.1 ∙ c.node.ensures.value)) tt)
 
 pub returns-clause-value : goal.returns-clause-value
-returns-clause-value g c = λ es slot. let content = some_same c.node.result.now (leaf_content es) (sym c.node.ensures.value ∙ slot) in let i = c.args.index in
+returns-clause-value g c = λ es slot. let content = some_same (sym c.node.ensures.value ∙ slot) in let i = c.args.index in
     pair_answer es i c.get_entry.result (c.get_entry.ensures.key ∙ ap (λ z. slice_get (keys_of z) i) content) (c.get_entry.ensures.value ∙ ap (λ z. slice_get (vals_of z) i) content)

@@ -16,4 +16,4 @@ returns-clause-answer g c = λ es slot.
 
 pub returns-clause-node : goal.returns-clause-node
 returns-clause-node g c = λ es slot.
-    ap (λ z. with_node c.args.pool.now c.args.node z) (c.put.ensures.node ∙ ap (λ z. with_put g.row.N z (search_of (g.C.Comparator.order c.args.comp.now) (keys_of z) c.args.key) c.args.key c.args.value) (read_same c.args.pool.now.nodes c.args.node _ _ slot c.node_mut.ensures.value))
+    ap (λ z. with_node c.args.pool.now c.args.node z) (c.put.ensures.node ∙ ap (λ z. with_put g.row.N z (search_of (g.C.Comparator.order c.args.comp.now) (keys_of z) c.args.key) c.args.key c.args.value) (read_same c.args.pool.now.nodes c.args.node slot c.node_mut.ensures.value))

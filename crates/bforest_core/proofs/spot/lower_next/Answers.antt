@@ -1,4 +1,4 @@
-use Rattle.bforest_core.proofs.{Words.{rules, arith, refl, inl, inr}, walks.OnLevel.{code-low-here, count-asked, next-at, next-said}, walks.Codes.is-below}
+use Rattle.bforest_core.proofs.{Words.{rules, arith, refl, inl, inr}, walks.OnLevel.{code-low-here, count-asked, next-at, next-said}}
 use Rattle.bforest_core.proofs.walks.Branches.{branch-asks}
 use Rattle.bforest_core.proofs.spot.lower_next.Goals as goal
 
@@ -14,9 +14,12 @@ child-requires g c =
 
 pub returns-then-index-child_count : goal.returns-then-index-child_count
 returns-then-index-child_count g c = record {
-  lower = λ root leads. let b = is-below c.below.ensures.code c.below.ensures.parent c.below.ensures.grand c.below.ensures.height in
-      let said = next-said c.requires.index leads c.child_count.ensures.value c.if-index-child_count.true b c.child.ensures in
-      inl ((c.below.result, c.child.result), refl, said, c.below.ensures.height);
+  lower = λ root leads. inl (
+    (c.below.result, c.child.result),
+    refl,
+    next-said c.requires.index leads c.child_count.ensures.value c.if-index-child_count.true (search rules) c.child.ensures,
+    c.below.ensures.height,
+  );
 }
 
 pub returns : goal.returns

@@ -1,4 +1,4 @@
-use Rattle.bforest_core.proofs.{Words.{rules, arith, refl, inl, inr}, walks.OnLevel.{code-low-here, count-asked, prev-at, prev-said}, walks.Codes.is-below}
+use Rattle.bforest_core.proofs.{Words.{rules, arith, refl, inl, inr}, walks.OnLevel.{code-low-here, count-asked, prev-at, prev-said}}
 use Rattle.bforest_core.proofs.walks.Branches.{branch-asks}
 use Rattle.bforest_core.proofs.spot.lower_prev.Goals as goal
 
@@ -10,8 +10,12 @@ child-requires g c = let w = c.requires.way in (search rules, branch-asks (prev-
 
 pub returns-then-index-gt0 : goal.returns-then-index-gt0
 returns-then-index-gt0 g c = record {
-  lower = λ root leads. let b = is-below c.below.ensures.code c.below.ensures.parent c.below.ensures.grand c.below.ensures.height in
-      inl ((c.below.result, c.child.result), refl, prev-said c.requires.index leads c.if-index-gt0.true b c.child.ensures, c.below.ensures.height);
+  lower = λ root leads. inl (
+    (c.below.result, c.child.result),
+    refl,
+    prev-said c.requires.index leads c.if-index-gt0.true (search rules) c.child.ensures,
+    c.below.ensures.height,
+  );
 }
 
 pub returns : goal.returns

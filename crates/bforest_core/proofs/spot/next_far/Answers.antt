@@ -1,6 +1,5 @@
 use Rattle.bforest_core.proofs.{Words.{rules, arith, refl, sym, ap, ◌∙◌, entry_count}, table.Stored.some_same, walks.OnLevel.{stands-low, turn-at, turn-said}}
 use Rattle.bforest_core.proofs.{walks.Branches.branch-asks, walks.Following.{turn-beside, turn-done, turn-down, turn-end, turn-high, turn-more, turn-way}}
-use Rattle.bforest_core.proofs.walks.Codes.{is-below}
 use Rattle.bforest_core.proofs.spot.next_far.Goals as goal
 
 pub loop-here-init : goal.loop-here-init
@@ -10,22 +9,22 @@ pub below-here-requires-clause-code : goal.below-here-requires-clause-code
 below-here-requires-clause-code g c =
     let t = c.loop-here.invariant in let some = turn-more t c.loop-here-test.true in let e = turn-end t some in let way = turn-way e.way some c.requires.over in
     (stands-low (omega arith) e.way.leads way.4
-    (turn-at (omega arith) e.way.leads (λ other found. ap entry_count (some_same _ _ (sym e.slot_is ∙ found))) (omega arith) refl (turn-beside t some) way.4)
+    (turn-at (omega arith) e.way.leads (λ other found. ap entry_count (some_same (sym e.slot_is ∙ found))) (omega arith) refl (turn-beside t some) way.4)
     (turn-high e.way some c.requires.low)).0
 
 pub child-next-requires : goal.child-next-requires
 child-next-requires g c = let t = c.loop-here.invariant in let some = turn-more t c.loop-here-test.true in let e = turn-end t some in
     let way = turn-way e.way some c.requires.over in (
       search rules,
-      branch-asks (turn-at (omega arith) e.way.leads (λ other found. ap entry_count (some_same _ _ (sym e.slot_is ∙ found)))
+      branch-asks (turn-at (omega arith) e.way.leads (λ other found. ap entry_count (some_same (sym e.slot_is ∙ found)))
           (omega arith) refl (turn-beside t some) way.4).branch,
     )
 
 pub loop-here-preserved : goal.loop-here-preserved
 loop-here-preserved g c = let t = c.loop-here.invariant in let some = turn-more t c.loop-here-test.true in let e = turn-end t some in
-    let b = is-below c.below-here.ensures.code c.below-here.ensures.parent c.below-here.ensures.grand c.below-here.ensures.height in
     turn-down t some
-    (turn-said (omega arith) e.way.leads (λ other found. ap entry_count (some_same _ _ (sym e.slot_is ∙ found))) (omega arith) refl (turn-beside t some) b c.child-next.ensures)
+    (turn-said (omega arith) e.way.leads (λ other found. ap entry_count (some_same (sym e.slot_is ∙ found))) (omega arith) refl (turn-beside t some)
+    (search rules) c.child-next.ensures)
     c.below-here.ensures.height
 
 pub returns : goal.returns

@@ -1,5 +1,5 @@
-use Rattle.bforest_core.proofs.{Words.{rules, arith, refl, ◌<◌}, walks.Following.{turn-beside, turn-done, turn-down, turn-end, turn-high, turn-more, turn-way}}
-use Rattle.bforest_core.proofs.{walks.Codes.is-below, walks.OnLevel.{back-at, back-count, back-said, stands-low}, walks.Branches.{branch-asks, branch-low}}
+use Rattle.bforest_core.proofs.{Words.{rules, arith, refl}, walks.Following.{turn-beside, turn-done, turn-down, turn-end, turn-high, turn-more, turn-way}}
+use Rattle.bforest_core.proofs.{walks.OnLevel.{back-at, back-count, back-said, stands-low}, walks.Branches.{branch-asks, branch-low}}
 use Rattle.bforest_core.proofs.spot.prev_far.Goals as goal
 
 pub loop-here-init : goal.loop-here-init
@@ -9,18 +9,12 @@ pub last_index-last-requires : goal.last_index-last-requires
 last_index-last-requires g c = let t = c.loop-here.invariant in let some = turn-more t c.loop-here-test.true in let e = turn-end t some in
     (search rules, back-count (omega arith) e.way.leads (omega arith) refl (turn-beside t some) (turn-way e.way some c.requires.over))
 
-pub below-here-requires-clause-code : goal.below-here-requires-clause-code
-below-here-requires-clause-code g c =
+pub below-here-requires : goal.below-here-requires
+below-here-requires g c =
     let t = c.loop-here.invariant in let some = turn-more t c.loop-here-test.true in let e = turn-end t some in let way = turn-way e.way some c.requires.over in
     let at = back-at (omega arith) e.way.leads (omega arith) refl (turn-beside t some) c.last_index-last.ensures.last way.4 in
-    (stands-low (omega arith) e.way.leads way.4 at (turn-high e.way some c.requires.low)).0
-
-pub below-here-requires-clause-index : goal.below-here-requires-clause-index
-below-here-requires-clause-index g c =
-    let t = c.loop-here.invariant in let some = turn-more t c.loop-here-test.true in let e = turn-end t some in let way = turn-way e.way some c.requires.over in
-    let low : c.last_index-last.result < 8 =
-    branch-low (back-at (omega arith) e.way.leads (omega arith) refl (turn-beside t some) c.last_index-last.ensures.last way.4).branch in
-    omega arith
+    let low = stands-low (omega arith) e.way.leads way.4 at (turn-high e.way some c.requires.low) in
+    record { code = low.0; height = low.1; index = omega (arith, branch-low at.branch) }
 
 pub child-before-requires : goal.child-before-requires
 child-before-requires g c =
@@ -29,9 +23,8 @@ child-before-requires g c =
 
 pub loop-here-preserved : goal.loop-here-preserved
 loop-here-preserved g c = let t = c.loop-here.invariant in let some = turn-more t c.loop-here-test.true in let e = turn-end t some in
-    let b = is-below c.below-here.ensures.code c.below-here.ensures.parent c.below-here.ensures.grand c.below-here.ensures.height in
     turn-down t some
-    (back-said (omega arith) e.way.leads (omega arith) refl (turn-beside t some) c.last_index-last.ensures.last b c.child-before.ensures)
+    (back-said (omega arith) e.way.leads (omega arith) refl (turn-beside t some) c.last_index-last.ensures.last (search rules) c.child-before.ensures)
     c.below-here.ensures.height
 
 pub returns : goal.returns

@@ -1,5 +1,5 @@
 use Rattle.bforest_core.proofs.{Words.{rules, arith, refl}, walks.Following.{begun, turn-high, turn-way, turned, turning-ends, turning-none, turning-on}}
-use Rattle.bforest_core.proofs.{walks.OnLevel.{code-low-here, first-said, index-asked}, walks.Codes.{is-below, root-first}}
+use Rattle.bforest_core.proofs.{walks.OnLevel.{code-low-here, first-said, index-asked}, walks.Codes.{root-first}}
 use Rattle.bforest_core.proofs.spot.turn_back.Goals as goal
 
 pub loop-left-init : goal.loop-left-init
@@ -19,15 +19,11 @@ child-node-requires g c =
     let f = c.loop-left.invariant.0 in (search rules, index-asked (omega arith) f.leads (turn-way f c.loop-left-test.true c.requires.over))
 
 pub loop-left-preserved : goal.loop-left-preserved
-loop-left-preserved g c = let i = c.loop-left.invariant in
-    let b = is-below c.below-here.ensures.code c.below-here.ensures.parent c.below-here.ensures.grand c.below-here.ensures.height in (
-      turned i.0 c.loop-left-test.true b c.child-node.ensures,
-      turning-on i.0 c.loop-left-test.true (c.lower_prev-before.ensures.lower c.args.root i.0.leads) i.1
-          (λ content slot_is none end. first-said (omega arith) i.0.leads (omega (arith, none)) refl refl end) b,
-    )
+loop-left-preserved g c = let i = c.loop-left.invariant in (
+  turned i.0 c.loop-left-test.true (search rules) c.child-node.ensures,
+  turning-on i.0 c.loop-left-test.true (c.lower_prev-before.ensures.lower c.args.root i.0.leads) i.1
+      (λ content slot_is none end. first-said (omega arith) i.0.leads (omega (arith, none)) refl refl end) (search rules),
+)
 
-pub returns-clause-some : goal.returns-clause-some
-returns-clause-some g c = (turning-ends c.loop-left.invariant.0 c.loop-left.invariant.1 c.loop-left-test.false).0
-
-pub returns-clause-none : goal.returns-clause-none
-returns-clause-none g c = (turning-ends c.loop-left.invariant.0 c.loop-left.invariant.1 c.loop-left-test.false).1
+pub returns : goal.returns
+returns g c = let e = turning-ends c.loop-left.invariant.0 c.loop-left.invariant.1 c.loop-left-test.false in record { some = e.0; none = e.1 }

@@ -1,5 +1,5 @@
 use Rattle.bforest_core.proofs.{Words.{rules, arith, refl, sym, ap, ◌∙◌, entry_count}, walks.OnLevel.{code-low-here, index-asked, last-said}}
-use Rattle.bforest_core.proofs.{walks.Following.{begun, turn-high, turn-way, turned, turning-ends, turning-none, turning-on}, walks.Codes.{is-below, root-last}}
+use Rattle.bforest_core.proofs.{walks.Following.{begun, turn-high, turn-way, turned, turning-ends, turning-none, turning-on}, walks.Codes.{root-last}}
 use Rattle.bforest_core.proofs.table.Stored.{some_same}
 use Rattle.bforest_core.proofs.spot.turn_on.Goals as goal
 
@@ -19,15 +19,11 @@ child-node-requires g c =
     let f = c.loop-left.invariant.0 in (search rules, index-asked (omega arith) f.leads (turn-way f c.loop-left-test.true c.requires.over))
 
 pub loop-left-preserved : goal.loop-left-preserved
-loop-left-preserved g c = let i = c.loop-left.invariant in
-    let b = is-below c.below-here.ensures.code c.below-here.ensures.parent c.below-here.ensures.grand c.below-here.ensures.height in (
-      turned i.0 c.loop-left-test.true b c.child-node.ensures,
-      turning-on i.0 c.loop-left-test.true (c.lower_next-next.ensures.lower c.args.root i.0.leads) i.1 (λ content slot_is none end. last-said (omega arith)
-          i.0.leads (λ other found. ap entry_count (some_same content other (sym slot_is ∙ found))) (omega arith) refl refl end) b,
-    )
+loop-left-preserved g c = let i = c.loop-left.invariant in (
+  turned i.0 c.loop-left-test.true (search rules) c.child-node.ensures,
+  turning-on i.0 c.loop-left-test.true (c.lower_next-next.ensures.lower c.args.root i.0.leads) i.1 (λ content slot_is none end. last-said (omega arith)
+      i.0.leads (λ other found. ap entry_count (some_same (sym slot_is ∙ found))) (omega arith) refl refl end) (search rules),
+)
 
 pub returns : goal.returns
-returns g c = record {
-  some = (turning-ends c.loop-left.invariant.0 c.loop-left.invariant.1 c.loop-left-test.false).0;
-  none = (turning-ends c.loop-left.invariant.0 c.loop-left.invariant.1 c.loop-left-test.false).1;
-}
+returns g c = let e = turning-ends c.loop-left.invariant.0 c.loop-left.invariant.1 c.loop-left-test.false in record { some = e.0; none = e.1 }

@@ -3,7 +3,7 @@ use Rattle.bforest_core.proofs.walks.Backward.{at_end}
 use Rattle.bforest_core.proofs.path.Path.entry.Goals as goal
 
 pub entry_here-requires : goal.entry_here-requires
-entry_here-requires g c = (search rules, (search rules, here-leaf _ _ _ c.requires.union (c.requires.stands (λ e. omega (arith, e, c.if-self-gt0.true))).on))
+entry_here-requires g c = (search rules, (search rules, here-leaf c.requires.union (c.requires.stands (λ e. omega (arith, e, c.if-self-gt0.true))).on))
 
 pub returns-else-self-gt0 : goal.returns-else-self-gt0
 returns-else-self-gt0 g c = let past = λ (at : Standing c.args.pool.now c.args.self.now). at_end _ _ _ _ _ (omega arith) at.at.at in
@@ -11,5 +11,5 @@ returns-else-self-gt0 g c = let past = λ (at : Standing c.args.pool.now c.args.
 
 pub returns-then-self-gt0 : goal.returns-then-self-gt0
 returns-then-self-gt0 g c =
-    let on = λ (at : Standing c.args.pool.now c.args.self.now). some-on c.args.pool.now at.root c.args.self.now at.place at.at c.if-self-gt0.true in
-    record { value = λ at. sym (here-entry at.root c.args.self.now at.place c.requires.union (on at) c.entry_here.ensures); end = λ none. absurd (omega arith) }
+    let on = λ (at : Standing c.args.pool.now c.args.self.now). some-on c.args.pool.now c.args.self.now at.at c.if-self-gt0.true in
+    record { value = λ at. sym (here-entry c.requires.union (on at) c.entry_here.ensures); end = λ none. absurd (omega arith) }

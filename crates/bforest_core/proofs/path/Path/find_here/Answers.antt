@@ -5,11 +5,11 @@ use Rattle.bforest_core.proofs.path.Path.find_here.Goals as goal
 
 pub entry_here-here-requires : goal.entry_here-here-requires
 entry_here-here-requires g c = let at = c.requires.stands in
-    (search rules, (search rules, here-leaf c.args.root c.args.self.now at.place c.requires.union (some-on c.args.pool.now c.args.root c.args.self.now at.place at.at c.if-self-gt0.true)))
+    (search rules, (search rules, here-leaf c.requires.union (some-on c.args.pool.now c.args.self.now at.at c.if-self-gt0.true)))
 
 pub returns-in-Equal : goal.returns-in-Equal
-returns-in-Equal g c = let at = c.requires.stands in let on = some-on c.args.pool.now c.args.root c.args.self.now at.place at.at c.if-self-gt0.true in
-    let e = here-equal c.args.root c.args.self.now at.place c.requires.union on c.entry_here-here.ensures (g.met.C.Comparator.total c.args.comp.now) c.args.key c.requires.increasing (sym c.cmp.ensures ∙ c.in-Equal.is) in
+returns-in-Equal g c = let at = c.requires.stands in let on = some-on c.args.pool.now c.args.self.now at.at c.if-self-gt0.true in
+    let e = here-equal c.requires.union on c.entry_here-here.ensures (g.met.C.Comparator.total c.args.comp.now) c.args.key c.requires.increasing (sym c.cmp.ensures ∙ c.in-Equal.is) in
     record { value = e.value; present = e.present; absent = e.absent }
 
 pub returns-in-Greater : goal.returns-in-Greater
@@ -17,11 +17,11 @@ returns-in-Greater g c = record { value = search rules; present = search rules; 
 
 pub returns-in_default : goal.returns-in_default
 returns-in_default g c = let order = g.C.Comparator.order c.args.comp.now in let o = g.met.C.Comparator.total c.args.comp.now in let at = c.requires.stands in
-    let e = before-none o c.args.pool.now c.args.root c.args.key c.requires.increasing c.prev.new.self at.place (c.prev.ensures.value at) (c.prev.ensures.stands at) c.requires.union (elim c.if-self-gt0.branch [
-      | then-self-gt0+in-Less w ↦ here-greater c.args.root c.args.self.now at.place c.requires.union (some-on c.args.pool.now c.args.root
-          c.args.self.now at.place
+    let e = before-none o c.args.pool.now c.args.key c.requires.increasing c.prev.new.self at.place (c.prev.ensures.value at) (c.prev.ensures.stands at) c.requires.union (elim c.if-self-gt0.branch [
+      | then-self-gt0+in-Less w ↦ here-greater c.requires.union (some-on c.args.pool.now
+          c.args.self.now
           at.at w.if-self-gt0.true) w.entry_here-here.ensures o c.args.key (sym w.cmp.ensures ∙ w.in-Less.is)
-      | else-self-gt0 w ↦ none-left c.args.pool.now c.args.root c.args.self.now at.place at.at order c.args.key (omega arith)
+      | else-self-gt0 w ↦ none-left c.args.pool.now c.args.self.now at.at order c.args.key (omega arith)
     ]) c.in_default.is in
     record { value = e.value; present = e.present; absent = e.absent }
 
@@ -30,7 +30,7 @@ set_entry-requires g c = (search rules, behind-low _ _ _ c.requires.union _ (c.p
 
 pub returns-in-Equal-cmp : goal.returns-in-Equal-cmp
 returns-in-Equal-cmp g c = let at = c.requires.stands in
-    let e = before-equal (g.met.C.Comparator.total c.args.comp.now) c.args.pool.now c.args.root c.args.key c.requires.increasing c.prev.new.self at.place
+    let e = before-equal (g.met.C.Comparator.total c.args.comp.now) c.args.pool.now c.args.key c.requires.increasing c.prev.new.self at.place
     (c.prev.ensures.value at) (c.prev.ensures.stands at) c.in-Some.is (sym c.cmp-2.ensures ∙ c.in-Equal-cmp.is) in
     record { value = e.value; present = e.present; absent = e.absent }
 
@@ -38,12 +38,12 @@ pub returns-in-Greater-cmp : goal.returns-in-Greater-cmp
 returns-in-Greater-cmp g c =
     let order = g.C.Comparator.order c.args.comp.now in let o = g.met.C.Comparator.total c.args.comp.now in let at = c.requires.stands in
     let set = c.set_entry.ensures in
-    let e = before-greater o c.args.pool.now c.args.root c.args.key c.requires.increasing c.prev.new.self at.place
+    let e = before-greater o c.args.pool.now c.args.key c.requires.increasing c.prev.new.self at.place
     (c.prev.ensures.value at) (c.prev.ensures.stands at) c.in-Some.is c.set_entry.new.self c.requires.union set.nodes
     set.here set.above set.size (elim c.if-self-gt0.branch [
-      | then-self-gt0+in-Less w ↦ here-greater c.args.root c.args.self.now at.place c.requires.union (some-on c.args.pool.now c.args.root
-          c.args.self.now at.place
+      | then-self-gt0+in-Less w ↦ here-greater c.requires.union (some-on c.args.pool.now
+          c.args.self.now
           at.at w.if-self-gt0.true) w.entry_here-here.ensures o c.args.key (sym w.cmp.ensures ∙ w.in-Less.is)
-      | else-self-gt0 w ↦ none-left c.args.pool.now c.args.root c.args.self.now at.place at.at order c.args.key (omega arith)
+      | else-self-gt0 w ↦ none-left c.args.pool.now c.args.self.now at.at order c.args.key (omega arith)
     ]) (sym c.cmp-2.ensures ∙ c.in-Greater-cmp.is) in
     record { value = e.value; present = λ here. absurd (no-value order c.args.key (list_under c.args.pool.now c.args.root) e.value here); absent = e.absent }

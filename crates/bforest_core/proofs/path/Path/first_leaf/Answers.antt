@@ -1,5 +1,6 @@
-use Rattle.bforest_core.proofs.{Words.{rules, [], refl, sym, ◌∙◌, arith, false≢true, get_or_default}, walks.Standing.{led-root, root-below, under-root}}
+use Rattle.bforest_core.proofs.{Words.{rules, [], refl, sym, arith, get_or_default}, walks.Standing.{led-root, root-below, under-root}}
 use Rattle.bforest_core.proofs.{walks.TopNode.node_within, walks.Leaves.{leaf-front, root-leaf}}
+use Rattle.bforest_core.proofs.walks.Reading.{not_so}
 use Rattle.bforest_core.proofs.path.Path.first_leaf.Goals as goal
 
 pub node-requires : goal.node-requires
@@ -8,7 +9,7 @@ node-requires g c = let u = under-root c.args.root c.requires.union c.requires.r
 
 pub returns-then-not-is_inner : goal.returns-then-not-is_inner
 returns-then-not-is_inner g c =
-    let on = c.set_root_node.ensures.stands c.args.pool.now c.requires.union c.requires.root (root-leaf c.requires.union _ _ c.requires.root c.node.ensures.value (λ inner. false≢true (sym c.if-not-is_inner.true ∙ c.is_inner.ensures.inner.1 inner))) in
+    let on = c.set_root_node.ensures.stands c.args.pool.now c.requires.union c.requires.root (root-leaf c.requires.union _ _ c.requires.root c.node.ensures.value (not_so c.if-not-is_inner.true c.is_inner.ensures.inner)) in
     record { leaf = sym c.set_root_node.ensures.leaf; index = omega arith; stands = leaf-front c.requires.union 0 _ on (omega arith) }
 
 pub overflow_sub-levels : goal.overflow_sub-levels

@@ -13,9 +13,9 @@ descend_last-requires g c = let u = under-root c.args.root c.requires.union c.re
 pub entry_here-requires : goal.entry_here-requires
 entry_here-requires g c =
     let on = led-root c.args.root c.requires.union c.requires.root c.levels-height.ensures.value refl (λ leaves. length (flat leaves) - 1) c.descend_last.ensures.size c.descend_last.ensures.led in
-    (search rules, (search rules, here-leaf _ _ _ c.requires.union on))
+    (search rules, (search rules, here-leaf c.requires.union on))
 
 pub returns : goal.returns
 returns g c =
     let on = led-root c.args.root c.requires.union c.requires.root c.levels-height.ensures.value refl (λ leaves. length (flat leaves) - 1) c.descend_last.ensures.size c.descend_last.ensures.led in
-    record { value = here-entry c.args.root c.descend_last.new.self _ c.requires.union on c.entry_here.ensures; stands = on }
+    record { value = here-entry c.requires.union on c.entry_here.ensures; stands = on }

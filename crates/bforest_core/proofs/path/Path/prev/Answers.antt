@@ -7,22 +7,22 @@ module _ {K V : Type 0} {n : ℕ} {table : Table K V} (union : IsUnion n table) 
   -- from the end the previous entry is the last
   end_back : old.size ≡ 0 → (e : K × V) → slice_get (list_under table root) (length (list_under table root) - 1) ≡ Some e → StandsOn table root new (length (list_under table root) - 1) → (Some e ≡ entry_before (list_under table root) place) × StandsOn table root new (place - 1)
   end_back none e read_is on = let end = at_end _ _ _ _ _ none at.at in
-      (sym read_is ∙ ap (λ z. slice_get (list_under table root) (z - 1)) (sym end) ∙ before_is (list_under table root) place (omega (arith, on-within table root new _ on)), rw end on)
+      (sym read_is ∙ ap (λ z. slice_get (list_under table root) (z - 1)) (sym end) ∙ before_is (list_under table root) place (omega (arith, on-within table new on)), rw end on)
 
   -- the entry read after the move is the previous one
   read_back : (0 < place) × StandsOn table root new (place - 1) → (e : K × V) → ((entries : List (K × V)) → slice_get table.nodes (leaf_of new) ≡ Some (leaf_content entries) → slice_get entries (index_of new) ≡ Some e) → Some e ≡ entry_before (list_under table root) place
-  read_back back e read_is = sym (here-entry _ _ _ union back.1 read_is) ∙ before_is _ _ back.0
+  read_back back e read_is = sym (here-entry union back.1 read_is) ∙ before_is _ _ back.0
 
   module _ (some : old.size ≢ 0) where
     -- the path moved to the previous entry
     went_back : new.size ≡ old.size → ((tree : Tree K V) (place : ℕ) → IsFit n tree → IsIn table.nodes tree → Stands old.node old.entry old.size tree place → (0 < place) × Stands new.node new.entry old.size tree (place - 1)) → (0 < place) × StandsOn table root new (place - 1)
-    went_back same says = let r = said union old (some-on table root old place at (omega arith)) says in
+    went_back same says = let r = said union old (some-on table old at (omega arith)) says in
         (r.0, record { root_is = at.root_is; stands = subst (λ z. Stands new.node new.entry z (tree_of table.nodes root) (place - 1)) (sym same) r.1 })
 
     -- at the first entry the path stays
     stayed : new ≡ old → ((tree : Tree K V) (place : ℕ) → IsFit n tree → IsIn table.nodes tree → Stands old.node old.entry old.size tree place → place ≡ 0) → (None ≡ entry_before (list_under table root) place) × StandsOn table root new (place - 1)
-    stayed same says = let first = said union old (some-on table root old place at (omega arith)) says in
-        (ap (λ z. entry_before (list_under table root) z) (sym first), rw same (subst (λ z. StandsOn table root old z) (omega (arith, first)) (some-on table root old place at (omega (arith, some)))))
+    stayed same says = let first = said union old (some-on table old at (omega arith)) says in
+        (ap (λ z. entry_before (list_under table root) z) (sym first), rw same (subst (λ z. StandsOn table root old z) (omega (arith, first)) (some-on table old at (omega (arith, some)))))
 
 pub returns-then-self-eq0 : goal.returns-then-self-eq0
 returns-then-self-eq0 g c = record {
@@ -32,12 +32,12 @@ returns-then-self-eq0 g c = record {
 
 pub prev_entry-requires : goal.prev_entry-requires
 prev_entry-requires g c =
-    (search rules, (search rules, (c.requires.union.1.capacity, on-asks c.requires.union c.args.self.now (some-on c.args.pool.now c.args.root c.args.self.now c.requires.stands.place c.requires.stands.at (omega arith)))))
+    (search rules, (search rules, (c.requires.union.1.capacity, on-asks c.requires.union c.args.self.now (some-on c.args.pool.now c.args.self.now c.requires.stands.at (omega arith)))))
 
 pub entry_here-requires : goal.entry_here-requires
 entry_here-requires g c =
     let back = went_back c.requires.union c.args.self.now c.prev_entry.new.self c.requires.stands.at c.if-self-eq0.false c.prev_entry.ensures.size (c.prev_entry.ensures.moved c.if-prev_entry.true) in
-    (search rules, (search rules, here-leaf _ _ _ c.requires.union back.1))
+    (search rules, (search rules, here-leaf c.requires.union back.1))
 
 pub returns-then-prev_entry : goal.returns-then-prev_entry
 returns-then-prev_entry g c = record {

@@ -8,23 +8,23 @@ pub prev_turn-turn-requires : goal.prev_turn-turn-requires
 prev_turn-turn-requires g c = (search rules, (c.requires.height, omega (arith, c.requires.over.3.height)))
 
 pub returns-then-turn-self-clause-first : goal.returns-then-turn-self-clause-first
-returns-then-turn-self-clause-first g c = λ no. far-first c.args.pool.now.nodes c.args.self.now.node c.args.self.now.entry c.requires.height c.prev_turn-turn.ensures.within c.prev_turn-turn.ensures.first c.if-turn-self.true
+returns-then-turn-self-clause-first g c = λ no. far-first c.requires.height c.prev_turn-turn.ensures.within c.prev_turn-turn.ensures.first c.if-turn-self.true
 
 pub overflow_sub-index : goal.overflow_sub-index
 overflow_sub-index g c = c.prev_turn-turn.ensures.turns c.if-turn-self.false
 
 pub go_to_child-requires : goal.go_to_child-requires
 go_to_child-requires g c = let said = c.prev_turn-turn.ensures in
-    (search rules, (search rules, before-goes c.args.pool.now.nodes c.args.self.now.node c.args.self.now.entry c.requires.height said.within said.first c.if-turn-self.false (said.turns c.if-turn-self.false) c.requires.over))
+    (search rules, (search rules, before-goes c.requires.height said.within said.first c.if-turn-self.false (said.turns c.if-turn-self.false) c.requires.over))
 
 pub go_last-requires : goal.go_last-requires
 go_last-requires g c = let said = c.prev_turn-turn.ensures in let w' = c.go_to_child.ensures in let s = c.args.self.now in
-    let went-back = turned-back c.args.pool.now.nodes s.node s.entry c.requires.height said.within said.first
+    let went-back = turned-back c.requires.height said.within said.first
     c.if-turn-self.false (said.turns c.if-turn-self.false) (went w'.child w'.nodes w'.entry w'.entries) in
     (search rules, (search rules, (omega (arith, said.within), (s.node, s.entry, s.size, went-back, c.requires.over))))
 
 pub returns-clause-moved : goal.returns-clause-moved
 returns-clause-moved g c = λ yes. let said = c.prev_turn-turn.ensures in let w' = c.go_to_child.ensures in
     c.go_last.ensures.moved c.args.self.now.node c.args.self.now.entry c.args.self.now.size
-    (turned-back c.args.pool.now.nodes c.args.self.now.node c.args.self.now.entry c.requires.height said.within said.first
+    (turned-back c.requires.height said.within said.first
     c.if-turn-self.false (said.turns c.if-turn-self.false) (went w'.child w'.nodes w'.entry w'.entries))

@@ -18,7 +18,7 @@ free_below-free_node-requires g t c = let one = c.requires.capacity in let w = c
 
 pub free_below-returns-else-is_inner : goal.free_below-returns-else-is_inner
 free_below-returns-else-is_inner g t c = λ leaves lower first under apart. let one = c.requires.capacity in let o = under-open one under in
-    let content : c.node.result.now ≡ o.content = some_same _ _ (sym c.node.ensures.value ∙ o.slot_is) in
+    let content : c.node.result.now ≡ o.content = some_same (sym c.node.ensures.value ∙ o.slot_is) in
     let other : IsInner o.content → ⊥ = λ i. false≢true (sym c.if-is_inner.false ∙ c.is_inner.ensures.inner.1 (subst IsInner (sym content) i)) in
     rw c.free_node.ensures.freed (gives-leaf one c.args.self.now apart o other)
 
@@ -34,14 +34,14 @@ free_under-node-requires g t c = let w = c.requires.under in let s = c.loop-inde
 
 pub free_under-child-child-requires : goal.free_under-child-child-requires
 free_under-child-child-requires g t c = let w = c.requires.under in let s = c.loop-index.invariant w.0 w.1 w.4 (under-open c.requires.capacity w.3) in
-    let content : c.node.result.now ≡ s.opened.content = some_same _ _ (sym c.node.ensures.value ∙ s.slot_is) in
+    let content : c.node.result.now ≡ s.opened.content = some_same (sym c.node.ensures.value ∙ s.slot_is) in
     let n = c.child_count-index-end.ensures s.opened.content s.opened.slot_is in let inner = inner-children _ (omega arith) in
     (search rules, (subst IsInner (sym content) inner.0, (let e = ap entry_count content in omega arith)))
 
 pub free_under-free_below-requires : goal.free_under-free_below-requires
 free_under-free_below-requires g t c κs within =
     let one = c.requires.capacity in let w = c.requires.under in let s = c.loop-index.invariant w.0 w.1 w.4 (under-open one w.3) in
-    let content : c.node.result.now ≡ s.opened.content = some_same _ _ (sym c.node.ensures.value ∙ s.slot_is) in
+    let content : c.node.result.now ≡ s.opened.content = some_same (sym c.node.ensures.value ∙ s.slot_is) in
     let x = child_turn one s (ap (λ z. slice_get (children_of z) c.loop-index.index) (sym content) ∙ c.child-child.ensures.child) in
     let high = s.opened.height (omega arith) in let low : suc (c.args.depth + length x.3.cut.lower_left) ≤ 16 = omega arith in
     let under = subst (λ z. Under g.row.N c.loop-index.self.nodes x.3.cut.leaves_left x.3.cut.lower_left ((x.0.0, z) ∷ [])) x.1 x.3.under in
@@ -49,7 +49,7 @@ free_under-free_below-requires g t c κs within =
 
 pub free_under-loop-index-preserved : goal.free_under-loop-index-preserved
 free_under-loop-index-preserved g t c = λ leaves lower apart o. let one = c.requires.capacity in let s = c.loop-index.invariant leaves lower apart o in
-    let content = some_same c.node.result.now s.opened.content (sym c.node.ensures.value ∙ s.slot_is) in
+    let content = some_same (sym c.node.ensures.value ∙ s.slot_is) in
     let x = child_turn one s (ap (λ z. slice_get (children_of z) c.loop-index.index) (sym content) ∙ c.child-child.ensures.child) in
     let under = subst (λ z. Under g.row.N c.loop-index.self.nodes x.3.cut.leaves_left x.3.cut.lower_left ((x.0.0, z) ∷ [])) x.1 x.3.under in
     let gone =

@@ -1,5 +1,6 @@
-use Rattle.bforest_core.proofs.{Words.{false≢true, rules, [], length, sym, ap, ◌∙◌, arith}, walks.Leading.{front_asks, front_below}}
+use Rattle.bforest_core.proofs.{Words.{rules, [], length, ap, arith}, walks.Leading.{front_asks, front_below}}
 use Rattle.bforest_core.proofs.walks.TopNode.{node_within, leaf_under}
+use Rattle.bforest_core.proofs.walks.Reading.{not_so}
 use Rattle.bforest_core.proofs.pool.NodePool.+levels_from.Goals as goal
 
 pub node-requires : goal.node-requires
@@ -31,5 +32,5 @@ returns-then-is_inner g t c = λ leaves lower first b u. let d = front_below c.r
 
 pub returns-else-is_inner : goal.returns-else-is_inner
 returns-else-is_inner g t c = λ leaves lower first b u.
-    let s = leaf_under c.requires.capacity [] first c.args.node b u c.node.ensures.value (λ i. false≢true (sym c.if-is_inner.false ∙ c.is_inner.ensures.inner.1 i)) in
+    let s = leaf_under c.requires.capacity [] first c.args.node b u c.node.ensures.value (not_so c.if-is_inner.false c.is_inner.ensures.inner) in
     omega (arith, ap length s.lower_is)

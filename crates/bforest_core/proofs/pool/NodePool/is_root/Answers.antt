@@ -18,7 +18,7 @@ module _ {K V : Type 0} where
   -- a used slot that no node names is a root
   root_if : (slots : List (Content K V)) (n : ℕ) (content : Content K V) (free child : Bool) → slice_get slots n ≡ Some content → (IsTrue free ↔ IsFree content) → (IsTrue child ↔ (0 < count n (flat_map children_of slots))) → not free ≡ true → not child ≡ is_root slots n
   unfolding is_root
-  root_if slots n content free child found f c used = let b = none_named _ _ c in rw ((ap is_used (slot-is _ n _ found) ∙ used_of _ _ f ∙ used), b) refl
+  root_if slots n content free child found f c used = let b = none_named _ _ c in rw ((ap is_used (slot-is _ n found) ∙ used_of _ _ f ∙ used), b) refl
 
   -- a free or absent slot is no root
   unused_root : (slots : List (Content K V)) (n : ℕ) → is_used (slot slots n) ≡ false → false ≡ is_root slots n
@@ -36,7 +36,7 @@ returns-then-not-is_free g c = record {
 pub returns-else-not-is_free : goal.returns-else-not-is_free
 returns-else-not-is_free g c = record {
   value = c.if-not-is_free.false ∙ elim c.if-number-slots.branch [
-    | then-number-slots w ↦ unused_root c.args.self.now.nodes c.args.node (ap is_used (slot-is c.args.self.now.nodes c.args.node w.node.result.now w.node.ensures.value) ∙ used_of w.node.result.now w.is_free.result w.is_free.ensures.free ∙ sym w.value-is ∙ c.if-not-is_free.false)
+    | then-number-slots w ↦ unused_root c.args.self.now.nodes c.args.node (ap is_used (slot-is c.args.self.now.nodes c.args.node w.node.ensures.value) ∙ used_of w.node.result.now w.is_free.result w.is_free.ensures.free ∙ sym w.value-is ∙ c.if-not-is_free.false)
     | else-number-slots w ↦ unused_root c.args.self.now.nodes c.args.node (ap is_used (get_or_past c.args.self.now.nodes c.args.node (Free None) (omega arith)))
   ];
 }

@@ -15,13 +15,13 @@ returns-in-Ok-clause-ok g c = let size : vec_len c.self.inside.nodes ≡ length 
 
 pub returns-in-Ok-clause-full : goal.returns-in-Ok-clause-full
 returns-in-Ok-clause-full g c =
-    (λ is. absurd cc, λ short. absurd (finds_room _ _ _ _ _ c.self.view_is c.self.invariant.counted (omega arith) c.if-missing-self.false short))
+    (λ is. absurd cc, λ short. absurd (finds_room _ c.self.invariant c.self.view_is (omega arith) c.if-missing-self.false short))
 
 pub returns-in-Ok-clause-memory : goal.returns-in-Ok-clause-memory
 returns-in-Ok-clause-memory g c = λ is. absurd cc
 
 pub returns-in-Ok-clause-numbers : goal.returns-in-Ok-clause-numbers
-returns-in-Ok-clause-numbers g c = few_slots _ _ _ c.self.view_is c.self.invariant.slots_within c.self.invariant.limit_within
+returns-in-Ok-clause-numbers g c = few_slots c.self.invariant c.self.view_is
 
 pub returns-in-Ok-clause-free : goal.returns-in-Ok-clause-free
 returns-in-Ok-clause-free g c = reserved-frees _ _ (returns-in-Ok-clause-ok g c)
@@ -30,14 +30,14 @@ pub returns-in-Ok-clause-trees : goal.returns-in-Ok-clause-trees
 returns-in-Ok-clause-trees g c = λ union. reserved-keeps _ _ _ (returns-in-Ok-clause-ok g c) union
 
 pub returns-then-n-self : goal.returns-then-n-self
-returns-then-n-self g c = let ok = stays_reserved _ _ _ _ _ c.self.view_is c.self.invariant.counted refl c.if-n-self.true in
+returns-then-n-self g c = let ok = stays_reserved _ c.self.invariant c.self.view_is refl c.if-n-self.true in
     record {
       ok = ok;
       err = tt;
-      full = (λ is. absurd cc, λ short. absurd (has_room _ _ _ _ _ c.self.view_is c.self.invariant.counted refl c.if-n-self.true short));
+      full = (λ is. absurd cc, λ short. absurd (has_room _ c.self.invariant c.self.view_is refl c.if-n-self.true short));
       memory = λ is. absurd cc;
       enough = λ enough. refl;
-      numbers = few_slots _ _ _ c.self.view_is c.self.invariant.slots_within c.self.invariant.limit_within;
+      numbers = few_slots c.self.invariant c.self.view_is;
       free = reserved-frees _ _ ok;
       trees = λ union. same-keeps _ refl union;
     }
@@ -46,10 +46,10 @@ pub returns-then-missing-self : goal.returns-then-missing-self
 returns-then-missing-self g c = record {
   ok = tt;
   err = refl;
-  full = (λ is. lacks_room _ _ _ _ _ c.self.view_is c.self.invariant.counted (omega arith) c.if-n-self.false c.if-missing-self.true, λ short. refl);
+  full = (λ is. lacks_room _ c.self.invariant c.self.view_is (omega arith) c.if-n-self.false c.if-missing-self.true, λ short. refl);
   memory = λ is. absurd cc;
-  enough = λ enough. absurd (not_enough _ _ _ _ _ c.self.view_is c.self.invariant.counted refl c.if-n-self.false enough);
-  numbers = few_slots _ _ _ c.self.view_is c.self.invariant.slots_within c.self.invariant.limit_within;
+  enough = λ enough. absurd (not_enough _ c.self.invariant c.self.view_is refl c.if-n-self.false enough);
+  numbers = few_slots c.self.invariant c.self.view_is;
   free = tt;
   trees = λ union. same-keeps _ refl union;
 }
@@ -58,10 +58,10 @@ pub returns-in-Err : goal.returns-in-Err
 returns-in-Err g c = record {
   ok = tt;
   err = rw c.in-Err.ensures.err c.self.view_is;
-  full = (λ is. absurd cc, λ short. absurd (finds_room _ _ _ _ _ c.self.view_is c.self.invariant.counted (omega arith) c.if-missing-self.false short));
-  memory = λ is. needs_growth _ _ _ _ _ c.self.view_is c.self.invariant.counted (omega arith) c.if-n-self.false c.if-missing-self.false;
-  enough = λ enough. absurd (not_enough _ _ _ _ _ c.self.view_is c.self.invariant.counted refl c.if-n-self.false enough);
-  numbers = few_slots _ _ _ c.self.view_is c.self.invariant.slots_within c.self.invariant.limit_within;
+  full = (λ is. absurd cc, λ short. absurd (finds_room _ c.self.invariant c.self.view_is (omega arith) c.if-missing-self.false short));
+  memory = λ is. needs_growth _ c.self.invariant c.self.view_is (omega arith) c.if-n-self.false c.if-missing-self.false;
+  enough = λ enough. absurd (not_enough _ c.self.invariant c.self.view_is refl c.if-n-self.false enough);
+  numbers = few_slots c.self.invariant c.self.view_is;
   free = tt;
   trees = λ union. same-keeps _ (rw c.in-Err.ensures.err c.self.view_is) union;
 }

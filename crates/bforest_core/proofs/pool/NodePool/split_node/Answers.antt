@@ -19,7 +19,8 @@ invariant_of-self g c =
     rw (c.as_mut_slice.ensures.value, refilled_two c.self.inside.nodes.items c.number.result c.number-2.result c.split.new.rhs c.split.new.self (vec_len c.self.inside.nodes) (omega arith)) pair.0
 
 pub returns : goal.returns
-returns g c =
+returns g c = let refilled = refilled_two c.self.inside.nodes.items c.number.result c.number-2.result c.split.new.rhs c.split.new.self
+    (vec_len c.self.inside.nodes) (omega arith) in
     let off_left = rw (← c.take_slot-right.ensures.table) at (off-without_front c.args.self.now c.args.self.now.chain c.args.left refl c.requires.used.off_chain) in
     let pair = IsPool-set_two _ _ _ _ c.split.new.rhs c.split.new.self c.self.view_is c.number.ensures.value c.number-2.ensures.value c.take_slot-right.ensures.used.off_chain off_left c.self.invariant in
     let within = rw (← c.self.view_is) at c.take_slot-right.ensures.used.within in
@@ -37,14 +38,14 @@ returns g c =
           with_front-is c.args.self.now c.args.self.now.chain c.split.new.rhs c.take_slot-right.ensures.node,
           ← c.take_slot-right.ensures.table,
           c.as_mut_slice.ensures.value,
-          refilled_two c.self.inside.nodes.items c.number.result c.number-2.result c.split.new.rhs c.split.new.self (vec_len c.self.inside.nodes) (omega arith),
+          refilled,
           pair.1,
           ← c.self.view_is,
           c.number.ensures.value,
           c.number-2.ensures.value,
         );
       };
-      used = rw (c.as_mut_slice.ensures.value, refilled_two c.self.inside.nodes.items c.number.result c.number-2.result c.split.new.rhs c.split.new.self (vec_len c.self.inside.nodes) (omega arith))
+      used = rw (c.as_mut_slice.ensures.value, refilled)
           (record { within = rw (length-set, length-set) within; off_chain = rw pair.1 (rw (← c.self.view_is) at c.take_slot-right.ensures.used.off_chain) });
       capacity = c.self.invariant.capacity;
     }

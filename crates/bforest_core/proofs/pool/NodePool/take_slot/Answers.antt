@@ -1,15 +1,16 @@
-use Rattle.bforest_core.proofs.Words.{slice_get_read, rules, ◌≡◌, ℕ, ◌-◌, ◌<◌, false, List, ◌∷◌, length, slice_get, nat_eq, Option, Some, refl, sym, ap, ◌∙◌}
+use Rattle.bforest_core.proofs.Words.{get_or, slice_get_read, rules, ◌≡◌, ℕ, ◌-◌, ◌<◌, false, List, ◌∷◌, length, slice_get, nat_eq, Option, Some, refl, sym}
+use Rattle.bforest_core.proofs.Words.{ap, ◌∙◌}
 use Rattle.bforest_core.proofs.{Words.{subst, arith, list_any, slice_get_within, Content, Free, IsFree, Table, chain_from, IsPool}, table.Chains.front_of-is}
 use Rattle.bforest_core.proofs.{table.Pools.{IsPool-taken, first_some, front_is_free}, table.Stored.read_same}
 use Rattle.bforest_core.proofs.pool.NodePool.take_slot.Goals as goal
 
 -- the fields of a pool, and the front of its chain as read
 module _ {K V : Type 0} {n : ℕ} {nodes : List (Content K V)} {first : Option ℕ} {free limit : ℕ} (pool : IsPool n nodes first free limit)
-    (t : Table K V) (view : record { nodes = nodes; chain = chain_from nodes free first; limit = limit } ≡ t) (room : 0 < length t.chain) where
+    {t : Table K V} (view : record { nodes = nodes; chain = chain_from nodes free first; limit = limit } ≡ t) (room : 0 < length t.chain) where
   some : 0 < free
   some = omega (arith, ap (λ z. length z.chain) view)
 
-  module _ (number node : ℕ) (front_is : Option ℕ) (reads_first : front_is ≡ first) (unwraps : front_is ≡ Some node) (number_is : number ≡ node) where
+  module _ {number node : ℕ} {front_is : Option ℕ} (reads_first : front_is ≡ first) (unwraps : front_is ≡ Some node) (number_is : number ≡ node) where
     first_is : first ≡ Some number
     first_is = sym reads_first ∙ unwraps ∙ ap Some (sym number_is)
 
@@ -22,43 +23,41 @@ module _ {K V : Type 0} {n : ℕ} {nodes : List (Content K V)} {first : Option �
     within : number < length nodes
     within = slice_get_within _ _ _ front.1
 
-    module _ (content : Content K V) (reads : number < length nodes → slice_get nodes number ≡ Some content) where
-      is_free : IsFree content
-      is_free = subst IsFree (sym (read_same nodes number (Free front.0) content front.1 (reads within))) tt
+    module _ {content : Content K V} (reads : content ≡ get_or nodes number content) where
+      found : slice_get nodes number ≡ Some content
+      found = slice_get_read nodes (length nodes) number content refl within reads
 
-      module _ (next : Option ℕ) (next_is : content ≡ Free next) where
-        taken : IsPool n nodes next (free - 1) limit × (chain_from nodes free first ≡ number ∷ chain_from nodes (free - 1) next) × (list_any (nat_eq number) (chain_from nodes (free - 1) next) ≡ false)
-        taken = let w = IsPool-taken next free some here (reads within ∙ ap Some next_is) in (w.0, ap (λ z. chain_from nodes free z) first_is ∙ w.1, w.2)
+      is_free : IsFree content
+      is_free = subst IsFree (sym (read_same nodes number front.1 found)) tt
+
+      taken : {next : Option ℕ} → content ≡ Free next → IsPool n nodes next (free - 1) limit
+          × (chain_from nodes free first ≡ number ∷ chain_from nodes (free - 1) next)
+          × (list_any (nat_eq number) (chain_from nodes (free - 1) next) ≡ false)
+      taken {next} next_is = let w = IsPool-taken next free some here (found ∙ ap Some next_is) in (w.0, ap (λ z. chain_from nodes free z) first_is ∙ w.1, w.2)
 
 pub unwrap-node-requires : goal.unwrap-node-requires
-unwrap-node-requires g c = rw c.expand.ensures.value (first_some _ _ (some c.self.invariant _ c.self.view_is c.requires.room) c.self.invariant)
+unwrap-node-requires g c = rw c.expand.ensures.value (first_some _ _ (some c.self.invariant c.self.view_is c.requires.room) c.self.invariant)
 
 pub index-requires : goal.index-requires
-index-requires g c =
-    omega (arith, within c.self.invariant _ c.self.view_is c.requires.room c.number.result _ _ c.expand.ensures.value c.unwrap-node.ensures c.number.ensures.value)
+index-requires g c = omega (arith, within c.self.invariant c.self.view_is c.requires.room c.expand.ensures.value c.unwrap-node.ensures c.number.ensures.value)
 
 pub next_free-self-inside-requires : goal.next_free-self-inside-requires
-next_free-self-inside-requires g c = (
-  search rules,
-  is_free c.self.invariant _ c.self.view_is c.requires.room c.number.result _ _ c.expand.ensures.value c.unwrap-node.ensures c.number.ensures.value
-      c.index.result.now (λ low. slice_get_read c.self.inside.nodes.items
-      (length c.self.inside.nodes.items) c.number.result c.index.result.now refl low c.index.ensures),
-)
+next_free-self-inside-requires g c = let s = c.self in
+    (search rules, is_free s.invariant s.view_is c.requires.room c.expand.ensures.value c.unwrap-node.ensures c.number.ensures.value c.index.ensures)
 
 pub overflow_sub-self : goal.overflow_sub-self
-overflow_sub-self g c = omega (arith, some c.self.invariant _ c.self.view_is c.requires.room)
+overflow_sub-self g c = omega (arith, some c.self.invariant c.self.view_is c.requires.room)
 
 pub invariant_of-self : goal.invariant_of-self
-invariant_of-self g c = (taken c.self.invariant _ c.self.view_is c.requires.room _ _ _ c.expand.ensures.value c.unwrap-node.ensures c.number.ensures.value _ (λ
-    low. slice_get_read c.self.inside.nodes.items (length c.self.inside.nodes.items) c.number.result c.index.result.now refl low c.index.ensures) _
+invariant_of-self g c = let s = c.self in
+    (taken s.invariant s.view_is c.requires.room c.expand.ensures.value c.unwrap-node.ensures c.number.ensures.value c.index.ensures
     c.next_free-self-inside.ensures).0
 
 pub returns : goal.returns
-returns g c =
-    let after = taken c.self.invariant _ c.self.view_is c.requires.room _ _ _ c.expand.ensures.value c.unwrap-node.ensures c.number.ensures.value _ (λ low.
-    slice_get_read c.self.inside.nodes.items (length c.self.inside.nodes.items) c.number.result c.index.result.now refl low c.index.ensures) _
+returns g c = let s = c.self in
+    let after = taken s.invariant s.view_is c.requires.room c.expand.ensures.value c.unwrap-node.ensures c.number.ensures.value c.index.ensures
     c.next_free-self-inside.ensures in
-    let inside = within c.self.invariant _ c.self.view_is c.requires.room _ _ _ c.expand.ensures.value c.unwrap-node.ensures c.number.ensures.value in
+    let inside = within s.invariant s.view_is c.requires.room c.expand.ensures.value c.unwrap-node.ensures c.number.ensures.value in
     record {
       node = rw (← c.self.view_is) (front_of-is _ _ _ c.self.invariant.linked ∙ sym c.expand.ensures.value ∙ c.unwrap-node.ensures);
       table = rw (← c.self.view_is, after.1) (rw (← c.self.view_is));

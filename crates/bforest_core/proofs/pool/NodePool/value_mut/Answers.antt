@@ -9,7 +9,7 @@ node_mut-requires g c = (search rules, (search rules, c.requires.used))
 pub value_mut-requires : goal.value_mut-requires
 value_mut-requires g c =
     let e = c.requires.entry in
-    let same : c.node_mut.result.now ≡ e.content = some_same c.node_mut.result.now e.content (sym c.node_mut.ensures.value ∙ e.is) in
+    let same : c.node_mut.result.now ≡ e.content = some_same (sym c.node_mut.ensures.value ∙ e.is) in
     (search rules, (subst IsLeaf (sym same) e.leaf, (let n = ap entry_count same in omega (arith, n, e.within))))
 
 pub returns : goal.returns
@@ -17,7 +17,7 @@ returns g c = (
   (
     refl,
     λ w. ap (λ z. with_node c.args.self.now c.args.node (with_value z c.args.index w))
-        (sym (slot-is c.args.self.now.nodes c.args.node c.node_mut.result.now c.node_mut.ensures.value)),
+        (sym (slot-is c.args.self.now.nodes c.args.node c.node_mut.ensures.value)),
   ),
   record { writes_back = tt; value = rw c.node_mut.ensures.value (sym c.value_mut.ensures.value) },
 )

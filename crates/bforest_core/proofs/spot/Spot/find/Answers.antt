@@ -1,11 +1,11 @@
-use Rattle.bforest_core.proofs.{Words.{rules, [], tree_of}, walks.CodesDown.way-root, walks.Searches.{search-ends, search-root, spot-found}}
+use Rattle.bforest_core.proofs.{Words.{rules, []}, walks.CodesDown.way-root, walks.Searches.{search-leaf, search-root, spot-found}}
 use Rattle.bforest_core.proofs.spot.Spot.find.Goals as goal
 
 pub find_below-requires : goal.find_below-requires
-find_below-requires g c =
-    (search rules, (c.requires.union.1.capacity, ((tree_of c.args.pool.now.nodes c.args.root).leaves, [], [], search-root c.requires.union c.requires.root c.requires.increasing _ c.root.ensures.height, way-root _ c.root.ensures.code c.root.ensures.height)))
+find_below-requires g c = let r = c.requires in let b = c.root.ensures in
+    (search rules, (r.union.1.capacity, (_, [], [], search-root r.union r.root r.increasing _ b.height, way-root _ b.code b.height)))
 
 pub returns : goal.returns
-returns g c = let on = search-root c.requires.union c.requires.root c.requires.increasing _ c.root.ensures.height in
-    let e = c.find_below.ensures.found (tree_of c.args.pool.now.nodes c.args.root).leaves [] [] on (way-root _ c.root.ensures.code c.root.ensures.height) in
-    record { spot = spot-found c.requires.root e; leaf = search-ends c.requires.root e }
+returns g c = let r = c.requires in let b = c.root.ensures in
+    let e = c.find_below.ensures.found _ [] [] (search-root r.union r.root r.increasing _ b.height) (way-root _ b.code b.height) in
+    record { spot = spot-found r.root e; leaf = search-leaf r.root e }

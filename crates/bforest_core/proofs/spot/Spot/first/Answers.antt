@@ -1,4 +1,5 @@
-use Rattle.bforest_core.proofs.{Words.{refl, rules, sym, ◌∙◌, false≢true, slice_get_within}, walks.CodesDown.{first-here, first-of, root-held, root-under}}
+use Rattle.bforest_core.proofs.{Words.{refl, rules, slice_get_within}, walks.CodesDown.{first-here, first-of, root-held, root-under}}
+use Rattle.bforest_core.proofs.walks.Reading.{not_so}
 use Rattle.bforest_core.proofs.spot.Spot.first.Goals as goal
 
 pub node-requires : goal.node-requires
@@ -7,7 +8,8 @@ node-requires g c = let held = root-held c.requires.union c.args.root c.requires
 
 pub returns-then-not-is_inner : goal.returns-then-not-is_inner
 returns-then-not-is_inner g c =
-    let r = first-of c.requires.union c.requires.root c.root.ensures.code c.root.ensures.height (first-here c.requires.union.1.capacity c.node.ensures.value (λ i. false≢true (sym c.if-not-is_inner.true ∙ c.is_inner.ensures.inner.1 i)) c.root.result) in
+    let r = first-of c.requires.union c.requires.root c.root.ensures.code c.root.ensures.height
+    (first-here c.requires.union.1.capacity c.node.ensures.value (not_so c.if-not-is_inner.true c.is_inner.ensures.inner) c.root.result) in
     record { spot = r.0; leaf = r.1 }
 
 pub first_below-requires : goal.first_below-requires

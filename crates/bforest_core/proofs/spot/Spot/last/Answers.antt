@@ -1,4 +1,5 @@
-use Rattle.bforest_core.proofs.{Words.{refl, rules, sym, ◌∙◌, false≢true, slice_get_within}, walks.CodesDown.{last-here, last-of, root-held, root-under}}
+use Rattle.bforest_core.proofs.{Words.{refl, rules, slice_get_within}, walks.CodesDown.{last-here, last-of, root-held, root-under}}
+use Rattle.bforest_core.proofs.walks.Reading.{not_so}
 use Rattle.bforest_core.proofs.spot.Spot.last.Goals as goal
 
 pub node-requires : goal.node-requires
@@ -7,7 +8,8 @@ node-requires g c = let held = root-held c.requires.union c.args.root c.requires
 
 pub returns-else-is_inner : goal.returns-else-is_inner
 returns-else-is_inner g c =
-    let r = last-of c.requires.union c.requires.root c.root-else-is_inner.ensures.code c.root-else-is_inner.ensures.height (last-here c.requires.union.1.capacity c.node.ensures.value (λ i. false≢true (sym c.if-is_inner.false ∙ c.is_inner.ensures.inner.1 i)) c.root-else-is_inner.result) in
+    let r = last-of c.requires.union c.requires.root c.root-else-is_inner.ensures.code c.root-else-is_inner.ensures.height
+    (last-here c.requires.union.1.capacity c.node.ensures.value (not_so c.if-is_inner.false c.is_inner.ensures.inner) c.root-else-is_inner.result) in
     record { spot = r.0; leaf = r.1 }
 
 pub last_below-requires : goal.last_below-requires

@@ -1,4 +1,4 @@
-use Rattle.bforest_core.proofs.{Words.{rules, refl, arith, tree_of, heads}, walks.Codes.{last-leaf, spot-height, spot-low, spot-over}}
+use Rattle.bforest_core.proofs.{Words.{rules, arith}, walks.Codes.{last-leaf, spot-height, spot-low, spot-over}}
 use Rattle.bforest_core.proofs.walks.Cousins.{cousin, cousin-asks, far-behind, grand-count, parent-asks, same-spot}
 use Rattle.bforest_core.proofs.spot.Spot.next_cousin.Goals as goal
 
@@ -14,35 +14,23 @@ child-leaf-requires g c = (search rules, cousin-asks c.requires.union c.requires
 pub returns-then-index-child_count : goal.returns-then-index-child_count
 returns-then-index-child_count g c = record {
   some = λ place s. cousin c.requires.union s c.requires.deep c.requires.last c.child_count.ensures.value c.if-index-child_count.true c.child-parent.ensures
-      refl refl refl refl c.child-leaf.ensures;
+      c.child-leaf.ensures;
   none = λ bad. absurd (let no = bad in cc);
 }
 
 pub next_far-requires : goal.next_far-requires
-next_far-requires g c = let s = c.requires.spot.1 in (
-  search rules,
-  (
-    spot-height c.requires.union s,
-    (
-      s.numbers,
-      (tree_of c.args.pool.now.nodes c.args.root).above,
-      heads (tree_of c.args.pool.now.nodes c.args.root).leaves,
-      c.requires.spot.0,
-      spot-over c.requires.union s,
-    ),
-  ),
-)
+next_far-requires g c = (search rules, (spot-height c.requires.union c.requires.spot.1, (_, _, _, _, spot-over c.requires.union c.requires.spot.1)))
 
 pub overflow_mul-spot : goal.overflow_mul-spot
 overflow_mul-spot g c = omega (arith, spot-low c.requires.union c.requires.spot.1)
 
 pub returns-in_err-far-clause-none : goal.returns-in_err-far-clause-none
-returns-in_err-far-clause-none g c = λ none place s. last-leaf c.requires.union _ s.root_is (c.next_far.ensures.next.none c.in_err-far.was s.numbers (tree_of
-    c.args.pool.now.nodes c.args.root).above (heads (tree_of c.args.pool.now.nodes c.args.root).leaves) place (spot-over c.requires.union s))
+returns-in_err-far-clause-none g c = λ none place s. last-leaf c.requires.union _ s.root_is
+    (c.next_far.ensures.next.none c.in_err-far.was _ _ _ _ (spot-over c.requires.union s))
 
 pub returns-clause-some : goal.returns-clause-some
 returns-clause-some g c = λ place s.
-    let r = far-behind c.requires.union (rw c.in_ok-far.was at c.next_far.ensures.next) place s in (same-spot s r.0 refl refl refl refl, r.1)
+    let r = far-behind c.requires.union (rw c.in_ok-far.was at c.next_far.ensures.next) place s in (same-spot s r.0, r.1)
 
 pub overflow_add-index : goal.overflow_add-index
 overflow_add-index g c = omega arith

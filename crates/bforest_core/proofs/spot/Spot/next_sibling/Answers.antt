@@ -1,4 +1,4 @@
-use Rattle.bforest_core.proofs.{Words.{rules, arith, refl}, walks.Codes.spot-low, walks.Cousins.{sibling-asks, sibling-behind}}
+use Rattle.bforest_core.proofs.{Words.{rules, arith}, walks.Codes.spot-low, walks.Cousins.{sibling-asks, sibling-behind}}
 use Rattle.bforest_core.proofs.spot.Spot.next_sibling.Goals as goal
 
 pub child-leaf-requires : goal.child-leaf-requires
@@ -8,7 +8,7 @@ pub overflow_add-spot : goal.overflow_add-spot
 overflow_add-spot g c = omega (arith, spot-low c.requires.union c.requires.spot.is)
 
 pub returns-clause-leaf : goal.returns-clause-leaf
-returns-clause-leaf g c = λ root place s. (sibling-behind c.requires.union s c.requires.next refl refl refl refl c.child-leaf.ensures).1
+returns-clause-leaf g c = λ root place s. (sibling-behind c.requires.union s c.requires.next c.child-leaf.ensures).1
 
 pub returns-clause-spot : goal.returns-clause-spot
-returns-clause-spot g c = λ root place s. (sibling-behind c.requires.union s c.requires.next refl refl refl refl c.child-leaf.ensures).0
+returns-clause-spot g c = λ root place s. (sibling-behind c.requires.union s c.requires.next c.child-leaf.ensures).0

@@ -1,29 +1,16 @@
-use Rattle.bforest_core.proofs.{Words.{rules, refl, arith, tree_of, heads}, walks.Codes.{spot-height, spot-low, spot-over}}
+use Rattle.bforest_core.proofs.{Words.{rules, arith}, walks.Codes.{spot-height, spot-low, spot-over}}
 use Rattle.bforest_core.proofs.walks.Cousins.{cousin-before, cousin-before-asks, cousin-last-asks, far-before, parent-before-asks, same-spot}
 use Rattle.bforest_core.proofs.spot.Spot.prev_cousin.Goals as goal
 
 pub prev_far-requires : goal.prev_far-requires
-prev_far-requires g c = let s = c.requires.spot.1 in (
-  search rules,
-  (
-    spot-height c.requires.union s,
-    (
-      s.numbers,
-      (tree_of c.args.pool.now.nodes c.args.root).above,
-      heads (tree_of c.args.pool.now.nodes c.args.root).leaves,
-      c.requires.spot.0,
-      spot-over c.requires.union s,
-    ),
-  ),
-)
+prev_far-requires g c = (search rules, (spot-height c.requires.union c.requires.spot.1, (_, _, _, _, spot-over c.requires.union c.requires.spot.1)))
 
 pub returns-in_err-far-clause-none : goal.returns-in_err-far-clause-none
-returns-in_err-far-clause-none g c = λ none place s. c.prev_far.ensures.before.none c.in_err-far.was s.numbers (tree_of c.args.pool.now.nodes c.args.root).above
-    (heads (tree_of c.args.pool.now.nodes c.args.root).leaves) place (spot-over c.requires.union s)
+returns-in_err-far-clause-none g c = λ none place s. c.prev_far.ensures.before.none c.in_err-far.was _ _ _ _ (spot-over c.requires.union s)
 
 pub returns-clause-some : goal.returns-clause-some
 returns-clause-some g c = λ place s.
-    let r = far-before c.requires.union (rw c.in_ok-far.was at c.prev_far.ensures.before) place s in (r.0, same-spot s r.1 refl refl refl refl, r.2)
+    let r = far-before c.requires.union (rw c.in_ok-far.was at c.prev_far.ensures.before) place s in (r.0, same-spot s r.1, r.2)
 
 pub child-parent-requires : goal.child-parent-requires
 child-parent-requires g c = (search rules, parent-before-asks c.requires.union c.requires.spot.1 c.requires.deep c.requires.first c.if-index-gt0.true)
@@ -44,7 +31,8 @@ child-leaf-requires g c = (
 pub returns-then-index-gt0 : goal.returns-then-index-gt0
 returns-then-index-gt0 g c = record {
   some = λ place s.
-      cousin-before c.requires.union s c.requires.deep c.requires.first c.if-index-gt0.true c.child-parent.ensures c.last_index-last.ensures.last refl refl refl refl c.child-leaf.ensures;
+      cousin-before c.requires.union s c.requires.deep c.requires.first c.if-index-gt0.true c.child-parent.ensures c.last_index-last.ensures.last
+      c.child-leaf.ensures;
   none = λ bad. absurd (let no = bad in cc);
 }
 

@@ -15,7 +15,7 @@ returns-clause-inserted g c = λ order. rw (c.some.ensures.node, ← c.self.view
     (inserts-planted order (c.in_ok-root.ensures.planted c.self.invariant) (λ low. let bad = c.in_ok-root.ensures.full.1 low in cc))
 
 pub returns-clause-spot : goal.returns-clause-spot
-returns-clause-spot g c = rw c.some.ensures.node (on-at c.alloc_node.new.self c.in_ok-root.root c.first.new.self 0 c.first.ensures.stands)
+returns-clause-spot g c = rw c.some.ensures.node (on-at c.alloc_node.new.self c.first.new.self c.first.ensures.stands)
 
 pub returns-in_err-root-clause-inserted : goal.returns-in_err-root-clause-inserted
 returns-in_err-root-clause-inserted g c = λ order. let told = c.in_err-root.ensures in

@@ -11,7 +11,7 @@ value_mut-requires g c =
     let p = c.self.inside.pool in
     let at = rw (← c.self.view_is) at c.requires.stands in
     let t = spot-on p at.1 at.0 at.2.place at.2.spot at.2.within in
-    let r = entry-used g.row.N p t.0 at.2.place at.1.node at.1.entry at.1.size c.self.invariant t.2 in
+    let r = entry-used c.self.invariant t.2 in
     (search rules, (rw at.3 r.0, rw (at.3, at.4) r.1))
 
 pub invariant_of-self-lent : goal.invariant_of-self-lent
@@ -19,7 +19,7 @@ invariant_of-self-lent g c w =
     let p = c.self.inside.pool in
     let at = rw (← c.self.view_is) at c.requires.stands in
     let t = spot-on p at.1 at.0 at.2.place at.2.spot at.2.within in
-    rw (at.3, at.4) (value-written g.row.N p t.0 at.2.place at.1.node at.1.entry at.1.size c.self.invariant t.2 w).0.union
+    rw (at.3, at.4) (value-written c.self.invariant t.2 w).0.union
 
 pub returns : goal.returns
 returns g c =
