@@ -11,7 +11,7 @@ use Rattle.bforest_core.proofs.walks.Entered.{pair_read}
 use Rattle.bforest_core.proofs.walks.Steps.{read}
 use Rattle.bforest_core.specs.Levels.{LevelNode, flat, node}
 use Rattle.bforest_core.specs.Paths.{list_under}
-use Rattle.bforest_core.specs.Place.{entry_items, entry_keys, leaf_content}
+use Rattle.bforest_core.specs.Place.{entry_items, entry_keys}
 use Rattle.bforest_core.specs.Spots.{IsLeafAt, IsSpotAt, leaf_count}
 use Rattle.bforest_core.specs.Table.{Table}
 use Rattle.bforest_core.specs.Trees.{IsUnion, is_root, tree_of}

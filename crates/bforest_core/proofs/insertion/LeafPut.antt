@@ -2,7 +2,7 @@
 use Rattle.bforest_core.proofs.Words.{◌≡◌, ℕ, ◌<◌, ◌↔◌, IsTrue, Option, Some, None, List, ◌∷◌, ◌++◌, map, length, insert, slice_get, sym, ap, ◌∙◌, subst}
 use Rattle.bforest_core.proofs.Words.{Table, IsFullAt, flat, sizes, sizes_of, gain_above, growth, Placed, tree_of, IsUnion, Changes, PlacedUnder, StandsUnder}
 use Rattle.bforest_core.proofs.Words.{Ok, refl, put_answer, with_put, search_of-keys_of, value_for-absent, value_for-present, Bool, Result, Err, get_or, set}
-use Rattle.bforest_core.proofs.Words.{nat_lt, if◌then◌else◌, true, false, length-set, EndsIn, PutsInLeaf, Leaf, IsUsed, entry_count, entry_keys, is_present}
+use Rattle.bforest_core.proofs.Words.{nat_lt, if◌then◌else◌, true, false, length-set, EndsIn, PutsInLeaf, IsUsed, entry_count, entry_keys, is_present}
 use Rattle.bforest_core.proofs.Words.{leaf_content, place, value_for, search_of, with_entry, with_node, with_value_at, need_above, is_some, option_map}
 use Rattle.bforest_core.proofs.{Words.{get_or-set_same, lt-ltb, ltb-true, PutsEntry}, union.Written.{entry-used, value-written}}
 use Rattle.bforest_core.proofs.{insertion.Insertion.{placed-under, put-here}, table.Stored.{keys_count, read_same}, insertion.HalvingLeaf.put_full}
