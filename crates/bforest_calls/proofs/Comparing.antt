@@ -1,6 +1,5 @@
 -- The tests of a call, and a call that compares keys, from what its handle and its comparator tell.
 use Rattle.bforest.specs.Calls.{Inserts, Removes}
-use Rattle.bforest.specs.Forest.{Forest, IsLive}
 use Rattle.bforest_calls.specs.Compared.{IsComparing, Makes}
 use Rattle.bforest_calls.specs.Machine.{Compares, On, Orders, Refuses, State, Step, Tests, order_at}
 use Rattle.bforest_calls.specs.State.{Edits, Held}
@@ -8,19 +7,9 @@ use Rattle.bforest_calls.specs.declared.call.Answer.TheVariants as answer
 use Rattle.bforest_calls.specs.declared.call.Answer.{Answer}
 use Rattle.bforest_calls.specs.declared.call.Call.TheVariants as call
 use Rattle.bforest_calls.specs.declared.call.Call.{Call}
-use Rattle.std.proofs.Common.{Bool, None, Option, ap, false, inl, inr, subst, sym, true, ◌∙◌, ◌≡◌, ℕ}
+use Rattle.std.proofs.Common.{Bool, None, ap, inl, inr, subst, sym, true, ◌∙◌, ◌≡◌, ℕ}
 use Rattle.std.proofs.Math.ListN.{set}
-use Rattle.std.proofs.lemmas.Bool.{false≢true}
 use Rattle.std.proofs.lemmas.List.{set-get_or}
-use Rattle.std.specs.Prelude.{IsTrue, ◌↔◌}
-
--- a test of a handle tells whether the number at its index is live
-module _ {K V : Type 0} (forest : Forest K V) {x n : Option ℕ} (is : x ≡ n) (yes? : Bool) (tells : IsTrue yes? ↔ IsLive forest x) where
-  pub alive : yes? ≡ true → IsLive forest n
-  alive so = subst (λ m. IsLive forest m) is (tells.0 so)
-
-  pub dead : yes? ≡ false → IsLive forest n → ⊥
-  dead so live = false≢true (sym so ∙ tells.1 (subst (λ m. IsLive forest m) (sym is) live))
 
 module _ {K V : Type 0} where
   -- a call with more to test is refused where one test less refuses it

@@ -62,10 +62,6 @@ ordered-tried f f' hs i h h' es (Ok x) a within is ok same_forest same_handle in
 ordered-tried {X = X} f f' hs i h h' es (Err x) a within is ok same_forest same_handle increasing =
     subst (λ (g : Forest ℕ X). AreOrdered g (slice_set hs i h')) (sym same_forest) (subst (λ (qs : List (Option ℕ)). AreOrdered f qs) (sym (ap (λ q. slice_set hs i q) (same_handle ∙ is) ∙ ap (λ q. slice_set hs i q) (get_or_default hs i h None within) ∙ set-get_or hs i None)) a)
 
--- a map that was read at an index is ordered
-pub ordered-read : {X : Type 0} (f : Forest ℕ X) (hs : List (Option ℕ)) (i : ℕ) (h : Option ℕ) → AreOrdered f hs → i < length hs → h ≡ get_or hs i h → IsOrdered f h
-ordered-read f hs i h a within is = subst (λ (q : Option ℕ). IsOrdered f q) (sym (get_or_read hs i h within is None)) (a.each i)
-
 -- the empty map is ordered
 pub ordered-none : {X : Type 0} (f : Forest ℕ X) → IsOrdered f None
 unfolding IsStrictlySortedBy
