@@ -130,6 +130,7 @@ module _ {K X C : Type 0} (order : C → K → K → Ordering) (c : MapCursorMut
         sizes = told.sizes;
         slots = told.slots;
         free = told.free;
+        memory = told.memory;
       }
 
   -- a cursor that is not at the end stands on an entry
@@ -157,6 +158,7 @@ module _ {K X C : Type 0} (order : C → K → K → Ordering) (c : MapCursorMut
           sizes = refl;
           slots = refl;
           free = refl;
+          memory = refl;
         } in
         subst (λ d. Writes order c d w) same stays
 

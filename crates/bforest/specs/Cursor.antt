@@ -4,7 +4,7 @@ use Rattle.bforest_core.specs.Paths.{index_of, leaf_of}
 use Rattle.bforest_core.specs.Table.{with_value_at}
 use Rattle.bforest_core.specs.declared.path.Path.{Path}
 use Rattle.bforest_nodes.specs.Entries.{IsIncreasing, with_value}
-use Rattle.bforest_trees.specs.Forest.{Becomes, Forest, IsLive, free_of, list_of, sizes_of, slots_of}
+use Rattle.bforest_trees.specs.Forest.{Becomes, Forest, IsLive, free_of, list_of, memory_of, sizes_of, slots_of}
 use Rattle.bforest_trees.specs.Looks.{IsLook, look_place}
 use Rattle.bforest_trees.specs.Place.{IsSpot, spot_of}
 use Rattle.bforest_trees.specs.declared.look.Look.{Look}
@@ -93,3 +93,4 @@ module _ {K X C : Type 0} where
       pub sizes : sizes_of (forest_now c') (map_now c) ≡ sizes_of (forest_now c) (map_now c)
       pub slots : slots_of (forest_now c') ≡ slots_of (forest_now c)
       pub free : free_of (forest_now c') ≡ free_of (forest_now c)
+      pub memory : memory_of (forest_now c') ≡ memory_of (forest_now c)

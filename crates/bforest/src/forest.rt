@@ -1,5 +1,5 @@
 //! Forests, of maps or of sets.
-ghost use Rattle.bforest.specs.Forest.{IsAccounted, IsFitFor, empty, free_of, limit_of, list_at, sizes_at, slots_of};
+ghost use Rattle.bforest.specs.Forest.{IsAccounted, IsFitFor, emptied, free_of, limit_of, list_at, sizes_at, slots_of};
 ghost use Rattle.bforest.specs.Calls.{Reserves};
 ghost use Rattle.std.specs.Prelude.{[], length, ◌+◌, ◌<◌, ◌≡◌, ◌≢◌, ◌≤◌, ℕ};
 
@@ -27,7 +27,7 @@ impl<K: Copy, V: Copy, const N: usize> Forest<K, V, N> {
     ///
     /// Constant time. The memory of the table is kept for later slots.
     pub fn clear(&mut self)
-        ensures empty { self.new ≡ empty (limit_of self.old) }
+        ensures empty { self.new ≡ emptied self.old }
         ensures lists { (n : ℕ) → list_at self.new n ≡ [] }
     {
         self.trees.clear();

@@ -1,7 +1,7 @@
 -- A call on a forest that adds up leaves one that does.
 use Rattle.bforest.proofs.Balances.{clears-balance, filters-balance, inserts-balance, length-written, removes-at-balance, removes-balance, sizes-stay}
 use Rattle.bforest.specs.Calls.{Clears, Filters, Inserts, Removes, RemovesAt}
-use Rattle.bforest.specs.Forest.{Becomes, Forest, IsFitFor, empty, list_of, nodes_at, sizes_of, slots_of}
+use Rattle.bforest.specs.Forest.{Becomes, Forest, IsFitFor, emptied, list_of, nodes_at, sizes_of, slots_of}
 use Rattle.bforest.specs.Room.{Balances}
 use Rattle.bforest_calls.proofs.Sums.{upto, upto-more, upto-one, upto-two}
 use Rattle.bforest_calls.specs.State.{AddsUp, WritesAt}
@@ -85,8 +85,8 @@ module _ {K V : Type 0} where
   no-tree most f n past = subst (λ b. IsFitFor most (length (if b then flat (tree_of f.nodes n).leaves else [])) (if b then tree_sizes (tree_of f.nodes n) else [])) (sym (no-root f n past)) refl
 
   -- a forest without trees and slots adds up
-  pub none-adds : (most limit : ℕ) → AddsUp most (empty {K = K} {X = V} limit)
-  none-adds most limit = record { slots = refl; within = omega arith; fit = λ n. no-tree most (empty limit) n (omega arith) }
+  pub none-adds : (most : ℕ) (f : Forest K V) → AddsUp most (emptied f)
+  none-adds most f = record { slots = refl; within = omega arith; fit = λ n. no-tree most (emptied f) n (omega arith) }
 
   -- a forest adds up after a change of one tree that balances
   changed : (most : ℕ) (f f' : Forest K V) (h h' : Option ℕ) (es : List (K × V)) → AddsUp most f → Becomes f h f' h' es → Balances most f h f' h' → AddsUp most f'

@@ -9,7 +9,6 @@ use Rattle.bforest_calls.specs.declared.call.Answer.{Answer}
 use Rattle.bforest_calls.specs.declared.call.Call.TheVariants as call
 use Rattle.bforest_calls.specs.declared.call.Call.{Call}
 use Rattle.bforest_calls.specs.declared.call.Seen.{Seen}
-use Rattle.bforest.specs.Forest.{limit_of}
 use Rattle.std.proofs.Common.{Bool, List, [], ap, false, inl, inr, true, ◌%◌, ◌∷◌, ◌≡◌, ℕ}
 use Rattle.std.specs.declared.cmp.Ordering.{Ordering}
 
@@ -69,4 +68,4 @@ module _ {K V : Type 0} (most : ℕ) (odd : most % 2 ≡ 1) where
     | inr w ↦ filters-add most odd old.forest new.forest (number_at old h) w.3.1.0 a (KeepsIf (order_at orders c) keys.items put) tt w.3.1.2
   ]
   step-adds reads orders old (call.Alias from to) given new step a = elim step [ inl w ↦ same-forest old new w.1 a | inr w ↦ still most old.forest new.forest (ap (λ s. s.forest) w.3.1) a ]
-  step-adds reads orders old call.ForestClear given new step a = still most _ new.forest (ap (λ s. s.forest) step.1) (none-adds most (limit_of old.forest))
+  step-adds reads orders old call.ForestClear given new step a = still most _ new.forest (ap (λ s. s.forest) step.1) (none-adds most old.forest)

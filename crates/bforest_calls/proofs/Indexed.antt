@@ -70,4 +70,4 @@ module _ {K V : Type 0} where
   -- a write that changes nothing
   pub writes-nothing : {f : Forest K V} {h : Option ℕ} {p : ℕ} {v : V} → IsLive f h → list_of f h ≡ with_value (list_of f h) p v
       → WritesAt (record { forest = f; number = h }) p v (record { forest = f; number = h })
-  writes-nothing {f} {h} live same = record { becomes = becomes_same f h _ live same; number = refl; sizes = refl; slots = refl; free = refl }
+  writes-nothing {f} {h} live same = record { becomes = becomes_same f h _ live same; number = refl; sizes = refl; slots = refl; free = refl; memory = refl }

@@ -1,7 +1,7 @@
 -- The machine that a list of calls runs: what each call may answer, and what it leaves.
 use Rattle.bforest.specs.Bounds.{entries_between, entry_at_most}
 use Rattle.bforest.specs.Calls.{Clears, Inserts, Removes}
-use Rattle.bforest.specs.Forest.{Forest, IsLive, empty, limit_of, list_of}
+use Rattle.bforest.specs.Forest.{Forest, IsLive, emptied, list_of}
 use Rattle.bforest_calls.specs.Looks.{all_taken, sights_of}
 use Rattle.bforest_calls.specs.State.{Edits, Held, Retained, StillAddsUp}
 use Rattle.bforest_calls.specs.declared.call.Answer.TheVariants as answer
@@ -130,7 +130,7 @@ module _ {K V : Type 0} where
         NamesBoth orders h c old given new ((given ≡ answer.Done) × On h old new (Retained most (order_at orders c) keys.items put))
     Step orders old (call.Alias from to) given new = Tests ((from < length old.handles) × (to < length old.handles)) (Unit {0}) (Unit {0}) old given new
         ((given ≡ answer.Done) × (new ≡ record old { handles = slice_set old.handles to (number_at old from) }))
-    Step orders old call.ForestClear given new = (given ≡ answer.Done) × (new ≡ record old { forest = empty (limit_of old.forest) })
+    Step orders old call.ForestClear given new = (given ≡ answer.Done) × (new ≡ record old { forest = emptied old.forest })
 
     -- the steps of a list of calls, each from the state that the call before it left
     abbrev pub Run : Orders K → State K V → List (Call K V) → List (Answer K V) → State K V → Type 0

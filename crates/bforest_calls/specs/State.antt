@@ -1,6 +1,6 @@
 -- The state of a call on one handle, and what the call leaves.
 use Rattle.bforest.specs.Calls.{Filters, Inserts, RemovesAt}
-use Rattle.bforest.specs.Forest.{Becomes, Forest, IsAccounted, free_of, limit_of, list_at, list_of, sizes_at, sizes_of, slots_of}
+use Rattle.bforest.specs.Forest.{Becomes, Forest, IsAccounted, free_of, limit_of, list_at, list_of, memory_of, sizes_at, sizes_of, slots_of}
 use Rattle.bforest_calls.specs.Looks.{place_after, sight_of}
 use Rattle.bforest_calls.specs.declared.call.Act.TheVariants as act
 use Rattle.bforest_calls.specs.declared.call.Act.{Act}
@@ -53,6 +53,7 @@ module _ {K V : Type 0} where
     pub sizes : sizes_of new.forest new.number ≡ sizes_of old.forest old.number
     pub slots : slots_of new.forest ≡ slots_of old.forest
     pub free : free_of new.forest ≡ free_of old.forest
+    pub memory : memory_of new.forest ≡ memory_of old.forest
 
   -- `most` is the number of entries that a leaf has at most
   module _ (most : ℕ) (order : K → K → Ordering) where

@@ -1,6 +1,6 @@
 //! What the engine asks of a map or of a set.
 ghost use Rattle.bforest.specs.Calls.{Clears};
-ghost use Rattle.bforest.specs.Forest.{Forest, IsLive, empty, limit_of, list_of};
+ghost use Rattle.bforest.specs.Forest.{Forest, IsLive, emptied, list_of};
 ghost use Rattle.bforest_calls.specs.Compared.{IsComparing, Makes};
 ghost use Rattle.bforest_calls.specs.Machine.{AsksRoom};
 ghost use Rattle.bforest_calls.specs.State.{Retained};
@@ -100,7 +100,7 @@ pub trait Collection<K: Copy, V: Copy>: Drop {
     /// Removes all trees of a forest.
     fn clear_all(forest: &mut Self::Forest)
         requires fits { fits }
-        ensures empty { trees forest.new ≡ empty (limit_of (trees forest.old)) };
+        ensures empty { trees forest.new ≡ emptied (trees forest.old) };
 
     ghost odd: { most % 2 ≡ 1 };
 

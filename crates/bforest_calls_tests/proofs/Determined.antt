@@ -1,6 +1,7 @@
 -- Two runs of one list of calls that go in step.
 use Rattle.bforest.specs.Bounds.{entries_between, entry_at_most}
-use Rattle.bforest.specs.Forest.{Becomes, Forest, IsLive, empty, limit_of, list_at, list_of, sizes_at, sizes_of}
+use Rattle.bforest.specs.Forest.{Becomes, Forest, IsLive, emptied, list_of, sizes_of}
+use Rattle.bforest_trees.specs.Forest.{list_at, sizes_at}
 use Rattle.bforest_calls.specs.Looks.{all_taken, sights_of}
 use Rattle.bforest_calls.specs.Machine.{Compares, Lacks, Offered, Orders, Refuses, Run, State, Step, Tests, order_at}
 use Rattle.bforest_calls.specs.State.{Held}
@@ -50,6 +51,15 @@ offered-alike false Made Lacking Made' Lacking' made lacks o o' = lacks o o'
 numbers-alike : (handles after after' : List (Option ℕ)) (h : ℕ) (number number' : Option ℕ) → h < length handles → after ≡ slice_set handles h number → after' ≡ slice_set handles h number' → after' ≡ after → number' ≡ number
 numbers-alike handles after after' h number number' within e e' same =
     sym (get_or-set_same handles h number' None within) ∙ ap (λ xs. get_or xs h None) (sym e' ∙ same ∙ e) ∙ get_or-set_same handles h number None within
+
+-- forests without slots have the same lists, and trees of the same sizes
+cleared-lists : {K V : Type 0} (f g : Forest K V) (n : ℕ) → list_at (emptied g) n ≡ list_at (emptied f) n
+unfolding list_at
+cleared-lists f g n = refl
+
+cleared-sizes : {K V : Type 0} (f g : Forest K V) (n : ℕ) → sizes_at (emptied g) n ≡ sizes_at (emptied f) n
+unfolding sizes_at
+cleared-sizes f g n = refl
 
 module _ {K V : Type 0} where
   list-alike : (f g : Forest K V) → ((n : ℕ) → list_at g n ≡ list_at f n) → (h : Option ℕ) → list_of g h ≡ list_of f h
@@ -262,12 +272,9 @@ module _ {K V : Type 0} where
           )) s s'
       step-alike call.ForestClear given given' new new' s s' same had had' = (
         answers-alike given given' answer.Done answer.Done s.0 s'.0 refl,
-        alike-same (at (empty (limit_of f)) handles) (at (empty (limit_of g)) handles) new new' (emptied (limit_of f) (limit_of g) a.limit) s.1 s'.1,
+        alike-same (at (emptied f) handles) (at (emptied g) handles) new new'
+            (record { handles = refl; lists = cleared-lists f g; sizes = cleared-sizes f g; slots = refl; free = refl; limit = a.limit }) s.1 s'.1,
       )
-        where
-          emptied : (n m : ℕ) → m ≡ n → AreAlike (at (empty n) handles) (at (empty m) handles)
-          emptied n m e = subst (λ (q : ℕ). AreAlike (at (empty n) handles) (at (empty q) handles)) (sym e)
-              (record { handles = refl; lists = λ n. refl; sizes = λ n. refl; slots = refl; free = refl; limit = refl })
 
     -- two equal calls in two alike states answer the same and leave alike states
     step-both : (old old' : State K V) → AreAlike old old' → (call : Call K V) (given given' : Answer K V) (new new' : State K V) → Step most reads orders old call given new → Step most reads orders old' call given' new'

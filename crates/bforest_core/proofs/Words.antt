@@ -10,7 +10,8 @@ pub use Rattle.bforest_core.specs.Removal.{Dropped, Emptied, Frees, GivesAll, Ha
 pub use Rattle.bforest_core.specs.Spots.{Coded, CodedOver, EndsAt, Followed, HasNext, HasNextChild, HasPrev, HasPrevChild, HasUnder, HasWay, IsBefore, IsBehind}
 pub use Rattle.bforest_core.specs.Spots.{IsBesideOf, IsFirstPlace, IsLastPlace, IsLeafAt, IsLower, IsNextOf, IsPrevOf, IsSpotAt, IsTurn, IsWay, Leads, NumberAt}
 pub use Rattle.bforest_core.specs.Steps.{Advances, AreFirst, AreLast, HasOver, LastAt, MoreAt, Moved, OnLevels, OnOver, Over, Retreats, Turned, TurnedBack}
-pub use Rattle.bforest_core.specs.Table.{IsBalancedAt, IsEntryAt, IsFreeAt, IsFullAt, IsSplitAt, IsUnderflowedAt, IsUsed, NeedsGrowth, PutsChild, PutsEntry, PutsIn, Table, down_from}
+pub use Rattle.bforest_core.specs.Table.{IsBalancedAt, IsEntryAt, IsFreeAt, IsFullAt, IsSplitAt, IsUnderflowedAt, IsUsed}
+pub use Rattle.bforest_core.specs.Table.{GrowsFor, NeedsGrowth, PutsChild, PutsEntry, PutsIn, Table, down_from}
 pub use Rattle.bforest_core.specs.Table.{free_count, fresh_nodes, front_of, front_of_new, reserved, room, slot_count, value_at, with_freed, with_front}
 pub use Rattle.bforest_core.specs.Trees.{Every, IsForest, IsUnion, OthersKeep, entries_of, inner_row, inner_rows, is_used, leaf_row, levels_below, numbers_down}
 pub use Rattle.bforest_core.specs.{Chain.{IsChain, IsPool, chain_from, next_of}, Descent.{SearchThrough, StackedTo, StandsTo, Under, child_index}, Trees.slot}

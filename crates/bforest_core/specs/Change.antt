@@ -2,7 +2,7 @@
 use Rattle.std.specs.Prelude.{◌≡◌, ◌≢◌, ℕ, ◌+◌, ◌-◌, ◌<◌, ◌↔◌, ◌++◌, ◌∷◌, [], IfSome, IsTrue, List, None, Option, Some, drop, get_or, length, remove, slice_get}
 use Rattle.std.specs.List.{sum_by}
 use Rattle.bforest_core.specs.Sizes.{shrink}
-use Rattle.bforest_core.specs.Table.{Table, slot_count, free_count, reserved, with_node}
+use Rattle.bforest_core.specs.Table.{GrowsFor, Table, slot_count, free_count, reserved, with_node}
 use Rattle.bforest_nodes.specs.Content.{Content, without_entry}
 use Rattle.bforest_core.specs.Climb.{nodes_up}
 use Rattle.bforest_core.specs.Levels.{flat, sizes_of}
@@ -36,7 +36,8 @@ module _ {K V : Type 0} where
   pub record TakesNodes (count : ℕ) (old new : Table K V) : Type 0 where
     pub slots : slot_count new ≡ slot_count old + (count - free_count old)
     pub free : free_count new ≡ free_count old - count
-    pub chain_is : new.chain ≡ drop count (reserved old count).chain
+    pub chain_is : new.chain ≡ drop count (reserved old count new.memory).chain
+    pub memory : GrowsFor count old new
 
   -- a tree of one entry, made of one new node, is added under a number that was not a root
   pub record Plants (most : ℕ) (old new : Table K V) (root : ℕ) (entry : K × V) : Type 0 where
@@ -57,6 +58,7 @@ module _ {K V : Type 0} where
     pub given : List ℕ
     pub chain_is : new.chain ≡ given ++ old.chain
     pub slots : slot_count new ≡ slot_count old
+    pub memory_is : new.memory ≡ old.memory
     pub count_is : length given + node_count after ≡ node_count before
 
   -- freed nodes are in front of the chain: nodes of this path, leaf first, then one discarded root per lost

@@ -74,6 +74,7 @@ module _ {K V : Type 0} where
     pub chain_is : old.chain ≡ taken ++ new.chain
     pub slots_are : length new.nodes ≡ length old.nodes
     pub limit_is : new.limit ≡ old.limit
+    pub memory_is : new.memory ≡ old.memory
     pub nodes_below : SameBelow level path path'
     pub entries_below : SameBelow level indices indices'
     pub same_top : size' ≡ size → top_of path' size' ≡ top_of path size
@@ -109,6 +110,7 @@ module _ {K V : Type 0} where
     pub chain_is : old.chain ≡ right ∷ new.chain
     pub slots_are : length new.nodes ≡ length old.nodes
     pub limit_is : new.limit ≡ old.limit
+    pub memory_is : new.memory ≡ old.memory
     pub nodes_above : SameAbove level path path'
 
   -- the path's full node on a level is split, with the new child inserted, which changes no first key above
@@ -149,6 +151,7 @@ module _ {K V : Type 0} where
     pub chain_is : old.chain ≡ taken ++ new.chain
     pub slots_are : length new.nodes ≡ length old.nodes
     pub limit_is : new.limit ≡ old.limit
+    pub memory_is : new.memory ≡ old.memory
     pub same_root : length tree'.above ≡ length tree.above → root_of tree' ≡ root_of tree
     pub new_root : length tree'.above ≢ length tree.above → 0 < count (root_of tree') taken
 

@@ -43,6 +43,7 @@ module _ {K V : Type 0} (cmp : K → K → Ordering) (table : Table K V) (root :
     pub ok : IfOk result (λ old. old ≡ value_for cmp list key)
     pub slots : slot_count new ≡ slot_count table
     pub chain : new.chain ≡ table.chain
+    pub memory : new.memory ≡ table.memory
     pub written : (old : V) → result ≡ Ok (Some old) → Changes most table new root root (with_value list (place cmp list key) value) shape
     pub inserted : result ≡ Ok None → Changes most table new root root (insert list (place cmp list key) (key, value)) (growth most (place cmp list key) shape)
     pub takes : result ≡ Ok None → TakesNodes (need most (place cmp list key) shape) table new

@@ -55,6 +55,7 @@ module _ {K V : Type 0} where
     pub chain_is : new.chain ≡ freed ++ old.chain
     pub slots_are : length new.nodes ≡ length old.nodes
     pub limit_is : new.limit ≡ old.limit
+    pub memory_is : new.memory ≡ old.memory
 
   -- all nodes of `own` are free, in front of the chain in the given order, and nothing else changes
   pub record GivesAll (old new : Table K V) (own given : List ℕ) : Type 0 where

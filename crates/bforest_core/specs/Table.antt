@@ -4,12 +4,13 @@ use Rattle.std.specs.List.{list_any, IsDistinct}
 use Rattle.bforest_nodes.specs.Content.{Content, Free, Inner, Leaf, with_child, with_entry, IsLeaf, vals_of, with_value, IsFree, IsCut, entry_count, entry_capacity, left_half, IsSameKind, Balances}
 use Rattle.bforest_nodes.specs.declared.node.SplitOff.{SplitOff}
 
--- the content of each slot, the numbers of the free slots from the front of the chain on, and the most slots
--- allowed
+-- the content of each slot, the numbers of the free slots from the front of the chain on, the most slots
+-- allowed, and for how many slots memory is held
 pub record Table (K V : Type 0) : Type 0 where
   pub nodes : List (Content K V)
   pub chain : List ℕ
   pub limit : ℕ
+  pub memory : ℕ
 
 -- the front of a chain
 abbrev pub front_of : List ℕ → Option ℕ
@@ -37,10 +38,17 @@ module _ {K V : Type 0} where
   abbrev pub room : Table K V → ℕ
   room table = free_count table + (table.limit - slot_count table)
 
-  -- fewer than `n` nodes are free, and the limit allows `n`
+  -- fewer than `n` nodes are free, the limit allows `n`, and the memory that is held is too little for the slots
+  -- that are to be added
   pub record NeedsGrowth (n : ℕ) (table : Table K V) : Type 0 where
     pub scarce : free_count table < n
     pub allowed : n ≤ room table
+    pub short : table.memory < slot_count table + (n - free_count table)
+
+  -- no memory is given back, and more is taken only where fewer than `n` nodes were free
+  pub record GrowsFor (n : ℕ) (old new : Table K V) : Type 0 where
+    pub grows : old.memory ≤ new.memory
+    pub stays : n ≤ free_count old → new.memory ≡ old.memory
 
   -- the number is that of a slot that is not on the chain
   pub record IsUsed (table : Table K V) (node : ℕ) : Type 0 where
@@ -69,16 +77,17 @@ module _ {K V : Type 0} where
   fresh_nodes first (suc count) next =
       fresh_nodes first count next ++ Free (front_of_new first count next) ∷ []
 
-  -- the table with `count` new slots, all in front of the chain
-  abbrev pub with_slots : Table K V → ℕ → Table K V
-  with_slots table count = record table {
+  -- the table with `count` new slots, all in front of the chain, and memory for so many slots
+  abbrev pub with_slots : Table K V → ℕ → ℕ → Table K V
+  with_slots table count memory = record table {
     nodes = table.nodes ++ fresh_nodes (slot_count table) count (front_of table.chain);
     chain = down_from (slot_count table) count ++ table.chain;
+    memory = memory;
   }
 
-  -- the table in which at least n nodes are free, with slots added where fewer were
-  abbrev pub reserved : Table K V → ℕ → Table K V
-  reserved table n = with_slots table (n - free_count table)
+  -- the table in which at least n nodes are free, with slots added where fewer were, and memory for so many slots
+  abbrev pub reserved : Table K V → ℕ → ℕ → Table K V
+  reserved table n memory = with_slots table (n - free_count table) memory
 
   -- the table without the front of its chain
   abbrev pub without_front : Table K V → List ℕ → Table K V

@@ -1,10 +1,10 @@
 //! Numbered nodes, of which the free ones form a chain.
-ghost use Rattle.std.specs.Prelude.{◌≡◌, ◌≢◌, ℕ, ◌+◌, ◌-◌, ◌<◌, ◌≤◌, ◌↔◌, ◌++◌, length, IsTrue, IsOk, IfOk, OnOk, OnErr, Ok, Err, Some, None, [], ◌∷◌, slice_get, slice_set, vec_len};
+ghost use Rattle.std.specs.Prelude.{◌≡◌, ◌≢◌, ℕ, ◌+◌, ◌-◌, ◌<◌, ◌≤◌, ◌↔◌, ◌++◌, length, IsTrue, IsOk, IfOk, OnOk, OnErr, Ok, Err, Some, None, [], ◌∷◌, slice_get, slice_set, vec_len, vec_capacity};
 ghost use Rattle.std.specs.Borrow.{sem, LendsBoth, Array};
 ghost use Rattle.bforest_nodes.specs.Content.{Inner, Leaf, IsLeafCapacity};
 ghost use Rattle.bforest_core.specs.Change.{KeepsTrees, Plants};
 ghost use Rattle.bforest_core.specs.Trees.{IsUnion};
-ghost use Rattle.bforest_core.specs.Table.{slot_count, free_count, room, NeedsGrowth, IsUsed, IsTable, reserved, without_front, with_front, with_freed, fresh_nodes, front_of, front_of_new, IsFullAt, IsSplitAt, IsUnderflowedAt, IsBalancedAt, IsEntryAt, value_at};
+ghost use Rattle.bforest_core.specs.Table.{slot_count, free_count, room, GrowsFor, NeedsGrowth, IsUsed, IsTable, reserved, without_front, with_front, with_freed, fresh_nodes, front_of, front_of_new, IsFullAt, IsSplitAt, IsUnderflowedAt, IsBalancedAt, IsEntryAt, value_at};
 
 use bforest_nodes::{Node, NodeData, PackedNode, SplitOff};
 use std::alloc::{AllocError, Global};
@@ -33,6 +33,7 @@ pub struct NodePool<K, V, const N: usize> {
 
 impl<K, V, const N: usize> Model for NodePool<K, V, N> {
     ghost use Rattle.bforest_core.specs.Table.{Table};
+    ghost use Rattle.std.specs.Prelude.{vec_capacity};
 
     ghost Value = { Table K V };
 
@@ -42,6 +43,7 @@ impl<K, V, const N: usize> Model for NodePool<K, V, N> {
       nodes = a.nodes.items;
       chain = chain_from a.nodes.items a.free a.first;
       limit = a.limit;
+      memory = vec_capacity a.nodes;
     } };
 
     ghost invariant = { λ a. IsPool N a.nodes.items a.first a.free a.limit };
@@ -53,7 +55,7 @@ impl<K: Copy, V: Copy, const N: usize> NodePool<K, V, N> {
     /// Makes a pool with no slots, which may have at most 4294967295. Takes no memory.
     pub fn new(alloc: Global) -> Self
         requires { IsLeafCapacity N }
-        ensures empty { result ≡ record { nodes = []; chain = []; limit = 4294967295 } }
+        ensures empty { result ≡ record { nodes = []; chain = []; limit = 4294967295; memory = 0 } }
     {
         NodePool::with_limit(alloc, u32::MAX)
     }
@@ -61,7 +63,7 @@ impl<K: Copy, V: Copy, const N: usize> NodePool<K, V, N> {
     /// Makes a pool with no slots, which may have at most `limit`. Takes no memory.
     pub fn with_limit(alloc: Global, limit: u32) -> Self
         requires { IsLeafCapacity N }
-        ensures empty { result ≡ record { nodes = []; chain = []; limit = limit } }
+        ensures empty { result ≡ record { nodes = []; chain = []; limit = limit; memory = 0 } }
     {
         NodePool {
             nodes: Vec::new(alloc),
@@ -141,7 +143,8 @@ impl<K: Copy, V: Copy, const N: usize> NodePool<K, V, N> {
     /// `Full` where the limit does not allow the slots needed, which is tested first, and `Memory` where the table could not grow. After
     /// either the pool is as before.
     pub fn reserve(&mut self, n: u32) -> Result<(), OutOfMemory>
-        ensures ok { OnOk result (self.new ≡ reserved self.old n) }
+        ensures ok { OnOk result (self.new ≡ reserved self.old n self.new.memory) }
+        ensures growth { GrowsFor n self.old self.new }
         ensures err { OnErr result (self.new ≡ self.old) }
         ensures full { (result ≡ Err OutOfMemory.Full) ↔ (room self.old < n) }
         ensures memory { result ≡ Err OutOfMemory.Memory → NeedsGrowth n self.old }
@@ -173,10 +176,12 @@ impl<K: Copy, V: Copy, const N: usize> NodePool<K, V, N> {
     ///
     /// The errors of `reserve(1)`. After either the pool is as before.
     pub fn alloc_node(&mut self, key: K, value: V) -> Result<Node, OutOfMemory>
-        ensures node { IfOk result (λ node. front_of (reserved self.old 1).chain ≡ Some node) }
+        ensures node { IfOk result
+            (λ node. front_of (reserved self.old 1 self.new.memory).chain ≡ Some node) }
         ensures ok { OnOk result (self.new
-            ≡ with_front (reserved self.old 1) (reserved self.old 1).chain
+            ≡ with_front (reserved self.old 1 self.new.memory) (reserved self.old 1 self.new.memory).chain
             (Leaf (key ∷ []) (value ∷ []))) }
+        ensures growth { GrowsFor 1 self.old self.new }
         ensures err { OnErr result (self.new ≡ self.old) }
         ensures full { (result ≡ Err OutOfMemory.Full) ↔ (room self.old < 1) }
         ensures memory { result ≡ Err OutOfMemory.Memory → NeedsGrowth 1 self.old }
@@ -298,6 +303,9 @@ fn add_slots<K: Copy, V: Copy, const N: usize>(
         ≡ nodes.old.items ++ fresh_nodes (vec_len nodes.old) count next) }
     ensures first { IfOk result (λ first. first ≡ front_of_new (vec_len nodes.old) count next) }
     ensures err { OnErr result (nodes.new.items ≡ nodes.old.items) }
+    ensures memory { vec_capacity nodes.old ≤ vec_capacity nodes.new }
+    ensures kept { OnErr result (vec_capacity nodes.new ≡ vec_capacity nodes.old) }
+    ensures short { OnErr result (vec_capacity nodes.old < vec_len nodes.old + count) }
 {
     nodes.reserve(count as usize)?;
     let mut first = next;

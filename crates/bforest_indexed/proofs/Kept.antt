@@ -3,7 +3,7 @@ use Rattle.bforest.proofs.Balances.{clears-balance, filters-balance, inserts-bal
 use Rattle.bforest.specs.Bounds.{entries_between, entry_at_least, entry_at_most}
 use Rattle.bforest.specs.Calls.{Clears, Filters, GetsOrInserts, Inserts, Pops, Removes, Reserves}
 use Rattle.bforest.specs.Entries.{IsIncreasing, is_present, value_for}
-use Rattle.bforest.specs.Forest.{Becomes, Forest, Gives, IsFitFor, IsLive, IsSearchable, empty, free_of, limit_of, list_at, list_of, sizes_of, slots_of}
+use Rattle.bforest.specs.Forest.{Becomes, Forest, Gives, IsFitFor, IsLive, IsSearchable, empty, emptied, free_of, list_at, list_of, sizes_of, slots_of}
 use Rattle.bforest.specs.Refusal.{Full, OutOfMemory}
 use Rattle.bforest.specs.Retain.{MayAskEach, Retains}
 use Rattle.bforest.specs.Room.{Balances, node_count}
@@ -80,8 +80,9 @@ nodes_of f h = node_count (sizes_of f h)
 
 module _ {K X C : Type 0} where
   -- no index has a tree, and the forest has none
-  kept-empty : {most : ℕ} {cmp : K → K → Ordering} → most % 2 ≡ 1 → (m : Indexed K X C) (n : ℕ) → table m ≡ empty n → ((i : ℕ) → handle m i ≡ None) → AreKept most cmp m
-  kept-empty {most} {cmp} odd m n forest none = record {
+  kept-empty : {most : ℕ} {cmp : K → K → Ordering} → most % 2 ≡ 1 → (m : Indexed K X C) (g : Forest K X) → table m ≡ emptied g →
+      ((i : ℕ) → handle m i ≡ None) → AreKept most cmp m
+  kept-empty {most} {cmp} odd m g forest none = record {
     odd = odd;
     live = λ i. subst (λ (q : Option ℕ). IsLive (table m) q) (sym (none i)) tt;
     increasing = λ i. subst (λ (q : Option ℕ). IsIncreasing cmp (list_of (table m) q)) (sym (none i)) (nothing-increases K X cmp);
@@ -93,7 +94,7 @@ module _ {K X C : Type 0} where
   -- there is no index
   pub kept-none : {most : ℕ} {cmp : K → K → Ordering} → most % 2 ≡ 1 → (f : Forest K X) (o : C) (hs : List (Option ℕ)) (n : ℕ) → f ≡ empty n → hs ≡ []
       → AreKept most cmp (record { forest = f; order = o; handles = hs })
-  kept-none odd f o hs n forest is = kept-empty odd (record { forest = f; order = o; handles = hs }) n forest
+  kept-none odd f o hs n forest is = kept-empty odd (record { forest = f; order = o; handles = hs }) (empty n) forest
       (λ i. ap (λ (qs : List (Option ℕ)). get_or qs i None) is ∙ none-at i)
 
   -- each index has the same handle
@@ -444,11 +445,12 @@ module _ {K X C : Type 0} where
     )
 
   -- each handle is empty now, and the forest has no tree
-  pub kept-cleared : {most : ℕ} {cmp : K → K → Ordering} → most % 2 ≡ 1 → (o : C) (f' : Forest K X) (qs : List (Option ℕ)) (n size : ℕ) → f' ≡ empty n → Adds (λ h. h ≡ None) [] size qs
+  pub kept-cleared : {most : ℕ} {cmp : K → K → Ordering} → most % 2 ≡ 1 → (o : C) (f' : Forest K X) (qs : List (Option ℕ)) (g : Forest K X) (size : ℕ) →
+      f' ≡ emptied g → Adds (λ h. h ≡ None) [] size qs
       → AreKept most cmp (record { forest = f'; order = o; handles = qs })
-  kept-cleared odd o f' qs n size forest adds = kept-empty odd (record { forest = f'; order = o; handles = qs }) n forest (none-handles qs size adds)
+  kept-cleared odd o f' qs g size forest adds = kept-empty odd (record { forest = f'; order = o; handles = qs }) g forest (none-handles qs size adds)
 
-  pub cleared-all : (m : Indexed K X C) (f' : Forest K X) (qs : List (Option ℕ)) → f' ≡ empty (limit_of (table m))
+  pub cleared-all : (m : Indexed K X C) (f' : Forest K X) (qs : List (Option ℕ)) → f' ≡ emptied (table m)
       → Adds (λ h. h ≡ None) [] (count m) qs → ClearsAll m (record m { forest = f'; handles = qs })
   cleared-all m f' qs forest adds = record {
     lists = λ i. ap (list_of f') (none-handles qs (count m) adds i);

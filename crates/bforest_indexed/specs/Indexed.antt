@@ -1,7 +1,7 @@
 -- What contracts see of maps and of sets that are named by an index: a forest, an order, and a handle for each index. A set's values are
 -- all the unit.
 use Rattle.bforest.specs.Entries.{IsIncreasing, cut, is_present, put, value_for}
-use Rattle.bforest.specs.Forest.{Forest, Gives, IsFitFor, IsLive, IsTooMany, NeedsGrowth, Takes, empty, free_of, limit_of, list_of, need_of, shrink, sizes_of, sizes_with, sizes_without, slots_of}
+use Rattle.bforest.specs.Forest.{Forest, Gives, IsFitFor, IsLive, IsTooMany, NeedsGrowth, Takes, emptied, free_of, limit_of, list_of, need_of, shrink, sizes_of, sizes_with, sizes_without, slots_of}
 use Rattle.bforest.specs.Refusal.{Full, Memory, OutOfMemory}
 use Rattle.bforest.specs.Retain.{Retains}
 use Rattle.bforest.specs.Room.{IsEnoughFor, node_count}
@@ -107,7 +107,7 @@ module _ {K X C : Type 0} where
   pub record ClearsAll (m m' : Indexed K X C) : Type 0 where
     pub lists : (i : ℕ) → entries m' i ≡ []
     pub sizes : (i : ℕ) → node_sizes m' i ≡ []
-    pub forest : table m' ≡ empty (limit_of (table m))
+    pub forest : table m' ≡ emptied (table m)
     pub same_count : count m' ≡ count m
     pub same_comparator : comparator m' ≡ comparator m
 

@@ -21,18 +21,19 @@ not-ok (Err y) x e is = absurd (cc)
 
 module _ {K X : Type 0} where
   -- reserving slots keeps the limit
-  pub limit-reserved : {A E : Type 0} (f f' : Forest K X) (n : ℕ) (r : Result A E) → OnOk r (f' ≡ reserved f n) → OnErr r (f' ≡ f) → f'.limit ≡ f.limit
+  pub limit-reserved : {A E : Type 0} (f f' : Forest K X) (n : ℕ) (r : Result A E) → OnOk r (f' ≡ reserved f n f'.memory) → OnErr r (f' ≡ f) →
+      f'.limit ≡ f.limit
   limit-reserved f f' n (Ok a) ok err = ap (λ z. z.limit) ok
   limit-reserved f f' n (Err x) ok err = ap (λ z. z.limit) err
 
   -- the number of free slots after reserving n
-  pub free-reserved : (f : Forest K X) (n : ℕ) → free_of (reserved f n) ≡ (n - free_of f) + free_of f
-  free-reserved f n = length-append (down_from (slot_count f) (n - free_of f)) f.chain ∙ ap (λ z. z + free_of f) (length-down_from (slot_count f) (n - free_of f))
+  pub free-reserved : (f : Forest K X) (n memory : ℕ) → free_of (reserved f n memory) ≡ (n - free_of f) + free_of f
+  free-reserved f n memory = length-append (down_from (slot_count f) (n - free_of f)) f.chain ∙ ap (λ z. z + free_of f) (length-down_from (slot_count f) (n - free_of f))
 
   -- the number of slots after reserving n
-  pub slots-reserved : (f : Forest K X) (n : ℕ) → slots_of (reserved f n) ≡ slots_of f + (n - free_of f)
-  slots-reserved f n = length-append f.nodes (fresh_nodes (slot_count f) (n - free_of f) (front_of f.chain)) ∙ ap (λ z. slots_of f + z) (length-fresh_nodes K X (slot_count f) (n - free_of f) (front_of f.chain))
+  pub slots-reserved : (f : Forest K X) (n memory : ℕ) → slots_of (reserved f n memory) ≡ slots_of f + (n - free_of f)
+  slots-reserved f n memory = length-append f.nodes (fresh_nodes (slot_count f) (n - free_of f) (front_of f.chain)) ∙ ap (λ z. slots_of f + z) (length-fresh_nodes K X (slot_count f) (n - free_of f) (front_of f.chain))
 
   -- reserving n slots changes nothing where n are free already
-  pub reserved-same : (f : Forest K X) (n : ℕ) → n ≤ free_of f → reserved f n ≡ f
-  reserved-same f n h = let z : n - free_count f ≡ 0 = omega (arith, h) in ap (λ d. with_slots f d) z ∙ ap (λ xs. record f { nodes = xs }) (append-nil f.nodes)
+  pub reserved-same : (f : Forest K X) (n : ℕ) → n ≤ free_of f → reserved f n f.memory ≡ f
+  reserved-same f n h = let z : n - free_count f ≡ 0 = omega (arith, h) in ap (λ d. with_slots f d f.memory) z ∙ ap (λ xs. record f { nodes = xs }) (append-nil f.nodes)

@@ -131,7 +131,7 @@ module _ {K X : Type 0} where
 
   -- taking nodes from a table takes slots of a forest
   pub takes : (d : ℕ) (f f' : Forest K X) → TakesNodes d f f' → Takes d f f'
-  takes d f f' t = record { slots = t.slots; free = t.free }
+  takes d f f' t = record { slots = t.slots; free = t.free; memory = t.memory }
 
   -- the root, the list and the sizes of a live handle
   pub record SeenAs (p f : Forest K X) (h : Option ℕ) (n : ℕ) : Type 0 where

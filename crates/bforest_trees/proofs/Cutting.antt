@@ -68,11 +68,11 @@ module _ {K X : Type 0} where
 
   -- a table that stays frees no node
   pub gives-none : (t : Table K X) (sizes : List (List ℕ)) → GivesNodes sizes sizes t t
-  gives-none t sizes = record { given = []; chain_is = refl; slots = refl; count_is = omega arith }
+  gives-none t sizes = record { given = []; chain_is = refl; slots = refl; memory_is = refl; count_is = omega arith }
 
   -- the nodes that a table was given back are free slots
   pub gives : (f f' : Forest K X) (before after : List (List ℕ)) → GivesNodes before after f f' → Gives before after f f'
-  gives f f' before after g = record { slots = g.slots; free = omega (arith, g.count_is, ap length g.chain_is, length-append g.given f.chain) }
+  gives f f' before after g = record { slots = g.slots; memory = g.memory_is; free = omega (arith, g.count_is, ap length g.chain_is, length-append g.given f.chain) }
 
   -- a tree that ended becomes the empty list of an empty handle
   pub becomes-ended : (most : ℕ) (f f' : Forest K X) (r : ℕ) → Ends most f f' r → Becomes f (Some r) f' None []

@@ -53,11 +53,13 @@ module _ {K X : Type 0} {most : ℕ} {cmp : K → K → Ordering} {f : Forest K 
   on-key = record { root = n; place = place cmp (list_under f n) k; on = s.on }
 
   -- `insert` replaces the value of a key that is present
-  pub overwritten : IsTotalOrder cmp → IsIncreasing cmp (list_at f n) → {x : X} {f' : Forest K X} → Changes most f f' n n (with_value (list_under f n) (place cmp (list_under f n) k) x) (sizes_under f n) → slot_count f' ≡ slot_count f → f'.chain ≡ f.chain
+  pub overwritten : IsTotalOrder cmp → IsIncreasing cmp (list_at f n) → {x : X} {f' : Forest K X} →
+      Changes most f f' n n (with_value (list_under f n) (place cmp (list_under f n) k) x) (sizes_under f n) → slot_count f' ≡ slot_count f →
+      f'.chain ≡ f.chain → f'.memory ≡ f.memory
       → Inserts most cmp f (Some n) k x (Ok (Some old)) f' (Some n)
-  overwritten total up {x} {f'} written slots chain = let root = live-root f n s.live in let here = present-some cmp (list_under f n) k old s.value in
+  overwritten total up {x} {f'} written slots chain memory = let root = live-root f n s.live in let here = present-some cmp (list_under f n) k old s.value in
       inserts-ok most cmp f k x n f' n (Some old) (subst (λ (l : List (K × X)). value_for cmp l k ≡ Some old) (sym (list-root f n root)) s.value)
-      (put-here most cmp f n k root here f' x written slots chain) (IsIncreasing-put cmp total _ k x up) (λ low. let few = rw (need-present most cmp f n k root here) at low in omega (arith, few))
+      (put-here most cmp f n k root here f' x written slots chain memory) (IsIncreasing-put cmp total _ k x up) (λ low. let few = rw (need-present most cmp f n k root here) at low in omega (arith, few))
 
   -- after the value was replaced, the path stands at the key's place
   pub key-spot : (f' : Forest K X) → StandsOn f' n path (place cmp (list_under f n) k) → IsSpot f' (Some n) path (place cmp (list_at f n) k)
@@ -120,7 +122,7 @@ module _ {K X : Type 0} {most : ℕ} {cmp : K → K → Ordering} (total : IsTot
       let value : value_for cmp (list_under f n) k ≡ Some old = sym (rw is at p.ok) in
       let here = present-some cmp (list_under f n) k old value in
       inserts-ok most cmp f k x n f' n (Some old) (subst (λ (l : List (K × X)). value_for cmp l k ≡ Some old) (sym (list-root f n its-root)) value)
-      (put-here most cmp f n k its-root here f' x (p.written old is) p.slots p.chain) (IsIncreasing-put cmp total _ k x up) (λ low. let few = rw (need-present most cmp f n k its-root here) at low in omega (arith, few))
+      (put-here most cmp f n k its-root here f' x (p.written old is) p.slots p.chain p.memory) (IsIncreasing-put cmp total _ k x up) (λ low. let few = rw (need-present most cmp f n k its-root here) at low in omega (arith, few))
 
   entered : answer ≡ Ok None → Inserts most cmp f (Some n) k x (Ok None) f' (Some n)
   entered is =

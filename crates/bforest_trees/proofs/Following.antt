@@ -71,6 +71,7 @@ module _ {K X : Type 0} (most : ℕ) (a b c : Table K X) where
     given = q.given ++ p.given;
     chain_is = q.chain_is ∙ ap (λ w. q.given ++ w) p.chain_is ∙ sym (append_assoc q.given p.given a.chain);
     slots = q.slots ∙ p.slots;
+    memory_is = q.memory_is ∙ p.memory_is;
     count_is = omega (arith, p.count_is, q.count_is, length-append q.given p.given);
   }
 

@@ -79,12 +79,13 @@ module _ {K X : Type 0} (most : ℕ) (cmp : K → K → Ordering) (f : Forest K 
         (λ j. if is_present cmp (list-root f n root j) k then sizes-root f n root j else growth most (place cmp (list-root f n root j) k) (sizes-root f n root j)) ∙ (λ j. if here j then ss else growth most at ss)
 
     -- replacing the value of a present key inserts the entry
-    pub put-here : (f' : Forest K X) (v : X) → Changes most f f' n n (with_value es at v) ss → slot_count f' ≡ slot_count f → f'.chain ≡ f.chain → IsPut most cmp f f' n n k v
-    put-here f' v c slots chain = record {
+    pub put-here : (f' : Forest K X) (v : X) → Changes most f f' n n (with_value es at v) ss → slot_count f' ≡ slot_count f → f'.chain ≡ f.chain →
+        f'.memory ≡ f.memory → IsPut most cmp f f' n n k v
+    put-here f' v c slots chain memory = record {
       put = subst (λ (l : List (K × X)). Becomes f (Some n) f' (Some n) l) (sym (ap (λ (l : List (K × X)). put cmp l k v) (list-root f n root) ∙ put-present cmp es k v here)) (becomes most f f' n n (with_value es at v) ss c);
       sizes = sizes-new most f f' n n (with_value es at v) ss c ∙ sym sizes-present;
       same_root = (λ e. ap length (sizes-present ∙ sym (sizes-root f n root)), λ e. refl);
-      account = subst (λ (d : ℕ). Takes d f f') (sym need-present) (record { slots = omega (arith, slots); free = omega (arith, ap length chain) });
+      account = subst (λ (d : ℕ). Takes d f f') (sym need-present) (record { slots = omega (arith, slots); free = omega (arith, ap length chain); memory = record { grows = omega arith; stays = λ low. memory } });
     }
 
   module _ (gone : is_present cmp es k ≡ false) where

@@ -43,7 +43,7 @@ module _ {K X : Type 0} (most : ℕ) (cmp : K → K → Ordering) (f : Forest K 
         cut = subst (λ (l : List (K × X)). Becomes f h f h l) (sym (cut-absent cmp entries k gone)) (becomes-same f h live);
         sizes = sym (without-absent most cmp f h k gone);
         same_levels = (λ same. refl, λ same. refl);
-        account = record { slots = refl; free = refl };
+        account = record { slots = refl; free = refl; memory = refl };
         increasing = increasing;
         absent_forest = λ is. refl;
         absent_handle = λ is. refl;

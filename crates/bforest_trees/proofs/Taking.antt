@@ -33,7 +33,7 @@ module _ {K X : Type 0} (most : ℕ) (f : Forest K X) (h : Option ℕ) (p : ℕ)
     removed = subst (λ (l : List (K × X)). Becomes f h f h l) (sym (remove-past (list_of f h) p past)) (becomes-same f h live);
     sizes = sym (λ j. if not-below p (length (list_of f h)) past j then shrink most p (sizes_of f h) else sizes_of f h);
     same_levels = (λ e. refl, λ e. refl);
-    account = record { slots = refl; free = refl };
+    account = record { slots = refl; free = refl; memory = refl };
     end_forest = λ e. refl;
     end_handle = λ e. refl;
   }

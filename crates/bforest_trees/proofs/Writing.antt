@@ -29,6 +29,7 @@ module _ {K X : Type 0} {m : ℕ} (f : Forest K X) (h : Option ℕ) (path : Path
         sizes = sizes-new m f f' n n (with_value es p w) (tree_sizes (tree_of f.nodes n)) v.0 ∙ sym (sizes-root f n t.2.root_is);
         slots = length-set _ _ _;
         free = refl;
+        memory = refl;
         spot = on-at f' path v.1;
         computed = computed m f' (Some n) v.0.union;
       })

@@ -4,7 +4,7 @@ use Rattle.bforest_core.specs.Sizes.{shrink}
 use Rattle.bforest_core.specs.declared.pool.OutOfMemory.TheVariants.{Full, Memory}
 use Rattle.bforest_core.specs.declared.pool.OutOfMemory.{OutOfMemory}
 use Rattle.bforest_nodes.specs.Entries.{IsIncreasing, cut, put, value_for}
-use Rattle.bforest_trees.specs.Forest.{Becomes, Forest, Gives, IsLive, IsTooMany, Keeps, NeedsGrowth, Takes, free_of, list_of, need_of, sizes_of, sizes_with, sizes_without, slots_of}
+use Rattle.bforest_trees.specs.Forest.{Becomes, Forest, Gives, GrowsFor, IsLive, IsTooMany, Keeps, NeedsGrowth, Takes, free_of, list_of, need_of, sizes_of, sizes_with, sizes_without, slots_of}
 use Rattle.bforest_trees.specs.Retain.{Retains}
 use Rattle.std.specs.Prelude.{Bool, Err, IfOk, IsOk, IsSome, None, Ok, OnErr, OnOk, Option, Result, [], if◌then◌else◌, length, nat_lt, remove, slice_get, unwrap_or, ◌+◌, ◌-◌, ◌<◌, ◌↔◌, ◌≡◌, ◌≤◌, ℕ}
 use Rattle.std.specs.declared.cmp.Ordering.{Ordering}
@@ -37,6 +37,7 @@ module _ {K X : Type 0} where
     pub free : OnOk result (n ≤ free_of f')
     pub grown : OnOk result (free_of f < n → free_of f' ≡ n)
     pub slots : OnOk result (slots_of f' ≡ slots_of f + (n - free_of f))
+    pub growth : GrowsFor n f f'
     pub enough : n ≤ free_of f → IsOk result
     pub same : n ≤ free_of f → f' ≡ f
     pub refused : OnErr result (f' ≡ f)

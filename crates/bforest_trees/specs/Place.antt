@@ -1,5 +1,5 @@
 -- Where a path stands in the list of a handle.
-use Rattle.bforest_trees.specs.Forest.{Becomes, Forest, free_of, list_of, sizes_of, slots_of}
+use Rattle.bforest_trees.specs.Forest.{Becomes, Forest, free_of, list_of, memory_of, sizes_of, slots_of}
 use Rattle.bforest_core.specs.Paths.{IsAtEnd, StandsAt, spot}
 use Rattle.bforest_nodes.specs.Entries.{with_value}
 use Rattle.bforest_core.specs.declared.path.Path.{Path}
@@ -32,13 +32,13 @@ module _ {K X : Type 0} where
     pub spot : IsSpot f h path place
     pub within : place < length (list_of f h)
 
-  -- w was written as the value of the entry where the path stands: one change of the handle's list, in nodes
-  -- of
-  -- the same sizes; the path stands where it stood, and the number of slots stays
+  -- w was written as the value of the entry where the path stands: one change of the handle's list, in nodes of
+  -- the same sizes; the path stands where it stood, and the number of slots and the memory stay
   pub record IsWritten {n : ℕ} (f f' : Forest K X) (h : Option ℕ) (path : Path K X n) (place : ℕ) (w : X) : Type 0 where
     pub becomes : Becomes f h f' h (with_value (list_of f h) place w)
     pub sizes : sizes_of f' h ≡ sizes_of f h
     pub slots : slots_of f' ≡ slots_of f
     pub free : free_of f' ≡ free_of f
+    pub memory : memory_of f' ≡ memory_of f
     pub spot : IsSpot f' h path place
     pub computed : IsComputed n f' h

@@ -1,5 +1,5 @@
 //! The table of all trees of a forest: each call on one tree, stated once for maps and sets.
-ghost use Rattle.bforest_trees.specs.Forest.{Becomes, Gives, IsAccounted, IsLive, Takes, empty, first_level, free_of, limit_of, list_at, list_of, sizes_at, sizes_of, slots_of};
+ghost use Rattle.bforest_trees.specs.Forest.{Becomes, Gives, IsAccounted, IsLive, Takes, empty, emptied, first_level, free_of, limit_of, list_at, list_of, sizes_at, sizes_of, slots_of};
 ghost use Rattle.bforest_trees.specs.Bounds.{entry_at_most};
 ghost use Rattle.bforest_trees.specs.Calls.{Clears, Filters, Inserts, Removes, Reserves, SameLevels};
 ghost use Rattle.bforest_trees.specs.Place.{AtSpot, IsComputed, IsSpot, OnSpot};
@@ -58,9 +58,9 @@ impl<K: Copy, V: Copy, const N: usize> Trees<K, V, N> {
         }
     }
 
-    /// Removes all trees.
+    /// Removes all trees. Its limit and its memory stay.
     pub fn clear(&mut self)
-        ensures empty { self.new ≡ empty (limit_of self.old) }
+        ensures empty { self.new ≡ emptied self.old }
         ensures lists { (n : ℕ) → list_at self.new n ≡ [] }
     {
         self.pool.clear();

@@ -49,6 +49,7 @@ module _ {K V X : Type 0} (content : List (K × X) → Content K V) where
     pub chain_is : t.chain ≡ right ∷ u.chain
     pub slots_are : length u.nodes ≡ length t.nodes
     pub limit_is : u.limit ≡ t.limit
+    pub memory_is : u.memory ≡ t.memory
 
   -- a full node split over two slots
   pub record Split (t s : Table K V) (n right left_count : ℕ) (es : List (K × X)) (key : K) : Type 0 where
@@ -110,6 +111,7 @@ module _ {K V X : Type 0} (content : List (K × X) → Content K V) where
             chain_is = cc;
             slots_are = cc;
             limit_is = cc;
+            memory_is = cc;
           };
         }
 
@@ -128,6 +130,7 @@ module _ {K V X : Type 0} (content : List (K × X) → Content K V) where
       chain_is = cc;
       slots_are = cc;
       limit_is = cc;
+      memory_is = cc;
     }
 
   -- two nodes whose sizes are those of halves are halves

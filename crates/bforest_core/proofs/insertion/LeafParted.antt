@@ -42,6 +42,7 @@ module _ {K V : Type 0} where
         chain_is = chain_is h.parted g;
         slots_are = cc;
         limit_is = cc;
+        memory_is = cc;
         same_root = λ same. cc (same_top h.parted g (omega arith));
         new_root = λ other. (let risen = g.new_top (λ same. other (omega arith)) in
             subst (λ z. 0 < count z (right ∷ taken)) (sym top') (omega arith));

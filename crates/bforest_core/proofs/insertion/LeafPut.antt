@@ -70,6 +70,7 @@ module _ {K V : Type 0} {cmp : K → K → Ordering} (most : ℕ) {table : Table
           ok = rw said (sym e.value_is);
           slots = cc (after, length-set _ _ _);
           chain = cc (after);
+          memory = cc (after);
           written = λ old is. changes;
           inserted = λ is. absurd (valued _ here (let same = sym said ∙ is in cc));
           takes = λ is. absurd (valued _ here (let same = sym said ∙ is in cc));
@@ -113,6 +114,7 @@ module _ {K V : Type 0} {cmp : K → K → Ordering} (most : ℕ) {table : Table
             ok = rw ok (sym gone);
             slots = simp (put_is, length-set table.nodes leaf (with_entry (leaf_content es) (place cmp es key) key value));
             chain = cc;
+            memory = cc;
             written = λ old is. absurd (let bad = sym ok ∙ is in cc);
             inserted = λ is. subst (λ z. Changes most table new root z (insert list at (key, value)) (growth most at (sizes_of tree))) (put.is.same_root.1 levels) put.is.changes;
             takes = λ is. put.is.takes;
@@ -131,6 +133,7 @@ module _ {K V : Type 0} {cmp : K → K → Ordering} (most : ℕ) {table : Table
             ok = rw err tt;
             slots = cc;
             chain = cc;
+            memory = cc;
             written = λ old is. absurd (let bad = sym err ∙ is in cc);
             inserted = λ is. absurd (let bad = sym err ∙ is in cc);
             takes = λ is. absurd (let bad = sym err ∙ is in cc);

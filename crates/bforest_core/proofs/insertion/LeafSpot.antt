@@ -169,6 +169,7 @@ module _ {K V : Type 0} where
           chain_is = sym w.chain_is;
           slots_are = w.slots_are;
           limit_is = w.limit_is;
+          memory_is = w.memory_is;
           same_root = λ same. root-stands fit' stands ∙ sym (root-points _ _ _ _ _ _ (omega (arith, room)) p.fit p.at.points);
           new_root = λ other. absurd (other (rows_count _ _ above.sizes_are));
         }

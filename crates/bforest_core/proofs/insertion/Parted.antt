@@ -52,6 +52,7 @@ module _ {K V X : Type 0} {content : List (K × X) → Content K V} {half most :
         chain_is = h.two.chain_is;
         slots_are = h.two.slots_are;
         limit_is = h.two.limit_is;
+        memory_is = h.two.memory_is;
         nodes_above = λ i high. far_m i (λ e. omega arith);
       }
 

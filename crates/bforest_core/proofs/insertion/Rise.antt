@@ -57,6 +57,7 @@ module _ {K V : Type 0} where
           chain_is = sym w.chain_is;
           slots_are = w.slots_are;
           limit_is = w.limit_is;
+          memory_is = w.memory_is;
           nodes_below = λ i low. refl;
           entries_below = λ i low. far i (λ e. omega arith);
           same_top = λ same. refl;
@@ -95,6 +96,7 @@ module _ {K V : Type 0} where
         chain_is = chain_is h.parted g;
         slots_are = cc;
         limit_is = cc;
+        memory_is = cc;
         nodes_below = λ i low. g.nodes_below i (omega arith) ∙ h.nodes_below i low;
         entries_below = λ i low. g.entries_below i (omega arith) ∙ h.entries_below i low;
         same_top = same_top h.parted g;
@@ -134,6 +136,7 @@ module _ {K V : Type 0} where
             chain_is = w.chain_is;
             slots_are = w.slots_are;
             limit_is = w.limit_is;
+            memory_is = w.memory_is;
             nodes_below = λ i low. far_m i (λ e. omega arith);
             entries_below = λ i low. far_j i (λ e. omega arith);
             same_top = λ same. absurd (omega arith);

@@ -10,7 +10,7 @@ only_here m n ms some none = elim (eqb_tells n m) [ inl w ↦ (let e = w.1 in rw
 module _ {K V : Type 0} where
   -- an unchanged table frees nothing
   pub frees-refl : (t : Table K V) (own : _) → Frees t t own []
-  frees-refl t own = record { others = λ m z. refl; freed_are = tt; chain_is = refl; slots_are = refl; limit_is = refl }
+  frees-refl t own = record { others = λ m z. refl; freed_are = tt; chain_is = refl; slots_are = refl; limit_is = refl; memory_is = refl }
 
   -- two changes in sequence, the second of which leaves the slots freed by the first
   pub frees-then : {t u v : Table K V} {own wide one two : _} → ((m : ℕ) → count m own ≡ 0 → count m wide ≡ 0) → ((m : ℕ) → 0 < count m one → count m wide ≡ 0) → Frees t u own one → Frees u v wide two → Frees t v own (two ++ one)
@@ -20,6 +20,7 @@ module _ {K V : Type 0} where
     chain_is = cc (append_assoc _ _ _);
     slots_are = cc;
     limit_is = cc;
+    memory_is = cc;
   }
 
   -- two changes in sequence, the first of which frees nothing
@@ -34,6 +35,7 @@ module _ {K V : Type 0} where
     chain_is = p.chain_is;
     slots_are = p.slots_are;
     limit_is = p.limit_is;
+    memory_is = p.memory_is;
   }
 
   -- writing one slot frees nothing
@@ -44,6 +46,7 @@ module _ {K V : Type 0} where
     chain_is = p.chain_is;
     slots_are = p.slots_are;
     limit_is = p.limit_is;
+    memory_is = p.memory_is;
   }
 
   -- freeing a slot leaves every other slot
@@ -58,6 +61,7 @@ module _ {K V : Type 0} where
     chain_is = cc;
     slots_are = cc (length-set t.nodes n (Free (front_of t.chain)));
     limit_is = cc;
+    memory_is = cc;
   }
 
   -- freeing one slot, followed by a change of others

@@ -59,6 +59,7 @@ module _ {K V : Type 0} where
               given = i.freed;
               chain_is = i.frees.chain_is;
               slots = i.frees.slots_are;
+              memory_is = i.frees.memory_is;
               count_is = omega (arith, length-same (numbers_of i.tree' ++ i.freed) (numbers_of tree) (λ m. count-append m (numbers_of i.tree') i.freed ∙ i.numbers_are m), length-append (numbers_of i.tree') i.freed, nodes-count tree, nodes-count i.tree' ∙ ap (λ z. node_count z) i.sizes_are);
             };
             order = record {
@@ -94,6 +95,7 @@ module _ {K V : Type 0} where
               given = i.freed;
               chain_is = i.frees.chain_is;
               slots = i.frees.slots_are;
+              memory_is = i.frees.memory_is;
               count_is = omega (arith, length-same _ _ i.freed_is, nodes-count tree, ap (λ z. node_count z) i.none_left);
             };
             order = record { roots = i.freed; up = 0; chain_is = i.frees.chain_is; roots_are = omega (arith, ap length i.levels_are, ap length i.none_left) };

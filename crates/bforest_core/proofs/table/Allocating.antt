@@ -1,5 +1,6 @@
 -- Taking a free node and reserving nodes, over plain values.
-use Rattle.bforest_core.proofs.Words.{◌≡◌, ◌↔◌, ℕ, ◌-◌, ◌≤◌, ◌<◌, List, length, length-set, append-nil, Some, Result, Err, IsErrAnd, sym, ap, arith, ◌+◌, refl}
+use Rattle.bforest_core.proofs.Words.{◌≡◌, ◌↔◌, ℕ, ◌-◌, ◌≤◌, ◌<◌, List, [], ◌∷◌, length, length-set}
+use Rattle.bforest_core.proofs.Words.{append-nil, Some, Result, Err, IsErrAnd, sym, ap, ◌∙◌, arith, ◌+◌, refl}
 use Rattle.bforest_core.proofs.Words.{err_from_is_err_and, Content, IsPool, chain_from, Table, IsUsed, NeedsGrowth, room, reserved, front_of, with_node}
 use Rattle.bforest_core.proofs.Words.{with_front, without_front}
 use Rattle.bforest_core.proofs.{Words.{free_count, length-append, down_from, slot_count}, table.Pools.with_front-is, table.Chains.length-down_from}
@@ -17,23 +18,31 @@ module _ {K V : Type 0} where
   pub taken_is : (t : Table K V) {u : Table K V} {node c d : _} → front_of t.chain ≡ Some node → u ≡ without_front t t.chain → c ≡ d → with_node u node c ≡ with_front t t.chain d
   taken_is t {d = d} front u_is c_is = cc (with_front-is t _ d front)
 
+  memory-without_front : (t : Table K V) (chain : _) → (without_front t chain).memory ≡ t.memory
+  memory-without_front t [] = refl
+  memory-without_front t (node ∷ rest) = refl
+
+  -- taking the front off the chain takes no memory
+  pub taken-memory : (t : Table K V) {u : Table K V} → u ≡ without_front t t.chain → u.memory ≡ t.memory
+  taken-memory t is = ap (λ z. z.memory) is ∙ memory-without_front t t.chain
+
   -- a used node stays used when it is written
   pub used_written : (t : Table K V) (node c : _) → IsUsed t node → IsUsed (with_node t node c) node
   used_written t node c used = record { within = (let w = used.within in omega (arith, length-set t.nodes node c)); off_chain = used.off_chain }
 
   -- the number of free nodes after a reservation
-  pub reserved-free : (table : Table K V) (n : ℕ) → length (reserved table n).chain ≡ (n - free_count table) + free_count table
-  reserved-free table n = omega (arith, length-append (down_from (slot_count table) (n - free_count table)) table.chain, length-down_from (slot_count table) (n - free_count table))
+  pub reserved-free : (table : Table K V) (n memory : ℕ) → length (reserved table n memory).chain ≡ (n - free_count table) + free_count table
+  reserved-free table n memory = omega (arith, length-append (down_from (slot_count table) (n - free_count table)) table.chain, length-down_from (slot_count table) (n - free_count table))
 
   -- a reservation changes nothing where enough nodes are free
-  pub reserved-enough : (table : Table K V) (n : ℕ) → n ≤ free_count table → reserved table n ≡ table
+  pub reserved-enough : (table : Table K V) (n : ℕ) → n ≤ free_count table → reserved table n table.memory ≡ table
   reserved-enough table n enough = let none : n - free_count table ≡ 0 = omega arith in rw none (ap (λ z. record table { nodes = z }) (append-nil table.nodes))
 
-  module _ (n : ℕ) {most : ℕ} {nodes : List (Content K V)} {first : _} {free limit len : ℕ} (pool : IsPool most nodes first free limit) {t : Table K V}
-      (view : record { nodes = nodes; chain = chain_from nodes free first; limit = limit } ≡ t) (len_is : len ≡ length nodes) where
+  module _ (n : ℕ) {most : ℕ} {nodes : List (Content K V)} {first : _} {free limit memory len : ℕ} (pool : IsPool most nodes first free limit) {t : Table K V}
+      (view : record { nodes = nodes; chain = chain_from nodes free first; limit = limit; memory = memory } ≡ t) (len_is : len ≡ length nodes) where
     -- the fields of a pool as fields of its table
-    fields_are : (length t.chain ≡ free) × (t.limit ≡ limit) × (length t.nodes ≡ len)
-    fields_are = rw (← view) (pool.counted, refl, sym len_is)
+    fields_are : (length t.chain ≡ free) × (t.limit ≡ limit) × (length t.nodes ≡ len) × (t.memory ≡ memory)
+    fields_are = rw (← view) (pool.counted, refl, sym len_is, refl)
 
     -- with enough free nodes there is room
     pub has_room : n ≤ free → room t < n → ⊥
@@ -47,16 +56,20 @@ module _ {K V : Type 0} where
     pub finds_room : n - free ≤ limit - len → room t < n → ⊥
     finds_room allowed short = omega (arith, fields_are.0, fields_are.1, fields_are.2)
 
-    pub needs_growth : free < n → n - free ≤ limit - len → NeedsGrowth n t
-    needs_growth scarce allowed = record { scarce = omega (arith, fields_are.0); allowed = omega (arith, fields_are.0, fields_are.1, fields_are.2) }
+    pub needs_growth : free < n → n - free ≤ limit - len → memory < len + (n - free) → NeedsGrowth n t
+    needs_growth scarce allowed short = record {
+      scarce = omega (arith, fields_are.0);
+      allowed = omega (arith, fields_are.0, fields_are.1, fields_are.2);
+      short = omega (arith, fields_are.0, fields_are.2, fields_are.3);
+    }
 
     pub not_enough : free < n → n ≤ length t.chain → ⊥
     not_enough scarce enough = omega (arith, fields_are.0)
 
-    pub stays_reserved : n ≤ free → t ≡ reserved t n
+    pub stays_reserved : n ≤ free → t ≡ reserved t n t.memory
     stays_reserved enough = sym (reserved-enough t n (omega (arith, fields_are.0)))
 
   -- a table within a limit of 32 bits has at most 4294967295 slots
-  pub few_slots : {most : ℕ} {nodes : List (Content K V)} {first : _} {free limit : ℕ} → IsPool most nodes first free limit → {t : Table K V}
-      → record { nodes = nodes; chain = chain_from nodes free first; limit = limit } ≡ t → length t.nodes ≤ 4294967295
+  pub few_slots : {most : ℕ} {nodes : List (Content K V)} {first : _} {free limit memory : ℕ} → IsPool most nodes first free limit → {t : Table K V}
+      → record { nodes = nodes; chain = chain_from nodes free first; limit = limit; memory = memory } ≡ t → length t.nodes ≤ 4294967295
   few_slots pool view = let e = ap (λ z. length z.nodes) view in omega arith

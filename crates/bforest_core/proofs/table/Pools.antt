@@ -26,7 +26,8 @@ module _ {K V : Type 0} where
       IsPool-made (set nodes at content) (chain_from nodes free first) first free limit pool.capacity (IsChain-set nodes _ first at content off pool.linked) pool.counted pool.distinct (omega (arith, length-set nodes at content)) pool.limit_within
 
   -- writes to two slots that are not on the chain keep the chain
-  pub IsPool-set_two : {n : ℕ} (nodes : List (Content K V)) (first free limit : _) {left right : ℕ} (l r : Content K V) {t : Table K V} {a b : ℕ} → record { nodes = nodes; chain = chain_from nodes free first; limit = limit } ≡ t → left ≡ a → right ≡ b →
+  pub IsPool-set_two : {n : ℕ} (nodes : List (Content K V)) (first free limit : _) {memory left right : ℕ} (l r : Content K V) {t : Table K V} {a b : ℕ} →
+      record { nodes = nodes; chain = chain_from nodes free first; limit = limit; memory = memory } ≡ t → left ≡ a → right ≡ b →
       list_any (nat_eq a) t.chain ≡ false → list_any (nat_eq b) t.chain ≡ false → IsPool n nodes first free limit → IsPool n (set (set nodes left l) right r) first free limit × (chain_from (set (set nodes left l) right r) free first ≡ chain_from nodes free first)
   IsPool-set_two nodes first free limit {left = left} {right = right} l r view left_is right_is off_a off_b pool =
       let once = IsPool-set left l (rw (← view, ← left_is) at off_a) pool in let twice = IsPool-set right r (cc) once.0 in (twice.0, cc)
@@ -102,8 +103,9 @@ module _ {K V : Type 0} where
   with_front-is table (first ∷ rest) {node = node} content front = let same : first ≡ node = cc in rw same
 
   -- a table with no slots, from its fields
-  pub empty-is : (table : Table K V) (limit : ℕ) → table.nodes ≡ [] → table.chain ≡ [] → table.limit ≡ limit → table ≡ record { nodes = []; chain = []; limit = limit }
-  empty-is table limit nodes_are chain_is limit_is = rw (← nodes_are, ← chain_is, ← limit_is) refl
+  pub empty-is : (table : Table K V) (limit memory : ℕ) → table.nodes ≡ [] → table.chain ≡ [] → table.limit ≡ limit → table.memory ≡ memory →
+      table ≡ record { nodes = []; chain = []; limit = limit; memory = memory }
+  empty-is table limit memory nodes_are chain_is limit_is memory_is = rw (← nodes_are, ← chain_is, ← limit_is, ← memory_is) refl
 
 -- a number that is not on the chain is not its front
 pub apart_front : (chain : _) {node front : ℕ} → front_of chain ≡ Some front → list_any (nat_eq node) chain ≡ false → front ≡ node → ⊥

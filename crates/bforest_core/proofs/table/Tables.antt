@@ -99,6 +99,7 @@ module _ {K V : Type 0} where
     pub chain_is : u.chain ≡ t.chain
     pub slots_are : length u.nodes ≡ length t.nodes
     pub limit_is : u.limit ≡ t.limit
+    pub memory_is : u.memory ≡ t.memory
 
   pub puts : (t u : Table K V) (n c old : _) → slice_get t.nodes n ≡ Some old → u ≡ with_node t n c → Puts t u n c
   puts t u n c old found is = record {
@@ -107,10 +108,11 @@ module _ {K V : Type 0} where
     chain_is = cc;
     slots_are = cc (length-set _ n c);
     limit_is = cc;
+    memory_is = cc;
   }
 
   pub puts-then : {t u v n c d : _} → Puts t u n c → Puts u v n d → Puts t v n d
-  puts-then p q = record { here = q.here; same = λ m ne. q.same m ne ∙ p.same m ne; chain_is = cc; slots_are = cc; limit_is = cc }
+  puts-then p q = record { here = q.here; same = λ m ne. q.same m ne ∙ p.same m ne; chain_is = cc; slots_are = cc; limit_is = cc; memory_is = cc }
 
   -- the front of the chain was written, and taken off it
   pub record Takes (t u : Table K V) (n : ℕ) (c : Content K V) : Type 0 where
@@ -119,6 +121,7 @@ module _ {K V : Type 0} where
     pub chain_is : t.chain ≡ n ∷ u.chain
     pub slots_are : length u.nodes ≡ length t.nodes
     pub limit_is : u.limit ≡ t.limit
+    pub memory_is : u.memory ≡ t.memory
 
   takes_at : (t u : Table K V) (n c chain : _) → t.chain ≡ chain → front_of chain ≡ Some n → u ≡ with_front t chain c → n < length t.nodes → Takes t u n c
   takes_at t u n c [] is front after low = absurd cc
@@ -129,6 +132,7 @@ module _ {K V : Type 0} where
         chain_is = cc;
         slots_are = cc (length-set _ n c);
         limit_is = cc;
+        memory_is = cc;
       }
 
   pub takes : (t u : Table K V) (n c : _) → front_of t.chain ≡ Some n → u ≡ with_front t t.chain c → n < length t.nodes → Takes t u n c

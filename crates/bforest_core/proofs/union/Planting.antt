@@ -1,7 +1,7 @@
 -- A table without trees, the first entry of a tree, and the properties of the tree under a root.
 use Rattle.bforest_core.proofs.Words.{◌≡◌, ℕ, ◌-◌, IsTrue, Some, [], ◌∷◌, length, refl, sym, ap, ◌∙◌, subst, length-append, arith, IsLeafCapacity, Leaf, Table}
 use Rattle.bforest_core.proofs.Words.{front_of, free_count, slot_count, fresh_nodes, down_from, with_front, reserved, node, Tree, count, numbers_of, is_root}
-use Rattle.bforest_core.proofs.{Words.{IsUnion, Plants}, table.Tables.{count-same, absent_ne, takes}, union.Forests.{once, tree-back, within-slots}}
+use Rattle.bforest_core.proofs.{Words.{GrowsFor, IsUnion, Plants}, table.Tables.{count-same, absent_ne, takes}, union.Forests.{once, tree-back, within-slots}}
 use Rattle.bforest_core.proofs.{table.Chains.{length-fresh_nodes, length-down_from}, union.Reserved.{reserved-union, reserved-then, reserved-roots}}
 use Rattle.bforest_core.proofs.rows.Counts.{past-none}
 use Rattle.bforest_core.proofs.{union.Roots.{not-root, one_root, one_tree}, union.Exchange.{IsPlanted, Traded, exchange-trees, others-keep, roots-gone, traded}}
@@ -18,14 +18,17 @@ no-root K V number is = absurd cc
 
 module _ {K V : Type 0} where
   -- a table without slots is a union of no trees
-  pub IsUnion-empty : {most : ℕ} (n : ℕ) → IsLeafCapacity most → IsUnion {K = K} {V = V} most (record { nodes = []; chain = []; limit = n })
-  IsUnion-empty n capacity = ([], record { capacity = capacity; fit = tt; inside = tt; some = tt; low = tt; free = tt; account = λ m. sym (past-none m 0 (omega arith)) })
+  pub IsUnion-empty : {most : ℕ} (n memory : ℕ) → IsLeafCapacity most →
+      IsUnion {K = K} {V = V} most (record { nodes = []; chain = []; limit = n; memory = memory })
+  IsUnion-empty n memory capacity = ([], record { capacity = capacity; fit = tt; inside = tt; some = tt; low = tt; free = tt; account = λ m. sym (past-none m 0 (omega arith)) })
 
   -- `alloc_node` leaves a tree of one leaf with one entry under a number that had no tree, and takes one node
-  pub planted-alloc : (most : ℕ) {old : Table K V} (new : Table K V) {number : ℕ} (key : K) (value : V) → IsUnion most old → front_of (reserved old 1).chain ≡ Some number → new ≡ with_front (reserved old 1) (reserved old 1).chain (Leaf (key ∷ []) (value ∷ [])) →
+  pub planted-alloc : (most : ℕ) {old : Table K V} (new : Table K V) {number : ℕ} (memory : ℕ) (key : K) (value : V) → IsUnion most old →
+      front_of (reserved old 1 memory).chain ≡ Some number →
+      new ≡ with_front (reserved old 1 memory) (reserved old 1 memory).chain (Leaf (key ∷ []) (value ∷ [])) → GrowsFor 1 old new →
       Plants most old new number (key, value)
-  planted-alloc most {old = old} new {number = number} key value union front is =
-      let mid = reserved old 1 in let u = reserved-union most old 1 union in let f = front_rest mid.chain front in
+  planted-alloc most {old = old} new {number = number} memory key value union front is growth =
+      let mid = reserved old 1 memory in let u = reserved-union most old 1 _ union in let f = front_rest mid.chain front in
       let t = takes mid new number (Leaf (key ∷ []) (value ∷ [])) front is (within-slots u.1 number (omega (arith, ap (λ z. count number z) f.1, count-same number f.0))) in
       let tree : Tree K V = record { leaves = node number ((key, value) ∷ []) ∷ []; above = [] } in
       let p : IsPlanted most new.nodes tree = record {
@@ -44,13 +47,13 @@ module _ {K V : Type 0} where
         changes = record {
           union = (tree ∷ u.0, g);
           root_is = back.1;
-          list_is = cc;
-          sizes_are = cc;
-          others = reserved-then most old 1 new number number union (λ other ne ne'. others-keep [] [] (tree ∷ []) u.0 u.1 g other refl (not-root other number ne));
+          list_is = cc (back.0);
+          sizes_are = cc (back.0);
+          others = reserved-then most old 1 memory new number number union (λ other ne ne'. others-keep [] [] (tree ∷ []) u.0 u.1 g other refl (not-root other number ne));
           old_gone = λ ne. absurd (ne refl);
           new_came = λ ne. absurd (ne refl);
           limit_is = t.limit_is;
         };
-        fresh = λ there. roots-gone [] (tree ∷ []) [] u.0 g u.1 number (one_root number) refl ((reserved-roots most old 1 union number).0 ∙ there);
-        takes = record { slots = omega arith; free = omega (arith, ap length t.chain_is); chain_is = cc };
+        fresh = λ there. roots-gone [] (tree ∷ []) [] u.0 g u.1 number (one_root number) refl ((reserved-roots most old 1 memory union number).0 ∙ there);
+        takes = record { slots = omega arith; free = omega (arith, ap length t.chain_is); chain_is = cc (t.chain_is); memory = growth };
       }

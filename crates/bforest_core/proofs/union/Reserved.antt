@@ -40,8 +40,8 @@ module _ {K V : Type 0} where
   slots_same xs more m low = let e = slice_get-get_or xs m (Free None) low in slice_get-append_left _ _ m _ e ∙ sym e
 
   -- a table with `n` new slots has the same trees
-  with-slots-forest : {most : _} {table : Table K V} (n : _) {trees : _} → IsForest most table trees → IsForest most (with_slots table n) trees
-  with-slots-forest {table = table} n {trees = trees} f =
+  with-slots-forest : {most : _} {table : Table K V} (n memory : _) {trees : _} → IsForest most table trees → IsForest most (with_slots table n memory) trees
+  with-slots-forest {table = table} n memory {trees = trees} f =
       let more = fresh_nodes (slot_count table) n (front_of table.chain) in let c = λ (m : ℕ). count-append m (flat_map numbers_of trees) table.chain in
       let low = within-slots f in
       let slots : length (table.nodes ++ more) ≡ length table.nodes + n = omega (arith, length-append table.nodes more, length-fresh_nodes K V (slot_count table) n (front_of table.chain)) in
@@ -57,28 +57,31 @@ module _ {K V : Type 0} where
       }
 
   -- the used slots are a union of trees after a reservation
-  pub reserved-union : (most : ℕ) (table : Table K V) (n : ℕ) → IsUnion most table → IsUnion most (reserved table n)
-  reserved-union most table n union = (union.0, with-slots-forest _ union.1)
+  pub reserved-union : (most : ℕ) (table : Table K V) (n memory : ℕ) → IsUnion most table → IsUnion most (reserved table n memory)
+  reserved-union most table n memory union = (union.0, with-slots-forest _ _ union.1)
 
   -- a reservation keeps the roots and their trees
-  pub reserved-roots : (most : ℕ) (table : Table K V) (n : ℕ) → IsUnion most table → (number : ℕ) →
-      (is_root (reserved table n).nodes number ≡ is_root table.nodes number) × (IsTrue (is_root table.nodes number) → tree_of (reserved table n).nodes number ≡ tree_of table.nodes number)
-  reserved-roots most table n union number = let k = others-keep [] [] [] union.0 union.1 (with-slots-forest (n - free_count table) union.1) number refl refl in
-      (same_from_decides (is_root (reserved table n).nodes number) (is_root table.nodes number) k.0 (λ is. is, λ is. is), k.1)
+  pub reserved-roots : (most : ℕ) (table : Table K V) (n memory : ℕ) → IsUnion most table → (number : ℕ) →
+      (is_root (reserved table n memory).nodes number ≡ is_root table.nodes number)
+      × (IsTrue (is_root table.nodes number) → tree_of (reserved table n memory).nodes number ≡ tree_of table.nodes number)
+  reserved-roots most table n memory union number = let k = others-keep [] [] [] union.0 union.1 (with-slots-forest (n - free_count table) memory union.1) number refl refl in
+      (same_from_decides (is_root (reserved table n memory).nodes number) (is_root table.nodes number) k.0 (λ is. is, λ is. is), k.1)
 
   -- a change that keeps the other trees of the table with more slots keeps those of the table
-  pub reserved-then : (most : ℕ) (table : Table K V) (n : ℕ) (new : Table K V) (root root' : ℕ) → IsUnion most table → OthersKeep (reserved table n).nodes new.nodes root root' → OthersKeep table.nodes new.nodes root root'
-  reserved-then most table n new root root' union keep other ne ne' = let r = reserved-roots _ _ n union _ in
+  pub reserved-then : (most : ℕ) (table : Table K V) (n memory : ℕ) (new : Table K V) (root root' : ℕ) → IsUnion most table →
+      OthersKeep (reserved table n memory).nodes new.nodes root root' → OthersKeep table.nodes new.nodes root root'
+  reserved-then most table n memory new root root' union keep other ne ne' = let r = reserved-roots _ _ n memory union _ in
       let k = keep other ne ne' in ((λ now. sym r.0 ∙ k.0.0 now, λ was. k.0.1 (r.0 ∙ was)), λ was. k.1 (r.0 ∙ was) ∙ r.1 was)
 
   -- an equal table, or one with reserved nodes, is a union of trees and keeps them
   pub same-keeps : {most : ℕ} {old : Table K V} (new : Table K V) → new ≡ old → IsUnion most old → IsUnion most new × KeepsTrees old.nodes new.nodes
   same-keeps new is union = rw is (union, λ n. (refl, λ there. refl))
 
-  pub reserved-keeps : (most : ℕ) {old : Table K V} (new : Table K V) (n : ℕ) → new ≡ reserved old n → IsUnion most old → IsUnion most new × KeepsTrees old.nodes new.nodes
-  reserved-keeps most {old = old} new n is union = rw is (reserved-union most old n union, reserved-roots most old n union)
+  pub reserved-keeps : (most : ℕ) {old : Table K V} (new : Table K V) (n memory : ℕ) → new ≡ reserved old n memory → IsUnion most old →
+      IsUnion most new × KeepsTrees old.nodes new.nodes
+  reserved-keeps most {old = old} new n memory is union = rw is (reserved-union most old n memory union, reserved-roots most old n memory union)
 
   -- at least `n` nodes are free after a reservation of `n`
-  pub reserved-frees : (old : Table K V) {new : Table K V} (n : ℕ) → new ≡ reserved old n → n ≤ free_count new
+  pub reserved-frees : (old : Table K V) (n : ℕ) {chain : List ℕ} → chain ≡ (reserved old n old.memory).chain → n ≤ length chain
   reserved-frees old n is =
-      omega (arith, ap (λ z. length z.chain) is, length-append (down_from (slot_count old) (n - free_count old)) old.chain, length-down_from (slot_count old) (n - free_count old))
+      omega (arith, ap length is, length-append (down_from (slot_count old) (n - free_count old)) old.chain, length-down_from (slot_count old) (n - free_count old))

@@ -21,6 +21,7 @@ impl<K: Copy, V: Copy, const N: usize> Path<K, V, N> {
         ensures stands { (at : OnEntry pool.old self.now) → StandsOn pool.new at.root self.now at.place }
         ensures slots { slot_count pool.new ≡ slot_count pool.old }
         ensures chain { pool.new.chain ≡ pool.old.chain }
+        ensures memory { pool.new.memory ≡ pool.old.memory }
     {
         *pool.path_value_mut(self) = value;
     }

@@ -10,7 +10,7 @@ returns-in-Some-clause-there g c = within_at (slice_get (entries c.args.cursor.n
 pub returns-in-Some-clause-writes : goal.returns-in-Some-clause-writes
 returns-in-Some-clause-writes g c =
     let w = c.value_mut.ensures.written c.args.v in
-    record { becomes = w.becomes; number = refl; sizes = w.sizes; slots = w.slots; free = w.free }
+    record { becomes = w.becomes; number = refl; sizes = w.sizes; slots = w.slots; free = w.free; memory = w.memory }
 
 pub returns-in-None-clause-there : goal.returns-in-None-clause-there
 returns-in-None-clause-there g c = past_at (slice_get (entries c.args.cursor.now) (spot c.args.cursor.now)) c.in-None.ensures.value

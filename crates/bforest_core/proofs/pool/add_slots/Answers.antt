@@ -8,6 +8,7 @@ loop-added-preserved g c = let place : c.new-in-loop-added.result ≡ vec_len c.
       first = c.some-first.ensures.node ∙ ap Some place;
       len = omega arith;
       room = omega arith;
+      memory = c.push_reserved.ensures.capacity ∙ c.loop-added.invariant.memory;
     })
 
 pub returns-clause-ok : goal.returns-clause-ok
@@ -15,10 +16,13 @@ returns-clause-ok g c =
     let all : c.loop-added._added ≡ c.args.count = omega arith in rw (c.loop-added.invariant.nodes, all, c.reserve.ensures.items, c.reserve.ensures.len)
 
 pub returns-in_err-reserve : goal.returns-in_err-reserve
-returns-in_err-reserve g c = record {
-  ok = let e = err_is _ _ c.from_residual.ensures.1 in rw e tt;
-  first = let e = err_is _ _ c.from_residual.ensures.1 in rw e tt;
-  err = let e = err_is _ _ c.from_residual.ensures.1 in rw e c.reserve.ensures.items;
+returns-in_err-reserve g c = let e = err_is _ _ c.from_residual.ensures.1 in record {
+  ok = rw e tt;
+  first = rw e tt;
+  err = rw e c.reserve.ensures.items;
+  memory = c.reserve.ensures.capacity;
+  kept = rw e c.in_err-reserve.ensures.err;
+  short = rw e c.in_err-reserve.ensures.full;
 }
 
 pub returns-clause-first : goal.returns-clause-first

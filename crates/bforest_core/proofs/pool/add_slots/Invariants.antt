@@ -7,4 +7,5 @@ invariant-loop-added g l = record {
   first : l.first ≡ front_of_new (vec_len l.initial.nodes) l._added l.fn.next;
   len : vec_len l.nodes ≡ vec_len l.initial.nodes + l._added;
   room : vec_len l.initial.nodes + l.count ≤ vec_capacity l.nodes;
+  memory : vec_capacity l.nodes ≡ vec_capacity l.initial.nodes;
 }

@@ -24,7 +24,7 @@ returns-then-ask-clause-stepped g c = λ place stands.
       left = c.ask.new.value;
       stepped = subst (λ b. g.P.Predicate.step c.args.predicate.now c.args.entry.0 c.args.entry.1 b c.ask.new.value c.ask.new.self) c.if-ask.true c.ask.ensures;
       changes = c.set_value.ensures.written at;
-      gives = record { given = []; chain_is = c.set_value.ensures.chain; slots = c.set_value.ensures.slots; count_is = omega arith };
+      gives = record { given = []; chain_is = c.set_value.ensures.chain; slots = c.set_value.ensures.slots; memory_is = c.set_value.ensures.memory; count_is = omega arith };
       at = c.next.ensures.stands (record { root = root; place = place; on = c.set_value.ensures.stands at });
       same_root = (λ e. refl, λ e. refl);
       freed_root = λ ne. absurd (ne refl);

@@ -10,20 +10,20 @@ needed_here-requires g c = let w = c.requires.placed in
 pub split_leaf-requires : goal.split_leaf-requires
 split_leaf-requires g c = let w = c.requires.placed in let t0 = c.args.pool.now in let union = c.requires.union in let tree = tree_of t0.nodes w.root in
     let n = need g.row.N w.place (sizes_of tree) in let here = placed-under _ t0 union w.placed in
-    let mid_is : c.reserve.new.self ≡ reserved t0 n = c.in_ok-reserve.ensures.ok ∙ ap (λ z. reserved t0 z) (c.needed_here.ensures.value tree w.place here) in
-    let d = leaf_spot here in let full = full-reserved g.row.N t0 n (get_or c.args.self.now.node 0 0) (leaf_content (d.l ++ d.r)) d.slot_is c.requires.full in
+    let mid_is : c.reserve.new.self ≡ reserved t0 n c.reserve.new.self.memory = c.in_ok-reserve.ensures.ok ∙ ap (λ z. reserved t0 z c.reserve.new.self.memory) (c.needed_here.ensures.value tree w.place here) in
+    let d = leaf_spot here in let full = full-reserved g.row.N t0 n 0 (get_or c.args.self.now.node 0 0) (leaf_content (d.l ++ d.r)) d.slot_is c.requires.full in
     let placed = placed-mid _ t0 c.reserve.new.self n union w.placed mid_is in
-    (search rules, (search rules, ((under-low _ _ union w.placed).1, (rw mid_is full, (tree, w.place, placed, omega (arith, ap (λ z. length z.chain) mid_is, reserved-free t0 n), growth-low _ t0 w.root w.place union w.placed.root_is c.in_ok-reserve.ensures.numbers)))))
+    (search rules, (search rules, ((under-low _ _ union w.placed).1, (rw mid_is full, (tree, w.place, placed, omega (arith, ap (λ z. length z.chain) mid_is, reserved-free t0 n 0), growth-low _ t0 w.root w.place union w.placed.root_is c.in_ok-reserve.ensures.numbers)))))
 
 -- the insertion, under any root in whose tree the path stands
 put_at : (g : Over) (c : goal.After-root g) {root place : ℕ} → PlacedUnder c.args.pool.now.nodes root c.args.self.now.node c.args.self.now.entry c.args.self.now.size place →
     Put g.row.N c.args.pool.now c.split_leaf.new.pool root place (c.args.key, c.args.value) c.split_leaf.new.self.node c.split_leaf.new.self.entry c.split_leaf.new.self.size
 put_at g c {root} {place} p = put-split _ _ _ _ _ _ _ _ _ c.requires.union p c.in_ok-reserve.ensures.numbers c.needed_here.ensures.value
-    (λ short. (let e = c.in_ok-reserve.ensures.full.1 short in absurd cc)) c.in_ok-reserve.ensures.ok c.split_leaf.ensures.inserted
+    (λ short. (let e = c.in_ok-reserve.ensures.full.1 short in absurd cc)) c.in_ok-reserve.ensures.ok c.in_ok-reserve.ensures.growth c.split_leaf.ensures.inserted
 
 pub root-requires : goal.root-requires
 root-requires g c = let put = put-split _ _ _ _ _ _ _ _ _ c.requires.union c.requires.placed.placed c.in_ok-reserve.ensures.numbers c.needed_here.ensures.value
-    (λ short. (let e = c.in_ok-reserve.ensures.full.1 short in absurd cc)) c.in_ok-reserve.ensures.ok c.split_leaf.ensures.inserted in
+    (λ short. (let e = c.in_ok-reserve.ensures.full.1 short in absurd cc)) c.in_ok-reserve.ensures.ok c.in_ok-reserve.ensures.growth c.split_leaf.ensures.inserted in
     (search rules, (put.some, put.low))
 
 pub returns-in_err-reserve : goal.returns-in_err-reserve

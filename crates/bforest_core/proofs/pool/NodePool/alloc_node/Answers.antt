@@ -1,5 +1,5 @@
-use Rattle.bforest_core.proofs.{Words.{rules, [], ◌∷◌, ap, ◌∙◌, length, sym, arith, false≢true, Leaf, front_of, with_front}, union.Planting.planted-alloc}
-use Rattle.bforest_core.proofs.table.Allocating.{err_iff, err_is, reserved-free, taken_is, used_written}
+use Rattle.bforest_core.proofs.{Words.{rules, ◌≡◌, [], ◌∷◌, ap, ◌∙◌, subst, length, reserved, with_node, sym, arith, false≢true, Leaf, front_of, with_front}, union.Planting.planted-alloc}
+use Rattle.bforest_core.proofs.table.Allocating.{err_iff, err_is, reserved-free, taken-memory, taken_is, used_written}
 use Rattle.bforest_core.proofs.pool.NodePool.alloc_node.Goals as goal
 
 pub returns-in_err-reserve : goal.returns-in_err-reserve
@@ -7,6 +7,7 @@ returns-in_err-reserve g c = let e = err_is _ _ c.from_residual.ensures.1 in let
     record {
       node = rw e tt;
       ok = rw e tt;
+      growth = said.growth;
       err = rw e said.err;
       full = (λ is. said.full.0 ((err_iff _ _ _ e).0 is), λ short. (err_iff _ _ _ e).1 (said.full.1 short));
       memory = λ is. said.memory ((err_iff _ _ _ e).0 is);
@@ -16,7 +17,7 @@ returns-in_err-reserve g c = let e = err_is _ _ c.from_residual.ensures.1 in let
     }
 
 pub take_slot-node-requires : goal.take_slot-node-requires
-take_slot-node-requires g c = (search rules, omega (arith, ap (λ z. length z.chain) c.in_ok-reserve.ensures.ok, reserved-free c.args.self.now 1))
+take_slot-node-requires g c = (search rules, omega (arith, ap (λ z. length z.chain) c.in_ok-reserve.ensures.ok, reserved-free c.args.self.now 1 0))
 
 pub node_mut-requires : goal.node_mut-requires
 node_mut-requires g c = (search rules, (search rules, c.take_slot-node.ensures.used))
@@ -25,8 +26,15 @@ pub returns-clause-node : goal.returns-clause-node
 returns-clause-node g c = ap (λ z. front_of z.chain) (sym c.in_ok-reserve.ensures.ok) ∙ c.take_slot-node.ensures.node
 
 pub returns-clause-ok : goal.returns-clause-ok
-returns-clause-ok g c = taken_is _ c.take_slot-node.ensures.node c.take_slot-node.ensures.table c.leaf.ensures.node
-    ∙ ap (λ z. with_front z z.chain (Leaf (c.args.key ∷ []) (c.args.value ∷ []))) c.in_ok-reserve.ensures.ok
+returns-clause-ok g c = let leaf = Leaf (c.args.key ∷ []) (c.args.value ∷ []) in
+    subst (λ m. with_node c.take_slot-node.new.self c.take_slot-node.result c.leaf.new.self ≡ with_front (reserved c.args.self.now 1 m) (reserved c.args.self.now 1 m).chain leaf) (sym (taken-memory c.reserve.new.self c.take_slot-node.ensures.table))
+    (taken_is _ c.take_slot-node.ensures.node c.take_slot-node.ensures.table c.leaf.ensures.node ∙ ap (λ z. with_front z z.chain leaf) c.in_ok-reserve.ensures.ok)
+
+pub returns-clause-growth : goal.returns-clause-growth
+returns-clause-growth g c = record {
+  grows = rw (taken-memory c.reserve.new.self c.take_slot-node.ensures.table) c.in_ok-reserve.ensures.growth.grows;
+  stays = λ enough. taken-memory c.reserve.new.self c.take_slot-node.ensures.table ∙ c.in_ok-reserve.ensures.growth.stays enough;
+}
 
 pub returns-clause-used : goal.returns-clause-used
 returns-clause-used g c = used_written _ _ _ c.take_slot-node.ensures.used
@@ -38,4 +46,4 @@ pub returns-clause-memory : goal.returns-clause-memory
 returns-clause-memory g c = λ is. absurd cc
 
 pub returns-clause-planted : goal.returns-clause-planted
-returns-clause-planted g c = λ union. planted-alloc _ _ _ _ union (returns-clause-node g c) (returns-clause-ok g c)
+returns-clause-planted g c = λ union. planted-alloc _ _ _ _ _ union (returns-clause-node g c) (returns-clause-ok g c) (returns-clause-growth g c)

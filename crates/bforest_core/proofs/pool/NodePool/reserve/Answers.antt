@@ -1,4 +1,4 @@
-use Rattle.bforest_core.proofs.{Words.{◌≡◌, ◌-◌, length, vec_len, arith, refl}, union.Reserved.{reserved-frees, reserved-keeps, same-keeps}}
+use Rattle.bforest_core.proofs.{Words.{◌≡◌, ◌-◌, length, vec_len, arith, ap, refl}, union.Reserved.{reserved-frees, reserved-keeps, same-keeps}}
 use Rattle.bforest_core.proofs.{table.Pools.IsPool-grown, table.Chains.front_of-is}
 use Rattle.bforest_core.proofs.table.Allocating.{has_room, lacks_room, finds_room, needs_growth, not_enough, stays_reserved, few_slots}
 use Rattle.bforest_core.proofs.pool.NodePool.reserve.Goals as goal
@@ -24,21 +24,22 @@ pub returns-in-Ok-clause-numbers : goal.returns-in-Ok-clause-numbers
 returns-in-Ok-clause-numbers g c = few_slots c.self.invariant c.self.view_is
 
 pub returns-in-Ok-clause-free : goal.returns-in-Ok-clause-free
-returns-in-Ok-clause-free g c = reserved-frees _ _ (returns-in-Ok-clause-ok g c)
+returns-in-Ok-clause-free g c = reserved-frees c.args.self.now _ (ap (λ z. z.chain) (returns-in-Ok-clause-ok g c))
 
 pub returns-in-Ok-clause-trees : goal.returns-in-Ok-clause-trees
-returns-in-Ok-clause-trees g c = λ union. reserved-keeps _ _ _ (returns-in-Ok-clause-ok g c) union
+returns-in-Ok-clause-trees g c = λ union. reserved-keeps _ _ _ _ (returns-in-Ok-clause-ok g c) union
 
 pub returns-then-n-self : goal.returns-then-n-self
 returns-then-n-self g c = let ok = stays_reserved _ c.self.invariant c.self.view_is refl c.if-n-self.true in
     record {
       ok = ok;
       err = tt;
+      growth = record { grows = omega arith; stays = λ more. refl };
       full = (λ is. absurd cc, λ short. absurd (has_room _ c.self.invariant c.self.view_is refl c.if-n-self.true short));
       memory = λ is. absurd cc;
       enough = λ enough. refl;
       numbers = few_slots c.self.invariant c.self.view_is;
-      free = reserved-frees _ _ ok;
+      free = reserved-frees c.args.self.now _ (ap (λ z. z.chain) ok);
       trees = λ union. same-keeps _ refl union;
     }
 
@@ -46,6 +47,7 @@ pub returns-then-missing-self : goal.returns-then-missing-self
 returns-then-missing-self g c = record {
   ok = tt;
   err = refl;
+  growth = record { grows = omega arith; stays = λ more. refl };
   full = (λ is. lacks_room _ c.self.invariant c.self.view_is (omega arith) c.if-n-self.false c.if-missing-self.true, λ short. refl);
   memory = λ is. absurd cc;
   enough = λ enough. absurd (not_enough _ c.self.invariant c.self.view_is refl c.if-n-self.false enough);
@@ -57,13 +59,14 @@ returns-then-missing-self g c = record {
 pub returns-in-Err : goal.returns-in-Err
 returns-in-Err g c = record {
   ok = tt;
-  err = rw c.in-Err.ensures.err c.self.view_is;
+  err = rw (c.in-Err.ensures.err, c.in-Err.ensures.kept) c.self.view_is;
+  growth = rw (c.in-Err.ensures.err, c.in-Err.ensures.kept, c.self.view_is) (record { grows = omega arith; stays = λ more. refl });
   full = (λ is. absurd cc, λ short. absurd (finds_room _ c.self.invariant c.self.view_is (omega arith) c.if-missing-self.false short));
-  memory = λ is. needs_growth _ c.self.invariant c.self.view_is (omega arith) c.if-n-self.false c.if-missing-self.false;
+  memory = λ is. needs_growth _ c.self.invariant c.self.view_is (omega arith) c.if-n-self.false c.if-missing-self.false (let short = c.in-Err.ensures.short in omega arith);
   enough = λ enough. absurd (not_enough _ c.self.invariant c.self.view_is refl c.if-n-self.false enough);
   numbers = few_slots c.self.invariant c.self.view_is;
   free = tt;
-  trees = λ union. same-keeps _ (rw c.in-Err.ensures.err c.self.view_is) union;
+  trees = λ union. same-keeps _ (rw (c.in-Err.ensures.err, c.in-Err.ensures.kept) c.self.view_is) union;
 }
 
 pub invariant_of-self-in-Err : goal.invariant_of-self-in-Err

@@ -5,8 +5,8 @@ use Rattle.bforest_core.proofs.{table.Pools.{IsPool-taken, first_some, front_is_
 use Rattle.bforest_core.proofs.pool.NodePool.take_slot.Goals as goal
 
 -- the fields of a pool, and the front of its chain as read
-module _ {K V : Type 0} {n : ℕ} {nodes : List (Content K V)} {first : Option ℕ} {free limit : ℕ} (pool : IsPool n nodes first free limit)
-    {t : Table K V} (view : record { nodes = nodes; chain = chain_from nodes free first; limit = limit } ≡ t) (room : 0 < length t.chain) where
+module _ {K V : Type 0} {n : ℕ} {nodes : List (Content K V)} {first : Option ℕ} {free limit memory : ℕ} (pool : IsPool n nodes first free limit)
+    {t : Table K V} (view : record { nodes = nodes; chain = chain_from nodes free first; limit = limit; memory = memory } ≡ t) (room : 0 < length t.chain) where
   some : 0 < free
   some = omega (arith, ap (λ z. length z.chain) view)
 

@@ -21,7 +21,7 @@ pub returns-in-Some-clause-inserted : goal.returns-in-Some-clause-inserted
 returns-in-Some-clause-inserted g c =
     let s = key-found (g.C.Comparator.order c.args.comp.now) c.args.key (rw (← c.self.view_is) at c.requires.live) c.find_here.ensures.value c.find_here.ensures.present c.in-Some.is in
     rw (c.requires.root, ← c.self.view_is) (overwritten s (g.met.C.Comparator.total c.args.comp.now) (rw (← c.self.view_is) at c.requires.increasing)
-    (c.set_value.ensures.written (on-key s)) c.set_value.ensures.slots c.set_value.ensures.chain)
+    (c.set_value.ensures.written (on-key s)) c.set_value.ensures.slots c.set_value.ensures.chain c.set_value.ensures.memory)
 
 pub returns-in-Some-clause-spot : goal.returns-in-Some-clause-spot
 returns-in-Some-clause-spot g c =
