@@ -77,7 +77,7 @@ module _ {K V : Type 0} where
   fresh_nodes first (suc count) next =
       fresh_nodes first count next ++ Free (front_of_new first count next) ∷ []
 
-  -- the table with `count` new slots, all in front of the chain, and memory for so many slots
+  -- the table with `count` new slots, all in front of the chain, which holds memory for `memory` slots then
   abbrev pub with_slots : Table K V → ℕ → ℕ → Table K V
   with_slots table count memory = record table {
     nodes = table.nodes ++ fresh_nodes (slot_count table) count (front_of table.chain);
@@ -85,7 +85,8 @@ module _ {K V : Type 0} where
     memory = memory;
   }
 
-  -- the table in which at least n nodes are free, with slots added where fewer were, and memory for so many slots
+  -- the table in which at least n nodes are free, with slots added where fewer were, which holds memory for
+  -- `memory` slots then
   abbrev pub reserved : Table K V → ℕ → ℕ → Table K V
   reserved table n memory = with_slots table (n - free_count table) memory
 

@@ -58,7 +58,7 @@ impl<K: Copy, V: Copy, const N: usize> Trees<K, V, N> {
         }
     }
 
-    /// Removes all trees. Its limit and its memory stay.
+    /// Removes all trees. The table's limit and its memory stay.
     pub fn clear(&mut self)
         ensures empty { self.new ≡ emptied self.old }
         ensures lists { (n : ℕ) → list_at self.new n ≡ [] }
