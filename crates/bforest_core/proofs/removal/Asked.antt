@@ -1,53 +1,51 @@
 -- What the calls on the nodes of a path and on the rows above a level require and ensure.
-use Rattle.bforest_core.proofs.Words.{◌≡◌, ℕ, zero, suc, ◌-◌, ◌≤◌, List, [], ◌∷◌, ◌++◌, length, drop, set, slice_get, Some, refl, sym, ◌∙◌, inl, inr}
-use Rattle.bforest_core.proofs.Words.{append_assoc, length-append, arith, Heads, remove, append-nil, length-map, map-append, set_at, eqb_tells, Inner}
+use Rattle.bforest_core.proofs.Words.{◌≡◌, ℕ, suc, ◌-◌, ◌≤◌, List, [], ◌∷◌, ◌++◌, length, drop, set, slice_get, Some, refl, sym, ◌∙◌, inl, inr}
+use Rattle.bforest_core.proofs.Words.{map, length-append, arith, Heads, remove, append-nil, length-map, map-append, eqb_tells, Inner}
 use Rattle.bforest_core.proofs.Words.{without_child, inner_content, entry_keys, entry_items, ◌+◌, ◌<◌, Option, get_or, ap, Rows, IsFree, IsUsed, entry_count}
 use Rattle.bforest_core.proofs.Words.{with_key, Table, with_node, count, Above, LastAbove, NextIs, OneAbove, TwoAbove, get_or_default, Row, node, heads}
 use Rattle.bforest_core.proofs.{Words.{FitRow, Rekeyed, Keeps}, table.Stored.{slice_get_at, some_same, key_count, item_count}, rows.Zipper.{Spot, spot}}
 use Rattle.bforest_core.proofs.{rows.Zipper.above_two, rows.LevelRows.least-pos, table.Tables.is_used}
 
 -- removing the element between two lists
-pub remove_at : {A : Type 0} → (p : List A) (y : A) (ys : List A) (n : ℕ) → length p ≡ n → remove (p ++ y ∷ ys) n ≡ p ++ ys
-remove_at [] y ys zero e = refl
-remove_at [] y ys (suc n) e = absurd (omega arith)
-remove_at (z ∷ p) y ys zero e = absurd (omega arith)
-remove_at (z ∷ p) y ys (suc n) e = cc (remove_at p y ys n (omega arith))
+pub remove_at : {A : Type 0} → (p : List A) (y : A) (ys : List A) → remove (p ++ y ∷ ys) (length p) ≡ p ++ ys
+remove_at [] y ys = refl
+remove_at (z ∷ p) y ys = cc (remove_at p y ys)
+
+-- and of what they are mapped to
+pub remove_map : {X Y : Type 0} (f : X → Y) (l : List X) (x : X) (r : List X) → remove (map f (l ++ x ∷ r)) (length l) ≡ map f (l ++ r)
+remove_map f [] x r = refl
+remove_map f (z ∷ l) x r = cc (remove_map f l x r)
+
+-- and where the next element's image was replaced by its own
+remove_moved : {X Y : Type 0} (f : X → Y) (l : List X) (x y z : X) (r : List X) → f z ≡ f x → remove (set (map f (l ++ x ∷ y ∷ r)) (suc (length l)) (f x)) (length l) ≡ map f (l ++ z ∷ r)
+remove_moved f [] x y z r same = cc
+remove_moved f (w ∷ l) x y z r same = cc (remove_moved f l x y z r same)
+
+-- the key before the last child
+pub last_key : {K : Type 0} (l : Heads K) (x : K × ℕ) → 1 ≤ length l → slice_get (drop 1 (entry_keys (l ++ x ∷ []))) (length l - 1) ≡ Some x.0
+last_key [] x some = absurd (omega arith)
+last_key (z ∷ l) x some = cc (map-append (λ w. w.0) l (x ∷ []), slice_get_at (entry_keys l) x.0 [] (suc (length l) - 1) (length-map l (λ w. w.0) ∙ omega arith))
 
 module _ {K : Type 0} (V : Type 0) where
   -- removing one of two children or more removes the key before it
-  pub without_some : (ks : List K) (cs index : _) → 2 ≤ length cs → without_child {V = V} (Inner ks cs) index ≡ Inner (remove ks (index - 1)) (remove cs index)
+  without_some : (ks : List K) (cs index : _) → 2 ≤ length cs → without_child {V = V} (Inner ks cs) index ≡ Inner (remove ks (index - 1)) (remove cs index)
   without_some ks cs index two = elim (eqb_tells (length cs) 1) [ inl w ↦ absurd (let e = w.1 in omega arith) | inr w ↦ (let e = w.0 in rw e refl) ]
 
   -- removing a child that another follows, with the removed child's key passed to the next
-  pub removed_same : (l : Heads K) (x y : K × ℕ) (r : Heads K) (key : K) (e : ℕ) → length l ≡ e → slice_get (drop 1 (entry_keys (l ++ x ∷ y ∷ r))) (e - 1) ≡ Some key →
-      without_child {V = V} (Inner (set (drop 1 (entry_keys (l ++ x ∷ y ∷ r))) e key) (entry_items (l ++ x ∷ y ∷ r))) e ≡ inner_content (l ++ (x.0, y.1) ∷ r)
-  removed_same [] x y r key zero e k = without_some (key ∷ entry_keys r) (x.1 ∷ y.1 ∷ entry_items r) 0 (omega arith)
-  removed_same [] x y r key (suc n) e k = absurd (omega arith)
-  removed_same (z ∷ l) x y r key zero e k = absurd (omega arith)
-  removed_same (z ∷ l) x y r key (suc n) e k = let kl : length (entry_keys l) ≡ n = length-map l (λ (w : K × ℕ). w.0) ∙ omega arith in
-      let kl2 : length (entry_keys l ++ x.0 ∷ []) ≡ suc n = length-append (entry_keys l) (x.0 ∷ []) ∙ omega arith in
-      let il : length (entry_items l) ≡ n = length-map l (λ (w : K × ℕ). w.1) ∙ omega arith in let keys_are = map-append (λ (w : K × ℕ). w.0) l (x ∷ y ∷ r) in
-      let less : suc n - 1 ≡ n = omega arith in
-      let key_is = some_same {x = key} {y = x.0} (sym k ∙ rw (less, keys_are) (slice_get_at (entry_keys l) x.0 (y.0 ∷ entry_keys r) n kl)) in
-      let written : set (entry_keys (l ++ x ∷ y ∷ r)) (suc n) key ≡ entry_keys l ++ x.0 ∷ x.0 ∷ entry_keys r =
-      cc (append_assoc (entry_keys l) (x.0 ∷ []) (y.0 ∷ entry_keys r), set_at (entry_keys l ++ x.0 ∷ []) y.0 (entry_keys r) key (suc n) kl2, append_assoc (entry_keys l) (x.0 ∷ []) (key ∷ entry_keys r)) in
-      let two : 2 ≤ length (entry_items ((z ∷ l) ++ x ∷ y ∷ r)) = omega (arith, length-map ((z ∷ l) ++ x ∷ y ∷ r) (λ (w : K × ℕ). w.1), length-append l (x ∷ y ∷ r)) in
-      without_some (set (entry_keys (l ++ x ∷ y ∷ r)) (suc n) key) (entry_items ((z ∷ l) ++ x ∷ y ∷ r)) (suc n) two
-      ∙ rw (written, less, map-append (λ (w : K × ℕ). w.1) l (x ∷ y ∷ r), remove_at (entry_keys l) x.0 (x.0 ∷ entry_keys r) n kl, remove_at (entry_items l) x.1 (y.1 ∷ entry_items r) n il, map-append (λ (w : K × ℕ). w.0) l ((x.0, y.1) ∷ r), map-append (λ (w : K × ℕ). w.1) l ((x.0, y.1) ∷ r)) refl
+  pub removed_same : (l : Heads K) (x y : K × ℕ) (r : Heads K) (key : K) → slice_get (drop 1 (entry_keys (l ++ x ∷ y ∷ r))) (length l - 1) ≡ Some key →
+      without_child {V = V} (Inner (set (drop 1 (entry_keys (l ++ x ∷ y ∷ r))) (length l) key) (entry_items (l ++ x ∷ y ∷ r))) (length l) ≡ inner_content (l ++ (x.0, y.1) ∷ r)
+  removed_same [] x y r key k = without_some (key ∷ entry_keys r) (x.1 ∷ y.1 ∷ entry_items r) 0 (omega arith)
+  removed_same (z ∷ l) x y r key k = let less : suc (length l) - 1 ≡ length l = omega arith in
+      let key_is = some_same {x = key} {y = x.0} (sym k ∙ rw (less, map-append (λ (w : K × ℕ). w.0) l (x ∷ y ∷ r)) (slice_get_at (entry_keys l) x.0 _ _ (length-map l (λ (w : K × ℕ). w.0)))) in
+      without_some (set (entry_keys (l ++ x ∷ y ∷ r)) (suc (length l)) key) (entry_items ((z ∷ l) ++ x ∷ y ∷ r)) (suc (length l)) (omega (arith, length-map ((z ∷ l) ++ x ∷ y ∷ r) (λ (w : K × ℕ). w.1), length-append l (x ∷ y ∷ r)))
+      ∙ rw (less, key_is, remove_moved (λ (w : K × ℕ). w.0) l x y (x.0, y.1) r refl, remove_map (λ (w : K × ℕ). w.1) l x (y ∷ r), map-append (λ (w : K × ℕ). w.1) l (y ∷ r), map-append (λ (w : K × ℕ). w.1) l ((x.0, y.1) ∷ r)) refl
 
   -- removing the last child
-  pub removed_last : (z : K × ℕ) (l : Heads K) (x : K × ℕ) (e : ℕ) → suc (length l) ≡ e → without_child {V = V} (inner_content ((z ∷ l) ++ x ∷ [])) e ≡ inner_content (z ∷ l)
-  removed_last z l x zero e = absurd (omega arith)
-  removed_last z l x (suc n) e =
-      let kl : length (entry_keys l) ≡ n = length-map l (λ w. w.0) ∙ omega arith in
-      let il : length (entry_items l) ≡ n = length-map l (λ w. w.1) ∙ omega arith in let less : suc n - 1 ≡ n = omega arith in
-      let two : 2 ≤ length (entry_items ((z ∷ l) ++ x ∷ [])) = omega (arith, length-map ((z ∷ l) ++ x ∷ []) (λ w. w.1), length-append l (x ∷ [])) in
-      without_some (entry_keys (l ++ x ∷ [])) (entry_items ((z ∷ l) ++ x ∷ [])) (suc n) two
-      ∙ rw (less, map-append (λ w. w.0) l _, map-append (λ w. w.1) l _, remove_at _ _ _ n kl, remove_at _ _ _ n il, append-nil (entry_keys l), append-nil (entry_items l)) refl
-
-  -- the key before the last child
-  pub last_key : (z : K × ℕ) (l : Heads K) (x : K × ℕ) (e : ℕ) → suc (length l) ≡ e → slice_get (drop 1 (entry_keys ((z ∷ l) ++ x ∷ []))) (e - 1) ≡ Some x.0
-  last_key z l x e h = cc (map-append (λ w. w.0) l (x ∷ []), slice_get_at (entry_keys l) x.0 [] (e - 1) (length-map l (λ w. w.0) ∙ omega arith))
+  pub removed_last : (l : Heads K) (x : K × ℕ) → 1 ≤ length l → without_child {V = V} (inner_content (l ++ x ∷ [])) (length l) ≡ inner_content l
+  removed_last [] x some = absurd (omega arith)
+  removed_last (z ∷ l) x some = let less : suc (length l) - 1 ≡ length l = omega arith in
+      without_some (entry_keys (l ++ x ∷ [])) (entry_items ((z ∷ l) ++ x ∷ [])) (suc (length l)) (omega (arith, length-map ((z ∷ l) ++ x ∷ []) (λ w. w.1), length-append l (x ∷ [])))
+      ∙ rw (less, remove_map (λ w. w.0) l x [], remove_map (λ w. w.1) l x [], append-nil l) refl
 
 -- a row without heads has no nodes
 pub no_nodes : {K X : Type 0} (half most : ℕ) → 1 ≤ half → (row : Row K X) → FitRow half most row → heads row ≡ [] → row ≡ []
@@ -62,6 +60,10 @@ First {A} es = (y : A) × (others : List A) × (es ≡ y ∷ others)
 pub some_first : {A : Type 0} (es : List A) → 0 < length es → First es
 some_first [] low = absurd (omega arith)
 some_first (y ∷ es) low = (y, es, refl)
+
+-- fewer levels are above the next one
+pub fewer : {up size : ℕ} → up < size → (levels : ℕ) → size - up ≡ levels → size - (up + 1) < levels
+fewer low levels is = omega arith
 
 module _ {K V : Type 0} where
   -- a used node, whose entries are counted

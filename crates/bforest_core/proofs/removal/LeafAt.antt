@@ -1,22 +1,19 @@
 -- The leaf where a path stands, cut at the path's entry, the leaf without it, and whether the path is past all entries then.
-use Rattle.bforest_core.proofs.Words.{◌≡◌, ℕ, suc, ◌+◌, ◌≤◌, ◌<◌, Some, Option, List, [], ◌∷◌, ◌++◌, map, length, get_or, slice_get, refl, sym, ap, ◌∙◌}
-use Rattle.bforest_core.proofs.Words.{append_assoc, length-append, arith, Row, map-append, flat_map, remove, length-map, Content, without_entry, Table, node}
+use Rattle.bforest_core.proofs.Words.{◌≡◌, ℕ, suc, ◌+◌, ◌≤◌, ◌<◌, Some, Option, List, [], ◌∷◌, ◌++◌, length, get_or, slice_get, refl, sym, ap, ◌∙◌}
+use Rattle.bforest_core.proofs.Words.{append_assoc, length-append, arith, Row, flat_map, remove, Content, without_entry, Table, node}
 use Rattle.bforest_core.proofs.Words.{flat, heads, numbers, Tree, half_of, leaf_content, entry_keys, count, numbers_of, Above, StandsIn, LeafLoss, None, Bool}
 use Rattle.bforest_core.proofs.Words.{true, false, not, is_some, nil_from_length, OneAbove, NextIs, get_or_default, entry_count, Rekeyed, drop, take}
 use Rattle.bforest_core.proofs.{Words.length-drop, table.Tables.{count-append, counts, count-same, row-split, row-put, row-same, Puts}}
-use Rattle.bforest_core.proofs.{removal.Asked.{remove_at, NodeAt, Beside, some_first, no_nodes, First}, rows.LevelRows.{flat-append, sizes-append}}
+use Rattle.bforest_core.proofs.{removal.Asked.{remove_at, remove_map, NodeAt, Beside, some_first, no_nodes, First}, rows.LevelRows.{flat-append, sizes-append}}
 use Rattle.bforest_core.proofs.{rows.LevelRows.{Solid-full, heads-append}, removal.Frees.{frees-after, frees-puts}, rows.Zipper.{LeafCut, cut_leaf}}
 use Rattle.bforest_core.proofs.{removal.Lifted.{headed, top_one}, table.Stored.keys_count, removal.Collapse.heads-flat}
-
-remove_map : {X Y : Type 0} (f : X → Y) (l r : List X) (x : X) → remove (map f (l ++ x ∷ r)) (length l) ≡ map f (l ++ r)
-remove_map f l r x = cc (map-append f l (x ∷ r), remove_at (map f l) (f x) (map f r) (length l) (length-map l f), map-append f l r)
 
 -- removing an entry of a node removes it from the list of the row
 pub remove_flat : {K V : Type 0} (before : Row K V) (n l x r after : _) →
     remove (flat (before ++ node n (l ++ x ∷ r) ∷ after)) (length (flat before) + length l) ≡ flat (before ++ node n (l ++ r) ∷ after)
 remove_flat before n l x r after = let whole : flat (before ++ node n (l ++ x ∷ r) ∷ after) ≡ (flat before ++ l) ++ x ∷ (r ++ flat after) =
     flat-append before _ ∙ ap (λ z. flat before ++ z) (append_assoc l _ _) ∙ sym (append_assoc _ l _) in
-    ap (λ z. remove z (length (flat before) + length l)) whole ∙ ap (λ z. remove ((flat before ++ l) ++ x ∷ (r ++ flat after)) z) (sym (length-append _ l)) ∙ remove_at (flat before ++ l) x (r ++ flat after) (length (flat before ++ l)) refl
+    ap (λ z. remove z (length (flat before) + length l)) whole ∙ ap (λ z. remove ((flat before ++ l) ++ x ∷ (r ++ flat after)) z) (sym (length-append _ l)) ∙ remove_at (flat before ++ l) x (r ++ flat after)
     ∙ append_assoc _ l _ ∙ ap (λ z. flat before ++ z) (sym (append_assoc l r _)) ∙ sym (flat-append before (node n (l ++ r) ∷ after))
 
 -- two lists of entries in the same slot are equally long
@@ -33,7 +30,7 @@ as_many_heads before n (e ∷ es) (f ∷ fs) after some too =
 module _ {K V : Type 0} where
   -- removing an entry from a leaf
   pub without_entry_is : (l : List (K × V)) (x r e : _) → length l ≡ e → without_entry (leaf_content (l ++ x ∷ r)) e ≡ leaf_content (l ++ r)
-  without_entry_is l x r e is = cc (remove_map (λ w. w.0) l r x, remove_map (λ w. w.1) l r x)
+  without_entry_is l x r e is = cc (remove_map (λ w. w.0) l x r, remove_map (λ w. w.1) l x r)
 
   -- the tree, cut at the entry in its leaf
   pub record LeafAt (most : ℕ) (t : Table K V) (path indices : List ℕ) (size : ℕ) (tree : Tree K V) (place : ℕ) : Type 0 where
@@ -103,13 +100,9 @@ module _ {K V : Type 0} {most : ℕ} {t v : Table K V} {path indices size tree p
   pub named : First l.entries
   named = some_first _ l.some
 
-  -- the rows above the leaf, cut at it
-  pub above_left : Above v path indices 1 size l.rest (heads l.before ++ (named.0.0, get_or path 0 0) ∷ heads l.after) (length (heads l.before))
-  above_left = headed l.before _ l.after named l.above
-
   -- the rows above meet what the search for the next leaf requires
   abbrev pub beside_asks : OneAbove v path indices 1 size
-  beside_asks = record { rows = l.rest; before = heads l.before; x = (named.0.0, get_or path 0 0); after = heads l.after; above = above_left }
+  beside_asks = record { rows = l.rest; before = heads l.before; x = (named.0.0, get_or path 0 0); after = heads l.after; above = headed l.before _ l.after named l.above }
 
   -- half of a leaf is at least one entry
   pub loss_half : 1 ≤ half_of most
@@ -122,7 +115,7 @@ module _ {K V : Type 0} {most : ℕ} {t v : Table K V} {path indices size tree p
 
   -- no leaf follows where the leaf is the whole tree
   pub alone_last : size ≤ 1 → l.after ≡ []
-  alone_last low = let one = top_one l.rest low above_left in
+  alone_last low = let one = top_one l.rest low beside_asks.above in
       no_nodes (half_of most) most loss_half l.after l.fits (nil_from_length (heads l.after) (omega (arith, length-append (heads l.before) ((named.0.0, get_or path 0 0) ∷ heads l.after))))
 
   -- a leaf follows

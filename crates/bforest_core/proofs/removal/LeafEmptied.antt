@@ -1,13 +1,13 @@
 -- Removing the only entry of a leaf together with the leaf, which is the rightmost.
 use Rattle.bforest_core.proofs.Words.{◌≡◌, ℕ, suc, ◌+◌, ◌≤◌, ◌<◌, List, [], ◌∷◌, ◌++◌, map, length, get_or, slice_get, refl, sym, ap, ◌∙◌, length-append}
 use Rattle.bforest_core.proofs.Words.{arith, flat_map, Table, node, flat, heads, numbers, FitRow, Tree, half_of, leaf_content, count, Distinct, numbers_of}
-use Rattle.bforest_core.proofs.Words.{Above, StandsIn, nil_from_length, get_or_default, ◌≢◌, IsSingle, IsUsed, Heads, Rows, append-nil, with_freed, sizes}
+use Rattle.bforest_core.proofs.Words.{StandsIn, nil_from_length, get_or_default, ◌≢◌, IsSingle, IsUsed, Heads, Rows, append-nil, with_freed, sizes}
 use Rattle.bforest_core.proofs.Words.{LastAbove, nodes_up, IsLeafCapacity, Topped, loss, root_of, IsPathAt, UpTo, Trimmed, Removed, Emptied}
 use Rattle.bforest_core.proofs.{table.Tables.{count-append, counts, count-same, row-split, row-same, ne_from_count}, removal.RemovingEmptied.{Drops, LastOf}}
-use Rattle.bforest_core.proofs.{removal.RemovingEmptied.{above_freed, fit_solid, last_of, one_child}, rows.LevelRows.{flat-append, sizes-append, Solid-full}}
+use Rattle.bforest_core.proofs.{removal.RemovingEmptied.{above_freed, fit_solid, last_of}, rows.LevelRows.{flat-append, sizes-append, Solid-full}}
 use Rattle.bforest_core.proofs.{rows.LevelRows.heads-append, removal.LeafAt.{LeafAt, leaf_at, leaf_count, remove_flat}, removal.Frees.freed_other}
 use Rattle.bforest_core.proofs.{removal.Frees.{frees-first, frees-one}, removal.Untrimmed.{Untrimmed, up_to, trimmed_removed}, rows.Tops.root-stands}
-use Rattle.bforest_core.proofs.{removal.Collapse.heads-flat, removal.Taking.{es, next}, removal.Merge.loss_at}
+use Rattle.bforest_core.proofs.{removal.Collapse.heads-flat, removal.Merge.loss_at}
 
 -- no node follows a node of one entry
 none_after : {K X : Type 0} (half most m : ℕ) (es : List (K × X)) (after : _) → 2 ≤ half → length es ≡ 1 → FitRow half most (node m es ∷ after) → after ≡ []
@@ -36,7 +36,7 @@ module _ {K V : Type 0} {most : ℕ} {t : Table K V} {path indices size : _} (ca
   none_left = nil_from_length f.l (omega (arith, one_entry, length-append f.l (x ∷ f.r)))
 
   -- a leaf of one entry is the last
-  row_is : before ++ node leaf (f.l ++ x ∷ f.r) ∷ f.after ≡ before ++ node leaf (x ∷ []) ∷ []
+  pub row_is : before ++ node leaf (f.l ++ x ∷ f.r) ∷ f.after ≡ before ++ node leaf (x ∷ []) ∷ []
   row_is = let none = none_after _ _ leaf _ _ (omega arith) one_entry f.fits in
       simp (none_left, nil_from_length f.r (omega (arith, one_entry, length-append f.l (x ∷ f.r))), none)
 
@@ -50,7 +50,7 @@ module _ {K V : Type 0} {most : ℕ} {t : Table K V} {path indices size : _} (ca
   place_is : place ≡ length (flat before)
   place_is = omega (arith, f.place_is, ap length none_left)
 
-  apart : Distinct ((numbers (before ++ node leaf (x ∷ []) ∷ []) ++ flat_map numbers tree.above) ++ t.chain)
+  pub apart : Distinct ((numbers (before ++ node leaf (x ∷ []) ∷ []) ++ flat_map numbers tree.above) ++ t.chain)
   apart = rw (← row_is) f.apart
 
   -- the only leaf was removed, so the tree is empty
@@ -81,7 +81,7 @@ module _ {K V : Type 0} {most : ℕ} {t : Table K V} {path indices size : _} (ca
     free_asks used = rw leaf_num used
 
     module _ (v : Table K V) (freed : v ≡ with_freed p (get_or path 0 r)) where
-      freed_is : v ≡ with_freed t leaf
+      pub freed_is : v ≡ with_freed t leaf
       freed_is = cc (leaf_num)
 
       pub leaf_emptied : size ≡ 1 → Emptied most t v tree place
@@ -92,12 +92,9 @@ module _ {K V : Type 0} {most : ℕ} {t : Table K V} {path indices size : _} (ca
         pub last_leaf : LastOf (heads before)
         last_leaf = let two = two_leaves _ _ s.fit.topped (λ e. more (omega arith)) in last_of _ (omega (arith, heads_are))
 
-        pub leaf_above : Above v path indices 1 size tree.above (last_leaf.init ++ last_leaf.last ∷ (x.0, leaf) ∷ []) (suc (length last_leaf.init))
-        leaf_above = above_freed v _ _ _ last_leaf apart freed_is (rw (← row_is) f.above)
-
         -- the rows above meet what removing the leaf's entry requires
         abbrev pub leaf_asks : LastAbove v path indices 1 size
-        leaf_asks = record { rows = tree.above; before = last_leaf.init; y = last_leaf.last; x = (x.0, leaf); above = leaf_above }
+        leaf_asks = record { rows = tree.above; before = last_leaf.init; y = last_leaf.last; x = (x.0, leaf); above = above_freed v leaf before x last_leaf apart freed_is (rw (← row_is) f.above) }
 
         -- the rows above after the leaf's entry was removed
         module _ (u : Table K V) (drops : (w : LastAbove v path indices 1 size) → Drops v u path 1 size w.rows w.before w.y) where

@@ -3,7 +3,7 @@ use Rattle.bforest_core.proofs.Words.{◌≡◌, ℕ, suc, ◌+◌, ◌-◌, ◌
 use Rattle.bforest_core.proofs.Words.{length-append, arith, Heads, Row, Rows, flat_map, Content, Table, node, flat, heads, sizes, numbers, inner_content}
 use Rattle.bforest_core.proofs.Words.{count, lt-ltb, le-ltb, zero, Option, None, true, false, Bool, if◌then◌else◌, option_map, loss, rebalanced, loss_above}
 use Rattle.bforest_core.proofs.Words.{nodes_up, subst, FitRow, RowIn, Above, TwoAbove, Frees, Rebuilt, Loosened, Healed, Joined, Loses, least, false≢true}
-use Rattle.bforest_core.proofs.{Words.Keeps, rows.LevelRows.{least-pos, flat-append, heads-append, sizes-append, FitRow-join, FitRow-split, Solid-full}}
+use Rattle.bforest_core.proofs.{Words.Keeps, removal.Asked.keeps-refl, rows.LevelRows.{least-pos, flat-append, heads-append, sizes-append, FitRow-join, FitRow-split, Solid-full}}
 use Rattle.bforest_core.proofs.{table.Tables.{count-append, count-same, count-row, counts, row-same}, removal.Frees.{only_here, frees-then, frees-after}}
 use Rattle.bforest_core.proofs.{removal.Frees.frees-wider, rows.Zipper.stands_here, removal.Rebalance.enough}
 
@@ -66,10 +66,14 @@ pub record Restored {K V X : Type 0} (content : List (K × X) → Content K V) (
 
 module _ {K V X : Type 0} {content : List (K × X) → Content K V} {half most old mid path indices level size : _}
     {were own list place : _} (l : Loosened content half most old mid path indices level size were own list place) where
-  -- the level is rebalanced, and the path stands in it, where an entry follows
+  -- the level is rebalanced, and the path is as it was below it
   abbrev pub Restores : Table K V → List ℕ → List ℕ → List ℕ → Type 0
   Restores new path' indices' freed =
-      (r : Restored content half most old new path' indices' level size were own list place freed) × (place < length list → get_or indices' level 0 < length r.entries)
+      Restored content half most old new path' indices' level size were own list place freed × Keeps path indices path' indices' level size
+
+  -- and the path stands in it, where an entry follows
+  abbrev pub Stays : Table K V → List ℕ → List ℕ → List ℕ → Type 0
+  Stays new path' indices' freed = (r : Restores new path' indices' freed) × (place < length list → get_or indices' level 0 < length r.0.entries)
 
   abbrev num : ℕ
   num = get_or path level 0
@@ -89,8 +93,8 @@ module _ {K V X : Type 0} {content : List (K × X) → Content K V} {half most o
   sizes_by o is = cc (lost_is)
 
   -- a level whose node is half full or the last stays
-  abbrev pub kept_restored : outcome ≡ (false, length l.entries ∷ sizes l.after) → least half l.after ≤ length l.entries → Restored content half most old mid path indices level size were own list place []
-  kept_restored same enough = record {
+  abbrev pub kept_restored : outcome ≡ (false, length l.entries ∷ sizes l.after) → least half l.after ≤ length l.entries → Restores mid path indices []
+  kept_restored same enough = (record {
     row = l.before ++ node num l.entries ∷ l.after;
     front = l.before;
     entries = l.entries;
@@ -105,12 +109,12 @@ module _ {K V X : Type 0} {content : List (K × X) → Content K V} {half most o
     numbers_are = λ m. omega arith;
     frees = l.frees;
     place_is = l.place_is;
-  }
+  }, keeps-refl)
 
   -- a level whose node stays is rebalanced
-  abbrev pub healed_restored : {new path' indices' : _} → Healed content half most mid new path indices path' indices' level size l.before num l.entries l.after l.rest → Restores new path' indices' []
+  abbrev pub healed_restored : {new path' indices' : _} → Healed content half most mid new path indices path' indices' level size l.before num l.entries l.after l.rest → Stays new path' indices' []
   healed_restored {new} h = (
-    record {
+    (record {
       row = h.before' ++ node h.number' h.entries' ∷ h.after';
       front = h.before';
       entries = h.entries';
@@ -125,7 +129,7 @@ module _ {K V X : Type 0} {content : List (K × X) → Content K V} {half most o
       numbers_are = λ m. omega (arith, counts m l.before num l.entries l.after l.rest mid.chain, counts m h.before' h.number' h.entries' h.after' h.rest' new.chain, ap (λ z. count m z) h.row_numbers, h.rest_numbers m, l.numbers_are m);
       frees = frees-after (λ m none. omega arith) l.frees h.frees;
       place_is = omega arith;
-    },
+    }, h.keeps),
     λ some. h.within (low some),
   )
 
@@ -135,16 +139,18 @@ module _ {K V X : Type 0} {content : List (K × X) → Content K V} {half most o
     merge_asks up' size' up_is size_is = record { rows = l.rest; before = heads l.before; x = (j.first.0, num); y = (j.key, j.right); after = heads j.after'; above = rw (up_is, size_is) j.above }
 
     -- a level is rebalanced once the rows above lost the entry of a merged node
-    pub joined_restored : {new : Table K V} {path' indices' freed : List ℕ} (r : Rebuilt w new path1 indices1 path' indices' (suc level) size l.rest (heads l.before ++ (j.first.0, j.right) ∷ heads j.after') (length (heads l.before))
-        (loss_above (Some (length (heads l.before))) (map sizes l.rest)) freed) → 1 ≤ half → Restores new path' indices' (freed ++ num ∷ [])
-    joined_restored {new} {path'} {indices'} {freed} r one = let both = l.entries ++ j.right_entries in let row = l.before ++ node j.right both ∷ j.after' in
+    pub joined_restored : {new : Table K V} {path' indices' : List ℕ} {up' size' : ℕ} → up' ≡ suc level → size' ≡ size → (levels : ℕ) →
+        Rebuilt w new path1 indices1 path' indices' up' size' l.rest (heads l.before ++ (j.first.0, j.right) ∷ heads j.after') (length (heads l.before))
+        (loss_above (Some (length (heads l.before))) (map sizes l.rest)) (nodes_up path1 up' levels) → 1 ≤ half → Stays new path' indices' (nodes_up path level (suc levels))
+    joined_restored {new} {path'} {indices'} up_is size_is levels again one = let both = l.entries ++ j.right_entries in let row = l.before ++ node j.right both ∷ j.after' in
+        let freed = nodes_up path (suc level) levels in let r = rw (up_is, size_is, nodes_up-same path path1 (suc level) levels (λ i above. j.nodes_above i (omega (arith, above)))) at again in
         let own1 = numbers (l.before ++ node num l.entries ∷ l.after) ++ flat_map numbers l.rest in let p = l.on_level in
         let full = Solid-full half most one l.before p.solid in let c = λ (m : ℕ). counts m l.before num l.entries l.after l.rest mid.chain in
         let c0 = λ (m : ℕ). ap (λ z. count m (num ∷ numbers z)) j.after_is in let list_is = sym (cc (heads-append _ _)) in
         let fits = subst (λ z. FitRow half most z) j.after_is p.fits in
         let left = frees-then (λ m none. omega (arith, c m)) (λ m here. only_here m num _ here (omega (arith, p.apart num, c num, count-same num (numbers l.after))))
         (frees-wider own1 (λ m none. omega (arith, c m)) j.frees) r.frees in (
-          record {
+          (record {
             row = row;
             front = l.before;
             entries = both;
@@ -160,7 +166,11 @@ module _ {K V X : Type 0} {content : List (K × X) → Content K V} {half most o
             numbers_are = λ m. omega (arith, r.numbers_are m, c0 m, c m, counts m l.before j.right both j.after' r.rows' new.chain, count-append m freed (num ∷ []), l.numbers_are m);
             frees = frees-after (λ m none. omega (arith, l.numbers_are m)) l.frees left;
             place_is = omega arith;
-          },
+          }, record {
+            nodes_below = λ i low. r.nodes_below i (omega (arith, low)) ∙ j.nodes_below i low;
+            entries_below = λ i low. r.entries_below i (omega (arith, low)) ∙ j.entries_below i low;
+            same_top = r.same_top ∙ j.same_top;
+          }),
           λ some. omega (arith, length-append l.entries j.right_entries, least-pos half one j.after'),
         )
 
@@ -171,10 +181,10 @@ module _ {K V : Type 0} {t u : Table K V} {path indices : List ℕ} {up size : �
   loses_child num = record { leaf = false; capacity = λ is. absurd (false≢true is); least_is = refl; before = l.before; entries = l.entries; after = l.after; rest = l.rest; on = l.on_level; at_entry = λ some. low l at }
 
   -- the rebalanced level is one of the rows
-  rebuilt : {v : Table K V} {path' indices' freed : _} → Restores l v path' indices' freed → Keeps path indices path' indices' up size →
+  pub rebuilt : {v : Table K V} {path' indices' freed : _} → Stays l v path' indices' freed →
       Rebuilt t v path indices path' indices' up size rows hs p (loss_above (Some p) (map sizes rows)) freed
-  rebuilt {path'} restored kept =
-      let r = restored.0 in let n' = get_or path' up 0 in let solid = (FitRow-split 4 8 r.front (node n' r.entries) r.after (rw (← r.row_is) r.fit)).0 in
+  rebuilt {path'} restored =
+      let r = restored.0.0 in let n' = get_or path' up 0 in let solid = (FitRow-split 4 8 r.front (node n' r.entries) r.after (rw (← r.row_is) r.fit)).0 in
       record {
         rows' = r.row ∷ r.rows;
         above = record {
@@ -187,18 +197,5 @@ module _ {K V : Type 0} {t u : Table K V} {path indices : List ℕ} {up size : �
         sizes_are = cc (lost_above p _);
         numbers_are = r.numbers_are;
         frees = r.frees;
-        keeps = kept;
+        keeps = restored.0.1;
       }
-
-  -- where the node stays, the level above stays too
-  pub merge_healed : {v : Table K V} {path' indices' : _} → Healed inner_content 4 8 u v path indices path' indices' up size l.before (get_or path up 0) l.entries l.after l.rest
-      → Rebuilt t v path indices path' indices' up size rows hs p (loss_above (Some p) (map sizes rows)) []
-  merge_healed h = rebuilt (healed_restored l h) h.keeps
-
-  -- where two nodes of the level merge, the level above loses an entry; level and size are as in the code
-  pub merge_joined : {v w : Table K V} {path1 indices1 path' indices' : _} (up' size' : ℕ) → (j : Joined inner_content 4 8 u w path indices path1 indices1 up size l.before (get_or path up 0) l.entries l.after l.rest) → up' ≡ suc up → size' ≡ size → (levels : ℕ) →
-      Rebuilt w v path1 indices1 path' indices' up' size' l.rest (heads l.before ++ (j.first.0, j.right) ∷ heads j.after') (length (heads l.before)) (loss_above (Some (length (heads l.before))) (map sizes l.rest)) (nodes_up path1 up' levels) →
-      Rebuilt t v path indices path' indices' up size rows hs p (loss_above (Some p) (map sizes rows)) (nodes_up path up (suc levels))
-  merge_joined {path1} up' size' j up_is size_is levels again =
-      let r = rw (up_is, size_is, nodes_up-same path path1 (suc up) levels (λ i above. j.nodes_above i (omega (arith, above)))) at again in
-      rebuilt (joined_restored l j r (omega arith)) (record { nodes_below = λ i low. r.nodes_below i (omega (arith, low)) ∙ j.nodes_below i low; entries_below = λ i low. r.entries_below i (omega (arith, low)) ∙ j.entries_below i low; same_top = r.same_top ∙ j.same_top })

@@ -4,7 +4,7 @@ use Rattle.bforest_core.proofs.Words.{arith, Heads, inner_content, entry_keys, e
 use Rattle.bforest_core.proofs.Words.{OneAbove, subst, node, flat, heads, RowIn, add-one, nil_from_length, ◌≢◌, true, false, map, None, Bool, Over, Moved}
 use Rattle.bforest_core.proofs.{removal.Asked.{Beside, ChildAt, Counts, ReadsChild, ReadsKey, Seen, no_nodes, seen, some_first}, removal.Lifted.NextNode}
 use Rattle.bforest_core.proofs.{removal.Lifted.{headed, next_of, rows_above}, table.Stored.{slice_get_at, some_same, item_count}, rows.Zipper.Spot}
-use Rattle.bforest_core.proofs.{rows.Zipper.stands-same, table.Tables.row-split, removal.RemovingMerged.o}
+use Rattle.bforest_core.proofs.{rows.Zipper.stands-same, table.Tables.row-split}
 
 second : {X Y : Type 0} (f : X → Y) (l : List X) (x y : X) (r : List X) → slice_get (map f (l ++ x ∷ y ∷ r)) (suc (length l)) ≡ Some (f y)
 second f [] x y r = refl
@@ -15,11 +15,10 @@ second_key [] x y r = refl
 second_key (z ∷ l) x y r = second _ l x y r
 
 module _ {K V : Type 0} where
-  -- the rows one level up, cut at the path's node
-  pub up_above : {t : Table K V} {path indices up size rows a x : _} {b : _} → (at_one : Spot t path indices up size rows a x b) →
-      (k : K) × Above t path indices
-      (suc up) size at_one.q.rest (heads at_one.q.before ++ (k, get_or path up 0) ∷ heads at_one.q.after) (length (heads at_one.q.before))
-  up_above at_one = let h = some_first _ (omega (arith, at_one.count_is)) in (h.0.0, headed at_one.q.before _ at_one.q.after h (rows_above at_one))
+  -- the rows one level up, as a call there requires them
+  abbrev pub up_asks : {t : Table K V} {path indices up size rows a x b : _} → Spot t path indices up size rows a x b → OneAbove t path indices (up + 1) size
+  up_asks {path = path} {up = up} {x = x} d = let h = some_first (d.q.l ++ x ∷ d.q.r) (omega (arith, d.count_is)) in
+      record { rows = d.q.rest; before = heads d.q.before; x = (h.0.0, get_or path up 0); after = heads d.q.after; above = rw add-one (headed d.q.before (get_or path up 0) d.q.after h (rows_above d)) }
 
   -- the rows above a level, as a step on it requires them
   pub over-above : {t : Table K V} {path indices level size rows list place : _} → Above t path indices level size rows list place → Over t.nodes path indices level size rows list place
@@ -41,72 +40,57 @@ module _ {K V : Type 0} where
         cc,
       )
 
-  module _ {t : Table K V} {path indices up size : _} (w : OneAbove t path indices up size) (other : up ≢ size) (r : ℕ) (wide : length path ≡ 17) (height : size ≤ 17) where
-    open w use {rows, before as a, x, after as b, above as p}
-
-    is_low : up < size
-    is_low = let h = p.height in omega arith
+  module _ {t : Table K V} {path indices up size : _} (w : OneAbove t path indices up size) (other : up ≢ size) where
+    pub is_low : up < size
+    is_low = omega (arith, w.above.height)
 
     -- the parent of the node
-    pub one_seen : Seen t path indices up size rows a x b r
-    one_seen = seen a x b p is_low r wide height
+    pub one_seen : (i : ℕ) → length path ≡ 17 → size ≤ 17 → Seen t path indices up size w.rows w.before w.x w.after i
+    one_seen i wide height = seen w.before w.x w.after w.above is_low i wide height
 
-    abbrev at_one : Spot t path indices up size rows a x b
-    at_one = one_seen.d
+  module _ {t : Table K V} {path indices up size rows a x b i : _} (s : Seen t path indices up size rows a x b i) where
+    open s use {d, d.q.{before, l, r, after}}
 
-    pub u : (k : K) × Above t path indices (suc up) size at_one.q.rest (heads at_one.q.before ++ (k, get_or path up 0) ∷ heads at_one.q.after)
-        (length (heads at_one.q.before))
-    u = up_above at_one
+    abbrev index : ℕ
+    index = get_or indices up 0
 
-    pub one_next : Above t path indices (up + 1) size at_one.q.rest (heads at_one.q.before ++ (u.0, get_or path up 0) ∷ heads at_one.q.after)
-        (length (heads at_one.q.before))
-    one_next = rw add-one u.1
+    abbrev keys : List K
+    keys = drop 1 (entry_keys (l ++ x ∷ r))
 
-    -- the rows above meet what the call one level up requires
-    abbrev pub one_asks : OneAbove t path indices (up + 1) size
-    one_asks = record { rows = at_one.q.rest; before = heads at_one.q.before; x = (u.0, get_or path up 0); after = heads at_one.q.after; above = one_next }
-
-    pub one_fewer : (next_one : ℕ) → size - up ≡ next_one → size - (up + 1) < next_one
-    one_fewer next_one bound = let l = is_low in omega arith
-
-    -- the answer of the call one level up
-    next_above : (o : _) → Beside t path indices (up + 1) size o → NextIs o (heads at_one.q.after)
-    next_above o beside = beside one_asks
+    abbrev items : List ℕ
+    items = entry_items (l ++ x ∷ r)
 
     module _ (o : Option (K × ℕ)) (next : _) (is : o ≡ Some next) (beside : Beside t path indices (up + 1) size o) where
-      next_one : NextNode at_one.q.after next.0 next.1
-      next_one = let nx = next_above (Some next) (subst (Beside t path indices (up + 1) size) is beside) in
-          next_of 4 8 (omega arith) _ _ _ _ at_one.f.fit.2 nx.1
+      next_one : NextNode after next.0 next.1
+      next_one = next_of 4 8 (omega arith) _ _ _ _ d.f.fit.2 (subst (λ z. NextIs z (heads after)) is (beside (up_asks d))).1
 
       n_slot : slice_get t.nodes next.1 ≡ Some (inner_content (next_one.f ∷ next_one.fs))
-      n_slot = let i = (row-split _ _ _ (node (get_or path up 0) (at_one.q.l ++ x ∷ at_one.q.r) ∷ at_one.q.after) at_one.f.inside).1.1 in
-          (subst (λ z. RowIn inner_content t.nodes z) next_one.after_is i).0
+      n_slot = let rest = (row-split _ _ _ (node (get_or path up 0) (l ++ x ∷ r) ∷ after) d.f.inside).1.1 in
+          (subst (λ z. RowIn inner_content t.nodes z) next_one.after_is rest).0
 
       -- the next parent meets what reading its first child requires
       pub first_asks : ChildAt t next.1 0
       first_asks = (drop 1 (entry_keys (next_one.f ∷ next_one.fs)), entry_items (next_one.f ∷ next_one.fs), n_slot, omega arith)
 
-    module _ (m : ℕ) (value : Counts t (get_or path up r) m) where
+    module _ (m : ℕ) (value : Counts t (get_or path up i) m) where
       -- a neighbour under the same parent meets what reading it requires
-      pub item_asks : get_or indices up 0 + 1 < m → ChildAt t (get_or path up r) (get_or indices up 0 + 1)
-      item_asks more = (drop 1 (entry_keys (at_one.q.l ++ x ∷ at_one.q.r)), entry_items (at_one.q.l ++ x ∷ at_one.q.r), one_seen.slot_is, omega (arith, one_seen.counted m value, item_count (at_one.q.l ++ x ∷ at_one.q.r)))
+      pub item_asks : index + 1 < m → ChildAt t (get_or path up i) (index + 1)
+      item_asks more = (keys, items, s.slot_is, omega (arith, s.counted m value, item_count (l ++ x ∷ r)))
 
-      pub beside_same : (key child : _) → get_or indices up 0 + 1 < m → ReadsKey t (get_or path up r) (get_or indices up 0) key →
-          ReadsChild t (get_or path up r) (get_or indices up 0 + 1) child → NextIs (Some (key, child)) b
-      beside_same key child more reads_key reads_child =
-          let es = at_one.q.l ++ x ∷ at_one.q.r in let w = some_first at_one.q.r (omega (arith, one_seen.counted m value, at_one.count_is)) in
-          let high : suc (length at_one.q.l) ≡ get_or indices up 0 + 1 = omega (arith, at_one.q.entry_is) in
-          let key_is = some_same (cc (second_key at_one.q.l x w.0 w.1, at_one.q.entry_is, reads_key (drop 1 (entry_keys es)) (entry_items es) one_seen.slot_is)) in
-          let child_is = some_same (cc (second (λ z. z.1) _ x _ _, reads_child (drop 1 (entry_keys es)) (entry_items es) one_seen.slot_is)) in
-          (w.1 ++ flat at_one.q.after, at_one.q.b_is ∙ ap (λ z. z ++ flat at_one.q.after) w.2 ∙ ap (λ z. (z, w.0.1) ∷ (w.1 ++ flat at_one.q.after)) key_is ∙ ap (λ z. (key, z) ∷ (w.1 ++ flat at_one.q.after)) child_is)
+      pub beside_same : (key child : _) → index + 1 < m → ReadsKey t (get_or path up i) index key → ReadsChild t (get_or path up i) (index + 1) child → NextIs (Some (key, child)) b
+      beside_same key child more reads_key reads_child = let w = some_first r (omega (arith, s.counted m value, d.count_is)) in
+          let high : suc (length l) ≡ index + 1 = omega (arith, d.q.entry_is) in
+          let key_is = some_same (cc (second_key l x w.0 w.1, d.q.entry_is, reads_key keys items s.slot_is)) in
+          let child_is = some_same (cc (second (λ z. z.1) _ x _ _, reads_child keys items s.slot_is)) in
+          (w.1 ++ flat after, d.q.b_is ∙ ap (λ z. z ++ flat after) w.2 ∙ ap (λ z. (z, w.0.1) ∷ (w.1 ++ flat after)) key_is ∙ ap (λ z. (key, z) ∷ (w.1 ++ flat after)) child_is)
 
-      module _ (less : m ≤ get_or indices up 0 + 1) where
-        behind : b ≡ flat at_one.q.after
-        behind = cc (at_one.q.b_is, nil_from_length at_one.q.r (omega (arith, one_seen.counted m value, at_one.count_is)))
+      module _ (less : m ≤ index + 1) where
+        behind : b ≡ flat after
+        behind = cc (d.q.b_is, nil_from_length r (omega (arith, s.counted m value, d.count_is)))
 
         -- there is no right neighbour
         pub none_right : (o : Option (K × ℕ)) → o ≡ None → Beside t path indices (up + 1) size o → NextIs None b
-        none_right o is beside = cc (behind, no_nodes 4 8 (omega arith) _ at_one.f.fit.2 (next_above None (subst (Beside t path indices (up + 1) size) is beside)))
+        none_right o is beside = cc (behind, no_nodes 4 8 (omega arith) _ d.f.fit.2 (subst (λ z. NextIs z (heads after)) is (beside (up_asks d))))
 
         -- the right neighbour has another parent
         pub beside_next : (o : Option (K × ℕ)) (next : _) (is : o ≡ Some next) (beside : Beside t path indices (up + 1) size o) (child : ℕ) →

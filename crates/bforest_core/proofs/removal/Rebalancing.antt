@@ -1,8 +1,8 @@
 -- Rebalancing a level, from what its calls state: the answers of `rebalance`.
-use Rattle.bforest_core.proofs.Words.{◌≡◌, ℕ, suc, ◌+◌, ◌≤◌, ◌<◌, ◌≢◌, List, [], ◌∷◌, ◌++◌, length, slice_get, Option, Some, None, refl, ap, ◌∙◌, subst, inl}
+use Rattle.bforest_core.proofs.Words.{◌≡◌, ℕ, suc, ◌+◌, ◌≤◌, ◌<◌, ◌≢◌, List, [], ◌∷◌, length, slice_get, Option, Some, None, refl, ap, ◌∙◌, subst, inl}
 use Rattle.bforest_core.proofs.Words.{inr, length-append, arith, Content, Table, IsBalancedAt, content_at, half_at, most_at, set, get_or, Row, with_freed}
-use Rattle.bforest_core.proofs.Words.{node, flat, heads, numbers, count, Above, OnLevel, Healed, Joined, add-one, get_or_default, Item, Heals, Joins, Loses}
-use Rattle.bforest_core.proofs.{Words.{IsUsed, IsUnderflowedAt, FitRow, OneAbove, TwoAbove, NextIs, Keeps}, removal.Rebalance.{above_both, above_two_put}}
+use Rattle.bforest_core.proofs.Words.{node, flat, heads, numbers, count, OnLevel, Healed, Joined, add-one, get_or_default, Item, Heals, Joins, Loses}
+use Rattle.bforest_core.proofs.{Words.{IsUsed, IsUnderflowedAt, FitRow, OneAbove, TwoAbove, Keeps}, removal.Rebalance.{above_both, above_two_put}}
 use Rattle.bforest_core.proofs.{removal.Rebalance.{apart, settle_join, settle_move, settle_spread, settle_stay}, removal.Balance.{AllRight, IsHalf, IsStored}}
 use Rattle.bforest_core.proofs.{removal.Balance.{Spread, all_right_at, kind_half, kind_stored, spread_at}, removal.Asked.{NodeAt, Counts, Beside, Rekeys}}
 use Rattle.bforest_core.proofs.{removal.Asked.{Enters, no_nodes, some_first, First}, removal.Lifted.{headed, NextNode, next_of}, table.Tables.row-split}
@@ -39,7 +39,7 @@ module _ {K V : Type 0} {cap least : ℕ} {t : Table K V} {path indices up size 
   abbrev n : ℕ
   n = get_or path up 0
 
-  hm : IsHalf half most
+  pub hm : IsHalf half most
   hm = kind_half w.leaf w.capacity
 
   s : IsStored content cap most
@@ -81,7 +81,7 @@ module _ {K V : Type 0} {cap least : ℕ} {t : Table K V} {path indices up size 
   others = named.1
 
   -- the level, with the node's first entry and the next node named
-  level : {k q : _} (d : NextNode after k q) → OnLevel content half most t path indices up size before n (e ∷ others) (node q (d.f ∷ d.fs) ∷ d.rest) rest
+  pub level : {k q : _} (d : NextNode after k q) → OnLevel content half most t path indices up size before n (e ∷ others) (node q (d.f ∷ d.fs) ∷ d.rest) rest
   level d = rw (← d.after_is) (subst (λ z. OnLevel content half most t path indices up size before n z after rest) named.2 p)
 
   -- the level so named is rebalanced, and so the level is
@@ -107,12 +107,9 @@ module _ {K V : Type 0} {cap least : ℕ} {t : Table K V} {path indices up size 
         abbrev then : NextNode after behind.0 behind.1
         then = behind.2
 
-        pub above_past : Above t path indices (suc up) size rest (heads before ++ (e.0, n) ∷ (then.f.0, behind.1) ∷ heads then.rest) (length (heads before))
-        above_past = above_both hm (level then)
-
         -- the rows above meet what entering the next node requires
         abbrev pub past_asks : TwoAbove t path indices (suc up) size
-        past_asks = record { rows = rest; before = heads before; x = (e.0, n); y = (then.f.0, behind.1); after = heads then.rest; above = above_past }
+        past_asks = record { rows = rest; before = heads before; x = (e.0, n); y = (then.f.0, behind.1); after = heads then.rest; above = above_both hm (level then) }
 
         -- entering the next node leaves the level rebalanced
         pub past_heals : (path' indices' : _) → Enters t path indices path' indices' up size → get_or indices' up 0 ≡ 0 →
@@ -120,26 +117,18 @@ module _ {K V : Type 0} {cap least : ℕ} {t : Table K V} {path indices up size 
         past_heals path' indices' moved first kept = let entered = moved past_asks in let len = ap length named.2 in
             heals then t path' indices' (settle_move hm (level then) (omega (arith, half_here)) (omega (arith, count_read m value)) entered first kept)
 
-  -- the rows above, cut at the node
-  pub above_high : Above t path indices (up + 1) size rest (heads before ++ (e.0, n) ∷ heads after) (length (heads before))
-  above_high = rw (add-one up) (headed before n after named p.above)
-
   -- the rows above meet what the call for the right neighbour requires
   abbrev pub beside_asks : OneAbove t path indices (up + 1) size
-  beside_asks = record { rows = rest; before = heads before; x = (e.0, n); after = heads after; above = above_high }
-
-  -- the answer of the call for the right neighbour
-  next_is : (o : Option (K × ℕ)) → Beside t path indices (up + 1) size o → NextIs o (heads after)
-  next_is o beside = beside beside_asks
+  beside_asks = record { rows = rest; before = heads before; x = (e.0, n); after = heads after; above = rw add-one (headed before n after named p.above) }
 
   -- the last node stays
   pub last_heals : Beside t path indices (up + 1) size None → Heals w t path indices
-  last_heals beside = let none = no_nodes _ _ half_some _ p.fits (next_is None beside) in
+  last_heals beside = let none = no_nodes _ _ half_some _ p.fits (beside beside_asks) in
       settle_stay hm p (inr none) (λ some. omega (arith, length-append es (flat after), ap (λ z. length (flat z)) none))
 
   module _ (m : ℕ) (value : Counts t (get_or path up r) m) (under : m < least) {o : Option (K × ℕ)} {next : _} (is : o ≡ Some next) (beside : Beside t path indices (up + 1) size o) where
     pub d : NextNode after next.0 next.1
-    d = next_of _ _ half_some _ _ _ _ p.fits (rw is at (next_is o beside)).1
+    d = next_of _ _ half_some _ _ _ _ p.fits (rw is at (beside beside_asks)).1
 
     abbrev q : ℕ
     q = next.1
@@ -175,15 +164,12 @@ module _ {K V : Type 0} {cap least : ℕ} {t : Table K V} {path indices up size 
 
       -- the two nodes share their entries, and the key between them has to be updated
       module _ {key : K} (got_is : got ≡ Some key) where
-        spread : Spread content t u most n q (e ∷ others) (d.f ∷ d.fs) key
+        pub spread : Spread content t u most n q (e ∷ others) (d.f ∷ d.fs) key
         spread = spread_at _ t u n q e _ _ _ s lies.0 (omega (arith, hm.hi, hm.two)) slots.0 slots.1 (balanced_as _ got_is)
-
-        pub above_is : Above u path indices (suc up) size rest (heads before ++ (e.0, n) ∷ (d.f.0, q) ∷ heads d.rest) (length (heads before))
-        above_is = above_two_put hm (level d) spread.two
 
         -- the rows above meet what updating the key requires
         abbrev pub rekey_asks : TwoAbove u path indices (up + 1) size
-        rekey_asks = record { rows = rest; before = heads before; x = (e.0, n); y = (d.f.0, q); after = heads d.rest; above = rw (add-one up) above_is }
+        rekey_asks = record { rows = rest; before = heads before; x = (e.0, n); y = (d.f.0, q); after = heads d.rest; above = rw add-one (above_two_put hm (level d) spread.two) }
 
         -- updating the key leaves the level rebalanced
         pub rekey_heals : (v : _) → Rekeys u v path indices (up + 1) size key → Heals w v path indices

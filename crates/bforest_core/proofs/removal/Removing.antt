@@ -1,9 +1,9 @@
 -- A tree after a removal from a leaf that has other entries, from the calls that make it.
-use Rattle.bforest_core.proofs.Words.{◌≡◌, ℕ, suc, ◌+◌, ◌≤◌, ◌<◌, Some, List, [], ◌∷◌, ◌++◌, map, length, get_or, refl, sym, ap, ◌∙◌, length-append, arith}
-use Rattle.bforest_core.proofs.Words.{Table, node, flat, heads, sizes, UpTo, Trimmed, loss_above, nodes_up, subst, FitRow, TwoAbove, top_of, Rebuilt, Healed}
-use Rattle.bforest_core.proofs.Words.{Joined, remove, Tree, half_of, leaf_content, root_of, numbers_of, Stands, IsPathAt, StandsIn, Removed, sizes_of, ◌⊎◌}
-use Rattle.bforest_core.proofs.{Words.{inr, LeafLoss, Solid}, removal.Merge.{Restored, Restores, healed_restored, joined_restored, kept_restored, low}}
-use Rattle.bforest_core.proofs.{removal.Merge.{merge_asks, nodes_up-same}, removal.Untrimmed.{Untrimmed, length-numbers, path-at, trimmed_removed, up_to}}
+use Rattle.bforest_core.proofs.Words.{◌≡◌, ℕ, suc, ◌+◌, ◌≤◌, ◌<◌, Some, [], ◌∷◌, ◌++◌, map, length, get_or, refl, sym, ap, ◌∙◌, length-append, arith}
+use Rattle.bforest_core.proofs.Words.{Table, node, flat, heads, sizes, UpTo, Trimmed, loss_above, nodes_up, FitRow, TwoAbove, Rebuilt, Healed}
+use Rattle.bforest_core.proofs.Words.{Joined, remove, Tree, half_of, leaf_content, root_of, Stands, IsPathAt, StandsIn, Removed, ◌⊎◌}
+use Rattle.bforest_core.proofs.{Words.{inr, LeafLoss, Solid}, removal.Merge.{Restores, Stays, healed_restored, joined_restored, kept_restored, low}}
+use Rattle.bforest_core.proofs.{removal.Merge.merge_asks, removal.Untrimmed.{Untrimmed, length-numbers, path-at, trimmed_removed, up_to}}
 use Rattle.bforest_core.proofs.{removal.Collapse.{trim_none, length-sizes, stands-below, topped-sizes}, rows.LevelRows.{least-pos, flat-append, FitRow-split}}
 use Rattle.bforest_core.proofs.{rows.LevelRows.Solid-full, rows.Tops.{root-stands, top_tree}, removal.Rebalance.{enough, judged}, walks.RowNodes.fit_full}
 
@@ -21,68 +21,67 @@ module _ {K V : Type 0} {most : ℕ} {old mid : Table K V} {path indices size tr
   as_many : length (l.before ++ node n l.entries ∷ l.after) ≡ length tree.leaves
   as_many = omega (arith, ap length sizes_were.0, length-sizes tree.leaves, length-sizes l.before, length-sizes l.after, length-append (sizes l.before) (suc (length l.entries) ∷ sizes l.after), length-append l.before (node n l.entries ∷ l.after))
 
-  module _ {new : Table K V} {path' indices' freed : _} (r : Restored leaf_content (half_of most) most old new path' indices' 0 size (sizes_of tree) (numbers_of tree) (remove (flat tree.leaves) place) place freed)
-      (top : top_of path' size ≡ top_of path size) where
+  module _ {new : Table K V} {path' indices' freed : _} (r : Restores l.loss new path' indices' freed) where
     abbrev m : ℕ
     m = get_or path' 0 0
 
-    fit : Solid (half_of most) most r.front × FitRow (half_of most) most (node m r.entries ∷ r.after)
-    fit = FitRow-split (half_of most) most r.front (node m r.entries) r.after (rw (← r.row_is) r.fit)
+    fit : Solid (half_of most) most r.0.front × FitRow (half_of most) most (node m r.0.entries ∷ r.0.after)
+    fit = FitRow-split (half_of most) most r.0.front (node m r.0.entries) r.0.after (rw (← r.0.row_is) r.0.fit)
 
-    some : 1 ≤ length r.entries
-    some = omega (arith, fit.1.0, least-pos (half_of most) half r.after)
+    some : 1 ≤ length r.0.entries
+    some = omega (arith, fit.1.0, least-pos (half_of most) half r.0.after)
 
-    full : length (heads r.front) ≡ length r.front
-    full = Solid-full (half_of most) most half r.front fit.0
+    full : length (heads r.0.front) ≡ length r.0.front
+    full = Solid-full (half_of most) most half r.0.front fit.0
 
     -- the tree once the leaf and the rows above it are rebalanced
-    untrimmed : Untrimmed most old new tree place r.row r.rows freed
+    untrimmed : Untrimmed most old new tree place r.0.row r.0.rows freed
     untrimmed = record {
-      flat_is = r.list_is;
-      sizes_are = r.sizes_are;
+      flat_is = r.0.list_is;
+      sizes_are = r.0.sizes_are;
       half = half;
-      leaves_fit = r.fit;
-      leaves_in = r.inside;
-      some = omega (arith, ap length (ap flat r.row_is ∙ flat-append r.front (node m r.entries ∷ r.after)), length-append (flat r.front) (r.entries ++ flat r.after), length-append r.entries (flat r.after), some);
-      stacked = r.above.stacked;
-      rows_in = r.above.inside;
+      leaves_fit = r.0.fit;
+      leaves_in = r.0.inside;
+      some = omega (arith, ap length (ap flat r.0.row_is ∙ flat-append r.0.front (node m r.0.entries ∷ r.0.after)), length-append (flat r.0.front) (r.0.entries ++ flat r.0.after), length-append r.0.entries (flat r.0.after), some);
+      stacked = r.0.above.stacked;
+      rows_in = r.0.above.inside;
       height = omega arith;
-      numbers_are = r.numbers_are;
-      root_is = top_tree _ _ _ _ _ _ _ _ _ r.row_is some r.above.stacked r.above.stands (omega arith) ∙ top ∙ sym (root-stands s.fit s.stands);
-      frees = r.frees;
+      numbers_are = r.0.numbers_are;
+      root_is = top_tree _ _ _ _ _ _ _ _ _ r.0.row_is some r.0.above.stacked r.0.above.stands (omega arith) ∙ r.1.same_top ∙ sym (root-stands s.fit s.stands);
+      frees = r.0.frees;
     }
 
-    up_here : {size1 : ℕ} → size1 ≡ size → UpTo new size1 r.rows (heads r.row) root
+    up_here : {size1 : ℕ} → size1 ≡ size → UpTo new size1 r.0.rows (heads r.0.row) root
     up_here is = up_to _ root s untrimmed is root_is
 
     -- no root is discarded where each level keeps its nodes
-    whole : {size1 : ℕ} → size1 ≡ size → length r.row ≡ length tree.leaves → map sizes r.rows ≡ map sizes tree.above → Trimmed new new size1 size1 r.rows (heads r.row) root root []
+    whole : {size1 : ℕ} → size1 ≡ size → length r.0.row ≡ length tree.leaves → map sizes r.0.rows ≡ map sizes tree.above → Trimmed new new size1 size1 r.0.rows (heads r.0.row) root root []
     whole is len same =
-        let many : length (heads r.row) ≡ length (heads tree.leaves) = omega (arith, fit_full _ _ half _ r.fit, fit_full _ _ half _ s.fit.leaves_fit) in
-        trim_none (up_here is) (topped-sizes _ _ _ _ s.fit.stacked r.above.stacked many same s.fit.topped)
+        let many : length (heads r.0.row) ≡ length (heads tree.leaves) = omega (arith, fit_full _ _ half _ r.0.fit, fit_full _ _ half _ s.fit.leaves_fit) in
+        trim_none (up_here is) (topped-sizes _ _ _ _ s.fit.stacked r.0.above.stacked many same s.fit.topped)
 
     -- the path stands at the place, in the rows that stay
-    stands : {new2 : Table K V} {size1 size2 root' gone : _} → get_or indices' 0 0 < length r.entries → (t : Trimmed new new2 size1 size2 r.rows (heads r.row) root root' gone) → Stands path' indices' size2 (record { leaves = r.row; above = t.rows' }) place
-    stands within t = let st = rw t.rows_are at r.above.stands in
-        let few : length (heads r.front) < length (heads r.row) = omega (arith, full, fit_full (half_of most) most half r.row r.fit, ap length r.row_is, length-append r.front (node m r.entries ∷ r.after)) in
+    stands : {new2 : Table K V} {size1 size2 root' gone : _} → get_or indices' 0 0 < length r.0.entries → (t : Trimmed new new2 size1 size2 r.0.rows (heads r.0.row) root root' gone) → Stands path' indices' size2 (record { leaves = r.0.row; above = t.rows' }) place
+    stands within t = let st = rw t.rows_are at r.0.above.stands in
+        let few : length (heads r.0.front) < length (heads r.0.row) = omega (arith, full, fit_full (half_of most) most half r.0.row r.0.fit, ap length r.0.row_is, length-append r.0.front (node m r.0.entries ∷ r.0.after)) in
         record {
-          leaf = record { before = r.front; entries = r.entries; after = r.after; row_is = r.row_is; within = within; place_is = r.place_is };
+          leaf = record { before = r.0.front; entries = r.0.entries; after = r.0.after; row_is = r.0.row_is; within = within; place_is = r.0.place_is };
           above = rw full at (stands-below _ _ 1 _ _ _ _ few t.stacked st);
           size_is = sym t.size_is;
         }
 
     -- the removal is complete once roots with a single child are discarded: the path stands at the place, where an entry follows
-    completed : (up : ℕ) → freed ≡ nodes_up path 0 up → (place < length (remove (flat tree.leaves) place) → get_or indices' 0 0 < length r.entries)
-        → {new2 : Table K V} {size1 size2 root' gone : _} → (t : Trimmed new new2 size1 size2 r.rows (heads r.row) root root' gone) → size1 ≡ size
+    completed : (up : ℕ) → freed ≡ nodes_up path 0 up → (place < length (remove (flat tree.leaves) place) → get_or indices' 0 0 < length r.0.entries)
+        → {new2 : Table K V} {size1 size2 root' gone : _} → (t : Trimmed new new2 size1 size2 r.0.rows (heads r.0.row) root root' gone) → size1 ≡ size
         → Removed most old new2 path (λ z. place < length (flat z.leaves) → IsPathAt path' indices' size2 z place) tree place root'
     completed up freed_is within {size2 = size2} t size_is =
         trimmed_removed up (λ z. place < length (flat z.leaves) → IsPathAt path' indices' size2 z place) s (rw (← freed_is) untrimmed) root_is t size_is
-        (λ low. path-at size2 (stands (within (rw (← r.list_is) low)) t))
+        (λ low. path-at size2 (stands (within (rw (← r.0.list_is) low)) t))
 
   -- the removal is complete where the leaf is still half full or the last
   pub kept_removed : (Now : Tree K V → Type 0) → (half_of most ≤ length l.entries) ⊎ (l.after ≡ []) → ((z : Tree K V) → flat z.leaves ≡ remove (flat tree.leaves) place → Now z) → Removed most old mid path Now tree place root
   kept_removed Now why now = let r = kept_restored l.loss (judged _ _ _ _ (omega arith) l.some why) (enough (half_of most) l.entries l.after l.some why) in
-      trimmed_removed 0 Now s (untrimmed r refl) root_is (whole r refl refl as_many (sym sizes_were.1)) refl (now _ r.list_is)
+      trimmed_removed 0 Now s (untrimmed r) root_is (whole r refl as_many (sym sizes_were.1)) refl (now _ r.0.list_is)
 
   -- how many entries are left
   left_is : (z : Tree K V) → flat z.leaves ≡ remove (flat tree.leaves) place →
@@ -102,7 +101,7 @@ module _ {K V : Type 0} {most : ℕ} {old mid : Table K V} {path indices size tr
       Removed most old new path (λ z. place < length (flat z.leaves) → IsPathAt path' indices' size1 z place) tree place root
   healed_removed h size_is = let r = healed_restored l.loss h in let row = h.before' ++ node h.number' h.entries' ∷ h.after' in
       let len : length row ≡ length tree.leaves = omega (arith, as_many, ap length h.row_numbers, length-numbers row, length-numbers (l.before ++ node n l.entries ∷ l.after)) in
-      completed r.0 h.same_top 0 refl r.1 (whole r.0 h.same_top size_is len (cc (sizes_were.1))) size_is
+      completed r.0 0 refl r.1 (whole r.0 size_is len (cc (sizes_were.1))) size_is
 
   -- the leaf was merged into its neighbour
   module _ {mid2 path1 indices1 : _} (j : Joined leaf_content (half_of most) most mid mid2 path indices path1 indices1 0 size l.before n l.entries l.after l.rest) {size1 : ℕ} (size_is : size1 ≡ size) where
@@ -112,25 +111,16 @@ module _ {K V : Type 0} {most : ℕ} {old mid : Table K V} {path indices size tr
 
     -- the rows above after the leaf's entry was removed
     module _ {new path' indices' : _} (merged : (w : TwoAbove mid2 path1 indices1 1 size1) → (levels : ℕ) × Rebuilt mid2 new path1 indices1 path' indices' 1 size1 w.rows (w.before ++ (w.x.0, w.y.1) ∷ w.after) (length w.before) (loss_above (Some (length w.before)) (map sizes w.rows)) (nodes_up path1 1 levels)) {size2 : ℕ} (size2_is : size2 ≡ size) where
-      abbrev Merged : ℕ → List ℕ → Type 0
-      Merged z freed = Rebuilt mid2 new path1 indices1 path' indices' 1 z l.rest (heads l.before ++ (j.first.0, j.right) ∷ heads j.after') (length (heads l.before)) (loss_above (Some (length (heads l.before))) (map sizes l.rest)) freed
-
-      above : (levels : ℕ) × Merged size (nodes_up path 1 levels)
-      above = let m = merged leaf_merge_asks in (m.0, rw (← nodes_up-same _ _ 1 _ j.nodes_above) (subst (λ z. Merged z (nodes_up path1 1 m.0)) size_is m.1))
-
-      joined : Restores l.loss new path' indices' (nodes_up path 0 (suc above.0))
-      joined = joined_restored l.loss j above.1 half
-
-      top : top_of path' size ≡ top_of path size
-      top = cc (above.1.same_top)
+      joined : (levels : ℕ) × Stays l.loss new path' indices' (nodes_up path 0 (suc levels))
+      joined = let m = merged leaf_merge_asks in (m.0, joined_restored l.loss j refl size_is m.0 m.1 half)
 
       -- the rows above meet what discarding roots requires
       pub collapse_asks : (rows : _) × (list : _) × UpTo new size2 rows list root
-      collapse_asks = (joined.0.rows, heads joined.0.row, up_here joined.0 top size2_is)
+      collapse_asks = (joined.1.0.0.rows, heads joined.1.0.0.row, up_here joined.1.0 size2_is)
 
       -- the removal is complete after roots with a single child were discarded
       pub joined_removed : {new2 path2 indices2 size3 root' : _}
           → ((rows list : _) → UpTo new size2 rows list root → (gone : _) × Trimmed new new2 size2 size3 rows list root root' gone) → path2 ≡ path' → indices2 ≡ indices' →
           Removed most old new2 path (λ z. place < length (flat z.leaves) → IsPathAt path2 indices2 size3 z place) tree place root'
-      joined_removed trims path_is indices_is = let t = trims joined.0.rows (heads joined.0.row) (up_here joined.0 top size2_is) in
-          rw (path_is, indices_is) (completed joined.0 top (suc above.0) refl joined.1 t.1 size2_is)
+      joined_removed trims path_is indices_is = let r = joined.1 in let t = trims r.0.0.rows (heads r.0.0.row) (up_here r.0 size2_is) in
+          rw (path_is, indices_is) (completed r.0 (suc joined.0) refl r.1 t.1 size2_is)

@@ -1,13 +1,13 @@
 -- Removing the entry of a level's rightmost node, which was removed, and the nodes that this empties: the answers of `remove_emptied`.
-use Rattle.bforest_core.proofs.Words.{◌≡◌, ℕ, suc, ◌+◌, ◌≤◌, ◌<◌, Some, List, [], ◌∷◌, ◌++◌, map, length, get_or, refl, sym, ap, ◌∙◌, append_assoc}
+use Rattle.bforest_core.proofs.Words.{◌≡◌, ℕ, suc, ◌+◌, ◌≤◌, Some, List, [], ◌∷◌, ◌++◌, map, length, get_or, refl, sym, ap, ◌∙◌, append_assoc}
 use Rattle.bforest_core.proofs.Words.{length-append, arith, Row, flat_map, Table, node, flat, heads, numbers, FitRow, Solid, entry_keys, count, Distinct}
-use Rattle.bforest_core.proofs.Words.{Above, nil_from_length, ◌≢◌, with_node, entry_items, ◌-◌, drop, Heads, Rows, append-nil, without_child, with_freed}
+use Rattle.bforest_core.proofs.Words.{Above, nil_from_length, ◌≢◌, entry_items, ◌-◌, drop, Heads, Rows, append-nil, with_freed}
 use Rattle.bforest_core.proofs.Words.{sizes, loss_above, inner_content, root_above, LastAbove, nodes_up, Dropped, rebalanced, add-one}
 use Rattle.bforest_core.proofs.table.Tables.{count-append, counts, count-same, row-split, row-put, row-same, puts, rows-same, ne_from_count}
 use Rattle.bforest_core.proofs.{rows.LevelRows.{flat-append, sizes-append, Solid-full, heads-append, FitRow-join}, removal.Asked.{some_first, no_nodes}}
-use Rattle.bforest_core.proofs.{removal.Asked.{Counts, Removes, Seen, seen, removed_last}, rows.Zipper.{Cut_above, Facts, facts, Spot, above_two}}
+use Rattle.bforest_core.proofs.{removal.Asked.{Counts, Removes, Seen, last_low, seen, removed_last}, rows.Zipper.{Cut_above, Facts, facts}}
 use Rattle.bforest_core.proofs.{removal.Frees.{frees-puts, freed_other, frees-first}, removal.Lifted.{heads-put, above_same, rows_above}}
-use Rattle.bforest_core.proofs.{removal.Merge.{placed, loss_level, lost_above}, removal.Rebalance.rebalanced_last, removal.Taking.{es, more, next}}
+use Rattle.bforest_core.proofs.{removal.Merge.{placed, loss_level, lost_above}, removal.Rebalance.rebalanced_last}
 use Rattle.bforest_core.proofs.{removal.Collapse.heads-flat, rows.Tops.top_rows}
 
 -- solid nodes fit as a row
@@ -51,133 +51,100 @@ module _ {K V : Type 0} where
   abbrev pub Drops : Table K V → Table K V → List ℕ → ℕ → ℕ → Rows K → Heads K → K × ℕ → Type 0
   Drops t u path up size rows a y = (levels : ℕ) × Dropped t u path size rows (a ++ y ∷ []) (loss_above (Some (suc (length a))) (map sizes rows)) (nodes_up path up levels)
 
-  module _ {t : Table K V} {path indices up size rows a x : _} (d : Spot t path indices up size rows a x []) where
-    open d use {f, q.{before, l, r, after, rest}}
+  -- the level above a node that is its last, with the one before it
+  module _ {t : Table K V} {path indices up size i : _} (w : LastAbove t path indices up size) (s : Seen t path indices up size w.rows (w.before ++ w.y ∷ []) w.x [] i) where
+    open w use {rows, before as a, y, x}
+    open s use {d, d.{f, q.{before, l, r, after, rest}}}
 
     abbrev num : ℕ
     num = get_or path up 0
 
     -- the sizes of the rows without the entry
     abbrev left : List (List ℕ)
-    left = loss_above (Some (length a)) (map sizes rows)
+    left = loss_above (Some (suc (length a))) (map sizes rows)
 
-    ends : (r ≡ []) × (after ≡ [])
+    pub ends : (r ≡ []) × (after ≡ [])
     ends = let len = length-append r (flat after) in let none = ap length d.q.b_is in
         (nil_from_length r (omega arith), no_nodes 4 8 (omega arith) after f.fit.2 (nil_from_length (heads after) (omega (arith, heads-flat after))))
 
     -- the path's row ends with the entry
-    whole : Cut_above t path indices up size before num l x [] [] rest
+    pub whole : Cut_above t path indices up size before num l x [] [] rest
     whole = let e = ends in rw (e.0, e.1) at d.whole
 
     known : Facts t path indices up size before num l x [] [] rest
     known = facts t _ _ _ _ _ _ _ x _ _ _ whole
 
-    pub lost : left ≡ (sizes before ++ (rebalanced 8 (length l) []).1) ∷ loss_above (placed (length before) (rebalanced 8 (length l) []).0) (map sizes rest)
+    lost : left ≡ (sizes before ++ (rebalanced 8 (length l) []).1) ∷ loss_above (placed (length before) (rebalanced 8 (length l) []).0) (map sizes rest)
     lost =
         let row = d.q.rows_are ∙ ap (λ z. (before ++ node num (l ++ x ∷ z) ∷ after) ∷ rest) ends.0 ∙ ap (λ z. (before ++ node num (l ++ x ∷ []) ∷ z) ∷ rest) ends.1 in
         let len : length (l ++ x ∷ []) ≡ suc (length l) = length-append l (x ∷ []) ∙ omega arith in
-        sym (lost_above _ _) ∙ loss_level 8 before (length l) (length l) (length a) [] (map sizes rest) (map sizes rows)
-        (cc (sizes-append before (node num (l ++ x ∷ []) ∷ []))) (omega arith) (omega (arith, ap length d.q.a_is, length-append (flat before) l))
+        sym (lost_above _ _) ∙ loss_level 8 before (length l) (length l) (suc (length a)) [] (map sizes rest) (map sizes rows)
+        (cc (sizes-append before (node num (l ++ x ∷ []) ∷ []))) (omega arith) (omega (arith, ap length d.q.a_is, length-append (flat before) l, length-append a (y ∷ [])))
 
     own_is : (m : ℕ) → count m (flat_map numbers rows) ≡ count m (numbers before) + count m (num ∷ []) + count m (flat_map numbers rest)
     own_is m = omega (arith, ap (λ z. count m (flat_map numbers z)) d.q.rows_are, ap (λ z. count m (num ∷ numbers z)) ends.1, counts m before num (l ++ x ∷ r) after rest t.chain)
 
-    -- the node keeps other entries
-    drop_keep : (u : Table K V) → length (l ++ x ∷ r) ≢ 1 → u ≡ with_node t num (without_child (inner_content (l ++ x ∷ r)) (get_or indices up 0)) →
-        Dropped t u path size rows a left []
-    drop_keep u more u_is = let p = whole in let old = l ++ x ∷ [] in let row = before ++ node num l ∷ [] in
-        let old_is = ap (λ z. l ++ x ∷ z) ends.0 in let len : length old ≡ suc (length l) = length-append l (x ∷ []) ∙ omega arith in
-        let some : 1 ≤ length l = omega (arith, ap length old_is) in let first = some_first l some in
-        let gone = ap (λ z. without_child (inner_content z) (get_or indices up 0)) (old_is ∙ ap (λ z. z ++ x ∷ []) first.2)
-        ∙ removed_last V first.0 first.1 x (get_or indices up 0) (cc (d.q.entry_is)) ∙ ap (λ z. inner_content z) (sym first.2) in
-        let w = puts t u num _ _ known.slot_is (u_is ∙ ap (λ z. with_node t num z) gone) in
-        let high : up + length rest ≡ size - 1 = omega (arith, p.height) in let hs = heads-put before num old l [] (simp first.2) in
-        record {
-          rows' = row ∷ rest;
-          stacked = (cc (flat-append before (node num l ∷ []), append-nil l, d.q.a_is), FitRow-join 4 8 before (node num l) [] f.solid (some, omega (arith, known.fit.1), tt), rw (← hs) p.stacked.2);
-          inside = (row-put inner_content t.nodes u.nodes before num old l [] known.inside w.same w.here known.none, rows-same t.nodes u.nodes rest (λ m some. w.same m (ne_from_count m num (flat_map numbers rest) some f.none_rest)) p.inside.1);
-          height = cc (d.q.rows_are);
-          sizes_are = cc (sizes-append before (node num l ∷ []), lost, rebalanced_last 8 (length l) some);
-          numbers_are = λ m. omega (arith, own_is m, counts m before num l [] rest u.chain);
-          root_is = ap (λ z. root_above z rest) (sym hs) ∙ top_rows _ _ _ _ _ _ _ p.stacked p.stands ∙ ap (λ z. get_or path z 0) high;
-          frees = frees-puts (flat_map numbers rows) (omega (arith, own_is num, count-same num [])) w;
-        }
+    module _ (cnt : ℕ) (value : Counts t (get_or path up i) cnt) where
+      -- the node keeps other entries
+      pub keeps : (u : Table K V) → cnt ≢ 1 → Removes t u (get_or path up i) (get_or indices up 0) → Drops t u path up size rows a y
+      keeps u more removes = let p = whole in let old = l ++ x ∷ [] in let row = before ++ node num l ∷ [] in
+          let len : length old ≡ suc (length l) = length-append l (x ∷ []) ∙ omega arith in
+          let some : 1 ≤ length l = omega (arith, s.counted cnt value, ap (λ z. length (l ++ x ∷ z)) ends.0) in
+          let u_is = removes (drop 1 (entry_keys (l ++ x ∷ r))) (entry_items (l ++ x ∷ r)) s.slot_is in
+          let put = puts t u num _ _ known.slot_is (cc (removed_last V l x some, ends.0, s.num_is, d.q.entry_is)) in
+          let high : up + length rest ≡ size - 1 = omega (arith, p.height) in
+          let first = some_first l some in let hs = heads-put before num old l [] (simp first.2) in
+          (0, record {
+            rows' = row ∷ rest;
+            stacked = (cc (flat-append before (node num l ∷ []), append-nil l, d.q.a_is), FitRow-join 4 8 before (node num l) [] f.solid (some, omega (arith, known.fit.1), tt), rw (← hs) p.stacked.2);
+            inside = (row-put inner_content t.nodes u.nodes before num old l [] known.inside put.same put.here known.none, rows-same t.nodes u.nodes rest (λ m some. put.same m (ne_from_count m num (flat_map numbers rest) some f.none_rest)) p.inside.1);
+            height = cc (d.q.rows_are);
+            sizes_are = cc (sizes-append before (node num l ∷ []), lost, rebalanced_last 8 (length l) some);
+            numbers_are = λ m. omega (arith, own_is m, counts m before num l [] rest u.chain);
+            root_is = ap (λ z. root_above z rest) (sym hs) ∙ top_rows _ _ _ _ _ _ _ p.stacked p.stands ∙ ap (λ z. get_or path z 0) high;
+            frees = frees-puts (flat_map numbers rows) (omega (arith, own_is num, count-same num [])) put;
+          })
 
-    -- the node has no other entry: it was freed (v), and its own entry is removed above
-    module _ (v : Table K V) (one : length (l ++ x ∷ r) ≡ 1) (some : 1 ≤ length a) (v_is : v ≡ with_freed t num) where
-      l_none : l ≡ []
-      l_none = nil_from_length l (omega (arith, length-append l (x ∷ r)))
+      -- the node has no other entry: it was freed, and its own entry is removed above
+      module _ (one : cnt ≡ 1) (v : Table K V) (freed : v ≡ with_freed t (get_or path up i)) where
+        pub v_is : v ≡ with_freed t num
+        v_is = cc (s.num_is)
 
-      a_front : flat before ≡ a
-      a_front = cc (append-nil (flat before), l_none, d.q.a_is)
+        pub l_none : l ≡ []
+        l_none = nil_from_length l (omega (arith, s.counted cnt value, length-append l (x ∷ r)))
 
-      pub front : LastOf (heads before)
-      front = last_of _ (some_heads before (omega (arith, ap length a_front)))
+        a_front : flat before ≡ a ++ y ∷ []
+        a_front = cc (append-nil (flat before), l_none, d.q.a_is)
 
-      last_above : Above v path indices (suc up) size rest (front.init ++ front.last ∷ (x.0, num) ∷ []) (suc (length front.init))
-      last_above = let e = ends in let apart = whole.apart in let p = rows_above d in
-          above_freed v num before x front (rw l_none at apart) v_is (rw (l_none, e.0, e.1) at p)
-
-      drop_empty : {u freed : _} → Dropped v u path size rest (front.init ++ front.last ∷ []) (loss_above (Some (suc (length front.init))) (map sizes rest)) freed → Dropped t u path size rows a left (freed ++ num ∷ [])
-      drop_empty below = let hs = front.is in let p = whole in
-          let len : length before ≡ suc (length front.init) = omega (arith, Solid-full 4 8 (omega arith) before f.solid, ap length hs, length-append front.init (front.last ∷ [])) in
-          let in_v = row-same _ _ _ _ (λ m some. freed_other t v num v_is m (ne_from_count m num (numbers before) some (omega (arith, known.none))))
-          (row-split _ _ _ _ known.inside).0 in
-          let c = λ (m : ℕ). counts m before num (l ++ x ∷ []) [] rest t.chain in
-          record {
-            rows' = before ∷ below.rows';
-            stacked = (a_front, fit_solid 4 8 (omega arith) _ f.solid, rw hs below.stacked);
-            inside = (row-same _ _ _ _ (λ m some. below.frees.others m (omega (arith, some, p.apart m, c m))) in_v, below.inside);
-            height = cc (d.q.rows_are, below.height);
-            sizes_are = simp (below.sizes_are, len, append-nil, lost, l_none);
-            numbers_are = λ m. omega (arith, own_is m, below.numbers_are m, count-append);
-            root_is = cc (below.root_is);
-            frees = frees-first t num _ _ known.slot_is v_is (omega (arith, own_is num, count-same num [])) f.none_rest (λ m none. omega (arith, own_is m)) below.frees;
-          }
-
-  module _ {t : Table K V} {path indices up size : _} (w : LastAbove t path indices up size) (r : ℕ) (wide : length path ≡ 17) (height : size ≤ 17) where
-    open w use {rows, before as a, y, x, above as p}
-
-    top : up < size
-    top = above_two rows a y x [] p
-
-    len_is : length (a ++ y ∷ []) ≡ suc (length a)
-    len_is = length-append a _ ∙ omega arith
-
-    -- the parent of the node
-    pub here : Seen t path indices up size rows (a ++ y ∷ []) x [] r
-    here = seen (a ++ y ∷ []) x [] (rw (append_assoc a _ _, len_is) p) top r wide height
-
-    pub drop_fewer : (s : ℕ) → size - up ≡ s → size - (up + 1) < s
-    drop_fewer s bound = let low = top in omega arith
-
-    module _ (cnt : ℕ) (value : Counts t (get_or path up r) cnt) where
-      -- the call ensures its effect where the node keeps other entries
-      pub keeps : (u : Table K V) → cnt ≢ 1 → Removes t u (get_or path up r) (get_or indices up 0) → Drops t u path up size rows a y
-      keeps u more removes = let s = here in let es = s.d.q.l ++ x ∷ s.d.q.r in let u_is = removes (drop 1 (entry_keys es)) (entry_items es) s.slot_is in
-          (0, rw (← len_is) (drop_keep s.d u (λ e. more (s.counted cnt value ∙ e)) (rw s.num_is at u_is)))
-
-      module _ (one : cnt ≡ 1) (v : Table K V) (freed : v ≡ with_freed t (get_or path up r)) where
-        pub one_child : length (here.d.q.l ++ x ∷ here.d.q.r) ≡ 1
-        one_child = sym (here.counted cnt value) ∙ one
-
-        pub some : 1 ≤ length (a ++ y ∷ [])
-        some = let e = len_is in omega arith
-
-        pub v_is : v ≡ with_freed t (get_or path up 0)
-        v_is = cc (here.num_is)
-
-        abbrev o : LastOf (heads here.d.q.before)
-        o = front here.d v one_child some v_is
-
-        pub above_is : Above v path indices (up + 1) size here.d.q.rest (o.init ++ o.last ∷ (x.0, get_or path up 0) ∷ []) (suc (length o.init))
-        above_is = rw add-one (last_above here.d v one_child some v_is)
+        pub front : LastOf (heads before)
+        front = last_of _ (some_heads before (omega (arith, ap length a_front, length-append a (y ∷ []))))
 
         -- the rows above meet what the call one level up requires
         abbrev pub last_asks : LastAbove v path indices (up + 1) size
-        last_asks = record { rows = here.d.q.rest; before = o.init; y = o.last; x = (x.0, get_or path up 0); above = above_is }
+        last_asks = record { rows = rest; before = front.init; y = front.last; x = (x.0, num); above = rw add-one (above_freed v num before x front (rw l_none at whole.apart) v_is (rw (l_none, ends.0, ends.1) at (rows_above d))) }
 
         -- what the call one level up ensures is what this one has to
-        pub empties : (u : Table K V) → ((w2 : LastAbove v path indices (up + 1) size) → Drops v u path (up + 1) size w2.rows w2.before w2.y) →
-            Drops t u path up size rows a y
-        empties u drops = let said = drops last_asks in (suc said.0, rw (← len_is) (drop_empty here.d v one_child some v_is (rw add-one at said.1)))
+        module _ (u : Table K V) (drops : (w : LastAbove v path indices (up + 1) size) → Drops v u path (up + 1) size w.rows w.before w.y) where
+          said : Drops v u path (up + 1) size rest front.init front.last
+          said = drops last_asks
+
+          pub empties : Drops t u path up size rows a y
+          empties = let below = said.1 in let hs = front.is in let p = whole in
+              let len : length before ≡ suc (length front.init) = omega (arith, Solid-full 4 8 (omega arith) before f.solid, ap length hs, length-append front.init (front.last ∷ [])) in
+              let in_v = row-same _ _ _ _ (λ m some. freed_other t v num v_is m (ne_from_count m num (numbers before) some (omega (arith, known.none))))
+              (row-split _ _ _ _ known.inside).0 in let c = λ (m : ℕ). counts m before num (l ++ x ∷ []) [] rest t.chain in
+              (suc said.0, record {
+                rows' = before ∷ below.rows';
+                stacked = (a_front, fit_solid 4 8 (omega arith) _ f.solid, rw hs below.stacked);
+                inside = (row-same _ _ _ _ (λ m some. below.frees.others m (omega (arith, some, p.apart m, c m))) in_v, below.inside);
+                height = cc (d.q.rows_are, below.height);
+                sizes_are = simp (below.sizes_are, len, append-nil, lost, l_none);
+                numbers_are = λ m. omega (arith, own_is m, below.numbers_are m, ap (λ z. count m (nodes_up path z said.0)) (add-one up), count-append);
+                root_is = cc (below.root_is);
+                frees = rw (← add-one up) (frees-first t num _ _ known.slot_is v_is (omega (arith, own_is num, count-same num [])) f.none_rest (λ m none. omega (arith, own_is m)) below.frees);
+              })
+
+  -- the parent of the node
+  pub here : {t : Table K V} {path indices up size : _} (w : LastAbove t path indices up size) (i : ℕ) → length path ≡ 17 → size ≤ 17 → Seen t path indices up size w.rows (w.before ++ w.y ∷ []) w.x [] i
+  here w i wide height = let len : length (w.before ++ w.y ∷ []) ≡ suc (length w.before) = length-append w.before _ ∙ omega arith in
+      seen (w.before ++ w.y ∷ []) w.x [] (rw (append_assoc w.before _ _, len) w.above) (last_low w) i wide height

@@ -40,7 +40,7 @@ module _ {K V : Type 0} where
           leaf_loss d more w (rebuilt_same (above_top _ _ low len (above_written w d.none_rows d.above)))
 
       -- the rows above, which name the leaf by its old first key
-      above_then : (k : K) → ((rs : _) → head_of n (l ++ x ∷ rs) ≡ (k, n) ∷ []) →
+      pub above_then : (k : K) → ((rs : _) → head_of n (l ++ x ∷ rs) ≡ (k, n) ∷ []) →
           Above u path indices 1 size tree.above (heads before ++ (k, n) ∷ heads after) (length (heads before))
       above_then k head_is = rw (← (heads-append before (node n es ∷ after) ∙ ap (λ z. heads before ++ (z ++ heads after)) (head_is r)))
           (above_written w d.none_rows d.above)
@@ -57,12 +57,9 @@ module _ {K V : Type 0} where
         pub next : (y : _) × (others : _) × (l ++ r ≡ y ∷ others)
         next = some_first _ more
 
-        pub above : Above u path indices 1 size tree.above (heads before ++ (x.0, n) ∷ heads after) (length (heads before))
-        above = above_then x.0 (λ rs. ap (λ z. head_of n (z ++ x ∷ rs)) (nil_from_length l (omega (arith, first, d.index_is))))
-
         -- the rows above meet what writing the new first key requires
         abbrev pub above_asks : OneAbove u path indices 1 size
-        above_asks = record { rows = tree.above; before = heads before; x = (x.0, n); after = heads after; above = above }
+        above_asks = record { rows = tree.above; before = heads before; x = (x.0, n); after = heads after; above = above_then x.0 (λ rs. ap (λ z. head_of n (z ++ x ∷ rs)) (nil_from_length l (omega (arith, first, d.index_is)))) }
 
     -- the leaf as the code reads it
     module _ (i : ℕ) (wide : 0 < length path) where

@@ -1,5 +1,5 @@
 use Rattle.bforest_core.proofs.{Words.{rules, ◌+◌, ◌-◌, ◌<◌, suc, ◌∷◌, ◌++◌, length, length-append, arith, add-one, ◌∙◌}, removal.Merge.loses_child}
-use Rattle.bforest_core.proofs.{removal.Merge.{merge_asks, merge_healed, merge_joined}, removal.Asked.two_low}
+use Rattle.bforest_core.proofs.{removal.Merge.{merge_asks, rebuilt, healed_restored, joined_restored}, removal.Asked.two_low}
 use Rattle.bforest_core.proofs.path.Path.+merge_above.Goals as goal
 
 pub merge_above-requires : goal.merge_above-requires
@@ -14,7 +14,7 @@ returns-then-rebalance g t c = record {
       let at : length w.before < length (w.before ++ (w.x.0, w.y.1) ∷ w.after) = omega (arith, length-append w.before ((w.x.0, w.y.1) ∷ w.after)) in
       let j = c.rebalance.ensures.joined c.if-rebalance.true (loses_child w.rows l at g.row.N) in let size = c.rebalance.ensures.size in
       let r = c.merge_above.ensures.merged (merge_asks l j _ _ (add-one c.args.up) size) in
-      (suc r.0, merge_joined w.rows l at _ _ j (omega arith) size r.0 r.1);
+      (suc r.0, rebuilt w.rows l at (joined_restored l j (add-one c.args.up) size r.0 r.1 (omega arith)));
   size = c.merge_above.ensures.size ∙ c.rebalance.ensures.size;
 }
 
@@ -22,7 +22,7 @@ pub returns-else-rebalance : goal.returns-else-rebalance
 returns-else-rebalance g t c = record {
   merged = λ w. let l = c.remove_merged.ensures w in
       let at : length w.before < length (w.before ++ (w.x.0, w.y.1) ∷ w.after) = omega (arith, length-append w.before ((w.x.0, w.y.1) ∷ w.after)) in
-      (0, merge_healed w.rows l at (c.rebalance.ensures.healed c.if-rebalance.false (loses_child w.rows l at g.row.N)));
+      (0, rebuilt w.rows l at (healed_restored l (c.rebalance.ensures.healed c.if-rebalance.false (loses_child w.rows l at g.row.N))));
   size = c.rebalance.ensures.size;
 }
 

@@ -1,4 +1,4 @@
-use Rattle.bforest_core.proofs.{Words.{rules, arith}, removal.RemovingEmptied.{here, drop_fewer, keeps, last_asks, empties}}
+use Rattle.bforest_core.proofs.{Words.{rules, arith}, removal.{RemovingEmptied.{here, keeps, last_asks, empties}, Asked.{fewer, last_low}}}
 use Rattle.bforest_core.proofs.path.Path.+remove_emptied.Goals as goal
 
 pub entries-requires : goal.entries-requires
@@ -9,10 +9,9 @@ free_node-requires g t c = (search rules, (here c.requires.pending c.index-self-
 
 pub remove_emptied-requires : goal.remove_emptied-requires
 remove_emptied-requires g t c κs within = let w = c.requires.pending in
-    let asked = last_asks w c.index-self-up.result (omega arith) c.requires.height c.entries.result c.entries.ensures.value c.if-entries-eq1.true
+    let asked = last_asks w (here w c.index-self-up.result (omega arith) c.requires.height) c.entries.result c.entries.ensures.value c.if-entries-eq1.true
     c.free_node.new.self c.free_node.ensures.freed in
-    let less = drop_fewer w c.index-self-up.result (omega arith) c.requires.height t c.decreases in
-    (less, (within.0, (within.1, ((λ a m. search rules), (search rules, (search rules, (c.requires.height, asked)))))))
+    (fewer (last_low w) t c.decreases, (within.0, (within.1, ((λ a m. search rules), (search rules, (search rules, (c.requires.height, asked)))))))
 
 pub remove_child-answer-requires : goal.remove_child-answer-requires
 remove_child-answer-requires g t c =
@@ -20,8 +19,8 @@ remove_child-answer-requires g t c =
 
 pub returns-then-entries-eq1 : goal.returns-then-entries-eq1
 returns-then-entries-eq1 g t c = λ w.
-    empties w _ (omega arith) c.requires.height _ c.entries.ensures.value c.if-entries-eq1.true _ c.free_node.ensures.freed _ c.remove_emptied.ensures
+    empties w (here w c.index-self-up.result (omega arith) c.requires.height) _ c.entries.ensures.value c.if-entries-eq1.true _ c.free_node.ensures.freed _ c.remove_emptied.ensures
 
 pub returns-else-entries-eq1 : goal.returns-else-entries-eq1
 returns-else-entries-eq1 g t c = λ w.
-    keeps w _ (omega arith) c.requires.height _ c.entries.ensures.value _ c.if-entries-eq1.false c.remove_child-answer.ensures.node
+    keeps w (here w c.index-self-up.result (omega arith) c.requires.height) _ c.entries.ensures.value _ c.if-entries-eq1.false c.remove_child-answer.ensures.node

@@ -1,5 +1,5 @@
-use Rattle.bforest_core.proofs.Words.{rules, arith}
-use Rattle.bforest_core.proofs.removal.Neighbours.{one_seen, one_asks, one_fewer, first_asks, item_asks, beside_same, none_right, beside_next}
+use Rattle.bforest_core.proofs.{Words.{rules, arith}, removal.Asked.fewer}
+use Rattle.bforest_core.proofs.removal.Neighbours.{is_low, one_seen, up_asks, first_asks, item_asks, beside_same, none_right, beside_next}
 use Rattle.bforest_core.proofs.path.Path.+right_sibling.Goals as goal
 
 pub entries-requires : goal.entries-requires
@@ -11,28 +11,27 @@ separator-requires g t c = let w = c.requires.pending in
 
 pub child-requires : goal.child-requires
 child-requires g t c =
-    (search rules, item_asks c.requires.pending c.if-up-self.false _ (omega arith) c.requires.height _ c.entries.ensures.value c.if-index-entries.true)
+    (search rules, item_asks (one_seen c.requires.pending c.if-up-self.false _ (omega arith) c.requires.height) _ c.entries.ensures.value c.if-index-entries.true)
 
 pub right_sibling-requires : goal.right_sibling-requires
 right_sibling-requires g t c κs within =
-    let w = c.requires.pending in let d = one_asks w c.if-up-self.false c.index-self-up.result (omega arith) c.requires.height in
-    let falls = one_fewer w c.if-up-self.false c.index-self-up.result (omega arith) c.requires.height t c.decreases in
-    (falls, (within.0, (within.1, ((λ a' m'. search rules), (search rules, (search rules, (c.requires.height, d)))))))
+    let w = c.requires.pending in let d = up_asks (one_seen w c.if-up-self.false c.index-self-up.result (omega arith) c.requires.height).d in
+    (fewer (is_low w c.if-up-self.false) t c.decreases, (within.0, (within.1, ((λ a' m'. search rules), (search rules, (search rules, (c.requires.height, d)))))))
 
 pub child-requires-in-Some : goal.child-requires-in-Some
 child-requires-in-Some g t c = let w = c.requires.pending in
-    (search rules, first_asks w c.if-up-self.false c.index-self-up.result (omega arith) c.requires.height _ c.in-Some.next c.in-Some.is c.right_sibling.ensures)
+    (search rules, first_asks (one_seen w c.if-up-self.false c.index-self-up.result (omega arith) c.requires.height) _ c.in-Some.next c.in-Some.is c.right_sibling.ensures)
 
 pub returns-then-index-entries : goal.returns-then-index-entries
 returns-then-index-entries g t c = λ w.
-    beside_same w c.if-up-self.false c.index-self-up.result (omega arith) c.requires.height c.entries.result c.entries.ensures.value c.separator.result
+    beside_same (one_seen w c.if-up-self.false c.index-self-up.result (omega arith) c.requires.height) c.entries.result c.entries.ensures.value c.separator.result
     c.child.result c.if-index-entries.true c.separator.ensures c.child.ensures
 
 pub returns-in-None : goal.returns-in-None
 returns-in-None g t c = λ w.
-    none_right w c.if-up-self.false _ (omega arith) c.requires.height _ c.entries.ensures.value c.if-index-entries.false _ c.in-None.is c.right_sibling.ensures
+    none_right (one_seen w c.if-up-self.false c.index-self-up.result (omega arith) c.requires.height) _ c.entries.ensures.value c.if-index-entries.false _ c.in-None.is c.right_sibling.ensures
 
 pub returns-in-Some : goal.returns-in-Some
 returns-in-Some g t c = λ w.
-    beside_next w c.if-up-self.false c.index-self-up.result (omega arith) c.requires.height c.entries.result c.entries.ensures.value c.if-index-entries.false
+    beside_next (one_seen w c.if-up-self.false c.index-self-up.result (omega arith) c.requires.height) c.entries.result c.entries.ensures.value c.if-index-entries.false
     _ c.in-Some.next c.in-Some.is c.right_sibling.ensures c.child-in-Some.result c.child-in-Some.ensures

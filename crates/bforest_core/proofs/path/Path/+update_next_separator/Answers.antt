@@ -1,4 +1,4 @@
-use Rattle.bforest_core.proofs.{Words.{rules, arith}, removal.RemovingMerged.{here, above_fewer, same_parent, above_asks, next_parent}}
+use Rattle.bforest_core.proofs.{Words.{rules, arith}, removal.{RemovingMerged.{here, same_parent, above_asks, next_parent}, Asked.{fewer, two_low}}}
 use Rattle.bforest_core.proofs.path.Path.+update_next_separator.Goals as goal
 
 pub entries-requires : goal.entries-requires
@@ -10,15 +10,14 @@ set_separator-requires g t c = let w = c.requires.pending in let s = here w c.in
 
 pub update_next_separator-requires : goal.update_next_separator-requires
 update_next_separator-requires g t c κs within = let w = c.requires.pending in
-    let d = above_asks w c.index-self-up.result (omega arith) c.requires.height c.entries.result c.entries.ensures.value c.if-index-entries.false in
-    let falls = above_fewer w c.index-self-up.result (omega arith) c.requires.height t c.decreases in
-    (falls, (within.0, (within.1, ((λ a' m'. search rules), (search rules, (search rules, (c.requires.height, d)))))))
+    let d = above_asks (here w c.index-self-up.result (omega arith) c.requires.height) c.entries.result c.entries.ensures.value c.if-index-entries.false in
+    (fewer (two_low w) t c.decreases, (within.0, (within.1, ((λ a' m'. search rules), (search rules, (search rules, (c.requires.height, d)))))))
 
 pub returns-then-index-entries : goal.returns-then-index-entries
 returns-then-index-entries g t c = λ w.
-    same_parent w c.index-self-up.result (omega arith) c.requires.height c.entries.result c.entries.ensures.value c.if-index-entries.true
+    same_parent (here w c.index-self-up.result (omega arith) c.requires.height) c.entries.result c.entries.ensures.value c.if-index-entries.true
     c.set_separator.new.pool c.args.key c.set_separator.ensures
 
 pub returns-else-index-entries : goal.returns-else-index-entries
 returns-else-index-entries g t c = λ w.
-    next_parent w c.index-self-up.result (omega arith) c.requires.height c.entries.result c.entries.ensures.value c.if-index-entries.false c.update_next_separator.new.pool c.args.key c.update_next_separator.ensures
+    next_parent (here w c.index-self-up.result (omega arith) c.requires.height) c.entries.result c.entries.ensures.value c.if-index-entries.false c.update_next_separator.new.pool c.args.key c.update_next_separator.ensures

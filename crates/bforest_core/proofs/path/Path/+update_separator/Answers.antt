@@ -1,5 +1,5 @@
-use Rattle.bforest_core.proofs.Words.{rules, ◌+◌, ◌-◌, ◌<◌, ◌∷◌, ◌++◌, get_or, drop, arith, add-one, heads, entry_keys, entry_items}
-use Rattle.bforest_core.proofs.{removal.Lifted.{rekey_parent, rekey_first}, removal.RemovingMerged.rekey_top, removal.Neighbours.up_above, removal.Asked.seen}
+use Rattle.bforest_core.proofs.Words.{rules, ◌∷◌, ◌++◌, drop, arith, add-one, entry_keys, entry_items}
+use Rattle.bforest_core.proofs.{removal.Lifted.{rekey_parent, rekey_first}, removal.RemovingMerged.rekey_top, removal.Neighbours.up_asks, removal.Asked.{fewer, seen}}
 use Rattle.bforest_core.proofs.rows.Zipper.{spot}
 use Rattle.bforest_core.proofs.path.Path.+update_separator.Goals as goal
 
@@ -10,9 +10,8 @@ set_separator-requires g t c =
 
 pub update_separator-requires : goal.update_separator-requires
 update_separator-requires g t c κs within =
-    let w = c.requires.pending in let low = c.if-up-self.false in let d = spot w.before w.x w.after w.above low in let u = up_above d in
-    let falls : c.args.self.now.size - (c.args.up + 1) < t = omega (arith, c.decreases, low) in
-    (falls, (within.0, (within.1, ((λ a' m'. search rules), (search rules, (search rules, (c.requires.height, (record { rows = d.q.rest; before = heads d.q.before; x = (u.0, get_or c.args.self.now.node c.args.up 0); after = heads d.q.after; above = rw add-one u.1 }))))))))
+    let w = c.requires.pending in let low = c.if-up-self.false in
+    (fewer low t c.decreases, (within.0, (within.1, ((λ a' m'. search rules), (search rules, (search rules, (c.requires.height, up_asks (spot w.before w.x w.after w.above low))))))))
 
 pub returns-then-index-gt0 : goal.returns-then-index-gt0
 returns-then-index-gt0 g t c = λ w.
@@ -20,8 +19,8 @@ returns-then-index-gt0 g t c = λ w.
     rekey_parent s.d _ c.args.key c.if-index-gt0.true (rw s.num_is at (c.set_separator.ensures (drop 1 (entry_keys es)) (entry_items es) s.slot_is))
 
 pub returns-else-index-gt0 : goal.returns-else-index-gt0
-returns-else-index-gt0 g t c = λ w. let d = spot w.before w.x w.after w.above c.if-up-self.false in let u = up_above d in
-    rekey_first d _ c.args.key c.if-index-gt0.false (rw add-one at (c.update_separator.ensures (record { rows = d.q.rest; before = heads d.q.before; x = (u.0, get_or c.args.self.now.node c.args.up 0); after = heads d.q.after; above = rw add-one u.1 })))
+returns-else-index-gt0 g t c = λ w. let d = spot w.before w.x w.after w.above c.if-up-self.false in
+    rekey_first d _ c.args.key c.if-index-gt0.false (rw add-one at (c.update_separator.ensures (up_asks d)))
 
 pub returns-then-up-self : goal.returns-then-up-self
 returns-then-up-self g t c = λ w. rekey_top w c.args.key c.if-up-self.true
