@@ -2,7 +2,7 @@
 use Rattle.bforest_core.proofs.Words.{true, ◌≡◌, ℕ, suc, ◌+◌, ◌-◌, ◌/◌, ◌≤◌, ◌<◌, ◌≢◌, List, [], ◌∷◌, ◌++◌, length, slice_get, Option, Some, None, refl, sym}
 use Rattle.bforest_core.proofs.Words.{ap, ◌∙◌, subst, inl, inr, length-append, arith, length-map, map-append, cases_lt, Content, IsFree, IsSameKind}
 use Rattle.bforest_core.proofs.Words.{entry_count, entry_capacity, joined, IsCut, Balances, left_share, Table, with_node, IsBalancedAt, Frees, Bool, false}
-use Rattle.bforest_core.proofs.{Words.{IsLeafCapacity, content_at, half_at, most_at, inner_content, leaf_content}, table.Stored.{some_same, Parts}}
+use Rattle.bforest_core.proofs.{Words.{IsLeafCapacity, content_at, half_at, most_at}, table.Stored.{some_same, Parts}}
 use Rattle.bforest_core.proofs.{table.Stored.{inner_cuts, leaf_cuts}, removal.Frees.{frees-after, frees-puts}, table.Tables.{count-same, puts}}
 use Rattle.bforest_core.proofs.{removal.Asked.some_first, rows.Zipper.cut}
 
@@ -21,29 +21,6 @@ pub record IsStored {K V X : Type 0} (content : List (K × X) → Content K V) (
   pub joins : (e es f fs : _) → joined (content (e ∷ es)) f.0 (content (f ∷ fs)) ≡ content ((e ∷ es) ++ f ∷ fs)
   pub cuts : (x xs y ys q left right key : _) → length (x ∷ xs) ≡ q → IsCut (content ((x ∷ xs) ++ y ∷ ys)) q left key right → Parts content (x ∷ xs) y ys left right key
 
-module _ {K : Type 0} where
-  -- inner nodes are stored with a capacity of 8
-  pub inner_stored : {V : Type 0} (n : ℕ) → IsStored {K = K} {V = V} inner_content n 8
-  inner_stored {V} n = record {
-    count_is = λ es. length-map es (λ w. w.1);
-    capacity_is = λ es. refl;
-    used = λ es free. free;
-    kind = λ es fs. tt;
-    joins = λ e es f fs. sym (cc (map-append (λ w. w.0) es (f ∷ fs), map-append (λ w. w.1) (e ∷ es) (f ∷ fs)));
-    cuts = inner_cuts V;
-  }
-
-  -- leaves are stored with a capacity of n
-  pub leaf_stored : {V : Type 0} (n : ℕ) → IsStored {K = K} {V = V} leaf_content n n
-  leaf_stored {V} n = record {
-    count_is = λ es. length-map es (λ w. w.0);
-    capacity_is = λ es. refl;
-    used = λ es free. free;
-    kind = λ es fs. tt;
-    joins = λ e es f fs. sym (cc (map-append (λ w. w.0) (e ∷ es) (f ∷ fs), map-append (λ w. w.1) (e ∷ es) (f ∷ fs)));
-    cuts = λ x xs y ys q left right key e c. leaf_cuts V _ y _ q _ _ key e c;
-  }
-
 -- a leaf is half full with half of its capacity, an inner node with 4 children
 pub kind_half : {n : ℕ} (leaf : Bool) → (leaf ≡ true → IsLeafCapacity n) → IsHalf (half_at leaf n) (most_at leaf n)
 kind_half true capacity = let c = capacity refl in record { two = omega arith; lo = omega arith; hi = omega arith }
@@ -51,8 +28,16 @@ kind_half false capacity = record { two = omega arith; lo = omega arith; hi = om
 
 -- leaves and inner nodes are stored
 pub kind_stored : {K V : Type 0} (n leaf : _) → IsStored {K = K} {V = V} (content_at leaf) n (most_at leaf n)
-kind_stored n true = leaf_stored n
-kind_stored n false = inner_stored n
+kind_stored {V} n true = record {
+  count_is = λ es. length-map es (λ w. w.0); capacity_is = λ es. refl; used = λ es free. free; kind = λ es fs. tt;
+  joins = λ e es f fs. sym (cc (map-append (λ w. w.0) (e ∷ es) (f ∷ fs), map-append (λ w. w.1) (e ∷ es) (f ∷ fs)));
+  cuts = λ x xs y ys q left right key e c. leaf_cuts V _ y _ q _ _ key e c;
+}
+kind_stored {V} n false = record {
+  count_is = λ es. length-map es (λ w. w.1); capacity_is = λ es. refl; used = λ es free. free; kind = λ es fs. tt;
+  joins = λ e es f fs. sym (cc (map-append (λ w. w.0) es (f ∷ fs), map-append (λ w. w.1) (e ∷ es) (f ∷ fs)));
+  cuts = inner_cuts V;
+}
 
 module _ {K V X : Type 0} (content : List (K × X) → Content K V) where
   -- two slots were written

@@ -115,7 +115,7 @@ module _ {K V : Type 0} {most : ℕ} {t v : Table K V} {path indices size tree p
 
   -- no leaf follows where the leaf is the whole tree
   pub alone_last : size ≤ 1 → l.after ≡ []
-  alone_last low = let one = top_one l.rest low beside_asks.above in
+  alone_last low = let one = top_one beside_asks.above low in
       no_nodes (half_of most) most loss_half l.after l.fits (nil_from_length (heads l.after) (omega (arith, length-append (heads l.before) ((named.0.0, get_or path 0 0) ∷ heads l.after))))
 
   -- a leaf follows

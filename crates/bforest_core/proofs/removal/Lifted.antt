@@ -1,6 +1,6 @@
 -- The rows above a level in another table, and under a row whose keys were written: the answers of `update_separator` and `update_next_separator`.
 use Rattle.bforest_core.proofs.Words.{◌≡◌, ℕ, suc, ◌-◌, ◌≤◌, List, [], ◌∷◌, ◌++◌, length, set, slice_get, refl, sym, ◌∙◌, append_assoc, length-append, arith}
-use Rattle.bforest_core.proofs.Words.{Heads, length-map, map-append, set_at, inner_content, entry_keys, ◌+◌, ◌<◌, get_or, ap, with_key, Table, with_node}
+use Rattle.bforest_core.proofs.Words.{Heads, inner_content, entry_keys, entry_items, ◌+◌, ◌<◌, get_or, ap, with_key, Table, with_node}
 use Rattle.bforest_core.proofs.Words.{sizes, count, Above, subst, Row, flat_map, node, flat, heads, head_of, numbers, FitRow, RowIn, Distinct, Frees}
 use Rattle.bforest_core.proofs.{Words.{nil_from_length, Rekeyed}, table.Tables.{count-append, count-same, count-row, counts, row-put, row-same, rows-same}}
 use Rattle.bforest_core.proofs.{table.Tables.{ne_from_count, Puts, puts, row-split, row-join}, rows.LevelRows.{least-pos, flat-append, heads-append}}
@@ -20,13 +20,15 @@ head-kept : {K X : Type 0} (n : ℕ) (p r s : List (K × X)) → 1 ≤ length p 
 head-kept n [] r s some = absurd (omega arith)
 head-kept n (z ∷ p) r s some = refl
 
+-- writing the key of an entry
+key_set : {K : Type 0} (p : Heads K) (y : K × ℕ) (s : Heads K) (key : K) → (set (entry_keys (p ++ y ∷ s)) (length p) key ≡ entry_keys (p ++ (key, y.1) ∷ s)) × (entry_items (p ++ y ∷ s) ≡ entry_items (p ++ (key, y.1) ∷ s))
+key_set [] y s key = (refl, refl)
+key_set (z ∷ p) y s key = let again = key_set p y s key in (cc (again.0), cc (again.1))
+
 -- writing the key before an entry that is not the first
 with_key_is : {K V : Type 0} (p : Heads K) (y : K × ℕ) (s : Heads K) (e : ℕ) (key : K) → suc e ≡ length p → with_key {V = V} (inner_content (p ++ y ∷ s)) e key ≡ inner_content (p ++ (key, y.1) ∷ s)
 with_key_is [] y s e key p_is = absurd (omega arith)
-with_key_is {K} (z ∷ p) y s e key p_is = let e_is : e ≡ length p = omega arith in
-    let keys : set (entry_keys (p ++ y ∷ s)) (length p) key ≡ entry_keys (p ++ (key, y.1) ∷ s) =
-    cc (map-append (λ w. w.0) p _, set_at (entry_keys p) y.0 (entry_keys s) key (length p) (length-map p (λ w. w.0)), map-append (λ w. w.0) p _) in
-    rw (e_is, keys, map-append (λ w. w.1) (z ∷ p) (y ∷ s) ∙ sym (map-append (λ w. w.1) (z ∷ p) ((key, y.1) ∷ s))) refl
+with_key_is (z ∷ p) y s e key p_is = let e_is : e ≡ length p = omega arith in let w = key_set p y s key in rw (e_is, w.0, w.1) refl
 
 -- the next node of a row, whose first key and number these are
 pub record NextNode {K X : Type 0} (after : Row K X) (k : K) (q : ℕ) : Type 0 where
@@ -44,11 +46,6 @@ next_of {K} half most one (node m (x ∷ xs) ∷ after) k q cs f e = let kq : �
     record { f = x; fs = xs; rest = after; after_is = ap (λ z. node z (x ∷ xs) ∷ after) (ap (λ z. z.1) kq); k_is = ap (λ z. z.0) (sym kq) }
 
 module _ {K V : Type 0} where
-  -- the rows above, in a table that agrees on their slots
-  pub above_same : {t : Table K V} (u : Table K V) {path indices up size rows list p : _} → ((m : ℕ) → 0 < count m (flat_map numbers rows) → slice_get u.nodes m ≡ slice_get t.nodes m) →
-      Distinct (flat_map numbers rows ++ u.chain) → Above t path indices up size rows list p → Above u path indices up size rows list p
-  above_same u same apart a = record { stacked = a.stacked; inside = rows-same _ _ _ same a.inside; stands = a.stands; height = a.height; apart = apart }
-
   -- the rows above, cut at a node of the level
   pub headed : {X : Type 0} {t : Table K V} {path indices up size : _} (before : Row K X) (n : ℕ) {es : List (K × X)} (after : Row K X) {rest : _}
       (h : First es) → Above t path indices up size rest (heads (before ++ node n es ∷ after)) (length (heads before)) →
@@ -57,33 +54,28 @@ module _ {K V : Type 0} where
   headed {t} {path} {indices} {up} {size} before n after {rest} h p =
       subst (λ z. Above t path indices up size rest z (length (heads before))) (cc (heads-append _ _)) p
 
+  module _ {t : Table K V} {path indices up size rows list p : _} (a : Above t path indices up size rows list p) where
+    -- the rows above, in a table that agrees on their slots
+    pub above_same : (u : Table K V) → ((m : ℕ) → 0 < count m (flat_map numbers rows) → slice_get u.nodes m ≡ slice_get t.nodes m) → Distinct (flat_map numbers rows ++ u.chain) → Above u path indices up size rows list p
+    above_same u same apart = record { stacked = a.stacked; inside = rows-same _ _ _ same a.inside; stands = a.stands; height = a.height; apart = apart }
+
+    -- without a row above, the list has one element
+    pub top_one : size ≤ up → length list ≡ 1
+    top_one high = rw (nil_from_length rows (omega arith)) at a.stacked
+
+    -- and only its length matters
+    pub above_top : (list' : _) → size ≤ up → length list' ≡ length list → Above t path indices up size rows list' p
+    above_top list' high same =
+        record { stacked = rw (nil_from_length rows (omega arith)) (same ∙ top_one high); inside = a.inside; stands = a.stands; height = a.height; apart = a.apart }
+
+    -- the rows above, unchanged
+    pub rebuilt_same : Rekeyed t t path indices up size rows list p
+    rebuilt_same = record { rows' = rows; above = a; sizes_are = refl; numbers_are = λ m. omega arith; frees = frees-refl t _; keeps = keeps-refl }
+
   -- the rows above, after a write to a slot that is not theirs
-  pub above_written : {t u : Table K V} {n c path indices up size rows list p : _} → Puts t u n c → count n (flat_map numbers rows) ≡ 0 →
-      Above t path indices up size rows list p → Above u path indices up size rows list p
-  above_written {u} {n} w none a = above_same u (λ m some. w.same m (ne_from_count m n _ some none))
-      (λ m. omega (arith, a.apart m, ap (λ z. count m z) w.chain_is, count-append)) a
-
-  -- without a row above, only the length of the list matters
-  pub above_top : {t : Table K V} {path indices up size : _} (rows : _) {list : _} (list' : _) {p : ℕ} → size ≤ up → length list' ≡ length list → Above t path indices up size rows list p → Above t path indices up size rows list' p
-  above_top (row ∷ rows) list' high same a = absurd (omega arith)
-  above_top [] list' high same a = record { stacked = cc; inside = tt; stands = a.stands; height = a.height; apart = a.apart }
-
-  -- without a row above, the list has one element
-  pub top_one : {t : Table K V} {path indices up size : _} (rows : _) {list p : _} → size ≤ up → Above t path indices up size rows list p → length list ≡ 1
-  top_one (row ∷ rows) high a = absurd (omega arith)
-  top_one [] high a = a.stacked
-
-  -- the rows above, unchanged
-  pub rebuilt_same : {u : Table K V} {path indices up size rows list p : _} → Above u path indices up size rows list p →
-      Rekeyed u u path indices up size rows list p
-  rebuilt_same {u} {rows} a = record {
-    rows' = rows;
-    above = a;
-    sizes_are = refl;
-    numbers_are = λ m. omega arith;
-    frees = frees-refl u _;
-    keeps = keeps-refl;
-  }
+  pub above_written : {t u : Table K V} {n c path indices up size rows list p : _} → Puts t u n c → count n (flat_map numbers rows) ≡ 0 → Above t path indices up size rows list p → Above u path indices up size rows list p
+  above_written {u} {n} w none a =
+      above_same a u (λ m some. w.same m (ne_from_count m n _ some none)) (λ m. omega (arith, a.apart m, ap (λ z. count m z) w.chain_is, count-append))
 
   module _ {t : Table K V} {path indices up size rows a x b : _} (d : Spot t path indices up size rows a x b) where
     open d use {f, whole, q.{before, l, r, after, rest}}

@@ -5,7 +5,7 @@ use Rattle.bforest_core.proofs.Words.{count, lt-ltb, le-ltb, zero, Option, None,
 use Rattle.bforest_core.proofs.Words.{nodes_up, subst, FitRow, RowIn, Above, TwoAbove, Frees, Rebuilt, Loosened, Healed, Joined, Loses, least, false≢true}
 use Rattle.bforest_core.proofs.{Words.Keeps, removal.Asked.keeps-refl, rows.LevelRows.{least-pos, flat-append, heads-append, sizes-append, FitRow-join, FitRow-split, Solid-full}}
 use Rattle.bforest_core.proofs.{table.Tables.{count-append, count-same, count-row, counts, row-same}, removal.Frees.{only_here, frees-then, frees-after}}
-use Rattle.bforest_core.proofs.{removal.Frees.frees-wider, rows.Zipper.stands_here, removal.Rebalance.enough}
+use Rattle.bforest_core.proofs.{removal.Frees.frees-wider, rows.Zipper.stands_here}
 
 -- the index of the node after `k` others, if it is removed
 abbrev pub placed : ℕ → Bool → Option ℕ
@@ -93,8 +93,8 @@ module _ {K V X : Type 0} {content : List (K × X) → Content K V} {half most o
   sizes_by o is = cc (lost_is)
 
   -- a level whose node is half full or the last stays
-  abbrev pub kept_restored : outcome ≡ (false, length l.entries ∷ sizes l.after) → least half l.after ≤ length l.entries → Restores mid path indices []
-  kept_restored same enough = (record {
+  abbrev pub kept_restored : (least half l.after ≤ length l.entries) × (outcome ≡ (false, length l.entries ∷ sizes l.after)) → Restores mid path indices []
+  kept_restored stays = (record {
     row = l.before ++ node num l.entries ∷ l.after;
     front = l.before;
     entries = l.entries;
@@ -102,10 +102,10 @@ module _ {K V X : Type 0} {content : List (K × X) → Content K V} {half most o
     rows = l.rest;
     row_is = refl;
     list_is = l.list_is;
-    fit = FitRow-join half most l.before (node num l.entries) l.after l.on_level.solid (enough, l.on_level.most_is, l.on_level.fits);
+    fit = FitRow-join half most l.before (node num l.entries) l.after l.on_level.solid (stays.0, l.on_level.most_is, l.on_level.fits);
     inside = l.on_level.inside;
     above = l.on_level.above;
-    sizes_are = ap (λ z. z ∷ map sizes l.rest) (sizes-append _ _) ∙ sizes_by _ same;
+    sizes_are = ap (λ z. z ∷ map sizes l.rest) (sizes-append _ _) ∙ sizes_by _ stays.1;
     numbers_are = λ m. omega arith;
     frees = l.frees;
     place_is = l.place_is;

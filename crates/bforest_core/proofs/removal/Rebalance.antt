@@ -23,16 +23,11 @@ rebalanced_joined q m r after h fits = let e = lt-ltb (2 * suc m) q h in let f =
 rebalanced_spread : (q m r after : _) → 2 * suc m < q → q < suc m + r → rebalanced q (suc m) (r ∷ after) ≡ (false, ((suc m + r) - (suc m + r) / 2) ∷ (suc m + r) / 2 ∷ after)
 rebalanced_spread q m r after h more = let e = lt-ltb (2 * suc m) q h in let f = lt-leb (suc m + r) q more in rw (e, f) refl
 
--- a node that is half full or the last meets the least size
-pub enough : {K X : Type 0} (half : ℕ) (es : List (K × X)) (after : Row K X) → 1 ≤ length es → (half ≤ length es) ⊎ (after ≡ []) → least half after ≤ length es
-enough half es [] some w = some
-enough half es (x ∷ xs) some (inl h) = h
-enough half es (x ∷ xs) some (inr e) = absurd cc
-
--- a node that is half full or the last stays as it is
-pub judged : {K X : Type 0} (half most : ℕ) (es : List (K × X)) (after : Row K X) → most ≤ half + half → 1 ≤ length es → (half ≤ length es) ⊎ (after ≡ []) → rebalanced most (length es) (sizes after) ≡ (false, length es ∷ sizes after)
-judged half most es [] lo some w = rebalanced_last _ _ some
-judged half most es (node k fs ∷ xs) lo some (inl h) = rebalanced_healthy _ _ _ _ some (omega arith)
+-- a node that is half full or the last meets the least size, and stays as it is
+pub judged : {K X : Type 0} (half most : ℕ) (es : List (K × X)) (after : Row K X) → most ≤ half + half → 1 ≤ length es → (half ≤ length es) ⊎ (after ≡ []) →
+    (least half after ≤ length es) × (rebalanced most (length es) (sizes after) ≡ (false, length es ∷ sizes after))
+judged half most es [] lo some w = (some, rebalanced_last _ _ some)
+judged half most es (node k fs ∷ xs) lo some (inl h) = (h, rebalanced_healthy _ _ _ _ some (omega arith))
 judged half most es (x ∷ xs) lo some (inr e) = absurd cc
 
 module _ {K V X : Type 0} {content : List (K × X) → Content K V} {half most : ℕ} (hm : IsHalf half most) {t : Table K V} {path indices up size before n : _} where
@@ -42,22 +37,22 @@ module _ {K V X : Type 0} {content : List (K × X) → Content K V} {half most :
         get_or path' up 0 ≡ m → (get_or indices up 0 < length (es ++ flat after) → get_or indices' up 0 < length fs)
         → length (flat front) + get_or indices' up 0 ≡ length (flat before) + get_or indices up 0 → Keeps path indices path' indices' up size
         → Healed content half most t t path indices path' indices' up size before n es after rest
-    settle_same front m fs back same above m_is within place_is kept = let outcome = judged _ _ _ _ hm.lo p.some why in
+    settle_same front m fs back same above m_is within place_is kept = let stays = judged _ _ _ _ hm.lo p.some why in
         record {
           before' = front;
           number' = m;
           entries' = fs;
           after' = back;
           rest' = rest;
-          stays = cc;
+          stays = cc (stays.1);
           inside = rw same p.inside;
-          fit = rw same (FitRow-join half most before (node n es) after p.solid (enough _ _ _ p.some why, p.most_is, p.fits));
+          fit = rw same (FitRow-join half most before (node n es) after p.solid (stays.0, p.most_is, p.fits));
           list_is = cc;
           above = above;
           number_is = m_is;
           within = within;
           place_is = place_is;
-          sizes_are = cc (sizes-append before (node n es ∷ after));
+          sizes_are = cc (sizes-append before (node n es ∷ after), stays.1);
           rest_sizes = refl;
           row_numbers = cc;
           rest_numbers = λ m. refl;
@@ -106,8 +101,8 @@ module _ {K V X : Type 0} {content : List (K × X) → Content K V} {half most :
     -- the rows above, after a write of the two slots
     pub above_two_put : {u c d : _} → PutsTwo content t u n q c d → Above u path indices (suc up) size rest (heads before ++ (e.0, n) ∷ (f.0, q) ∷ heads after) (length (heads before))
     above_two_put {u} w = let k = λ (m : ℕ). counts m before n (e ∷ es) (node q (f ∷ fs) ∷ after) rest t.chain in let b = above_both in
-        above_same u (λ m some. (two_frees w).others m (omega (arith, p.apart m, k m)))
-        (λ m. omega (arith, b.apart m, ap (λ z. count m z) w.frees.chain_is, count-append)) b
+        above_same b u (λ m some. (two_frees w).others m (omega (arith, p.apart m, k m)))
+        (λ m. omega (arith, b.apart m, ap (λ z. count m z) w.frees.chain_is, count-append))
 
     module _ {u : Table K V} (v : Table K V) (under : length (e ∷ es) < half) where
       -- the node takes entries of its right neighbour, and the key between the two was updated above

@@ -5,7 +5,7 @@ use Rattle.bforest_core.proofs.Words.{Joined, remove, Tree, half_of, leaf_conten
 use Rattle.bforest_core.proofs.{Words.{inr, LeafLoss, Solid}, removal.Merge.{Restores, Stays, healed_restored, joined_restored, kept_restored, low}}
 use Rattle.bforest_core.proofs.{removal.Merge.merge_asks, removal.Untrimmed.{Untrimmed, length-numbers, path-at, trimmed_removed, up_to}}
 use Rattle.bforest_core.proofs.{removal.Collapse.{trim_none, length-sizes, stands-below, topped-sizes}, rows.LevelRows.{least-pos, flat-append, FitRow-split}}
-use Rattle.bforest_core.proofs.{rows.LevelRows.Solid-full, rows.Tops.{root-stands, top_tree}, removal.Rebalance.{enough, judged}, walks.RowNodes.fit_full}
+use Rattle.bforest_core.proofs.{rows.LevelRows.Solid-full, rows.Tops.{root-stands, top_tree}, removal.Rebalance.judged, walks.RowNodes.fit_full}
 
 module _ {K V : Type 0} {most : ℕ} {old mid : Table K V} {path indices size tree place : _} (s : StandsIn most old path indices size tree place) (l : LeafLoss most old mid path indices size tree place) {root : ℕ} (root_is : root_of tree ≡ root) where
   abbrev n : ℕ
@@ -80,7 +80,7 @@ module _ {K V : Type 0} {most : ℕ} {old mid : Table K V} {path indices size tr
 
   -- the removal is complete where the leaf is still half full or the last
   pub kept_removed : (Now : Tree K V → Type 0) → (half_of most ≤ length l.entries) ⊎ (l.after ≡ []) → ((z : Tree K V) → flat z.leaves ≡ remove (flat tree.leaves) place → Now z) → Removed most old mid path Now tree place root
-  kept_removed Now why now = let r = kept_restored l.loss (judged _ _ _ _ (omega arith) l.some why) (enough (half_of most) l.entries l.after l.some why) in
+  kept_removed Now why now = let r = kept_restored l.loss (judged _ _ _ _ (omega arith) l.some why) in
       trimmed_removed 0 Now s (untrimmed r) root_is (whole r refl as_many (sym sizes_were.1)) refl (now _ r.0.list_is)
 
   -- how many entries are left

@@ -44,8 +44,8 @@ module _ {K V : Type 0} where
       let none : count num (flat_map numbers rest) ≡ 0 = omega (arith, apart num, c num, count-same num []) in
       let list = heads-append before (node num (x ∷ []) ∷ []) ∙ ap (λ z. z ++ (x.0, num) ∷ []) o.is ∙ append_assoc o.init (o.last ∷ []) ((x.0, num) ∷ []) in
       let len : length (heads before) ≡ suc (length o.init) = omega (arith, ap length o.is, length-append o.init (o.last ∷ [])) in
-      above_same v (λ m some. freed_other t v num is m (ne_from_count m num _ some none))
-      (λ m. omega (arith, apart m, c m, count-append m (flat_map numbers rest) v.chain, ap (λ z. count m z.chain) is)) (rw (list, len) at p)
+      above_same (rw (list, len) at p) v (λ m some. freed_other t v num is m (ne_from_count m num _ some none))
+      (λ m. omega (arith, apart m, c m, count-append m (flat_map numbers rest) v.chain, ap (λ z. count m z.chain) is))
 
   -- what the call ensures
   abbrev pub Drops : Table K V → Table K V → List ℕ → ℕ → ℕ → Rows K → Heads K → K × ℕ → Type 0

@@ -37,7 +37,7 @@ module _ {K V : Type 0} where
       -- where the leaf is the whole tree, there is no row above that names it
       pub alone_loss : size ≤ 1 → LeafLoss most t u path indices size tree place
       alone_loss low = let len = as_many_heads before n es (l ++ r) after (omega (arith, length-append l (x ∷ r))) more in
-          leaf_loss d more w (rebuilt_same (above_top _ _ low len (above_written w d.none_rows d.above)))
+          leaf_loss d more w (rebuilt_same (above_top (above_written w d.none_rows d.above) _ low len))
 
       -- the rows above, which name the leaf by its old first key
       pub above_then : (k : K) → ((rs : _) → head_of n (l ++ x ∷ rs) ≡ (k, n) ∷ []) →

@@ -56,10 +56,8 @@ module _ {K V : Type 0} where
       StandsIn most old path indices size tree place → Untrimmed most old mid tree place leaves rows (nodes_up path 0 up) → root_of tree ≡ root → (t : Trimmed mid new size1 size2 rows (heads leaves) root root' gone) → size1 ≡ size →
       Now (record { leaves = leaves; above = t.rows' }) → Removed most old new path Now tree place root'
   trimmed_removed {most} {old} {mid} {new} {path} {tree} {leaves} {rows} up {gone} Now s u root_is t size_is at = let freed = nodes_up path 0 up in
-      let parts = λ (m : ℕ). ap (λ z. count m z) (ap (flat_map numbers) t.rows_are ∙ flat_map-append numbers t.rows' t.discarded) ∙ count-append m (flat_map numbers t.rows') (flat_map numbers t.discarded) in
-      let c0 = λ (m : ℕ). count-append m (numbers leaves) (flat_map numbers rows) in
-      let c1 = λ (m : ℕ). count-append m (numbers leaves) (flat_map numbers t.rows') in let c2 = λ (m : ℕ). count-append m gone freed in
-      let c3 = λ (m : ℕ). count-append m (numbers_of tree) old.chain in let rows_in = rows-parts mid.nodes t.rows' t.discarded (rw (← t.rows_are) u.rows_in) in
+      let parts = λ (m : ℕ). ap (λ z. count m z) (ap (flat_map numbers) t.rows_are ∙ flat_map-append numbers t.rows' t.discarded) in
+      let rows_in = rows-parts mid.nodes t.rows' t.discarded (rw (← t.rows_are) u.rows_in) in
       let len = length-sizes leaves ∙ sym (fit_full (half_of most) most u.half leaves u.leaves_fit) in
       let count_is = ap length t.rows_are ∙ length-append t.rows' t.discarded in
       record {
@@ -70,17 +68,17 @@ module _ {K V : Type 0} where
           sizes_are = sym (cc (trimmed-is (sizes leaves) (heads leaves) t.rows' t.discarded len (rw (← t.rows_are) u.stacked) t.stacked t.topped));
           fit = record { leaves_fit = u.leaves_fit; stacked = t.stacked; topped = t.topped };
           inside = record {
-            leaves_in = row-same leaf_content mid.nodes new.nodes leaves (λ m some. t.frees.others m (omega (arith, some, u.numbers_are m, c0 m, parts m, c3 m, s.apart m))) u.leaves_in;
-            rows_in = rows-same mid.nodes new.nodes t.rows' (λ m some. t.frees.others m (omega (arith, some, u.numbers_are m, c0 m, parts m, c3 m, s.apart m))) rows_in.0;
+            leaves_in = row-same leaf_content mid.nodes new.nodes leaves (λ m some. t.frees.others m (omega (arith, some, u.numbers_are m, parts m, s.apart m, count-append))) u.leaves_in;
+            rows_in = rows-same mid.nodes new.nodes t.rows' (λ m some. t.frees.others m (omega (arith, some, u.numbers_are m, parts m, s.apart m, count-append))) rows_in.0;
           };
           some = u.some;
-          numbers_are = λ m. omega (arith, u.numbers_are m, c0 m, c1 m, c2 m, parts m, t.freed_is m);
+          numbers_are = λ m. omega (arith, u.numbers_are m, parts m, t.freed_is m, count-append);
           root_is = t.root_is;
           same_root = λ same. t.same_root (omega arith) ∙ sym root_is;
-          old_root = λ ne. omega (arith, c2 (root_of tree), ap (λ z. count z gone) root_is);
+          old_root = λ ne. omega (arith, count-append, ap (λ z. count z gone) root_is);
           low = omega arith;
           order = record { roots = gone; up = up; freed_is = refl; roots_are = omega arith };
-          frees = frees-then (λ m none. omega (arith, u.numbers_are m, c0 m, parts m)) (λ m some. omega (arith, some, u.numbers_are m, c0 m, parts m, c3 m, s.apart m)) u.frees t.frees;
+          frees = frees-then (λ m none. omega (arith, u.numbers_are m, parts m, count-append)) (λ m some. omega (arith, some, u.numbers_are m, parts m, s.apart m, count-append)) u.frees t.frees;
         };
         at = at;
       }
