@@ -29,12 +29,18 @@ kind_half false capacity = record { two = omega arith; lo = omega arith; hi = om
 -- leaves and inner nodes are stored
 pub kind_stored : {K V : Type 0} (n leaf : _) → IsStored {K = K} {V = V} (content_at leaf) n (most_at leaf n)
 kind_stored {V} n true = record {
-  count_is = λ es. length-map es (λ w. w.0); capacity_is = λ es. refl; used = λ es free. free; kind = λ es fs. tt;
+  count_is = λ es. length-map es (λ w. w.0);
+  capacity_is = λ es. refl;
+  used = λ es free. free;
+  kind = λ es fs. tt;
   joins = λ e es f fs. sym (cc (map-append (λ w. w.0) (e ∷ es) (f ∷ fs), map-append (λ w. w.1) (e ∷ es) (f ∷ fs)));
   cuts = λ x xs y ys q left right key e c. leaf_cuts V _ y _ q _ _ key e c;
 }
 kind_stored {V} n false = record {
-  count_is = λ es. length-map es (λ w. w.1); capacity_is = λ es. refl; used = λ es free. free; kind = λ es fs. tt;
+  count_is = λ es. length-map es (λ w. w.1);
+  capacity_is = λ es. refl;
+  used = λ es free. free;
+  kind = λ es fs. tt;
   joins = λ e es f fs. sym (cc (map-append (λ w. w.0) es (f ∷ fs), map-append (λ w. w.1) (e ∷ es) (f ∷ fs)));
   cuts = inner_cuts V;
 }

@@ -94,42 +94,48 @@ module _ {K V X : Type 0} {content : List (K × X) → Content K V} {half most o
 
   -- a level whose node is half full or the last stays
   abbrev pub kept_restored : (least half l.after ≤ length l.entries) × (outcome ≡ (false, length l.entries ∷ sizes l.after)) → Restores mid path indices []
-  kept_restored stays = (record {
-    row = l.before ++ node num l.entries ∷ l.after;
-    front = l.before;
-    entries = l.entries;
-    after = l.after;
-    rows = l.rest;
-    row_is = refl;
-    list_is = l.list_is;
-    fit = FitRow-join half most l.before (node num l.entries) l.after l.on_level.solid (stays.0, l.on_level.most_is, l.on_level.fits);
-    inside = l.on_level.inside;
-    above = l.on_level.above;
-    sizes_are = ap (λ z. z ∷ map sizes l.rest) (sizes-append _ _) ∙ sizes_by _ stays.1;
-    numbers_are = λ m. omega arith;
-    frees = l.frees;
-    place_is = l.place_is;
-  }, keeps-refl)
+  kept_restored stays = (
+    record {
+      row = l.before ++ node num l.entries ∷ l.after;
+      front = l.before;
+      entries = l.entries;
+      after = l.after;
+      rows = l.rest;
+      row_is = refl;
+      list_is = l.list_is;
+      fit = FitRow-join half most l.before (node num l.entries) l.after l.on_level.solid (stays.0, l.on_level.most_is, l.on_level.fits);
+      inside = l.on_level.inside;
+      above = l.on_level.above;
+      sizes_are = ap (λ z. z ∷ map sizes l.rest) (sizes-append _ _) ∙ sizes_by _ stays.1;
+      numbers_are = λ m. omega arith;
+      frees = l.frees;
+      place_is = l.place_is;
+    },
+    keeps-refl,
+  )
 
   -- a level whose node stays is rebalanced
   abbrev pub healed_restored : {new path' indices' : _} → Healed content half most mid new path indices path' indices' level size l.before num l.entries l.after l.rest → Stays new path' indices' []
   healed_restored {new} h = (
-    (record {
-      row = h.before' ++ node h.number' h.entries' ∷ h.after';
-      front = h.before';
-      entries = h.entries';
-      after = h.after';
-      rows = h.rest';
-      row_is = cc;
-      list_is = cc;
-      fit = h.fit;
-      inside = h.inside;
-      above = h.above;
-      sizes_are = cc (lost_is);
-      numbers_are = λ m. omega (arith, counts m l.before num l.entries l.after l.rest mid.chain, counts m h.before' h.number' h.entries' h.after' h.rest' new.chain, ap (λ z. count m z) h.row_numbers, h.rest_numbers m, l.numbers_are m);
-      frees = frees-after (λ m none. omega arith) l.frees h.frees;
-      place_is = omega arith;
-    }, h.keeps),
+    (
+      record {
+        row = h.before' ++ node h.number' h.entries' ∷ h.after';
+        front = h.before';
+        entries = h.entries';
+        after = h.after';
+        rows = h.rest';
+        row_is = cc;
+        list_is = cc;
+        fit = h.fit;
+        inside = h.inside;
+        above = h.above;
+        sizes_are = cc (lost_is);
+        numbers_are = λ m. omega (arith, counts m l.before num l.entries l.after l.rest mid.chain, counts m h.before' h.number' h.entries' h.after' h.rest' new.chain, ap (λ z. count m z) h.row_numbers, h.rest_numbers m, l.numbers_are m);
+        frees = frees-after (λ m none. omega arith) l.frees h.frees;
+        place_is = omega arith;
+      },
+      h.keeps,
+    ),
     λ some. h.within (low some),
   )
 
@@ -150,27 +156,30 @@ module _ {K V X : Type 0} {content : List (K × X) → Content K V} {half most o
         let fits = subst (λ z. FitRow half most z) j.after_is p.fits in
         let left = frees-then (λ m none. omega (arith, c m)) (λ m here. only_here m num _ here (omega (arith, p.apart num, c num, count-same num (numbers l.after))))
         (frees-wider own1 (λ m none. omega (arith, c m)) j.frees) r.frees in (
-          (record {
-            row = row;
-            front = l.before;
-            entries = both;
-            after = j.after';
-            rows = r.rows';
-            row_is = ap (λ z. l.before ++ node z both ∷ j.after') (sym (cc (r.nodes_below level (omega arith))));
-            list_is = cc (flat-append _ _, append_assoc _ _ _, flat-append _ _);
-            fit = j.fit;
-            inside = row-same _ _ _ _ (λ m more. r.frees.others m (omega (arith, p.apart m, c0 m, c m, count-row m l.before j.right both j.after'))) j.inside;
-            above = subst (λ z. Above new path' indices' (suc level) size r.rows' z (length (heads l.before))) list_is r.above;
-            sizes_are = ap (λ z. z ∷ map sizes r.rows') (sizes-append _ _)
-                ∙ ap (λ z. (sizes l.before ++ length both ∷ sizes j.after') ∷ z) (cc) ∙ sizes_by _ j.outcome;
-            numbers_are = λ m. omega (arith, r.numbers_are m, c0 m, c m, counts m l.before j.right both j.after' r.rows' new.chain, count-append m freed (num ∷ []), l.numbers_are m);
-            frees = frees-after (λ m none. omega (arith, l.numbers_are m)) l.frees left;
-            place_is = omega arith;
-          }, record {
-            nodes_below = λ i low. r.nodes_below i (omega (arith, low)) ∙ j.nodes_below i low;
-            entries_below = λ i low. r.entries_below i (omega (arith, low)) ∙ j.entries_below i low;
-            same_top = r.same_top ∙ j.same_top;
-          }),
+          (
+            record {
+              row = row;
+              front = l.before;
+              entries = both;
+              after = j.after';
+              rows = r.rows';
+              row_is = ap (λ z. l.before ++ node z both ∷ j.after') (sym (cc (r.nodes_below level (omega arith))));
+              list_is = cc (flat-append _ _, append_assoc _ _ _, flat-append _ _);
+              fit = j.fit;
+              inside = row-same _ _ _ _ (λ m more. r.frees.others m (omega (arith, p.apart m, c0 m, c m, count-row m l.before j.right both j.after'))) j.inside;
+              above = subst (λ z. Above new path' indices' (suc level) size r.rows' z (length (heads l.before))) list_is r.above;
+              sizes_are = ap (λ z. z ∷ map sizes r.rows') (sizes-append _ _)
+                  ∙ ap (λ z. (sizes l.before ++ length both ∷ sizes j.after') ∷ z) (cc) ∙ sizes_by _ j.outcome;
+              numbers_are = λ m. omega (arith, r.numbers_are m, c0 m, c m, counts m l.before j.right both j.after' r.rows' new.chain, count-append m freed (num ∷ []), l.numbers_are m);
+              frees = frees-after (λ m none. omega (arith, l.numbers_are m)) l.frees left;
+              place_is = omega arith;
+            },
+            record {
+              nodes_below = λ i low. r.nodes_below i (omega (arith, low)) ∙ j.nodes_below i low;
+              entries_below = λ i low. r.entries_below i (omega (arith, low)) ∙ j.entries_below i low;
+              same_top = r.same_top ∙ j.same_top;
+            },
+          ),
           λ some. omega (arith, length-append l.entries j.right_entries, least-pos half one j.after'),
         )
 

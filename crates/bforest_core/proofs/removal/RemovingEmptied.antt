@@ -93,17 +93,19 @@ module _ {K V : Type 0} where
           let u_is = removes (drop 1 (entry_keys (l ++ x ∷ r))) (entry_items (l ++ x ∷ r)) s.slot_is in
           let put = puts t u num _ _ known.slot_is (cc (removed_last V l x some, ends.0, s.num_is, d.q.entry_is)) in
           let high : up + length rest ≡ size - 1 = omega (arith, p.height) in
-          let first = some_first l some in let hs = heads-put before num old l [] (simp first.2) in
-          (0, record {
-            rows' = row ∷ rest;
-            stacked = (cc (flat-append before (node num l ∷ []), append-nil l, d.q.a_is), FitRow-join 4 8 before (node num l) [] f.solid (some, omega (arith, known.fit.1), tt), rw (← hs) p.stacked.2);
-            inside = (row-put inner_content t.nodes u.nodes before num old l [] known.inside put.same put.here known.none, rows-same t.nodes u.nodes rest (λ m some. put.same m (ne_from_count m num (flat_map numbers rest) some f.none_rest)) p.inside.1);
-            height = cc (d.q.rows_are);
-            sizes_are = cc (sizes-append before (node num l ∷ []), lost, rebalanced_last 8 (length l) some);
-            numbers_are = λ m. omega (arith, own_is m, counts m before num l [] rest u.chain);
-            root_is = ap (λ z. root_above z rest) (sym hs) ∙ top_rows _ _ _ _ _ _ _ p.stacked p.stands ∙ ap (λ z. get_or path z 0) high;
-            frees = frees-puts (flat_map numbers rows) (omega (arith, own_is num, count-same num [])) put;
-          })
+          let first = some_first l some in let hs = heads-put before num old l [] (simp first.2) in (
+            0,
+            record {
+              rows' = row ∷ rest;
+              stacked = (cc (flat-append before (node num l ∷ []), append-nil l, d.q.a_is), FitRow-join 4 8 before (node num l) [] f.solid (some, omega (arith, known.fit.1), tt), rw (← hs) p.stacked.2);
+              inside = (row-put inner_content t.nodes u.nodes before num old l [] known.inside put.same put.here known.none, rows-same t.nodes u.nodes rest (λ m some. put.same m (ne_from_count m num (flat_map numbers rest) some f.none_rest)) p.inside.1);
+              height = cc (d.q.rows_are);
+              sizes_are = cc (sizes-append before (node num l ∷ []), lost, rebalanced_last 8 (length l) some);
+              numbers_are = λ m. omega (arith, own_is m, counts m before num l [] rest u.chain);
+              root_is = ap (λ z. root_above z rest) (sym hs) ∙ top_rows _ _ _ _ _ _ _ p.stacked p.stands ∙ ap (λ z. get_or path z 0) high;
+              frees = frees-puts (flat_map numbers rows) (omega (arith, own_is num, count-same num [])) put;
+            },
+          )
 
       -- the node has no other entry: it was freed, and its own entry is removed above
       module _ (one : cnt ≡ 1) (v : Table K V) (freed : v ≡ with_freed t (get_or path up i)) where
@@ -132,17 +134,19 @@ module _ {K V : Type 0} where
           empties = let below = said.1 in let hs = front.is in let p = whole in
               let len : length before ≡ suc (length front.init) = omega (arith, Solid-full 4 8 (omega arith) before f.solid, ap length hs, length-append front.init (front.last ∷ [])) in
               let in_v = row-same _ _ _ _ (λ m some. freed_other t v num v_is m (ne_from_count m num (numbers before) some (omega (arith, known.none))))
-              (row-split _ _ _ _ known.inside).0 in let c = λ (m : ℕ). counts m before num (l ++ x ∷ []) [] rest t.chain in
-              (suc said.0, record {
-                rows' = before ∷ below.rows';
-                stacked = (a_front, fit_solid 4 8 (omega arith) _ f.solid, rw hs below.stacked);
-                inside = (row-same _ _ _ _ (λ m some. below.frees.others m (omega (arith, some, p.apart m, c m))) in_v, below.inside);
-                height = cc (d.q.rows_are, below.height);
-                sizes_are = simp (below.sizes_are, len, append-nil, lost, l_none);
-                numbers_are = λ m. omega (arith, own_is m, below.numbers_are m, ap (λ z. count m (nodes_up path z said.0)) (add-one up), count-append);
-                root_is = cc (below.root_is);
-                frees = rw (← add-one up) (frees-first t num _ _ known.slot_is v_is (omega (arith, own_is num, count-same num [])) f.none_rest (λ m none. omega (arith, own_is m)) below.frees);
-              })
+              (row-split _ _ _ _ known.inside).0 in let c = λ (m : ℕ). counts m before num (l ++ x ∷ []) [] rest t.chain in (
+                suc said.0,
+                record {
+                  rows' = before ∷ below.rows';
+                  stacked = (a_front, fit_solid 4 8 (omega arith) _ f.solid, rw hs below.stacked);
+                  inside = (row-same _ _ _ _ (λ m some. below.frees.others m (omega (arith, some, p.apart m, c m))) in_v, below.inside);
+                  height = cc (d.q.rows_are, below.height);
+                  sizes_are = simp (below.sizes_are, len, append-nil, lost, l_none);
+                  numbers_are = λ m. omega (arith, own_is m, below.numbers_are m, ap (λ z. count m (nodes_up path z said.0)) (add-one up), count-append);
+                  root_is = cc (below.root_is);
+                  frees = rw (← add-one up) (frees-first t num _ _ known.slot_is v_is (omega (arith, own_is num, count-same num [])) f.none_rest (λ m none. omega (arith, own_is m)) below.frees);
+                },
+              )
 
   -- the parent of the node
   pub here : {t : Table K V} {path indices up size : _} (w : LastAbove t path indices up size) (i : ℕ) → length path ≡ 17 → size ≤ 17 → Seen t path indices up size w.rows (w.before ++ w.y ∷ []) w.x [] i
