@@ -27,7 +27,7 @@ returns-else-rebalance g t c = record {
 }
 
 pub remove_merged-requires : goal.remove_merged-requires
-remove_merged-requires g t c = (search rules, (search rules, (c.requires.height, c.requires.pending)))
+remove_merged-requires g t c = search rules
 
 pub rebalance-requires : goal.rebalance-requires
 rebalance-requires g t c = let w = c.requires.pending in let l = c.remove_merged.ensures w in

@@ -16,7 +16,7 @@ child-requires g t c =
 pub right_sibling-requires : goal.right_sibling-requires
 right_sibling-requires g t c κs within =
     let w = c.requires.pending in let d = up_asks (one_seen w c.if-up-self.false c.index-self-up.result (omega arith) c.requires.height).d in
-    (fewer (is_low w c.if-up-self.false) t c.decreases, (within.0, (within.1, ((λ a' m'. search rules), (search rules, (search rules, (c.requires.height, d)))))))
+    search (rules, fewer (is_low w c.if-up-self.false) t c.decreases, within.0, within.1, d)
 
 pub child-requires-in-Some : goal.child-requires-in-Some
 child-requires-in-Some g t c = let w = c.requires.pending in

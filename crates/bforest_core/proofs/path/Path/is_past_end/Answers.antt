@@ -9,7 +9,7 @@ returns-then-self-entries-clause-within g c = λ no old tree place l.
     in_leaf l c.index-self-0.result (omega arith) c.entries.result c.entries.ensures.value c.if-self-entries.true
 
 pub right_sibling-requires : goal.right_sibling-requires
-right_sibling-requires g c = (search rules, (search rules, (c.requires.height, beside_asks c.requires.lost.3)))
+right_sibling-requires g c = search (rules, beside_asks c.requires.lost.3)
 
 pub returns-clause-past : goal.returns-clause-past
 returns-clause-past g c = λ yes old tree place l.

@@ -18,7 +18,7 @@ pub collapse_root-top-requires : goal.collapse_root-top-requires
 collapse_root-top-requires g c = let w = c.requires.single in
     let asked = collapse_asks c.requires.capacity w.5 w.3 _ (omega arith) c.free_node.new.self c.free_node.ensures.freed (λ e. c.if-self-eq1.false e)
     c.remove_emptied.new.pool c.remove_emptied.ensures c.args.root w.4 in
-    (search rules, (search rules, (omega arith, asked)))
+    search (rules, asked)
 
 pub returns-clause-removed : goal.returns-clause-removed
 returns-clause-removed g c = λ old tree place s alone. let w = c.requires.single in

@@ -10,7 +10,7 @@ leaf_key-key-requires g c = let w = c.requires.taken in
 
 pub update_separator-requires : goal.update_separator-requires
 update_separator-requires g c = let w = c.requires.taken in
-    (search rules, (search rules, (omega arith, above_asks w.3 w.4 c.if-self-gt0.false)))
+    search (rules, above_asks w.3 w.4 c.if-self-gt0.false)
 
 pub returns : goal.returns
 returns g c = λ old tree place s h.
