@@ -6,7 +6,7 @@ pub merge_above-requires : goal.merge_above-requires
 merge_above-requires g t c κs within = let w = c.requires.pending in let l = c.remove_merged.ensures w in
     let j = c.rebalance.ensures.joined c.if-rebalance.true (loses_child w.rows l (omega (arith, length-append w.before ((w.x.0, w.y.1) ∷ w.after))) g.row.N) in
     let size = c.rebalance.ensures.size in let less : c.rebalance.new.self.size - (c.args.up + 1) < t = omega (arith, two_low w) in
-    (less, (within.0, (within.1, ((λ a m. search rules), (search rules, (search rules, (omega arith, merge_asks l j _ _ (add-one c.args.up) size)))))))
+    search (rules, less, within.0, within.1, merge_asks l j _ _ (add-one c.args.up) size)
 
 pub returns-then-rebalance : goal.returns-then-rebalance
 returns-then-rebalance g t c = record {
@@ -31,4 +31,4 @@ remove_merged-requires g t c = search rules
 
 pub rebalance-requires : goal.rebalance-requires
 rebalance-requires g t c = let w = c.requires.pending in let l = c.remove_merged.ensures w in
-    (search rules, (search rules, (c.requires.height, loses_child w.rows l (omega (arith, length-append w.before ((w.x.0, w.y.1) ∷ w.after))) g.row.N)))
+    search (rules, loses_child w.rows l (omega (arith, length-append w.before ((w.x.0, w.y.1) ∷ w.after))) g.row.N)

@@ -11,7 +11,7 @@ pub remove_emptied-requires : goal.remove_emptied-requires
 remove_emptied-requires g t c κs within = let w = c.requires.pending in
     let asked = last_asks w (here w c.index-self-up.result (omega arith) c.requires.height) c.entries.result c.entries.ensures.value c.if-entries-eq1.true
     c.free_node.new.self c.free_node.ensures.freed in
-    (fewer (last_low w) t c.decreases, (within.0, (within.1, ((λ a m. search rules), (search rules, (search rules, (c.requires.height, asked)))))))
+    search (rules, fewer (last_low w) t c.decreases, within.0, within.1, asked)
 
 pub remove_child-answer-requires : goal.remove_child-answer-requires
 remove_child-answer-requires g t c =

@@ -11,7 +11,7 @@ set_separator-requires g t c = let w = c.requires.pending in let s = here w c.in
 pub update_next_separator-requires : goal.update_next_separator-requires
 update_next_separator-requires g t c κs within = let w = c.requires.pending in
     let d = above_asks (here w c.index-self-up.result (omega arith) c.requires.height) c.entries.result c.entries.ensures.value c.if-index-entries.false in
-    (fewer (two_low w) t c.decreases, (within.0, (within.1, ((λ a' m'. search rules), (search rules, (search rules, (c.requires.height, d)))))))
+    search (rules, fewer (two_low w) t c.decreases, within.0, within.1, d)
 
 pub returns-then-index-entries : goal.returns-then-index-entries
 returns-then-index-entries g t c = λ w.

@@ -11,7 +11,7 @@ set_separator-requires g t c =
 pub update_separator-requires : goal.update_separator-requires
 update_separator-requires g t c κs within =
     let w = c.requires.pending in let low = c.if-up-self.false in
-    (fewer low t c.decreases, (within.0, (within.1, ((λ a' m'. search rules), (search rules, (search rules, (c.requires.height, up_asks (spot w.before w.x w.after w.above low))))))))
+    search (rules, fewer low t c.decreases, within.0, within.1, up_asks (spot w.before w.x w.after w.above low))
 
 pub returns-then-index-gt0 : goal.returns-then-index-gt0
 returns-then-index-gt0 g t c = λ w.

@@ -29,7 +29,7 @@ returns-then-left g c = record {
 
 pub rebalance_leaf-requires : goal.rebalance_leaf-requires
 rebalance_leaf-requires g c = let w = c.requires.taken in let num = get_or_default c.args.self.now.node 0 c.index-self-0.result 0 (omega arith) in
-    (search rules, (search rules, (w.2.union.1.capacity, unbalanced w.2 _ num _ c.entries-left.ensures.value c.if-left-eq0.false _ c.renew_first.ensures c.if-left.false)))
+    search (rules, w.2.union.1.capacity, unbalanced w.2 _ num _ c.entries-left.ensures.value c.if-left-eq0.false _ c.renew_first.ensures c.if-left.false)
 
 pub returns : goal.returns
 returns g c = record {

@@ -6,7 +6,7 @@ pub entries-left-requires : goal.entries-left-requires
 entries-left-requires g c = (search rules, counted_asks c.requires.lost c.index-self-level.result (omega arith) c.requires.height)
 
 pub enter_next-requires : goal.enter_next-requires
-enter_next-requires g c = (search rules, (search rules, (c.requires.height, past_asks c.requires.lost _ (omega arith) c.requires.height _ c.entries-left.ensures.value c.if-left-least.true c.if-self-level.true)))
+enter_next-requires g c = search (rules, past_asks c.requires.lost _ (omega arith) c.requires.height _ c.entries-left.ensures.value c.if-left-least.true c.if-self-level.true)
 
 pub returns-then-self-level-clause-healed : goal.returns-then-self-level-clause-healed
 returns-then-self-level-clause-healed g c = λ same w.
@@ -17,13 +17,13 @@ pub returns-else-self-level-clause-healed : goal.returns-else-self-level-clause-
 returns-else-self-level-clause-healed g c = λ same w. stay_heals w _ (omega arith) c.requires.height _ c.entries-left.ensures.value c.if-left-least.true c.if-self-level.false
 
 pub right_sibling-requires : goal.right_sibling-requires
-right_sibling-requires g c = (search rules, (search rules, (c.requires.height, beside_asks c.requires.lost c.index-self-level.result (omega arith) c.requires.height)))
+right_sibling-requires g c = search (rules, beside_asks c.requires.lost c.index-self-level.result (omega arith) c.requires.height)
 
 pub balance_nodes-requires : goal.balance_nodes-requires
 balance_nodes-requires g c = (search rules, balance_asks c.requires.lost _ (omega arith) c.requires.height _ c.entries-left.ensures.value c.if-left-least.false c.in-Some.is c.right_sibling.ensures)
 
 pub update_next_separator-requires : goal.update_next_separator-requires
-update_next_separator-requires g c = (search rules, (search rules, (c.requires.height, rekey_asks c.requires.lost c.index-self-level.result (omega arith) c.requires.height c.entries-left.result c.entries-left.ensures.value c.if-left-least.false c.in-Some.is c.right_sibling.ensures c.balance_nodes.ensures.balanced c.in-Some-balance_nodes.is)))
+update_next_separator-requires g c = search (rules, rekey_asks c.requires.lost c.index-self-level.result (omega arith) c.requires.height c.entries-left.result c.entries-left.ensures.value c.if-left-least.false c.in-Some.is c.right_sibling.ensures c.balance_nodes.ensures.balanced c.in-Some-balance_nodes.is)
 
 pub free_node-requires : goal.free_node-requires
 free_node-requires g c = (search rules, free_asks c.requires.lost c.index-self-level.result (omega arith) c.requires.height c.entries-left.result c.entries-left.ensures.value c.if-left-least.false c.in-Some.is c.right_sibling.ensures c.balance_nodes.ensures.balanced c.in-None-balance_nodes.is)

@@ -17,7 +17,7 @@ remove_leaf-requires g c = let w = c.requires.stands in let s = stands_in _ _ c.
 
 pub remove_entry-requires : goal.remove_entry-requires
 remove_entry-requires g c = let w = c.requires.stands in let s = stands_in _ _ c.requires.union w.on in let tree = tree_of c.args.pool.now.nodes w.root in
-    let more = others s _ (omega arith) c.entries.result c.entries.ensures.value (λ one. c.if-entries-eq1.false one) in
+    let more = others s _ (omega arith) c.entries.result c.entries.ensures.value c.if-entries-eq1.false in
     (search rules, (search rules, (c.requires.union.1.capacity, ((tree, w.place, s, root-stands s.fit s.stands ∙ sym c.root-root.ensures), more))))
 
 -- the effect of removing a leaf

@@ -12,18 +12,18 @@ returns-then-self-eq1-clause-emptied g c = λ none old tree place s alone.
 
 pub remove_emptied-requires : goal.remove_emptied-requires
 remove_emptied-requires g c = let w = c.requires.single in
-    (search rules, (search rules, (omega arith, leaf_asks c.requires.capacity w.5 w.3 _ (omega arith) c.free_node.new.self c.free_node.ensures.freed (λ e. c.if-self-eq1.false e))))
+    search (rules, leaf_asks c.requires.capacity w.5 w.3 _ (omega arith) c.free_node.new.self c.free_node.ensures.freed c.if-self-eq1.false)
 
 pub collapse_root-top-requires : goal.collapse_root-top-requires
 collapse_root-top-requires g c = let w = c.requires.single in
-    let asked = collapse_asks c.requires.capacity w.5 w.3 _ (omega arith) c.free_node.new.self c.free_node.ensures.freed (λ e. c.if-self-eq1.false e)
+    let asked = collapse_asks c.requires.capacity w.5 w.3 _ (omega arith) c.free_node.new.self c.free_node.ensures.freed c.if-self-eq1.false
     c.remove_emptied.new.pool c.remove_emptied.ensures c.args.root w.4 in
     search (rules, asked)
 
 pub returns-clause-removed : goal.returns-clause-removed
 returns-clause-removed g c = λ old tree place s alone. let w = c.requires.single in
     drop_removed c.requires.capacity alone s _ (omega arith) c.free_node.new.self c.free_node.ensures.freed
-    (λ e. c.if-self-eq1.false e) c.remove_emptied.new.pool c.remove_emptied.ensures c.args.root
+    c.if-self-eq1.false c.remove_emptied.new.pool c.remove_emptied.ensures c.args.root
     (stands_root c.args.root s w.3 w.4)
     c.collapse_root-top.new.pool c.collapse_root-top.new.self.node c.collapse_root-top.new.self.entry c.collapse_root-top.new.self.size c.collapse_root-top.result c.collapse_root-top.ensures.trimmed
 

@@ -25,7 +25,7 @@ separator-key-requires-else-index-entries g c =
 
 pub update_next_separator-requires : goal.update_next_separator-requires
 update_next_separator-requires g c = let w = c.requires.pending in
-    (search rules, (search rules, (c.requires.height, above_asks (here w c.index-self-up.result (omega arith) c.requires.height) c.entries.result c.entries.ensures.value c.if-index-entries.false)))
+    search (rules, above_asks (here w c.index-self-up.result (omega arith) c.requires.height) c.entries.result c.entries.ensures.value c.if-index-entries.false)
 
 pub remove_child-answer-requires-else-index-entries : goal.remove_child-answer-requires-else-index-entries
 remove_child-answer-requires-else-index-entries g c = let w = c.requires.pending in
