@@ -2,7 +2,6 @@
 pub mod Frees
 pub mod Removal
 pub mod Healing
-pub mod LeafTake
 pub mod Balance
 pub mod Rebalance
 pub mod Rebalancing
@@ -12,7 +11,6 @@ pub mod RemovingMerged
 pub mod Neighbours
 pub mod Collapse
 pub mod Merge
-pub mod Untrimmed
 pub mod Removing
 pub mod LeafAt
 pub mod Taking

@@ -1,10 +1,10 @@
 -- What the calls on the nodes of a path and on the rows above a level require and ensure.
-use Rattle.bforest_core.proofs.Words.{◌≡◌, ℕ, suc, ◌-◌, ◌≤◌, List, [], ◌∷◌, ◌++◌, length, drop, set, slice_get, Some, refl, sym, ◌∙◌, inl, inr}
-use Rattle.bforest_core.proofs.Words.{map, length-append, arith, Heads, remove, append-nil, length-map, map-append, eqb_tells, Inner}
-use Rattle.bforest_core.proofs.Words.{without_child, inner_content, entry_keys, entry_items, ◌+◌, ◌<◌, Option, get_or, ap, Rows, IsFree, IsUsed, entry_count}
-use Rattle.bforest_core.proofs.Words.{with_key, Table, with_node, count, Above, LastAbove, NextIs, OneAbove, TwoAbove, get_or_default, Row, node, heads}
-use Rattle.bforest_core.proofs.{Words.{FitRow, Rekeyed, Keeps}, table.Stored.{slice_get_at, some_same, key_count, item_count}, rows.Zipper.{Spot, spot}}
-use Rattle.bforest_core.proofs.{rows.Zipper.above_two, rows.LevelRows.least-pos, table.Tables.is_used}
+use Rattle.bforest_core.proofs.Words.{◌≡◌, ℕ, suc, ◌-◌, ◌≤◌, List, [], ◌∷◌, ◌++◌, length, drop, set, slice_get, Some, refl, sym, ◌∙◌, inl, inr, map}
+use Rattle.bforest_core.proofs.Words.{length-append, arith, Heads, remove, append-nil, length-map, map-append, eqb_tells, Inner, without_child, inner_content}
+use Rattle.bforest_core.proofs.Words.{entry_keys, entry_items, ◌+◌, ◌<◌, Option, get_or, ap, Rows, IsFree, IsUsed, entry_count, with_key, Table, with_node}
+use Rattle.bforest_core.proofs.Words.{count, Above, LastAbove, NextIs, OneAbove, TwoAbove, get_or_default, Row, node, heads, FitRow, Rekeyed, Keeps}
+use Rattle.bforest_core.proofs.{table.{Stored.{slice_get_at, some_same, key_count, item_count}, Tables.is_used}, rows.Zipper.{Spot, spot, above_two}}
+use Rattle.bforest_core.proofs.rows.LevelRows.{least-pos}
 
 -- removing the element between two lists
 pub remove_at : {A : Type 0} → (p : List A) (y : A) (ys : List A) → remove (p ++ y ∷ ys) (length p) ≡ p ++ ys
@@ -97,25 +97,23 @@ module _ {K V : Type 0} where
   abbrev pub Removes : Table K V → Table K V → ℕ → ℕ → Type 0
   Removes t u number index = (keys : List K) (children : _) → slice_get t.nodes number ≡ Some (Inner keys children) → u ≡ with_node t number (without_child (Inner keys children) index)
 
-  -- a path goes no higher than its levels, and is below the highest where a level has two nodes
-  pub above_low : {t : Table K V} {path indices level size rows list place : _} → Above t path indices level size rows list place → level ≤ size
-  above_low p = omega arith
+  module _ {t : Table K V} {path indices : List ℕ} {up size : ℕ} where
+    -- a path goes no higher than its levels, and is below the highest where a level has two nodes
+    pub one_low : OneAbove t path indices up size → up ≤ size
+    one_low w = omega (arith, w.above.height)
 
-  pub one_low : {t : Table K V} {path indices : List ℕ} {up size : ℕ} → OneAbove t path indices up size → up ≤ size
-  one_low w = above_low w.above
+    pub two_low : TwoAbove t path indices up size → up < size
+    two_low w = above_two _ _ _ _ _ w.above
 
-  pub two_low : {t : Table K V} {path indices : List ℕ} {up size : ℕ} → TwoAbove t path indices up size → up < size
-  two_low w = above_two _ _ _ _ _ w.above
+    pub last_low : LastAbove t path indices up size → up < size
+    last_low w = above_two _ _ _ _ _ w.above
 
-  -- an index above the leaves is that of one of 8 children
-  pub one_small : {t : Table K V} {path indices : List ℕ} {up size : ℕ} → OneAbove t path indices up size → up < size → get_or indices up 0 < 8
-  one_small w low = let d = spot _ _ _ w.above low in omega (arith, d.count_is, d.most_is)
+    -- an index above the leaves is that of one of 8 children
+    pub one_small : OneAbove t path indices up size → up < size → get_or indices up 0 < 8
+    one_small w low = let d = spot _ _ _ w.above low in omega (arith, d.count_is, d.most_is)
 
-  pub two_small : {t : Table K V} {path indices : List ℕ} {up size : ℕ} → TwoAbove t path indices up size → get_or indices up 0 < 8
-  two_small w = let d = spot _ _ _ w.above (two_low w) in omega (arith, d.count_is, d.most_is)
-
-  pub last_low : {t : Table K V} {path indices : List ℕ} {up size : ℕ} → LastAbove t path indices up size → up < size
-  last_low w = above_two _ _ _ _ _ w.above
+    pub two_small : TwoAbove t path indices up size → get_or indices up 0 < 8
+    two_small w = let d = spot _ _ _ w.above (two_low w) in omega (arith, d.count_is, d.most_is)
 
   -- the answer of the call for the right neighbour
   abbrev pub Beside : Table K V → List ℕ → List ℕ → ℕ → ℕ → Option (K × ℕ) → Type 0

@@ -2,9 +2,8 @@
 use Rattle.bforest_core.proofs.Words.{true, ◌≡◌, ℕ, suc, ◌+◌, ◌-◌, ◌/◌, ◌≤◌, ◌<◌, ◌≢◌, List, [], ◌∷◌, ◌++◌, length, slice_get, Option, Some, None, refl, sym}
 use Rattle.bforest_core.proofs.Words.{ap, ◌∙◌, subst, inl, inr, length-append, arith, length-map, map-append, cases_lt, Content, IsFree, IsSameKind}
 use Rattle.bforest_core.proofs.Words.{entry_count, entry_capacity, joined, IsCut, Balances, left_share, Table, with_node, IsBalancedAt, Frees, Bool, false}
-use Rattle.bforest_core.proofs.{Words.{IsLeafCapacity, content_at, half_at, most_at}, table.Stored.{some_same, Parts}}
-use Rattle.bforest_core.proofs.{table.Stored.{inner_cuts, leaf_cuts}, removal.Frees.{frees-after, frees-puts}, table.Tables.{count-same, puts}}
-use Rattle.bforest_core.proofs.{removal.Asked.some_first, rows.Zipper.cut}
+use Rattle.bforest_core.proofs.{Words.{IsLeafCapacity, content_at, half_at, most_at}, table.Stored.{some_same, Parts, inner_cuts, leaf_cuts}}
+use Rattle.bforest_core.proofs.{table.Tables.{count-same, puts}, removal.{Frees.{frees-after, frees-puts}, Asked.some_first}, rows.Zipper.cut}
 
 -- half of a node's capacity and the whole of it
 pub record IsHalf (half most : ℕ) : Type 0 where

@@ -1,12 +1,12 @@
 -- The leaf where a path stands, cut at the path's entry, the leaf without it, and whether the path is past all entries then.
 use Rattle.bforest_core.proofs.Words.{◌≡◌, ℕ, suc, ◌+◌, ◌≤◌, ◌<◌, Some, Option, List, [], ◌∷◌, ◌++◌, length, get_or, slice_get, refl, sym, ap, ◌∙◌}
-use Rattle.bforest_core.proofs.Words.{append_assoc, length-append, arith, Row, flat_map, remove, Content, without_entry, Table, node}
-use Rattle.bforest_core.proofs.Words.{flat, heads, numbers, Tree, half_of, leaf_content, entry_keys, count, numbers_of, Above, StandsIn, LeafLoss, None, Bool}
-use Rattle.bforest_core.proofs.Words.{true, false, not, is_some, nil_from_length, OneAbove, NextIs, get_or_default, entry_count, Rekeyed, drop, take}
-use Rattle.bforest_core.proofs.{Words.length-drop, table.Tables.{count-append, counts, count-same, row-split, row-put, row-same, Puts}}
-use Rattle.bforest_core.proofs.{removal.Asked.{remove_at, remove_map, NodeAt, Beside, some_first, no_nodes, First}, rows.LevelRows.{flat-append, sizes-append}}
-use Rattle.bforest_core.proofs.{rows.LevelRows.{Solid-full, heads-append}, removal.Frees.{frees-after, frees-puts}, rows.Zipper.{LeafCut, cut_leaf}}
-use Rattle.bforest_core.proofs.{removal.Lifted.{headed, top_one}, table.Stored.keys_count, removal.Collapse.heads-flat}
+use Rattle.bforest_core.proofs.Words.{append_assoc, length-append, arith, Row, flat_map, remove, Content, without_entry, Table, node, flat, heads, numbers}
+use Rattle.bforest_core.proofs.Words.{Tree, half_of, leaf_content, entry_keys, count, numbers_of, Above, StandsIn, LeafLoss, None, Bool, true, false, not}
+use Rattle.bforest_core.proofs.Words.{is_some, nil_from_length, OneAbove, NextIs, get_or_default, entry_count, Rekeyed, drop, take, length-drop}
+use Rattle.bforest_core.proofs.table.{Tables.{count-append, counts, count-same, row-split, row-put, row-same, Puts}, Stored.keys_count}
+use Rattle.bforest_core.proofs.removal.{Asked.{remove_at, remove_map, NodeAt, Beside, some_first, no_nodes, First}, Frees.{frees-after, frees-puts}}
+use Rattle.bforest_core.proofs.{removal.{Lifted.{headed, top_one}, Collapse.heads-flat}, rows.LevelRows.{flat-append, sizes-append, Solid-full, heads-append}}
+use Rattle.bforest_core.proofs.rows.Zipper.{LeafCut, cut_leaf}
 
 -- removing an entry of a node removes it from the list of the row
 pub remove_flat : {K V : Type 0} (before : Row K V) (n l x r after : _) →

@@ -1,13 +1,12 @@
 -- Removing the only entry of a leaf together with the leaf, which is the rightmost.
-use Rattle.bforest_core.proofs.Words.{◌≡◌, ℕ, suc, ◌+◌, ◌≤◌, ◌<◌, List, [], ◌∷◌, ◌++◌, map, length, get_or, slice_get, refl, sym, ap, ◌∙◌, length-append}
-use Rattle.bforest_core.proofs.Words.{arith, flat_map, Table, node, flat, heads, numbers, FitRow, Tree, half_of, leaf_content, count, Distinct, numbers_of}
-use Rattle.bforest_core.proofs.Words.{StandsIn, nil_from_length, get_or_default, ◌≢◌, IsSingle, IsUsed, Heads, Rows, append-nil, with_freed, sizes}
-use Rattle.bforest_core.proofs.Words.{LastAbove, nodes_up, IsLeafCapacity, Topped, loss, root_of, IsPathAt, UpTo, Trimmed, Removed, Emptied}
-use Rattle.bforest_core.proofs.{table.Tables.{count-append, counts, count-same, row-split, row-same, ne_from_count}, removal.RemovingEmptied.{Drops, LastOf}}
-use Rattle.bforest_core.proofs.{removal.RemovingEmptied.{above_freed, fit_solid, last_of}, rows.LevelRows.{flat-append, sizes-append, Solid-full}}
-use Rattle.bforest_core.proofs.{rows.LevelRows.heads-append, removal.LeafAt.{LeafAt, leaf_at, leaf_count, remove_flat}, removal.Frees.freed_other}
-use Rattle.bforest_core.proofs.{removal.Frees.{frees-first, frees-one}, removal.Untrimmed.{Untrimmed, up_to, trimmed_removed}, rows.Tops.root-stands}
-use Rattle.bforest_core.proofs.{removal.Collapse.heads-flat, removal.Merge.loss_at}
+use Rattle.bforest_core.proofs.Words.{◌≡◌, ℕ, suc, ◌+◌, ◌≤◌, ◌<◌, List, [], ◌∷◌, ◌++◌, map, length, get_or, slice_get, refl, sym, ap, ◌∙◌, length-append, arith}
+use Rattle.bforest_core.proofs.Words.{flat_map, Table, node, flat, heads, numbers, FitRow, Tree, half_of, leaf_content, count, Distinct, numbers_of, StandsIn}
+use Rattle.bforest_core.proofs.Words.{nil_from_length, get_or_default, ◌≢◌, IsSingle, IsUsed, Heads, Rows, append-nil, with_freed, sizes, LastAbove, nodes_up}
+use Rattle.bforest_core.proofs.{Words.{IsLeafCapacity, Topped, loss, root_of, IsPathAt, UpTo, Trimmed, Removed, Emptied}, table.Tables.{count-append, counts}}
+use Rattle.bforest_core.proofs.{table.Tables.{count-same, row-split, row-same, ne_from_count}, removal.RemovingEmptied.{Drops, LastOf, above_freed, fit_solid}}
+use Rattle.bforest_core.proofs.removal.{RemovingEmptied.last_of, LeafAt.{LeafAt, leaf_at, leaf_count, remove_flat}, Frees.{freed_other, frees-first, frees-one}}
+use Rattle.bforest_core.proofs.{removal.{Removing.{Untrimmed, up_to, trimmed_removed}, Collapse.heads-flat, Merge.loss_at}, rows.LevelRows.flat-append}
+use Rattle.bforest_core.proofs.rows.{LevelRows.{sizes-append, Solid-full, heads-append}, Tops.root-stands}
 
 -- no node follows a node of one entry
 none_after : {K X : Type 0} (half most m : ℕ) (es : List (K × X)) (after : _) → 2 ≤ half → length es ≡ 1 → FitRow half most (node m es ∷ after) → after ≡ []

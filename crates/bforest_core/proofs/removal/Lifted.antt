@@ -1,11 +1,10 @@
 -- The rows above a level in another table, and under a row whose keys were written: the answers of `update_separator` and `update_next_separator`.
 use Rattle.bforest_core.proofs.Words.{◌≡◌, ℕ, suc, ◌-◌, ◌≤◌, List, [], ◌∷◌, ◌++◌, length, set, slice_get, refl, sym, ◌∙◌, append_assoc, length-append, arith}
-use Rattle.bforest_core.proofs.Words.{Heads, inner_content, entry_keys, entry_items, ◌+◌, ◌<◌, get_or, ap, with_key, Table, with_node}
-use Rattle.bforest_core.proofs.Words.{sizes, count, Above, subst, Row, flat_map, node, flat, heads, head_of, numbers, FitRow, RowIn, Distinct, Frees}
-use Rattle.bforest_core.proofs.{Words.{nil_from_length, Rekeyed}, table.Tables.{count-append, count-same, count-row, counts, row-put, row-same, rows-same}}
-use Rattle.bforest_core.proofs.{table.Tables.{ne_from_count, Puts, puts, row-split, row-join}, rows.LevelRows.{least-pos, flat-append, heads-append}}
-use Rattle.bforest_core.proofs.{rows.LevelRows.{sizes-append, FitRow-join}, removal.Frees.{frees-puts, frees-refl, frees-wider}, rows.Zipper.Spot}
-use Rattle.bforest_core.proofs.{rows.Zipper.stands_here, removal.Asked.{First, keeps-refl}}
+use Rattle.bforest_core.proofs.Words.{Heads, inner_content, entry_keys, entry_items, ◌+◌, ◌<◌, get_or, ap, with_key, Table, with_node, sizes, count, Above}
+use Rattle.bforest_core.proofs.Words.{subst, Row, flat_map, node, flat, heads, head_of, numbers, FitRow, RowIn, Distinct, Frees, nil_from_length, Rekeyed}
+use Rattle.bforest_core.proofs.table.Tables.{count-append, count-same, count-row, counts, row-put, row-same, rows-same, ne_from_count, Puts, puts, row-split}
+use Rattle.bforest_core.proofs.{table.Tables.row-join, rows.LevelRows.{least-pos, flat-append, heads-append, sizes-append, FitRow-join}}
+use Rattle.bforest_core.proofs.{removal.Frees.{frees-puts, frees-refl, frees-wider}, rows.Zipper.{Spot, stands_here}, removal.Asked.{First, keeps-refl, some_first}, Words.least}
 
 -- a node's first key does not change with a later entry's item
 pub head-other : {K X : Type 0} (n : ℕ) (l : List (K × X)) (k : K) (x y : X) (r s : List (K × X)) → head_of n (l ++ (k, x) ∷ r) ≡ head_of n (l ++ (k, y) ∷ s)
@@ -37,6 +36,12 @@ pub record NextNode {K X : Type 0} (after : Row K X) (k : K) (q : ℕ) : Type 0 
   pub rest : Row K X
   pub after_is : after ≡ node q (f ∷ fs) ∷ rest
   pub k_is : k ≡ f.0
+
+-- the first of nodes that have an entry
+pub first_after : {K X : Type 0} (half most : ℕ) → 1 ≤ half → (after : Row K X) → FitRow half most after → 1 ≤ length (flat after) → (k : K) × (q : ℕ) × NextNode after k q
+first_after half most one [] fit some = absurd (omega arith)
+first_after half most one (node q [] ∷ after) fit some = absurd (omega (arith, least-pos half one after))
+first_after half most one (node q (f ∷ fs) ∷ after) fit some = (f.0, q, record { f = f; fs = fs; rest = after; after_is = refl; k_is = refl })
 
 -- a row with heads has a first node
 pub next_of : {K X : Type 0} (half most : ℕ) → 1 ≤ half → (after : Row K X) (k q cs : _) → FitRow half most after → heads after ≡ (k, q) ∷ cs → NextNode after k q
@@ -178,9 +183,7 @@ pub record Across {K : Type 0} (l : Heads K) (r : Heads K) (after : Row K ℕ) (
   pub b_is : b ≡ ys ++ flat rest
 
 pub across : {K : Type 0} (n : ℕ) (l : Heads K) (x : K × ℕ) (r : Heads K) (after : Row K ℕ) (y : K × ℕ) (b : Heads K) → FitRow 4 8 (node n (l ++ x ∷ r) ∷ after) → y ∷ b ≡ r ++ flat after → length (l ++ x ∷ r) ≤ length l + 1 → Across l r after y b
-across n l x (w ∷ r) after y b f e h = absurd (omega (arith, length-append l (x ∷ w ∷ r)))
-across n l x [] [] y b f e h = absurd cc
-across n l x [] (node q [] ∷ after) y b f e h = absurd (let g = f.2.0 in omega (arith, least-pos 4 (omega arith) after))
-across n [] x [] (node q (w ∷ ys) ∷ after) y b f e h = absurd (let g = f.0 in omega arith)
-across n (z ∷ zs) x [] (node q (w ∷ ys) ∷ after) y b f e h =
-    let hy : y ≡ w = cc in record { z = z; zs = zs; q = q; ys = ys; rest = after; l_is = refl; r_is = refl; after_is = cc; b_is = cc }
+across n l x r after y b f e h = let len = length-append l (x ∷ r) in let none = nil_from_length r (omega arith) in
+    let next = first_after 4 8 (omega arith) after f.2 (omega (arith, ap length e, length-append r (flat after))) in let a = next.2 in
+    let one = some_first l (omega (arith, ap length none, f.0, ap (λ z. least 4 z) a.after_is)) in let whole : y ∷ b ≡ a.f ∷ (a.fs ++ flat a.rest) = rw (none, a.after_is) at e in
+    record { z = one.0; zs = one.1; q = next.1; ys = a.fs; rest = a.rest; l_is = one.2; r_is = none; after_is = cc (a.after_is); b_is = cc }

@@ -1,11 +1,11 @@
 -- Removing an entry from a level of leaves or inner nodes, and from the levels of sizes: its row is rebalanced, then those above.
 use Rattle.bforest_core.proofs.Words.{◌≡◌, ℕ, suc, ◌+◌, ◌-◌, ◌≤◌, ◌<◌, Some, List, [], ◌∷◌, ◌++◌, map, length, get_or, refl, sym, ap, ◌∙◌, append_assoc}
-use Rattle.bforest_core.proofs.Words.{length-append, arith, Heads, Row, Rows, flat_map, Content, Table, node, flat, heads, sizes, numbers, inner_content}
-use Rattle.bforest_core.proofs.Words.{count, lt-ltb, le-ltb, zero, Option, None, true, false, Bool, if◌then◌else◌, option_map, loss, rebalanced, loss_above}
-use Rattle.bforest_core.proofs.Words.{nodes_up, subst, FitRow, RowIn, Above, TwoAbove, Frees, Rebuilt, Loosened, Healed, Joined, Loses, least, false≢true}
-use Rattle.bforest_core.proofs.{Words.Keeps, removal.Asked.keeps-refl, rows.LevelRows.{least-pos, flat-append, heads-append, sizes-append, FitRow-join, FitRow-split, Solid-full}}
-use Rattle.bforest_core.proofs.{table.Tables.{count-append, count-same, count-row, counts, row-same}, removal.Frees.{only_here, frees-then, frees-after}}
-use Rattle.bforest_core.proofs.{removal.Frees.frees-wider, rows.Zipper.stands_here}
+use Rattle.bforest_core.proofs.Words.{length-append, arith, Heads, Row, Rows, flat_map, Content, Table, node, flat, heads, sizes, numbers, inner_content, count}
+use Rattle.bforest_core.proofs.Words.{lt-ltb, le-ltb, zero, Option, None, true, false, Bool, if◌then◌else◌, option_map, loss, rebalanced, loss_above, nodes_up}
+use Rattle.bforest_core.proofs.Words.{subst, FitRow, RowIn, Above, TwoAbove, Frees, Rebuilt, Loosened, Healed, Joined, Loses, least, false≢true, Keeps}
+use Rattle.bforest_core.proofs.{removal.{Asked.keeps-refl, Frees.{only_here, frees-then, frees-after, frees-wider}}, rows.LevelRows.{least-pos, flat-append}}
+use Rattle.bforest_core.proofs.rows.{LevelRows.{heads-append, sizes-append, FitRow-join, FitRow-split, Solid-full}, Zipper.stands_here}
+use Rattle.bforest_core.proofs.table.Tables.{count-append, count-same, count-row, counts, row-same}
 
 -- the index of the node after `k` others, if it is removed
 abbrev pub placed : ℕ → Bool → Option ℕ

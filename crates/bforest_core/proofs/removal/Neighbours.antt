@@ -1,10 +1,10 @@
 -- The right neighbour of a node, under the same parent or another: the answers of `right_sibling`, and the move of a path there.
 use Rattle.bforest_core.proofs.Words.{◌≡◌, ℕ, suc, ◌-◌, ◌≤◌, List, [], ◌∷◌, ◌++◌, length, drop, slice_get, Some, refl, sym, ◌∙◌, append_assoc, length-append}
-use Rattle.bforest_core.proofs.Words.{arith, Heads, inner_content, entry_keys, entry_items, ◌+◌, ◌<◌, Option, get_or, ap, Rows, Table, Above, NextIs}
-use Rattle.bforest_core.proofs.Words.{OneAbove, subst, node, flat, heads, RowIn, add-one, nil_from_length, ◌≢◌, true, false, map, None, Bool, Over, Moved}
-use Rattle.bforest_core.proofs.{removal.Asked.{Beside, ChildAt, Counts, ReadsChild, ReadsKey, Seen, no_nodes, seen, some_first}, removal.Lifted.NextNode}
-use Rattle.bforest_core.proofs.{removal.Lifted.{headed, next_of, rows_above}, table.Stored.{slice_get_at, some_same, item_count}, rows.Zipper.Spot}
-use Rattle.bforest_core.proofs.{rows.Zipper.stands-same, table.Tables.row-split}
+use Rattle.bforest_core.proofs.Words.{arith, Heads, inner_content, entry_keys, entry_items, ◌+◌, ◌<◌, Option, get_or, ap, Rows, Table, Above, NextIs, OneAbove}
+use Rattle.bforest_core.proofs.Words.{subst, node, flat, heads, RowIn, add-one, nil_from_length, ◌≢◌, true, false, map, None, Bool, Over, Moved}
+use Rattle.bforest_core.proofs.removal.{Asked.{Beside, ChildAt, Counts, ReadsChild, ReadsKey, Seen, no_nodes, seen, some_first}, Lifted.{NextNode, headed}}
+use Rattle.bforest_core.proofs.{removal.Lifted.{next_of, rows_above}, table.{Stored.{slice_get_at, some_same, item_count}, Tables.row-split}, rows.Zipper.Spot}
+use Rattle.bforest_core.proofs.rows.Zipper.{stands-same}
 
 second : {X Y : Type 0} (f : X → Y) (l : List X) (x y : X) (r : List X) → slice_get (map f (l ++ x ∷ y ∷ r)) (suc (length l)) ≡ Some (f y)
 second f [] x y r = refl

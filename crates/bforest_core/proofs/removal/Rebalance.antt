@@ -1,12 +1,12 @@
 -- A node that lost an entry: it stays, or is balanced with its right neighbour.
-use Rattle.bforest_core.proofs.Words.{true, ◌≡◌, ℕ, suc, ◌+◌, ◌-◌, ◌/◌, ◌≤◌, ◌<◌, ◌≢◌, List, [], ◌∷◌, ◌++◌, length, refl, sym, ap, ◌∙◌, inl, inr}
-use Rattle.bforest_core.proofs.Words.{length-append, arith, Content, Table, Frees, false, le-leb, lt-leb, lt-ltb, le-ltb, zero, ◌*◌, ◌⊎◌, map, set, get_or}
-use Rattle.bforest_core.proofs.Words.{append_assoc, Row, flat_map, append-nil, get_or-set_other, get_or-set_same, with_freed, node, flat, heads, sizes}
-use Rattle.bforest_core.proofs.{Words.{numbers, least, rebalanced, count, Above, Rebuilt, OnLevel, Healed, Joined, Keeps}, table.Tables.count-same}
-use Rattle.bforest_core.proofs.{table.Tables.{count-append, counts, count-row, row-same, row-put_two, row-drop_put, rows-same}, rows.LevelRows.flat-append}
-use Rattle.bforest_core.proofs.{rows.LevelRows.{heads-append, sizes-append, numbers-append, FitRow-join, least-le}, removal.Frees.{frees-after, frees-refl}}
-use Rattle.bforest_core.proofs.{removal.Frees.{frees-wider, frees-one, freed_other}, removal.Balance.{AllRight, IsHalf, PutsTwo, Spread}}
-use Rattle.bforest_core.proofs.{rows.Zipper.{above_two, stands-same}, removal.Lifted.above_same, removal.Asked.keeps-refl}
+use Rattle.bforest_core.proofs.Words.{true, ◌≡◌, ℕ, suc, ◌+◌, ◌-◌, ◌/◌, ◌≤◌, ◌<◌, ◌≢◌, List, [], ◌∷◌, ◌++◌, length, refl, sym, ap, ◌∙◌, inl, inr, length-append}
+use Rattle.bforest_core.proofs.Words.{arith, Content, Table, Frees, false, le-leb, lt-leb, lt-ltb, le-ltb, zero, ◌*◌, ◌⊎◌, map, set, get_or, append_assoc, Row}
+use Rattle.bforest_core.proofs.Words.{flat_map, append-nil, get_or-set_other, get_or-set_same, with_freed, node, flat, heads, sizes, numbers, least, rebalanced}
+use Rattle.bforest_core.proofs.{Words.{count, Above, Rebuilt, OnLevel, Healed, Joined, Keeps}, table.Tables.{count-same, count-append, counts, count-row}}
+use Rattle.bforest_core.proofs.{table.Tables.{row-same, row-put_two, row-drop_put, rows-same}, rows.LevelRows.{flat-append, heads-append, sizes-append}}
+use Rattle.bforest_core.proofs.{rows.{LevelRows.{numbers-append, FitRow-join, least-le}, Zipper.{above_two, stands-same}}, removal.Frees.frees-after}
+use Rattle.bforest_core.proofs.removal.{Frees.{frees-refl, frees-wider, frees-one, freed_other}, Balance.{AllRight, IsHalf, PutsTwo, Spread}, Lifted.above_same}
+use Rattle.bforest_core.proofs.removal.Asked.{keeps-refl}
 
 -- the last node, if not empty, stays
 pub rebalanced_last : (q m : ℕ) → 1 ≤ m → rebalanced q m [] ≡ (false, m ∷ [])

@@ -1,21 +1,15 @@
 -- Rebalancing a level, from what its calls state: the answers of `rebalance`.
-use Rattle.bforest_core.proofs.Words.{◌≡◌, ℕ, suc, ◌+◌, ◌≤◌, ◌<◌, ◌≢◌, List, [], ◌∷◌, length, slice_get, Option, Some, None, refl, ap, ◌∙◌, subst, inl}
-use Rattle.bforest_core.proofs.Words.{inr, length-append, arith, Content, Table, IsBalancedAt, content_at, half_at, most_at, set, get_or, Row, with_freed}
-use Rattle.bforest_core.proofs.Words.{node, flat, heads, numbers, count, OnLevel, Healed, Joined, add-one, get_or_default, Item, Heals, Joins, Loses}
-use Rattle.bforest_core.proofs.{Words.{IsUsed, IsUnderflowedAt, FitRow, OneAbove, TwoAbove, Keeps}, removal.Rebalance.{above_both, above_two_put}}
-use Rattle.bforest_core.proofs.{removal.Rebalance.{apart, settle_join, settle_move, settle_spread, settle_stay}, removal.Balance.{AllRight, IsHalf, IsStored}}
-use Rattle.bforest_core.proofs.{removal.Balance.{Spread, all_right_at, kind_half, kind_stored, spread_at}, removal.Asked.{NodeAt, Counts, Beside, Rekeys}}
-use Rattle.bforest_core.proofs.{removal.Asked.{Enters, no_nodes, some_first, First}, removal.Lifted.{headed, NextNode, next_of}, table.Tables.row-split}
-use Rattle.bforest_core.proofs.{table.Tables.is_used, rows.Zipper.apart_here, rows.LevelRows.least-pos}
+use Rattle.bforest_core.proofs.Words.{◌≡◌, ℕ, suc, ◌+◌, ◌≤◌, ◌<◌, ◌≢◌, List, [], ◌∷◌, length, slice_get, Option, Some, None, refl, ap, ◌∙◌, subst, inl, inr}
+use Rattle.bforest_core.proofs.Words.{length-append, arith, Content, Table, IsBalancedAt, content_at, half_at, most_at, set, get_or, Row, with_freed, node}
+use Rattle.bforest_core.proofs.Words.{flat, heads, numbers, count, OnLevel, Healed, Joined, add-one, get_or_default, Item, Heals, Joins, Loses, IsUsed}
+use Rattle.bforest_core.proofs.{Words.{IsUnderflowedAt, FitRow, OneAbove, TwoAbove, Keeps}, removal.Rebalance.{above_both, above_two_put, apart, settle_join}}
+use Rattle.bforest_core.proofs.removal.{Rebalance.{settle_move, settle_spread, settle_stay}, Balance.{AllRight, IsHalf, IsStored, Spread, all_right_at}}
+use Rattle.bforest_core.proofs.removal.{Balance.{kind_half, kind_stored, spread_at}, Asked.{NodeAt, Counts, Beside, Rekeys, Enters, no_nodes, some_first}}
+use Rattle.bforest_core.proofs.{removal.{Asked.First, Lifted.{headed, NextNode, first_after, next_of}}, table.Tables.{row-split, is_used}, rows.Zipper.apart_here}
+use Rattle.bforest_core.proofs.rows.LevelRows.{least-pos}
 
 both_back : {A B : Type 0} (P : A → B → Type 0) (a c : A) (b d : B) → a ≡ c → b ≡ d → P c d → P a b
 both_back P a c b d e f w = rw (e, f) w
-
--- the first of nodes that have an entry
-first_after : {K X : Type 0} (half most : ℕ) → 1 ≤ half → (after : Row K X) → FitRow half most after → 1 ≤ length (flat after) → (k : K) × (q : ℕ) × NextNode after k q
-first_after half most one [] fit some = absurd (omega arith)
-first_after half most one (node q [] ∷ after) fit some = absurd (omega (arith, least-pos half one after))
-first_after half most one (node q (f ∷ fs) ∷ after) fit some = (f.0, q, record { f = f; fs = fs; rest = after; after_is = refl; k_is = refl })
 
 -- a level that lost an entry is one of the path's
 pub loses_low : {K V : Type 0} {cap least : ℕ} {t : Table K V} {path indices : List ℕ} {up size : ℕ} → Loses cap least t path indices up size → up < size

@@ -1,14 +1,13 @@
 -- Removing the entry of a level's rightmost node, which was removed, and the nodes that this empties: the answers of `remove_emptied`.
-use Rattle.bforest_core.proofs.Words.{◌≡◌, ℕ, suc, ◌+◌, ◌≤◌, Some, List, [], ◌∷◌, ◌++◌, map, length, get_or, refl, sym, ap, ◌∙◌, append_assoc}
-use Rattle.bforest_core.proofs.Words.{length-append, arith, Row, flat_map, Table, node, flat, heads, numbers, FitRow, Solid, entry_keys, count, Distinct}
-use Rattle.bforest_core.proofs.Words.{Above, nil_from_length, ◌≢◌, entry_items, ◌-◌, drop, Heads, Rows, append-nil, with_freed}
-use Rattle.bforest_core.proofs.Words.{sizes, loss_above, inner_content, root_above, LastAbove, nodes_up, Dropped, rebalanced, add-one}
-use Rattle.bforest_core.proofs.table.Tables.{count-append, counts, count-same, row-split, row-put, row-same, puts, rows-same, ne_from_count}
-use Rattle.bforest_core.proofs.{rows.LevelRows.{flat-append, sizes-append, Solid-full, heads-append, FitRow-join}, removal.Asked.{some_first, no_nodes}}
-use Rattle.bforest_core.proofs.{removal.Asked.{Counts, Removes, Seen, last_low, seen, removed_last}, rows.Zipper.{Cut_above, Facts, facts}}
-use Rattle.bforest_core.proofs.{removal.Frees.{frees-puts, freed_other, frees-first}, removal.Lifted.{heads-put, above_same, rows_above}}
-use Rattle.bforest_core.proofs.{removal.Merge.{placed, loss_level, lost_above}, removal.Rebalance.rebalanced_last}
-use Rattle.bforest_core.proofs.{removal.Collapse.heads-flat, rows.Tops.top_rows}
+use Rattle.bforest_core.proofs.Words.{◌≡◌, ℕ, suc, ◌+◌, ◌≤◌, Some, List, [], ◌∷◌, ◌++◌, map, length, get_or, refl, sym, ap, ◌∙◌, append_assoc, length-append}
+use Rattle.bforest_core.proofs.Words.{arith, Row, flat_map, Table, node, flat, heads, numbers, FitRow, Solid, entry_keys, count, Distinct, Above}
+use Rattle.bforest_core.proofs.Words.{nil_from_length, ◌≢◌, entry_items, ◌-◌, drop, Heads, Rows, append-nil, with_freed, sizes, loss_above, inner_content}
+use Rattle.bforest_core.proofs.{Words.{root_above, LastAbove, nodes_up, Dropped, rebalanced, add-one}, table.Tables.{count-append, counts, count-same}}
+use Rattle.bforest_core.proofs.{table.Tables.{row-split, row-put, row-same, puts, rows-same, ne_from_count}, rows.LevelRows.{flat-append, sizes-append}}
+use Rattle.bforest_core.proofs.rows.{LevelRows.{Solid-full, heads-append, FitRow-join}, Zipper.{Cut_above, Facts, facts}, Tops.top_rows}
+use Rattle.bforest_core.proofs.removal.{Asked.{some_first, no_nodes, Counts, Removes, Seen, last_low, seen, removed_last}, Frees.{frees-puts, freed_other}}
+use Rattle.bforest_core.proofs.removal.{Frees.frees-first, Lifted.{heads-put, above_same, rows_above}, Merge.{placed, loss_level, lost_above}}
+use Rattle.bforest_core.proofs.removal.{Rebalance.rebalanced_last, Collapse.heads-flat}
 
 -- solid nodes fit as a row
 pub fit_solid : {K X : Type 0} (half most : ℕ) → 1 ≤ half → (row : Row K X) → Solid half most row → FitRow half most row

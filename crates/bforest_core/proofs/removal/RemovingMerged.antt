@@ -1,13 +1,13 @@
 -- Removing an entry from the row above a level, whose key passes to the next entry: the answers of `remove_merged`.
 use Rattle.bforest_core.proofs.Words.{◌≡◌, ℕ, suc, ◌-◌, ◌≤◌, List, [], ◌∷◌, ◌++◌, length, drop, set, slice_get, Some, refl, sym, ◌∙◌, append_assoc}
-use Rattle.bforest_core.proofs.Words.{length-append, arith, Heads, inner_content, entry_keys, entry_items, ◌+◌, ◌<◌, get_or, ap, IsUsed}
-use Rattle.bforest_core.proofs.Words.{entry_count, with_key, Table, sizes, count, OneAbove, TwoAbove, Row, flat_map, node, flat, heads}
-use Rattle.bforest_core.proofs.{Words.{head_of, numbers, FitRow, RowIn, add-one, LoosenedRows, Rekeyed}, removal.Lifted.{Across, Other, above_top}}
-use Rattle.bforest_core.proofs.removal.Lifted.{above_written, across, flat_at, head-other, heads-put, lifted_above, n, next_in, old, place_at, rebuilt_same}
-use Rattle.bforest_core.proofs.{removal.Lifted.{renamed, rows_above}, removal.Asked.{ChildAt, Counts, KeyAt, ReadsKey, Rekeys, Removes, Seen, Writes}}
-use Rattle.bforest_core.proofs.{removal.Asked.{last_key, removed_last, removed_same, seen, two_low}, table.Tables.{is_used, count-same, count-row, counts, row-put}}
-use Rattle.bforest_core.proofs.{table.Tables.{row-same, Puts, puts, row-split, row-join, puts-then}, removal.Frees.{frees-puts, frees-wider, frees-after}}
-use Rattle.bforest_core.proofs.{table.Stored.{some_same, item_count, read_same}, rows.LevelRows.{heads-append, sizes-append}}
+use Rattle.bforest_core.proofs.Words.{length-append, arith, Heads, inner_content, entry_keys, entry_items, ◌+◌, ◌<◌, get_or, ap, IsUsed, entry_count, with_key}
+use Rattle.bforest_core.proofs.Words.{Table, sizes, count, OneAbove, TwoAbove, Row, flat_map, node, flat, heads, head_of, numbers, FitRow, RowIn, add-one}
+use Rattle.bforest_core.proofs.{Words.{LoosenedRows, Rekeyed}, removal.Lifted.{Across, Other, above_top, above_written, across, flat_at, head-other, heads-put}}
+use Rattle.bforest_core.proofs.{removal.Lifted.{lifted_above, n, next_in, old, place_at, rebuilt_same, renamed, rows_above}, removal.Asked.{ChildAt, Counts}}
+use Rattle.bforest_core.proofs.removal.Asked.{KeyAt, ReadsKey, Rekeys, Removes, Seen, Writes, last_key, removed_last, removed_same, seen, two_low}
+use Rattle.bforest_core.proofs.table.Tables.{is_used, count-same, count-row, counts, row-put, row-same, Puts, puts, row-split, row-join, puts-then}
+use Rattle.bforest_core.proofs.{removal.Frees.{frees-puts, frees-wider, frees-after}, table.Stored.{some_same, item_count, read_same}}
+use Rattle.bforest_core.proofs.rows.LevelRows.{heads-append, sizes-append}
 
 module _ {K V : Type 0} where
   -- without a row above there is no key to update

@@ -1,5 +1,5 @@
 use Rattle.bforest_core.proofs.{Words.{rules, ◌+◌, ◌-◌, ◌<◌, suc, ◌∷◌, ◌++◌, length, length-append, arith, add-one, ◌∙◌}, removal.Merge.loses_child}
-use Rattle.bforest_core.proofs.{removal.Merge.{merge_asks, rebuilt, healed_restored, joined_restored}, removal.Asked.two_low}
+use Rattle.bforest_core.proofs.removal.{Merge.{merge_asks, rebuilt, healed_restored, joined_restored}, Asked.two_low}
 use Rattle.bforest_core.proofs.path.Path.+merge_above.Goals as goal
 
 pub merge_above-requires : goal.merge_above-requires

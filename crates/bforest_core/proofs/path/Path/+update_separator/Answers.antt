@@ -1,6 +1,5 @@
-use Rattle.bforest_core.proofs.Words.{rules, ◌∷◌, ◌++◌, drop, arith, add-one, entry_keys, entry_items}
-use Rattle.bforest_core.proofs.{removal.Lifted.{rekey_parent, rekey_first}, removal.RemovingMerged.rekey_top, removal.Neighbours.up_asks, removal.Asked.{fewer, seen}}
-use Rattle.bforest_core.proofs.rows.Zipper.{spot}
+use Rattle.bforest_core.proofs.{Words.{rules, ◌∷◌, ◌++◌, drop, arith, add-one, entry_keys, entry_items}, removal.Lifted.{rekey_parent, rekey_first}}
+use Rattle.bforest_core.proofs.{removal.{RemovingMerged.rekey_top, Neighbours.up_asks, Asked.{fewer, seen}}, rows.Zipper.spot}
 use Rattle.bforest_core.proofs.path.Path.+update_separator.Goals as goal
 
 pub set_separator-requires : goal.set_separator-requires

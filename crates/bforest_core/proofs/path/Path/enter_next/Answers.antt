@@ -1,5 +1,5 @@
 use Rattle.bforest_core.proofs.Words.{rules, suc, ◌∷◌, ◌++◌, length, set, refl, ◌∙◌, arith, get_or-set_same, get_or-set_other, Moved, TwoAbove}
-use Rattle.bforest_core.proofs.{removal.Neighbours.{over-above, must_move, entered_next}, rows.Tops.top-same, removal.Asked.two_low}
+use Rattle.bforest_core.proofs.{removal.{Neighbours.{over-above, must_move, entered_next}, Asked.two_low}, rows.Tops.top-same}
 use Rattle.bforest_core.proofs.path.Path.enter_next.Given.{Over}
 use Rattle.bforest_core.proofs.path.Path.enter_next.Goals as goal
 

@@ -1,5 +1,5 @@
 use Rattle.bforest_core.proofs.{Words.{rules, ℕ, Some, sym, ◌∙◌, arith, IsPathAt, tree_of, StandsUnder}, removal.Removal.{stands_in, removal, Said, outcome}}
-use Rattle.bforest_core.proofs.{removal.Removal.removes, removal.Taking.{counted_asks, leaf_used, single, others}, rows.Tops.root-stands}
+use Rattle.bforest_core.proofs.{removal.{Removal.removes, Taking.{counted_asks, leaf_used, single, others}}, rows.Tops.root-stands}
 use Rattle.bforest_core.proofs.path.Path.remove.Given.{Over}
 use Rattle.bforest_core.proofs.path.Path.remove.Goals as goal
 

@@ -1,4 +1,4 @@
-use Rattle.bforest_core.proofs.{Words.{rules, arith, IsPathAt}, removal.Removing.{entry_follows, past_removed}, removal.Untrimmed.{removed_at, stands_root}}
+use Rattle.bforest_core.proofs.{Words.{rules, arith, IsPathAt}, removal.{Removing.{entry_follows, past_removed}, Removing.{removed_at, stands_root}}}
 use Rattle.bforest_core.proofs.path.Path.remove_entry.Goals as goal
 
 pub is_past_end-requires : goal.is_past_end-requires

@@ -1,5 +1,5 @@
 use Rattle.bforest_core.proofs.{Words.{rules, arith}, removal.LeafEmptied.{free_asks, leaf_emptied, leaf_asks, collapse_asks, drop_removed}}
-use Rattle.bforest_core.proofs.removal.Untrimmed.{stands_root}
+use Rattle.bforest_core.proofs.removal.Removing.{stands_root}
 use Rattle.bforest_core.proofs.path.Path.remove_leaf.Goals as goal
 
 pub free_node-requires : goal.free_node-requires

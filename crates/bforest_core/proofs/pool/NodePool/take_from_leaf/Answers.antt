@@ -1,4 +1,4 @@
-use Rattle.bforest_core.proofs.{Words.rules, insertion.LeafPut.leaf-used, removal.LeafTake.takes-from-leaf}
+use Rattle.bforest_core.proofs.{Words.rules, insertion.LeafPut.leaf-used, removal.Healing.takes-from-leaf}
 use Rattle.bforest_core.proofs.pool.NodePool.take_from_leaf.Goals as goal
 
 pub take-requires : goal.take-requires
