@@ -174,8 +174,7 @@ module _ {K V : Type 0} where
           pub trim_then : {w size' root' gone : _} → Trimmed v w (size - 1) size' root_row.init list only root' gone →
               Trimmed t w size size' rows list root root' (gone ++ root ∷ [])
           trim_then {size'} {gone} r = let row = node root root_row.entries ∷ [] in let c = λ (m : ℕ). count_top m r.discarded root root_row.entries in
-              let d = λ (m : ℕ). count-append m gone (root ∷ []) in
-              let parts = ap (λ z. count root z) (ap (flat_map numbers) r.rows_are ∙ flat_map-append numbers r.rows' r.discarded) ∙ count-append root (flat_map numbers r.rows') (flat_map numbers r.discarded) in
+              let parts = ap (λ z. count root z) (ap (flat_map numbers) r.rows_are ∙ flat_map-append numbers r.rows' r.discarded) in
               let less : size' < size = omega (arith, rows_up.height, ap length r.rows_are, length-append r.rows' r.discarded, length-append root_row.init (row ∷ [])) in
               record {
                 rows' = r.rows';
@@ -184,10 +183,10 @@ module _ {K V : Type 0} where
                 stacked = r.stacked;
                 topped = r.topped;
                 size_is = r.size_is;
-                freed_is = λ m. omega (arith, c m, d m, r.freed_is m);
+                freed_is = λ m. omega (arith, c m, count-append, r.freed_is m);
                 one_each = omega (arith, length-append gone (root ∷ []), length-append r.discarded (row ∷ []));
                 root_is = r.root_is;
                 same_root = λ same. absurd (omega arith);
-                old_root = λ ne. omega (arith, d root, count-same root []);
-                frees = frees-first t _ _ _ slot_is freed (omega (arith, c root, count-same root [])) (omega (arith, none_else.0)) (λ m none. omega (arith, c m)) r.frees;
+                old_root = λ ne. omega (arith, count-append, count-same root []);
+                frees = frees-first t _ _ _ slot_is freed (omega (arith, c root, count-same root [])) (omega (arith, none_else.0, count-append)) (λ m none. omega (arith, c m)) r.frees;
               }

@@ -29,14 +29,7 @@ module _ {K V : Type 0} where
 
   -- a change of some slots is a change of more slots
   pub frees-wider : {t u : Table K V} {own : _} (wide : _) {freed : _} → ((m : ℕ) → count m wide ≡ 0 → count m own ≡ 0) → Frees t u own freed → Frees t u wide freed
-  frees-wider wide w p = record {
-    others = λ m z. p.others m (w m z);
-    freed_are = p.freed_are;
-    chain_is = p.chain_is;
-    slots_are = p.slots_are;
-    limit_is = p.limit_is;
-    memory_is = p.memory_is;
-  }
+  frees-wider wide w p = frees-after w (frees-refl _ wide) p
 
   -- writing one slot frees nothing
   pub frees-puts : {t u : Table K V} {n c : _} (own : _) → 0 < count n own → Puts t u n c → Frees t u own []

@@ -1,6 +1,6 @@
 -- The leaf where a path stands, cut at the path's entry, the leaf without it, and whether the path is past all entries then.
 use Rattle.bforest_core.proofs.Words.{◌≡◌, ℕ, suc, ◌+◌, ◌≤◌, ◌<◌, Some, Option, List, [], ◌∷◌, ◌++◌, length, get_or, slice_get, refl, sym, ap, ◌∙◌}
-use Rattle.bforest_core.proofs.Words.{append_assoc, length-append, arith, Row, flat_map, remove, Content, without_entry, Table, node, flat, heads, numbers}
+use Rattle.bforest_core.proofs.Words.{append_assoc, length-append, arith, Row, remove, Content, without_entry, Table, node, flat, heads, numbers}
 use Rattle.bforest_core.proofs.Words.{Tree, half_of, leaf_content, entry_keys, count, numbers_of, Above, StandsIn, LeafLoss, None, Bool, true, false, not}
 use Rattle.bforest_core.proofs.Words.{is_some, nil_from_length, OneAbove, NextIs, get_or_default, entry_count, Rekeyed, drop, take, length-drop}
 use Rattle.bforest_core.proofs.table.{Tables.{count-append, counts, count-same, row-split, row-put, row-same, Puts}, Stored.keys_count}
@@ -67,7 +67,6 @@ module _ {K V : Type 0} where
       let len : length old ≡ suc (length es) = omega (arith, length-append d.l (d.x ∷ d.r), length-append d.l d.r) in
       let c0 = λ (m : ℕ). ap (λ z. count m (numbers z)) d.leaves_are in let c1 = λ (m : ℕ). counts m d.before n old d.after tree.above t.chain in
       let c2 = λ (m : ℕ). counts m d.before n es d.after b.rows' v.chain in let c7 = λ (m : ℕ). ap (λ z. count m z) (b.frees.chain_is ∙ w.chain_is) in
-      let c8 = λ (m : ℕ). count-append m (numbers tree.leaves) (flat_map numbers tree.above) in
       let in_u = row-put _ _ _ _ n _ _ d.after d.inside w.same w.here d.none in
       record {
         loss = record {
@@ -91,8 +90,8 @@ module _ {K V : Type 0} where
           place_is = omega arith;
           was = λ fs slot. leaf_count fs old (slice_get t.nodes n) slot d.slot_is ∙ len;
           sizes_were = cc (sizes-append d.before (node n old ∷ d.after));
-          numbers_are = λ m. omega (arith, c0 m, c1 m, c2 m, c8 m, b.numbers_are m);
-          frees = frees-after (λ m none. omega (arith, none, c8 m)) (frees-puts (numbers_of tree) (omega (arith, c0 n, c1 n, c8 n, count-same n (numbers d.after))) w) b.frees;
+          numbers_are = λ m. omega (arith, c0 m, c1 m, c2 m, count-append, b.numbers_are m);
+          frees = frees-after (λ m none. omega (arith, none, count-append)) (frees-puts (numbers_of tree) (omega (arith, c0 n, c1 n, count-append, count-same n (numbers d.after))) w) b.frees;
         };
       }
 

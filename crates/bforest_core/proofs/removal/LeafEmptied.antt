@@ -1,12 +1,12 @@
 -- Removing the only entry of a leaf together with the leaf, which is the rightmost.
-use Rattle.bforest_core.proofs.Words.{◌≡◌, ℕ, suc, ◌+◌, ◌≤◌, ◌<◌, List, [], ◌∷◌, ◌++◌, map, length, get_or, slice_get, refl, sym, ap, ◌∙◌, length-append, arith}
-use Rattle.bforest_core.proofs.Words.{flat_map, Table, node, flat, heads, numbers, FitRow, Tree, half_of, leaf_content, count, Distinct, numbers_of, StandsIn}
-use Rattle.bforest_core.proofs.Words.{nil_from_length, get_or_default, ◌≢◌, IsSingle, IsUsed, Heads, Rows, append-nil, with_freed, sizes, LastAbove, nodes_up}
-use Rattle.bforest_core.proofs.{Words.{IsLeafCapacity, Topped, loss, root_of, IsPathAt, UpTo, Trimmed, Removed, Emptied}, table.Tables.{count-append, counts}}
-use Rattle.bforest_core.proofs.{table.Tables.{count-same, row-split, row-same, ne_from_count}, removal.RemovingEmptied.{Drops, LastOf, above_freed, fit_solid}}
-use Rattle.bforest_core.proofs.removal.{RemovingEmptied.last_of, LeafAt.{LeafAt, leaf_at, leaf_count, remove_flat}, Frees.{freed_other, frees-first, frees-one}}
-use Rattle.bforest_core.proofs.{removal.{Removing.{Untrimmed, up_to, trimmed_removed}, Collapse.heads-flat, Merge.loss_at}, rows.LevelRows.flat-append}
-use Rattle.bforest_core.proofs.rows.{LevelRows.{sizes-append, Solid-full, heads-append}, Tops.root-stands}
+use Rattle.bforest_core.proofs.Words.{sizes_of, ◌≡◌, ℕ, suc, ◌+◌, ◌≤◌, ◌<◌, List, [], ◌∷◌, ◌++◌, map, length, get_or, slice_get, refl, sym, ap, ◌∙◌}
+use Rattle.bforest_core.proofs.Words.{length-append, arith, flat_map, Table, node, flat, heads, numbers, FitRow, Tree, half_of, leaf_content, count, Distinct}
+use Rattle.bforest_core.proofs.Words.{numbers_of, StandsIn, nil_from_length, get_or_default, ◌≢◌, IsSingle, IsUsed, Heads, Rows, append-nil, with_freed, sizes}
+use Rattle.bforest_core.proofs.Words.{LastAbove, nodes_up, IsLeafCapacity, Topped, root_of, IsPathAt, UpTo, Trimmed, Removed, Emptied}
+use Rattle.bforest_core.proofs.{table.Tables.{count-append, counts, count-same, row-split, row-same, ne_from_count}, removal.RemovingEmptied.{Drops, LastOf}}
+use Rattle.bforest_core.proofs.removal.{RemovingEmptied.{above_freed, fit_solid, last_of}, LeafAt.{LeafAt, leaf_at, leaf_count, remove_flat}, Frees.freed_other}
+use Rattle.bforest_core.proofs.removal.{Frees.{frees-first, frees-one}, Removing.{Untrimmed, up_to, trimmed_removed}, Collapse.heads-flat, Merge.loss_level}
+use Rattle.bforest_core.proofs.rows.{LevelRows.{flat-append, sizes-append, Solid-full, heads-append}, Tops.root-stands}
 
 -- no node follows a node of one entry
 none_after : {K X : Type 0} (half most m : ℕ) (es : List (K × X)) (after : _) → 2 ≤ half → length es ≡ 1 → FitRow half most (node m es ∷ after) → after ≡ []
@@ -105,14 +105,11 @@ module _ {K V : Type 0} {most : ℕ} {t : Table K V} {path indices size : _} (ca
               let said = dropped.1 in let hs = last_leaf.is in let full = Solid-full (half_of most) most f.half before f.solid in
               let len : suc (length last_leaf.init) ≡ length before = omega (arith, ap length hs, length-append last_leaf.init (last_leaf.last ∷ [])) in
               let first : place ≡ length (flat before) + 0 = omega (arith, place_is) in
-              let in_v = row-same leaf_content t.nodes v.nodes before (λ m some. freed_other t v leaf freed_is m (ne_from_count m leaf (numbers before) some (omega (arith, f.none)))) (row-split leaf_content t.nodes before (node leaf (f.l ++ x ∷ f.r) ∷ f.after) f.inside).0 in
-              let lost = ap (λ z. loss most place z) (ap sizes leaves_are ∙ sizes-append before (node leaf (x ∷ []) ∷ []))
-              ∙ ap (λ z. loss most z (sizes before ++ suc 0 ∷ [])) first ∙ loss_at most before 0 0 [] (omega arith) in
-              let c0 = λ (m : ℕ). ap (λ z. count m (numbers z)) leaves_are in let c1 = λ (m : ℕ). counts m before leaf (x ∷ []) [] tree.above t.chain in
-              let c2 = λ (m : ℕ). count-append m (numbers tree.leaves) (flat_map numbers tree.above) in
+              let in_v = row-same _ _ _ _ (λ m some. freed_other t v leaf freed_is m (ne_from_count m leaf (numbers before) some (omega (arith, f.none)))) (row-split _ _ _ _ f.inside).0 in
+              let c = λ (m : ℕ). ap (λ z. count m (numbers z)) leaves_are in let c1 = λ (m : ℕ). counts m before leaf (x ∷ []) [] tree.above t.chain in
               record {
                 flat_is = sym (cc (leaves_are, place_is, remove_flat before leaf [] x [] [], flat-append before (node leaf [] ∷ []), append-nil (flat before)));
-                sizes_are = cc (append-nil (sizes before));
+                sizes_are = cc (append-nil (sizes before), loss_level most before 0 0 place [] (map sizes tree.above) (sizes_of tree) (cc (leaves_are, sizes-append before (node leaf (x ∷ []) ∷ []))) (omega arith) (omega (arith, place_is)));
                 half = f.half;
                 leaves_fit = fit_solid (half_of most) most f.half before f.solid;
                 leaves_in = row-same leaf_content v.nodes u.nodes before (λ m some. said.frees.others m (omega (arith, apart m, c1 m))) in_v;
@@ -120,21 +117,18 @@ module _ {K V : Type 0} {most : ℕ} {t : Table K V} {path indices size : _} (ca
                 stacked = rw hs said.stacked;
                 rows_in = said.inside;
                 height = said.height;
-                numbers_are = λ m. omega (arith, c0 m, c1 m, c2 m, count-append m (numbers before) (flat_map numbers said.rows'), count-append m (nodes_up path 1 dropped.0) (leaf ∷ []), said.numbers_are m);
+                numbers_are = λ m. omega (arith, c m, c1 m, count-append, said.numbers_are m);
                 root_is = cc (root-stands s.fit s.stands);
-                frees = frees-first t leaf _ _ f.slot_is freed_is (omega (arith, c0 leaf, c1 leaf, c2 leaf, count-same leaf [])) f.none_rows (λ m none. omega (arith, c2 m)) said.frees;
+                frees = frees-first t leaf _ _ f.slot_is freed_is (omega (arith, c leaf, c1 leaf, count-append, count-same leaf [])) f.none_rows (λ m none. omega (arith, none, count-append)) said.frees;
               }
 
           module _ (root : ℕ) (root_is : root_of tree ≡ root) where
-            up : UpTo u size dropped.1.rows' (heads before) root
-            up = up_to _ _ s untrimmed refl root_is
-
             -- the rows above meet what discarding roots requires
             pub collapse_asks : (rows : _) × (list : _) × UpTo u size rows list root
-            collapse_asks = (dropped.1.rows', heads before, up)
+            collapse_asks = (dropped.1.rows', heads before, up_to _ _ s untrimmed refl root_is)
 
             -- the tree after roots with a single child were discarded: the path is at the end
             pub drop_removed : (u2 : Table K V) (path' indices' size2 root' : _) → ((rows list : _) → UpTo u size rows list root → (gone : _)
                 × Trimmed u u2 size size2 rows list root root' gone) → Removed most t u2 path (λ z. IsPathAt path' indices' 0 z place) tree place root'
             drop_removed u2 path' indices' size2 root' trims =
-                trimmed_removed (suc dropped.0) (λ z. IsPathAt path' indices' 0 z place) s untrimmed root_is (trims dropped.1.rows' (heads before) up).1 refl place_is
+                trimmed_removed (suc dropped.0) (λ z. IsPathAt path' indices' 0 z place) s untrimmed root_is (trims dropped.1.rows' (heads before) (up_to _ _ s untrimmed refl root_is)).1 refl place_is

@@ -88,10 +88,6 @@ module _ {K V X : Type 0} {content : List (K × X) → Content K V} {half most o
   pub lost_is : lost most place were ≡ (sizes l.before ++ outcome.1) ∷ loss_above (placed (length l.before) outcome.0) (map sizes l.rest)
   lost_is = loss_level _ _ _ _ _ _ _ _ l.sizes_were l.on_level.entry_was l.place_is
 
-  -- the sizes, for a known outcome of the rebalancing
-  pub sizes_by : (o : Bool × List ℕ) → outcome ≡ o → (sizes l.before ++ o.1) ∷ loss_above (placed (length l.before) o.0) (map sizes l.rest) ≡ lost most place were
-  sizes_by o is = cc (lost_is)
-
   -- a level whose node is half full or the last stays
   abbrev pub kept_restored : (least half l.after ≤ length l.entries) × (outcome ≡ (false, length l.entries ∷ sizes l.after)) → Restores mid path indices []
   kept_restored stays = (
@@ -106,7 +102,7 @@ module _ {K V X : Type 0} {content : List (K × X) → Content K V} {half most o
       fit = FitRow-join half most l.before (node num l.entries) l.after l.on_level.solid (stays.0, l.on_level.most_is, l.on_level.fits);
       inside = l.on_level.inside;
       above = l.on_level.above;
-      sizes_are = ap (λ z. z ∷ map sizes l.rest) (sizes-append _ _) ∙ sizes_by _ stays.1;
+      sizes_are = cc (rw stays.1 at lost_is, sizes-append _ _);
       numbers_are = λ m. omega arith;
       frees = l.frees;
       place_is = l.place_is;
@@ -168,8 +164,7 @@ module _ {K V X : Type 0} {content : List (K × X) → Content K V} {half most o
               fit = j.fit;
               inside = row-same _ _ _ _ (λ m more. r.frees.others m (omega (arith, p.apart m, c0 m, c m, count-row m l.before j.right both j.after'))) j.inside;
               above = subst (λ z. Above new path' indices' (suc level) size r.rows' z (length (heads l.before))) list_is r.above;
-              sizes_are = ap (λ z. z ∷ map sizes r.rows') (sizes-append _ _)
-                  ∙ ap (λ z. (sizes l.before ++ length both ∷ sizes j.after') ∷ z) (cc) ∙ sizes_by _ j.outcome;
+              sizes_are = cc (rw j.outcome at lost_is, sizes-append _ _);
               numbers_are = λ m. omega (arith, r.numbers_are m, c0 m, c m, counts m l.before j.right both j.after' r.rows' new.chain, count-append m freed (num ∷ []), l.numbers_are m);
               frees = frees-after (λ m none. omega (arith, l.numbers_are m)) l.frees left;
               place_is = omega arith;
@@ -187,7 +182,7 @@ module _ {K V : Type 0} {t u : Table K V} {path indices : List ℕ} {up size : �
     (l : Loosened inner_content 4 8 t u path indices up size (map sizes rows) (flat_map numbers rows) hs p) (at : p < length hs) where
   -- the node that lost an entry, as rebalancing it requires it
   abbrev pub loses_child : (num : ℕ) → Loses num 4 u path indices up size
-  loses_child num = record { leaf = false; capacity = λ is. absurd (false≢true is); least_is = refl; before = l.before; entries = l.entries; after = l.after; rest = l.rest; on = l.on_level; at_entry = λ some. low l at }
+  loses_child n = record { leaf = false; capacity = λ is. absurd (false≢true is); least_is = refl; before = l.before; entries = l.entries; after = l.after; rest = l.rest; on = l.on_level; at_entry = λ some. low l at }
 
   -- the rebalanced level is one of the rows
   pub rebuilt : {v : Table K V} {path' indices' freed : _} → Stays l v path' indices' freed →

@@ -1,5 +1,5 @@
 -- A node that lost an entry: it stays, or is balanced with its right neighbour.
-use Rattle.bforest_core.proofs.Words.{true, ◌≡◌, ℕ, suc, ◌+◌, ◌-◌, ◌/◌, ◌≤◌, ◌<◌, ◌≢◌, List, [], ◌∷◌, ◌++◌, length, refl, sym, ap, ◌∙◌, inl, inr, length-append}
+use Rattle.bforest_core.proofs.Words.{◌≡◌, ℕ, suc, ◌+◌, ◌-◌, ◌/◌, ◌≤◌, ◌<◌, ◌≢◌, List, [], ◌∷◌, ◌++◌, length, refl, sym, ap, ◌∙◌, inl, inr, length-append}
 use Rattle.bforest_core.proofs.Words.{arith, Content, Table, Frees, false, le-leb, lt-leb, lt-ltb, le-ltb, zero, ◌*◌, ◌⊎◌, map, set, get_or, append_assoc, Row}
 use Rattle.bforest_core.proofs.Words.{flat_map, append-nil, get_or-set_other, get_or-set_same, with_freed, node, flat, heads, sizes, numbers, least, rebalanced}
 use Rattle.bforest_core.proofs.{Words.{count, Above, Rebuilt, OnLevel, Healed, Joined, Keeps}, table.Tables.{count-same, count-append, counts, count-row}}
@@ -13,13 +13,6 @@ pub rebalanced_last : (q m : ℕ) → 1 ≤ m → rebalanced q m [] ≡ (false, 
 rebalanced_last q zero one = absurd (omega arith)
 rebalanced_last q (suc m) one = refl
 
-rebalanced_healthy : (q m r after : _) → 1 ≤ m → q ≤ 2 * m → rebalanced q m (r ∷ after) ≡ (false, m ∷ r ∷ after)
-rebalanced_healthy q zero r after one h = absurd (omega arith)
-rebalanced_healthy q (suc m) r after one h = let e = le-ltb (2 * suc m) q h in rw e refl
-
-rebalanced_joined : (q m r after : _) → 2 * suc m < q → suc m + r ≤ q → rebalanced q (suc m) (r ∷ after) ≡ (true, (suc m + r) ∷ after)
-rebalanced_joined q m r after h fits = let e = lt-ltb (2 * suc m) q h in let f = le-leb (suc m + r) q fits in rw (e, f) refl
-
 rebalanced_spread : (q m r after : _) → 2 * suc m < q → q < suc m + r → rebalanced q (suc m) (r ∷ after) ≡ (false, ((suc m + r) - (suc m + r) / 2) ∷ (suc m + r) / 2 ∷ after)
 rebalanced_spread q m r after h more = let e = lt-ltb (2 * suc m) q h in let f = lt-leb (suc m + r) q more in rw (e, f) refl
 
@@ -27,8 +20,9 @@ rebalanced_spread q m r after h more = let e = lt-ltb (2 * suc m) q h in let f =
 pub judged : {K X : Type 0} (half most : ℕ) (es : List (K × X)) (after : Row K X) → most ≤ half + half → 1 ≤ length es → (half ≤ length es) ⊎ (after ≡ []) →
     (least half after ≤ length es) × (rebalanced most (length es) (sizes after) ≡ (false, length es ∷ sizes after))
 judged half most es [] lo some w = (some, rebalanced_last _ _ some)
-judged half most es (node k fs ∷ xs) lo some (inl h) = (h, rebalanced_healthy _ _ _ _ some (omega arith))
-judged half most es (x ∷ xs) lo some (inr e) = absurd cc
+judged half most [] (x ∷ xs) lo some w = absurd (omega arith)
+judged half most (e ∷ es) (node k fs ∷ xs) lo some (inl h) = (h, rw (le-ltb (2 * suc (length es)) most (omega arith)))
+judged half most (e ∷ es) (x ∷ xs) lo some (inr none) = absurd cc
 
 module _ {K V X : Type 0} {content : List (K × X) → Content K V} {half most : ℕ} (hm : IsHalf half most) {t : Table K V} {path indices up size before n : _} where
   module _ {es after rest : _} (p : OnLevel content half most t path indices up size before n es after rest) (why : (half ≤ length es) ⊎ (after ≡ [])) where
@@ -143,7 +137,7 @@ module _ {K V X : Type 0} {content : List (K × X) → Content K V} {half most :
       pub settle_join : AllRight content t u most n q (e ∷ es) (f ∷ fs) → v ≡ with_freed u n → up < length path → Joined content half most t v path indices (set path up q) indices up size before n (e ∷ es) (node q (f ∷ fs) ∷ after) rest
       settle_join s v_is low =
           let both : List (K × X) = (e ∷ es) ++ f ∷ fs in
-          let outcome = rebalanced_joined most (length es) (length (f ∷ fs)) (sizes after) (omega arith) s.fits in
+          let few = lt-ltb (2 * suc (length es)) most (omega arith) in let fits = le-leb (suc (length es) + suc (length fs)) most s.fits in
           let len = length-append (e ∷ es) (f ∷ fs) in let fit_q = p.fits in let a = above_both in
           let high = above_two rest (heads before) (e.0, n) (f.0, q) (heads after) a in let other = freed_other u v n v_is in
           let c = λ (m : ℕ). counts m before n (e ∷ es) (node q (f ∷ fs) ∷ after) rest t.chain in
@@ -157,7 +151,7 @@ module _ {K V X : Type 0} {content : List (K × X) → Content K V} {half most :
             after' = after;
             entries_are = refl;
             after_is = refl;
-            outcome = cc;
+            outcome = rw (few, fits) cc;
             inside = row-drop_put content t.nodes v.nodes before n q (e ∷ es) (f ∷ fs) both after p.inside (λ m x y. other m x ∙ s.two.same m x y) (cc (other q (λ w. apart.0 (sym w)))) apart.1 apart.2;
             fit = FitRow-join half most before (node q both) after p.solid (omega arith, omega arith, fit_q.2);
             above = record {

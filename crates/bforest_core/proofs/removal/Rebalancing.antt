@@ -1,12 +1,11 @@
 -- Rebalancing a level, from what its calls state: the answers of `rebalance`.
-use Rattle.bforest_core.proofs.Words.{◌≡◌, ℕ, suc, ◌+◌, ◌≤◌, ◌<◌, ◌≢◌, List, [], ◌∷◌, length, slice_get, Option, Some, None, refl, ap, ◌∙◌, subst, inl, inr}
-use Rattle.bforest_core.proofs.Words.{length-append, arith, Content, Table, IsBalancedAt, content_at, half_at, most_at, set, get_or, Row, with_freed, node}
-use Rattle.bforest_core.proofs.Words.{flat, heads, numbers, count, OnLevel, Healed, Joined, add-one, get_or_default, Item, Heals, Joins, Loses, IsUsed}
-use Rattle.bforest_core.proofs.{Words.{IsUnderflowedAt, FitRow, OneAbove, TwoAbove, Keeps}, removal.Rebalance.{above_both, above_two_put, apart, settle_join}}
+use Rattle.bforest_core.proofs.Words.{◌≡◌, ℕ, suc, ◌+◌, ◌≤◌, ◌<◌, ◌≢◌, List, ◌∷◌, length, slice_get, Option, Some, None, ap, ◌∙◌, subst, inl, inr}
+use Rattle.bforest_core.proofs.Words.{length-append, arith, Content, Table, IsBalancedAt, content_at, half_at, most_at, set, get_or, with_freed, node}
+use Rattle.bforest_core.proofs.Words.{flat, heads, count, OnLevel, Healed, Joined, add-one, get_or_default, Item, Heals, Joins, Loses, IsUsed}
+use Rattle.bforest_core.proofs.{Words.{IsUnderflowedAt, OneAbove, TwoAbove, Keeps}, removal.Rebalance.{above_both, above_two_put, apart, settle_join}}
 use Rattle.bforest_core.proofs.removal.{Rebalance.{settle_move, settle_spread, settle_stay}, Balance.{AllRight, IsHalf, IsStored, Spread, all_right_at}}
 use Rattle.bforest_core.proofs.removal.{Balance.{kind_half, kind_stored, spread_at}, Asked.{NodeAt, Counts, Beside, Rekeys, Enters, no_nodes, some_first}}
 use Rattle.bforest_core.proofs.{removal.{Asked.First, Lifted.{headed, NextNode, first_after, next_of}}, table.Tables.{row-split, is_used}, rows.Zipper.apart_here}
-use Rattle.bforest_core.proofs.rows.LevelRows.{least-pos}
 
 both_back : {A B : Type 0} (P : A → B → Type 0) (a c : A) (b d : B) → a ≡ c → b ≡ d → P c d → P a b
 both_back P a c b d e f w = rw (e, f) w
@@ -86,12 +85,9 @@ module _ {K V : Type 0} {cap least : ℕ} {t : Table K V} {path indices up size 
 
   module _ (m : ℕ) (value : Counts t (get_or path up r) m) where
     module _ (healthy : least ≤ m) where
-      half_here : half ≤ length es
-      half_here = omega (arith, count_read m value)
-
       -- a healthy node in which the path stands stays
       pub stay_heals : get_or indices up 0 ≢ m → Heals w t path indices
-      stay_heals inside = settle_stay hm p (inl half_here) (λ some. omega (arith, count_read m value, p.entry_was))
+      stay_heals inside = settle_stay hm p (inl (omega (arith, count_read m value))) (λ some. omega (arith, count_read m value, p.entry_was))
 
       module _ (past : get_or indices up 0 ≡ m) where
         -- there is a next node where the path is past the node's last entry
@@ -109,7 +105,7 @@ module _ {K V : Type 0} {cap least : ℕ} {t : Table K V} {path indices up size 
         pub past_heals : (path' indices' : _) → Enters t path indices path' indices' up size → get_or indices' up 0 ≡ 0 →
             Keeps path indices path' indices' up size → Heals w t path' indices'
         past_heals path' indices' moved first kept = let entered = moved past_asks in let len = ap length named.2 in
-            heals then t path' indices' (settle_move hm (level then) (omega (arith, half_here)) (omega (arith, count_read m value)) entered first kept)
+            heals then t path' indices' (settle_move hm (level then) (omega (arith, count_read m value)) (omega (arith, count_read m value)) entered first kept)
 
   -- the rows above meet what the call for the right neighbour requires
   abbrev pub beside_asks : OneAbove t path indices (up + 1) size
@@ -130,10 +126,6 @@ module _ {K V : Type 0} {cap least : ℕ} {t : Table K V} {path indices up size 
     under_is : length (e ∷ others) < half
     under_is = omega (arith, count_read m value, ap length named.2)
 
-    -- the two nodes are different and in no other row, and the right one is off the chain
-    lies : (n ≢ q) × (count n (numbers before) + count n (numbers d.rest) ≡ 0) × (count q (numbers before) + count q (numbers d.rest) ≡ 0) × (count q t.chain ≡ 0)
-    lies = apart hm (level d)
-
     slots : (slice_get t.nodes n ≡ Some (content (e ∷ others))) × (slice_get t.nodes q ≡ Some (content (d.f ∷ d.fs)))
     slots = let both = (row-split _ _ _ (node n (e ∷ others) ∷ node q (d.f ∷ d.fs) ∷ d.rest) (level d).inside).1 in (both.0, both.1.0)
 
@@ -150,7 +142,7 @@ module _ {K V : Type 0} {cap least : ℕ} {t : Table K V} {path indices up size 
           neighbour_filled = omega arith;
           underflowed = omega (arith, s.capacity_is (e ∷ others), under_is, hm.hi);
         } in
-        rw num_is (is_used t n _ slot_here none_here, (is_used t q _ slots.1 lies.3, (lies.0, both)))
+        rw num_is (is_used t n _ slot_here none_here, (is_used t q _ slots.1 (apart hm (level d)).3, ((apart hm (level d)).0, both)))
 
     module _ {u : Table K V} {got : Option K} (balanced : IsBalancedAt cap t (get_or path up r) next.0 q got u) where
       balanced_as : (o : Option K) → got ≡ o → IsBalancedAt cap t n d.f.0 q o u
@@ -159,7 +151,7 @@ module _ {K V : Type 0} {cap least : ℕ} {t : Table K V} {path indices up size 
       -- the two nodes share their entries, and the key between them has to be updated
       module _ {key : K} (got_is : got ≡ Some key) where
         pub spread : Spread content t u most n q (e ∷ others) (d.f ∷ d.fs) key
-        spread = spread_at _ t u n q e _ _ _ s lies.0 (omega (arith, hm.hi, hm.two)) slots.0 slots.1 (balanced_as _ got_is)
+        spread = spread_at _ t u n q e _ _ _ s (apart hm (level d)).0 (omega (arith, hm.hi, hm.two)) slots.0 slots.1 (balanced_as _ got_is)
 
         -- the rows above meet what updating the key requires
         abbrev pub rekey_asks : TwoAbove u path indices (up + 1) size
@@ -172,7 +164,7 @@ module _ {K V : Type 0} {cap least : ℕ} {t : Table K V} {path indices up size 
       -- all entries are in the right node, and the left one has to be freed
       module _ (got_is : got ≡ None) where
         all_right : AllRight content t u most n q (e ∷ others) (d.f ∷ d.fs)
-        all_right = all_right_at _ t u n q e _ _ _ s lies.0 (omega (arith, hm.hi, hm.two)) slots.0 slots.1 (balanced_as None got_is)
+        all_right = all_right_at _ t u n q e _ _ _ s (apart hm (level d)).0 (omega (arith, hm.hi, hm.two)) slots.0 slots.1 (balanced_as None got_is)
 
         -- the left node meets what freeing it requires
         pub free_asks : IsUsed u (get_or path up r)

@@ -33,7 +33,7 @@ module _ {K V : Type 0} where
         let e = exchanged-freed root union s.root_is planted i.frees i.numbers_are in
         let levels : length (shrink most place (sizes_of tree)) ≡ suc (length i.tree'.above) = omega (arith, ap length i.sizes_are, length-map i.tree'.above sizes) in
         let levels_were : length (sizes_of tree) ≡ suc (length tree.above) = omega (arith, length-map tree.above sizes) in
-        let among = root-among most new.nodes i.tree' i.fit i.inside i.some in let c = λ (m : ℕ). count-append m (numbers_of tree) old.chain in
+        let among = root-among most new.nodes i.tree' i.fit i.inside i.some in
         let rooted_is = λ (z : root_of i.tree' ≡ root). ap (λ w. count w i.freed) (z ∙ sym r.root_is) in
         record {
           at = (e.root_is, subst Now (sym e.tree_is) i.at);
@@ -51,7 +51,7 @@ module _ {K V : Type 0} where
             same_root = (
               λ same. elim (eqb_tells (length i.tree'.above) (length tree.above)) [
                 | inl w ↦ omega arith
-                | inr w ↦ absurd (omega (arith, i.old_root w.1, rooted_is same, i.numbers_are (root_of i.tree'), r.apart (root_of i.tree'), c (root_of i.tree')))
+                | inr w ↦ absurd (omega (arith, i.old_root w.1, rooted_is same, i.numbers_are (root_of i.tree'), r.apart (root_of i.tree'), count-append))
               ],
               λ same. cc (i.same_root (omega arith)),
             );
