@@ -106,14 +106,10 @@ module _ {K V : Type 0} where
   trim_leaf [] u one = trim_none u tt
   trim_leaf (row ∷ rows) u one = absurd (omega arith)
 
-  top_of_up : {t : Table K V} {size : ℕ} (rows : _) {list root : _} → UpTo t size rows list root → size ≢ 1 → Top rows root
-  top_of_up [] u more = absurd (more (sym u.height))
-  top_of_up (row ∷ rows) u more = top_of_rows _ _ _ _ u.stacked u.root_is
-
   -- there is a level above the leaves
   module _ {t : Table K V} {size rows list root : _} (u : UpTo t size rows list root) (more : size ≢ 1) where
     pub root_row : Top rows root
-    root_row = top_of_up rows u more
+    root_row = let w = some_first rows (omega (arith, u.height)) in rw w.2 (top_of_rows _ w.0 w.1 root (rw w.2 at u.stacked) (rw w.2 at u.root_is))
 
     rows_up : UpTo t size (root_row.init ++ (node root root_row.entries ∷ []) ∷ []) list root
     rows_up = rw (← root_row.rows_are) u

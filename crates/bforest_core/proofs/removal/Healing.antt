@@ -60,10 +60,6 @@ module _ {K V : Type 0} {cmp : K → K → Ordering} (most : ℕ) {table root le
   pub takes-from-leaf : TakesFromLeaf cmp table root key most path indices size answer new
   takes-from-leaf = by_presence _ refl
 
--- a node that is written and freed is a node that is freed
-freed_again : {K V : Type 0} (t : Table K V) (n c : _) → with_freed (with_node t n c) n ≡ with_freed t n
-freed_again t n c = cc (set-set t.nodes n c (Free (front_of t.chain)))
-
 module _ {K V : Type 0} {most : ℕ} {old now : Table K V} {root place path indices size : _} (e : EntryTaken most old now root place path indices size) where
   abbrev tree : Tree K V
   tree = tree_of old.nodes root
@@ -126,7 +122,7 @@ module _ {K V : Type 0} {most : ℕ} {old now : Table K V} {root place path indi
       pub single : m ≡ 0 → IsSingle old now leaf
       single none =
           let h = some_first es (omega (arith, within)) in let one = h.2 ∙ ap (λ z. h.0 ∷ z) (nil_from_length h.1 (omega (arith, count_is, ap length h.2))) in
-          record { entry = h.0; slot_was = cc; freed_is = cc (freed_again old leaf left) }
+          record { entry = h.0; slot_was = cc; freed_is = cc (set-set old.nodes leaf left (Free (front_of old.chain))) }
 
       -- the leaf has others
       pub others : m ≢ 0 → HasOthers old now path indices

@@ -15,10 +15,6 @@ head-other n (z ∷ l) k x y r s = refl
 pub heads-put : {K X : Type 0} (before : Row K X) (n es fs after : _) → head_of n es ≡ head_of n fs → heads (before ++ node n es ∷ after) ≡ heads (before ++ node n fs ∷ after)
 heads-put before n es fs after e = heads-append before _ ∙ ap (λ w. heads before ++ (w ++ heads after)) e ∙ sym (heads-append before _)
 
-head-kept : {K X : Type 0} (n : ℕ) (p r s : List (K × X)) → 1 ≤ length p → head_of n (p ++ r) ≡ head_of n (p ++ s)
-head-kept n [] r s some = absurd (omega arith)
-head-kept n (z ∷ p) r s some = refl
-
 -- writing the key of an entry
 key_set : {K : Type 0} (p : Heads K) (y : K × ℕ) (s : Heads K) (key : K) → (set (entry_keys (p ++ y ∷ s)) (length p) key ≡ entry_keys (p ++ (key, y.1) ∷ s)) × (entry_items (p ++ y ∷ s) ≡ entry_items (p ++ (key, y.1) ∷ s))
 key_set [] y s key = (refl, refl)
@@ -146,8 +142,7 @@ module _ {K V : Type 0} where
         (p ++ (key, y.1) ∷ s) ++ flat after ≡ l ++ hs → Rekeyed t u path indices up size rows (a ++ hs) (length a)
     renamed u p y s e key hs es_is p_is u_is flat_is = let es = p ++ (key, y.1) ∷ s in let w = puts t u n _ _ f.slot_is (cc (with_key_is p y s e key p_is)) in
         let len : length es ≡ length old = omega (arith, ap length es_is, length-append p (y ∷ s), length-append p ((key, y.1) ∷ s)) in
-        let head = ap (λ z. head_of n z) es_is ∙ head-kept n p (y ∷ s) ((key, y.1) ∷ s) (omega arith) in
-        lifted es after hs len (refl, refl, flat_is, heads-put before n old es after head) (omega arith, omega arith, f.fit.2)
+        lifted es after hs len (refl, refl, flat_is, heads-put before n old es after (rw (es_is, (some_first p (omega arith)).2))) (omega arith, omega arith, f.fit.2)
         (row-put inner_content t.nodes u.nodes before n old es after f.inside w.same w.here f.none)
         (frees-puts _ (let c = counts n before n old after rest t.chain in omega (arith, count-same n (numbers after))) w)
         (rebuilt_same (above_written w f.none_rest rows_above))

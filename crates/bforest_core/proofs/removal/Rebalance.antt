@@ -13,9 +13,6 @@ pub rebalanced_last : (q m : ℕ) → 1 ≤ m → rebalanced q m [] ≡ (false, 
 rebalanced_last q zero one = absurd (omega arith)
 rebalanced_last q (suc m) one = refl
 
-rebalanced_spread : (q m r after : _) → 2 * suc m < q → q < suc m + r → rebalanced q (suc m) (r ∷ after) ≡ (false, ((suc m + r) - (suc m + r) / 2) ∷ (suc m + r) / 2 ∷ after)
-rebalanced_spread q m r after h more = let e = lt-ltb (2 * suc m) q h in let f = lt-leb (suc m + r) q more in rw (e, f) refl
-
 -- a node that is half full or the last meets the least size, and stays as it is
 pub judged : {K X : Type 0} (half most : ℕ) (es : List (K × X)) (after : Row K X) → most ≤ half + half → 1 ≤ length es → (half ≤ length es) ⊎ (after ≡ []) →
     (least half after ≤ length es) × (rebalanced most (length es) (sizes after) ≡ (false, length es ∷ sizes after))
@@ -103,7 +100,7 @@ module _ {K V X : Type 0} {content : List (K × X) → Content K V} {half most :
       pub settle_spread : {key : K} (s : Spread content t u most n q (e ∷ es) (f ∷ fs) key) → Rebuilt u v path indices path indices (suc up) size rest (heads before ++ (e.0, n) ∷ (key, q) ∷ heads after) (length (heads before)) (map sizes rest) [] →
           Healed content half most t v path indices path indices up size before n (e ∷ es) (node q (f ∷ fs) ∷ after) rest
       settle_spread {key} s b = let both = length (e ∷ es) + length (f ∷ fs) in let row2 = before ++ node n (s.x ∷ s.xs) ∷ node q (s.y ∷ s.ys) ∷ after in
-          let outcome = rebalanced_spread most (length es) (length (f ∷ fs)) (sizes after) (omega arith) s.more in let fit_q = p.fits in
+          let outcome : rebalanced most (suc (length es)) (suc (length fs) ∷ sizes after) ≡ (false, (both - both / 2) ∷ both / 2 ∷ sizes after) = rw (lt-ltb (2 * suc (length es)) most (omega arith), lt-leb both most s.more) in let fit_q = p.fits in
           let x_is : e ≡ s.x = (let w = s.whole in cc) in let lo : half ≤ suc (length s.xs) = omega arith in let hi : suc (length s.xs) ≤ most = omega arith in
           let hi_q : suc (length s.ys) ≤ most = omega arith in let c = λ (m : ℕ). counts m before n (e ∷ es) (node q (f ∷ fs) ∷ after) rest t.chain in
           let c2 = λ (m : ℕ). count-row m before n (s.x ∷ s.xs) (node q (s.y ∷ s.ys) ∷ after) in

@@ -27,15 +27,16 @@ module _ {K V : Type 0} where
     pub at : IfSome found (λ root'. IsTrue (is_root new.nodes root') × Now (tree_of new.nodes root'))
 
   module _ (most old new : _) {root place path indices size : _} (Now : Tree K V → Type 0) (union : IsUnion most old) (s : StandsUnder old.nodes root path indices size place) where
-    removed_root : {root' : ℕ} (i : Removed most old new path Now (tree_of old.nodes root) place root') → Said most old new path root place Now (Some (root_of i.tree'))
-    removed_root i = let tree = tree_of old.nodes root in let r = rooted most old root union s.root_is in
+    -- removing an entry of a tree that has others
+    pub removal : {root' : ℕ} → Removed most old new path Now (tree_of old.nodes root) place root' → Said most old new path root place Now (Some root')
+    removal i = let tree = tree_of old.nodes root in let r = rooted most old root union s.root_is in
         let planted : IsPlanted most new.nodes i.tree' = record { fit = i.fit; inside = i.inside; some = i.some; low = omega arith } in
         let e = exchanged-freed root union s.root_is planted i.frees i.numbers_are in
         let levels : length (shrink most place (sizes_of tree)) ≡ suc (length i.tree'.above) = omega (arith, ap length i.sizes_are, length-map i.tree'.above sizes) in
         let levels_were : length (sizes_of tree) ≡ suc (length tree.above) = omega (arith, length-map tree.above sizes) in
         let among = root-among most new.nodes i.tree' i.fit i.inside i.some in
         let rooted_is = λ (z : root_of i.tree' ≡ root). ap (λ w. count w i.freed) (z ∙ sym r.root_is) in
-        record {
+        rw (← i.root_is) (record {
           at = (e.root_is, subst Now (sym e.tree_is) i.at);
           shrinks = record {
             changes = record {
@@ -76,15 +77,11 @@ module _ {K V : Type 0} where
               | inr w ↦ omega (arith, i.old_root w.1, ap (λ z. count z i.freed) r.root_is, ap (λ z. count root z) i.frees.chain_is, count-append root i.freed old.chain)
             ];
           };
-        }
+        })
 
-    -- removing an entry of a tree that has others
-    pub removal : {root' : ℕ} → Removed most old new path Now (tree_of old.nodes root) place root' → Said most old new path root place Now (Some root')
-    removal i = rw (← i.root_is) (removed_root i)
-
-    -- removing the last entry of a tree
-    ending : Emptied most old new (tree_of old.nodes root) place → Said most old new path root place Now None
-    ending i = let tree = tree_of old.nodes root in let r = rooted _ _ _ union s.root_is in let u = uprooted-union _ _ union s.root_is i.frees i.freed_is in
+    -- the effect of a removal, from the answer of the call for a leaf of one entry
+    pub outcome : (found : _) → IfSome found (λ root'. Removed most old new path Now (tree_of old.nodes root) place root') → (found ≡ None → Emptied most old new (tree_of old.nodes root) place) → Said most old new path root place Now found
+    outcome None removed emptied = let i = emptied refl in let tree = tree_of old.nodes root in let r = rooted _ _ _ union s.root_is in let u = uprooted-union _ _ union s.root_is i.frees i.freed_is in
         let among = root-among _ _ _ r.fit r.inside r.some in
         record {
           at = tt;
@@ -105,10 +102,6 @@ module _ {K V : Type 0} where
             freed_root = λ ne. omega (arith, i.freed_is root, ap (λ z. count z (numbers_of tree)) r.root_is, ap (λ z. count root z) i.frees.chain_is, count-append root i.freed old.chain);
           };
         }
-
-    -- the effect of a removal, from the answer of the call for a leaf of one entry
-    pub outcome : (found : _) → IfSome found (λ root'. Removed most old new path Now (tree_of old.nodes root) place root') → (found ≡ None → Emptied most old new (tree_of old.nodes root) place) → Said most old new path root place Now found
-    outcome None removed emptied = ending (emptied refl)
     outcome (Some root') removed emptied = removal removed
 
   -- what is said of a removal, at each entry where the path stands
