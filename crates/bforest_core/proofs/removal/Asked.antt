@@ -99,8 +99,11 @@ module _ {K V : Type 0} where
 
   module _ {t : Table K V} {path indices : List ℕ} {up size : ℕ} where
     -- a path goes no higher than its levels, and is below the highest where a level has two nodes
+    pub above_low : {rows list place : _} → Above t path indices up size rows list place → up ≤ size
+    above_low p = omega arith
+
     pub one_low : OneAbove t path indices up size → up ≤ size
-    one_low w = omega (arith, w.above.height)
+    one_low w = above_low w.above
 
     pub two_low : TwoAbove t path indices up size → up < size
     two_low w = above_two _ _ _ _ _ w.above
@@ -132,7 +135,6 @@ module _ {K V : Type 0} where
   -- the path's node on a level above, by the number that was read, and what the calls on it require
   pub record Seen (t : Table K V) (path indices : List ℕ) (up size : ℕ) (rows : Rows K) (a : Heads K) (x : K × ℕ) (b : Heads K) (r : ℕ) : Type 0 where
     pub d : Spot t path indices up size rows a x b
-    pub small : get_or indices up 0 < 8
     pub num_is : get_or path up r ≡ get_or path up 0
     pub slot_is : slice_get t.nodes (get_or path up r) ≡ Some (inner_content (d.q.l ++ x ∷ d.q.r))
     pub none_chain : count (get_or path up r) t.chain ≡ 0
@@ -151,7 +153,6 @@ module _ {K V : Type 0} where
       let counted : (m : ℕ) → Counts t (get_or path up r) m → m ≡ length es = λ m value. value (inner_content es) slot ∙ item_count es in
       record {
         d = d;
-        small = omega (arith, d.count_is, d.most_is);
         num_is = num_is;
         slot_is = slot;
         none_chain = none;

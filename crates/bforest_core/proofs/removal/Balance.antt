@@ -22,8 +22,8 @@ pub record IsStored {K V X : Type 0} (content : List (K × X) → Content K V) (
 
 -- a leaf is half full with half of its capacity, an inner node with 4 children
 pub kind_half : {n : ℕ} (leaf : Bool) → (leaf ≡ true → IsLeafCapacity n) → IsHalf (half_at leaf n) (most_at leaf n)
-kind_half true capacity = let c = capacity refl in record { two = omega arith; lo = omega arith; hi = omega arith }
-kind_half false capacity = record { two = omega arith; lo = omega arith; hi = omega arith }
+kind_half true capacity = let c = capacity refl in omega arith
+kind_half false capacity = omega arith
 
 -- leaves and inner nodes are stored
 pub kind_stored : {K V : Type 0} (n leaf : _) → IsStored {K = K} {V = V} (content_at leaf) n (most_at leaf n)

@@ -121,8 +121,7 @@ module _ {K V : Type 0} where
     slot_is = inside.1.0.0
 
     none_else : (count root (flat_map numbers root_row.init) ≡ 0) × (count root t.chain ≡ 0)
-    none_else = let c = rows_up.apart root in let d = count-append root (flat_map numbers (root_row.init ++ (node root root_row.entries ∷ []) ∷ [])) t.chain in
-        let e = count_top root root_row.init root root_row.entries in (omega (arith, count-same root []), omega (arith, count-same root []))
+    none_else = omega (arith, rows_up.apart root, count-append, count_top root root_row.init root root_row.entries, count-same root [])
 
     -- the root meets what counting its children requires
     pub counted_asks : NodeAt t root

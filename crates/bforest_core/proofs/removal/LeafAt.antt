@@ -11,10 +11,7 @@ use Rattle.bforest_core.proofs.rows.Zipper.{LeafCut, cut_leaf}
 -- removing an entry of a node removes it from the list of the row
 pub remove_flat : {K V : Type 0} (before : Row K V) (n l x r after : _) →
     remove (flat (before ++ node n (l ++ x ∷ r) ∷ after)) (length (flat before) + length l) ≡ flat (before ++ node n (l ++ r) ∷ after)
-remove_flat before n l x r after = let whole : flat (before ++ node n (l ++ x ∷ r) ∷ after) ≡ (flat before ++ l) ++ x ∷ (r ++ flat after) =
-    flat-append before _ ∙ ap (λ z. flat before ++ z) (append_assoc l _ _) ∙ sym (append_assoc _ l _) in
-    ap (λ z. remove z (length (flat before) + length l)) whole ∙ ap (λ z. remove ((flat before ++ l) ++ x ∷ (r ++ flat after)) z) (sym (length-append _ l)) ∙ remove_at (flat before ++ l) x (r ++ flat after)
-    ∙ append_assoc _ l _ ∙ ap (λ z. flat before ++ z) (sym (append_assoc l r _)) ∙ sym (flat-append before (node n (l ++ r) ∷ after))
+remove_flat before n l x r after = simp (flat-append, append_assoc) (simp (append_assoc, length-append) at (remove_at (flat before ++ l) x (r ++ flat after)))
 
 -- two lists of entries in the same slot are equally long
 pub leaf_count : {K V : Type 0} (es fs : List (K × V)) (c : Option (Content K V)) → c ≡ Some (leaf_content es) → c ≡ Some (leaf_content fs) → length es ≡ length fs
@@ -24,8 +21,7 @@ leaf_count es fs c e f = let same : entry_keys es ≡ entry_keys fs = cc in cc (
 pub as_many_heads : {K X : Type 0} (before : Row K X) (n es fs after : _) → 1 ≤ length es → 1 ≤ length fs → length (heads (before ++ node n fs ∷ after)) ≡ length (heads (before ++ node n es ∷ after))
 as_many_heads before n [] fs after some too = absurd (omega arith)
 as_many_heads before n (e ∷ es) [] after some too = absurd (omega arith)
-as_many_heads before n (e ∷ es) (f ∷ fs) after some too =
-    omega (arith, ap length (heads-append before (node n (e ∷ es) ∷ after)), ap length (heads-append before (node n (f ∷ fs) ∷ after)), length-append (heads before) ((e.0, n) ∷ heads after), length-append (heads before) ((f.0, n) ∷ heads after))
+as_many_heads before n (e ∷ es) (f ∷ fs) after some too = simp (heads-append, length-append)
 
 module _ {K V : Type 0} where
   -- removing an entry from a leaf

@@ -43,8 +43,7 @@ module _ {K V : Type 0} {most : ℕ} {t : Table K V} {path indices size : _} (ca
   leaves_are = f.leaves_are ∙ row_is
 
   heads_are : length (heads tree.leaves) ≡ suc (length (heads before))
-  heads_are = ap (λ z. length (heads z)) leaves_are ∙ ap length (heads-append before (node leaf (x ∷ []) ∷ []))
-      ∙ length-append (heads before) ((x.0, leaf) ∷ []) ∙ omega arith
+  heads_are = ap (λ z. length (heads z)) leaves_are ∙ simp (heads-append, length-append) (omega arith)
 
   place_is : place ≡ length (flat before)
   place_is = omega (arith, f.place_is, ap length none_left)
@@ -58,7 +57,7 @@ module _ {K V : Type 0} {most : ℕ} {t : Table K V} {path indices size : _} (ca
       let above_is = nil_from_length tree.above (omega arith) in let seen = rw above_is at s.fit.stacked in let seen_is = seen in
       let none = nil_from_length _ (omega (arith, Solid-full (half_of most) most f.half before f.solid, heads_are)) in
       let only = leaves_are ∙ ap (λ z. z ++ node leaf (x ∷ []) ∷ []) none in
-      let levels = ap (λ z. sizes z ∷ map sizes tree.above) only ∙ ap (λ z. (1 ∷ []) ∷ map sizes z) above_is in
+      let levels : sizes_of tree ≡ (1 ∷ []) ∷ [] = simp (only, above_is) in
       let nums : (m : ℕ) → count m (leaf ∷ []) ≡ count m (numbers_of tree) = λ m. sym (simp (only, above_is)) in
       record {
         single = simp only;

@@ -70,8 +70,8 @@ module _ {K V X : Type 0} {content : List (K × X) → Content K V} {half most :
         Healed content half most t t path indices path' indices' up size before n (e ∷ es) (node q (f ∷ fs) ∷ after) rest
     settle_move {path'} {indices'} healthy e_is above z_is kept =
         let front = before ++ node n (e ∷ es) ∷ [] in let same = append_assoc before (node n (e ∷ es) ∷ []) (node q (f ∷ fs) ∷ after) in
-        let len : length (heads front) ≡ suc (length (heads before)) = ap length (heads-append before (node n (e ∷ es) ∷ [])) ∙ length-append (heads before) ((e.0, n) ∷ []) ∙ omega arith in
-        let flats = ap length (flat-append before (node n (e ∷ es) ∷ []) ∙ ap (λ z. flat before ++ z) (append-nil (e ∷ es))) ∙ length-append (flat before) (e ∷ es) in
+        let len : length (heads front) ≡ suc (length (heads before)) = simp (heads-append, length-append) (omega arith) in
+        let flats : length (flat front) ≡ length (flat before) + length (e ∷ es) = simp (flat-append, append-nil, length-append) in
         settle_same p (inl healthy) front q (f ∷ fs) after same (rw (same, heads-append before (node n (e ∷ es) ∷ node q (f ∷ fs) ∷ after), len) above.0)
         above.1 (λ low. omega arith) (omega arith) kept
 

@@ -1,6 +1,6 @@
 -- The effect of a removal from the tree under a root on the table.
-use Rattle.bforest_core.proofs.Words.{length-remove, IsTrue, ◌≡◌, ℕ, suc, ◌<◌, Option, Some, None, IfSome, List, ◌∷◌, ◌++◌, length, get_or, refl, sym, ap, ◌∙◌}
-use Rattle.bforest_core.proofs.Words.{subst, inl, inr, append_assoc, length-append, arith, eqb_tells, length-map, Table, node, flat, sizes, Tree, sizes_of}
+use Rattle.bforest_core.proofs.Words.{length-remove, IsTrue, ◌≡◌, ℕ, suc, ◌<◌, Option, Some, None, IfSome, List, ◌++◌, length, refl, sym, ap, ◌∙◌}
+use Rattle.bforest_core.proofs.Words.{subst, inl, inr, append_assoc, length-append, arith, eqb_tells, length-map, Table, flat, sizes, Tree, sizes_of}
 use Rattle.bforest_core.proofs.Words.{nodes_up, shrink, count, root_of, numbers_of, Stands, tree_of, IsUnion, is_root, Shrinks, StandsUnder, node_count}
 use Rattle.bforest_core.proofs.{Words.{StandsIn, Removed, Emptied, IsPathAt, OnEntry, Path, RemovesHere}, union.Roots.{exchanged-freed, uprooted-union}, union.Account.{length-same, nodes-count}}
 use Rattle.bforest_core.proofs.{rows.LevelRows.flat-append, table.Tables.count-append, union.Forests.root-among, union.Exchange.IsPlanted, union.Unions.rooted}
@@ -18,8 +18,7 @@ module _ {K V : Type 0} where
 
   -- the place where a path stands is that of an entry
   pub place_low : (path indices size : _) (tree : Tree K V) (place : ℕ) → Stands path indices size tree place → place < length (flat tree.leaves)
-  place_low path indices size tree place s = let at = s.leaf in
-      omega (arith, at.place_is, at.within, ap (λ z. length (flat z)) at.row_is, ap length (flat-append at.before (node (get_or path 0 0) at.entries ∷ at.after)), length-append (flat at.before) (at.entries ++ flat at.after), length-append at.entries (flat at.after))
+  place_low path indices size tree place s = let at = s.leaf in rw at.row_is (simp (flat-append, length-append) (omega (arith, at.place_is, at.within)))
 
   -- the effect of a removal on the table and the path, with the root that is left, if any
   pub record Said (most : ℕ) (old new : Table K V) (path : List ℕ) (root place : ℕ) (Now : Tree K V → Type 0) (found : Option ℕ) : Type 0 where
@@ -69,7 +68,7 @@ module _ {K V : Type 0} where
               chain_is = cc (append_assoc i.order.roots (nodes_up path 0 i.order.up) old.chain);
               roots_are = omega arith;
             };
-            last = (λ is. absurd cc, λ one. absurd (let low = place_low path indices size tree place s.stands in omega (arith, length-remove (flat tree.leaves) place low, ap length i.flat_is)));
+            last = (λ is. absurd cc, λ one. absurd (let low = place_low _ _ _ tree place s.stands in omega (arith, length-remove (flat tree.leaves) place low, ap length i.flat_is)));
             ended = λ is. absurd cc;
             none_left = λ is. absurd cc;
             freed_root = λ ne. elim (eqb_tells (length i.tree'.above) (length tree.above)) [

@@ -121,7 +121,7 @@ module _ {K V : Type 0} {most : ℕ} {old mid : Table K V} {path indices size tr
       half = half;
       leaves_fit = r.0.fit;
       leaves_in = r.0.inside;
-      some = omega (arith, ap length (ap flat r.0.row_is ∙ flat-append r.0.front (node m r.0.entries ∷ r.0.after)), length-append (flat r.0.front) (r.0.entries ++ flat r.0.after), length-append r.0.entries (flat r.0.after), some);
+      some = rw r.0.row_is (simp (flat-append, length-append) (omega (arith, some)));
       stacked = r.0.above.stacked;
       rows_in = r.0.above.inside;
       height = omega arith;
@@ -165,7 +165,7 @@ module _ {K V : Type 0} {most : ℕ} {old mid : Table K V} {path indices size tr
   -- how many entries are left
   left_is : (z : Tree K V) → flat z.leaves ≡ remove (flat tree.leaves) place →
       length (flat z.leaves) ≡ length (flat l.before) + length (l.entries ++ flat l.after)
-  left_is z is = omega (arith, ap length is, ap length l.list_is, ap length (flat-append l.before (node n l.entries ∷ l.after)), length-append (flat l.before) (l.entries ++ flat l.after))
+  left_is z is = rw (is, ← l.list_is) (simp (flat-append, length-append))
 
   -- an entry follows in what is left
   pub entry_follows : get_or indices 0 0 < length (l.entries ++ flat l.after) → (z : Tree K V) → flat z.leaves ≡ remove (flat tree.leaves) place → place < length (flat z.leaves)
