@@ -160,7 +160,7 @@ module _ {K V : Type 0} where
           trim_down = record {
             stacked = below.0;
             inside = rows-same _ _ _ (λ m some. freed_other t v root freed m (ne_from_count m _ _ some none_else.0)) inside.0;
-            height = omega (arith, rows_up.height, length-append root_row.init ((node root root_row.entries ∷ []) ∷ []));
+            height = omega (arith, simp length-append at rows_up.height);
             root_is = below.1 ∙ only_is;
             apart = λ m. omega (arith, rows_up.apart m, count_top m root_row.init root root_row.entries, ap (λ z. count m z.chain) freed, count-append);
           }
@@ -170,7 +170,7 @@ module _ {K V : Type 0} where
               Trimmed t w size size' rows list root root' (gone ++ root ∷ [])
           trim_then {size'} {gone} r = let row = node root root_row.entries ∷ [] in let c = λ (m : ℕ). count_top m r.discarded root root_row.entries in
               let parts = ap (λ z. count root z) (ap (flat_map numbers) r.rows_are ∙ flat_map-append numbers r.rows' r.discarded) in
-              let less : size' < size = omega (arith, rows_up.height, ap length r.rows_are, length-append r.rows' r.discarded, length-append root_row.init (row ∷ [])) in
+              let less : size' < size = omega (arith, simp length-append at rows_up.height, simp length-append at (ap length r.rows_are)) in
               record {
                 rows' = r.rows';
                 discarded = r.discarded ++ row ∷ [];
@@ -179,7 +179,7 @@ module _ {K V : Type 0} where
                 topped = r.topped;
                 size_is = r.size_is;
                 freed_is = λ m. omega (arith, c m, count-append, r.freed_is m);
-                one_each = omega (arith, length-append gone (root ∷ []), length-append r.discarded (row ∷ []));
+                one_each = simp length-append (omega arith);
                 root_is = r.root_is;
                 same_root = λ same. absurd (omega arith);
                 old_root = λ ne. omega (arith, count-append, count-same root []);

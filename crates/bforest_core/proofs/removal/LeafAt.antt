@@ -60,7 +60,7 @@ module _ {K V : Type 0} where
       LeafLoss most t v path indices size tree place
   leaf_loss {t} {u} {v} {path} {tree} d more w b =
       let n = get_or path 0 0 in let old = d.l ++ d.x ∷ d.r in let es = d.l ++ d.r in let row2 = d.before ++ node n es ∷ d.after in
-      let len : length old ≡ suc (length es) = omega (arith, length-append d.l (d.x ∷ d.r), length-append d.l d.r) in
+      let len : length old ≡ suc (length es) = simp length-append (omega arith) in
       let c0 = λ (m : ℕ). ap (λ z. count m (numbers z)) d.leaves_are in let c1 = λ (m : ℕ). counts m d.before n old d.after tree.above t.chain in
       let c2 = λ (m : ℕ). counts m d.before n es d.after b.rows' v.chain in let c7 = λ (m : ℕ). ap (λ z. count m z) (b.frees.chain_is ∙ w.chain_is) in
       let in_u = row-put _ _ _ _ n _ _ d.after d.inside w.same w.here d.none in

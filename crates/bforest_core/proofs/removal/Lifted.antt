@@ -141,7 +141,7 @@ module _ {K V : Type 0} where
     pub renamed : (u : Table K V) (p y s e key hs : _) → old ≡ p ++ y ∷ s → suc e ≡ length p → u ≡ with_node t n (with_key (inner_content old) e key) →
         (p ++ (key, y.1) ∷ s) ++ flat after ≡ l ++ hs → Rekeyed t u path indices up size rows (a ++ hs) (length a)
     renamed u p y s e key hs es_is p_is u_is flat_is = let es = p ++ (key, y.1) ∷ s in let w = puts t u n _ _ f.slot_is (cc (with_key_is p y s e key p_is)) in
-        let len : length es ≡ length old = omega (arith, ap length es_is, length-append p (y ∷ s), length-append p ((key, y.1) ∷ s)) in
+        let len : length es ≡ length old = rw es_is (simp length-append) in
         lifted es after hs len (refl, refl, flat_is, heads-put before n old es after (rw (es_is, (some_first p (omega arith)).2))) (omega arith, omega arith, f.fit.2)
         (row-put inner_content t.nodes u.nodes before n old es after f.inside w.same w.here f.none)
         (frees-puts _ (let c = counts n before n old after rest t.chain in omega (arith, count-same n (numbers after))) w)

@@ -80,7 +80,7 @@ module _ {K V X : Type 0} {content : List (K × X) → Content K V} {half most o
 
   -- an entry follows the path's place
   pub low : place < length list → get_or indices level 0 < length (l.entries ++ flat l.after)
-  low some = omega (arith, ap length l.list_is, ap length (flat-append l.before (node num l.entries ∷ l.after)), length-append (flat l.before) (l.entries ++ flat l.after))
+  low some = omega (arith, simp (flat-append, length-append) at (ap length l.list_is), length-append l.entries (flat l.after))
 
   abbrev outcome : Bool × List ℕ
   outcome = rebalanced most (length l.entries) (sizes l.after)

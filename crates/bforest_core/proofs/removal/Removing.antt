@@ -62,7 +62,7 @@ module _ {K V : Type 0} where
       let parts = λ (m : ℕ). ap (λ z. count m z) (ap (flat_map numbers) t.rows_are ∙ flat_map-append numbers t.rows' t.discarded) in
       let rows_in = rows-parts mid.nodes t.rows' t.discarded (rw (← t.rows_are) u.rows_in) in
       let len = length-sizes leaves ∙ sym (fit_full (half_of most) most u.half leaves u.leaves_fit) in
-      let count_is = ap length t.rows_are ∙ length-append t.rows' t.discarded in
+      let count_is = simp length-append at (ap length t.rows_are) in
       record {
         shrunk = record {
           tree' = record { leaves = leaves; above = t.rows' };
@@ -98,7 +98,7 @@ module _ {K V : Type 0} {most : ℕ} {old mid : Table K V} {path indices size tr
   sizes_were = let w = l.sizes_were in (cc, cc)
 
   as_many : length (l.before ++ node n l.entries ∷ l.after) ≡ length tree.leaves
-  as_many = omega (arith, ap length sizes_were.0, length-sizes tree.leaves, length-sizes l.before, length-sizes l.after, length-append (sizes l.before) (suc (length l.entries) ∷ sizes l.after), length-append l.before (node n l.entries ∷ l.after))
+  as_many = omega (arith, simp (length-append, length-sizes) at (ap length sizes_were.0), length-append l.before (node n l.entries ∷ l.after))
 
   module _ {new : Table K V} {path' indices' freed : _} (r : Restores l.loss new path' indices' freed) where
     abbrev m : ℕ
@@ -142,7 +142,7 @@ module _ {K V : Type 0} {most : ℕ} {old mid : Table K V} {path indices size tr
     -- the path stands at the place, in the rows that stay
     stands : {new2 : Table K V} {size1 size2 root' gone : _} → get_or indices' 0 0 < length r.0.entries → (t : Trimmed new new2 size1 size2 r.0.rows (heads r.0.row) root root' gone) → Stands path' indices' size2 (record { leaves = r.0.row; above = t.rows' }) place
     stands within t = let st = rw t.rows_are at r.0.above.stands in
-        let few : length (heads r.0.front) < length (heads r.0.row) = omega (arith, full, fit_full (half_of most) most half r.0.row r.0.fit, ap length r.0.row_is, length-append r.0.front (node m r.0.entries ∷ r.0.after)) in
+        let few : length (heads r.0.front) < length (heads r.0.row) = omega (arith, full, fit_full _ _ half _ r.0.fit, simp length-append at (ap length r.0.row_is)) in
         record {
           leaf = record { before = r.0.front; entries = r.0.entries; after = r.0.after; row_is = r.0.row_is; within = within; place_is = r.0.place_is };
           above = rw full at (stands-below _ _ 1 _ _ _ _ few t.stacked st);
@@ -179,7 +179,7 @@ module _ {K V : Type 0} {most : ℕ} {old mid : Table K V} {path indices size tr
   pub healed_removed : {new : Table K V} {path' indices' size1 : _} → Healed leaf_content (half_of most) most mid new path indices path' indices' 0 size l.before n l.entries l.after l.rest → size1 ≡ size →
       Removed most old new path (λ z. place < length (flat z.leaves) → IsPathAt path' indices' size1 z place) tree place root
   healed_removed h size_is = let r = healed_restored l.loss h in let row = h.before' ++ node h.number' h.entries' ∷ h.after' in
-      let len : length row ≡ length tree.leaves = omega (arith, as_many, ap length h.row_numbers, length-numbers row, length-numbers (l.before ++ node n l.entries ∷ l.after)) in
+      let len : length row ≡ length tree.leaves = omega (arith, as_many, simp length-numbers at (ap length h.row_numbers)) in
       completed r.0 0 refl r.1 (whole r.0 size_is len (cc (sizes_were.1))) size_is
 
   -- the leaf was merged into its neighbour

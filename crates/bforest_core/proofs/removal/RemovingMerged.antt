@@ -13,7 +13,7 @@ module _ {K V : Type 0} where
   -- without a row above there is no key to update
   pub rekey_top : {t : Table K V} {path indices up size : _} (w : OneAbove t path indices up size) (key : K) → size ≤ up →
       Rekeyed t t path indices up size w.rows (w.before ++ (key, w.x.1) ∷ w.after) (length w.before)
-  rekey_top w key high = rebuilt_same (above_top w.above _ high (omega (arith, length-append w.before (w.x ∷ w.after), length-append w.before ((key, w.x.1) ∷ w.after))))
+  rekey_top w key high = rebuilt_same (above_top w.above _ high (simp length-append))
 
   -- the level above the path's node and the next one
   module _ {t : Table K V} {path indices up size rows a x y b i : _} (s : Seen t path indices up size rows a x (y ∷ b) i) where
