@@ -36,9 +36,9 @@ module _ {K : Type 0} (V : Type 0) where
       without_child {V = V} (Inner (set (drop 1 (entry_keys (l ++ x ∷ y ∷ r))) (length l) key) (entry_items (l ++ x ∷ y ∷ r))) (length l) ≡ inner_content (l ++ (x.0, y.1) ∷ r)
   removed_same [] x y r key k = without_some (key ∷ entry_keys r) (x.1 ∷ y.1 ∷ entry_items r) 0 (omega arith)
   removed_same (z ∷ l) x y r key k = let less : suc (length l) - 1 ≡ length l = omega arith in
-      let key_is = some_same {x = key} {y = x.0} (sym k ∙ rw (less, map-append (λ (w : K × ℕ). w.0) l (x ∷ y ∷ r)) (slice_get_at (entry_keys l) x.0 _ _ (length-map l (λ (w : K × ℕ). w.0)))) in
+      let key_is = some_same {x = key} {y = x.0} (sym k ∙ rw (less, map-append (λ w. w.0) l (x ∷ y ∷ r)) (slice_get_at (entry_keys l) x.0 _ _ (length-map l (λ w. w.0)))) in
       without_some (set (entry_keys (l ++ x ∷ y ∷ r)) (suc (length l)) key) (entry_items ((z ∷ l) ++ x ∷ y ∷ r)) (suc (length l)) (simp (length-map, length-append) (omega arith))
-      ∙ rw (less, key_is, remove_moved (λ (w : K × ℕ). w.0) l x y (x.0, y.1) r refl, remove_map (λ (w : K × ℕ). w.1) l x (y ∷ r), map-append (λ (w : K × ℕ). w.1) l (y ∷ r), map-append (λ (w : K × ℕ). w.1) l ((x.0, y.1) ∷ r)) refl
+      ∙ rw (less, key_is, remove_moved (λ w. w.0) l x y (x.0, y.1) r refl, remove_map (λ w. w.1) l x (y ∷ r), map-append (λ w. w.1) l (y ∷ r), map-append (λ w. w.1) l ((x.0, y.1) ∷ r)) refl
 
   -- removing the last child
   pub removed_last : (l : Heads K) (x : K × ℕ) → 1 ≤ length l → without_child {V = V} (inner_content (l ++ x ∷ [])) (length l) ≡ inner_content l

@@ -174,7 +174,7 @@ module _ {K V : Type 0} where
               record {
                 rows' = r.rows';
                 discarded = r.discarded ++ row ∷ [];
-                rows_are = root_row.rows_are ∙ ap (λ z. z ++ row ∷ []) r.rows_are ∙ append_assoc r.rows' r.discarded (row ∷ []);
+                rows_are = cc (root_row.rows_are, append_assoc _ _ _);
                 stacked = r.stacked;
                 topped = r.topped;
                 size_is = r.size_is;

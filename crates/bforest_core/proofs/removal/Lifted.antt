@@ -13,7 +13,7 @@ head-other n (z ∷ l) k x y r s = refl
 
 -- the heads of a row depend only on the heads of its nodes
 pub heads-put : {K X : Type 0} (before : Row K X) (n es fs after : _) → head_of n es ≡ head_of n fs → heads (before ++ node n es ∷ after) ≡ heads (before ++ node n fs ∷ after)
-heads-put before n es fs after e = heads-append before _ ∙ ap (λ w. heads before ++ (w ++ heads after)) e ∙ sym (heads-append before _)
+heads-put before n es fs after e = simp (heads-append, e)
 
 -- writing the key of an entry
 key_set : {K : Type 0} (p : Heads K) (y : K × ℕ) (s : Heads K) (key : K) → (set (entry_keys (p ++ y ∷ s)) (length p) key ≡ entry_keys (p ++ (key, y.1) ∷ s)) × (entry_items (p ++ y ∷ s) ≡ entry_items (p ++ (key, y.1) ∷ s))

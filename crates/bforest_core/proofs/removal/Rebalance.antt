@@ -105,8 +105,6 @@ module _ {K V X : Type 0} {content : List (K × X) → Content K V} {half most :
           let hi_q : suc (length s.ys) ≤ most = omega arith in let c = λ (m : ℕ). counts m before n (e ∷ es) (node q (f ∷ fs) ∷ after) rest t.chain in
           let c2 = λ (m : ℕ). count-row m before n (s.x ∷ s.xs) (node q (s.y ∷ s.ys) ∷ after) in
           let in_u = row-put_two _ _ _ _ n q _ _ _ _ after p.inside s.two.same s.two.here s.two.there apart.1 apart.2 in
-          let flats = flat-append before (node n (s.x ∷ s.xs) ∷ node q (s.y ∷ s.ys) ∷ after) ∙ ap (λ z. flat before ++ z)
-          (cc (append_assoc _ _ _, append_assoc _ _ _)) ∙ sym (flat-append before (node n (e ∷ es) ∷ node q (f ∷ fs) ∷ after)) in
           let hs : heads before ++ (e.0, n) ∷ (key, q) ∷ heads after ≡ heads row2 = cc (heads-append _ _) in
           record {
             before' = before;
@@ -114,15 +112,15 @@ module _ {K V X : Type 0} {content : List (K × X) → Content K V} {half most :
             entries' = s.x ∷ s.xs;
             after' = node q (s.y ∷ s.ys) ∷ after;
             rest' = b.rows';
-            stays = cc;
+            stays = rw outcome;
             inside = row-same content u.nodes v.nodes row2 (λ m some. b.frees.others m (omega (arith, p.apart m, c m, c2 m))) in_u;
             fit = FitRow-join half most before (node n (s.x ∷ s.xs)) (node q (s.y ∷ s.ys) ∷ after) p.solid (lo, hi, (omega (arith, least-le half (omega (arith, hm.two)) after), hi_q, fit_q.2));
-            list_is = flats;
+            list_is = simp flat-append (cc (append_assoc _ _ _, append_assoc _ _ _));
             above = rw (← hs) b.above;
             number_is = p.number_is;
             within = λ low. omega arith;
             place_is = refl;
-            sizes_are = cc (sizes-append before (node n (s.x ∷ s.xs) ∷ node q (s.y ∷ s.ys) ∷ after));
+            sizes_are = rw outcome (cc (sizes-append _ _));
             rest_sizes = b.sizes_are;
             row_numbers = simp numbers-append;
             rest_numbers = λ m. omega (arith, b.numbers_are m);

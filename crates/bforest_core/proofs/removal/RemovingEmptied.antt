@@ -75,7 +75,7 @@ module _ {K V : Type 0} where
 
     lost : left ≡ (sizes before ++ (rebalanced 8 (length l) []).1) ∷ loss_above (placed (length before) (rebalanced 8 (length l) []).0) (map sizes rest)
     lost =
-        let row = d.q.rows_are ∙ ap (λ z. (before ++ node num (l ++ x ∷ z) ∷ after) ∷ rest) ends.0 ∙ ap (λ z. (before ++ node num (l ++ x ∷ []) ∷ z) ∷ rest) ends.1 in
+        let e = ends in let row = rw (e.0, e.1) at d.q.rows_are in
         let len : length (l ++ x ∷ []) ≡ suc (length l) = length-append l (x ∷ []) ∙ omega arith in
         sym (lost_above _ _) ∙ loss_level 8 before (length l) (length l) (suc (length a)) [] (map sizes rest) (map sizes rows)
         (cc (sizes-append before (node num (l ++ x ∷ []) ∷ []))) (omega arith) (omega (arith, ap length d.q.a_is, length-append (flat before) l, length-append a (y ∷ [])))

@@ -117,7 +117,7 @@ module _ {K V : Type 0} where
         across_in key = let s = row-split _ _ _ _ f.inside in row-join _ _ _ (node (n d) (old d) ∷ others key) s.0 (s.1.0, rw o.after_is at s.1.1)
 
         across_other : (key es hs : _) → es ++ flat (others key) ≡ l ++ hs → head_of (n d) es ≡ (o.z.0, n d) ∷ [] → Other d es (others key) hs (names key)
-        across_other key es hs flat_is head = (ap (λ z. sizes z) (sym o.after_is), ap (λ z. numbers z) (sym o.after_is), flat_is, sym (heads-append before (node (n d) es ∷ others key) ∙ ap (λ z. heads before ++ (z ++ (key, o.q) ∷ heads o.rest)) head))
+        across_other key es hs flat_is head = (ap (λ z. sizes z) (sym o.after_is), ap (λ z. numbers z) (sym o.after_is), flat_is, simp (heads-append, head))
 
         pub named : heads (before ++ node (n d) (old d) ∷ after) ≡ names y.0
         named = heads-append before _ ∙ ap (λ z. heads before ++ (head_of (n d) (z ++ x ∷ r) ++ heads after)) o.l_is ∙ ap (λ z. heads before ++ (o.z.0, n d) ∷ heads z) o.after_is
