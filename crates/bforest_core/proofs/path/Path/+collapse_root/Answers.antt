@@ -13,11 +13,11 @@ returns-then-count-gt1-clause-trimmed g t c = λ rows list u. ([], trim_stays u 
 
 pub child-only-requires : goal.child-only-requires
 child-only-requires g t c =
-    (search rules, child_asks c.requires.rooted.2 c.if-self-eq1.false c.entries-count.result c.entries-count.ensures.value c.if-count-gt1.false)
+    (search rules, child_asks c.requires.rooted.2 c.if-self-eq1.false _ c.entries-count.ensures.value c.if-count-gt1.false)
 
 pub free_node-requires : goal.free_node-requires
 free_node-requires g t c =
-    (search rules, free_asks c.requires.rooted.2 c.if-self-eq1.false c.entries-count.result c.entries-count.ensures.value c.if-count-gt1.false)
+    (search rules, free_asks c.requires.rooted.2 c.if-self-eq1.false _ c.entries-count.ensures.value c.if-count-gt1.false)
 
 pub collapse_root-requires : goal.collapse_root-requires
 collapse_root-requires g t c κs within = let w = c.requires.rooted in

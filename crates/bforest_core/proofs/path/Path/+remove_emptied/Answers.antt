@@ -9,8 +9,8 @@ free_node-requires g t c = (search rules, (here c.requires.pending _ (omega arit
 
 pub remove_emptied-requires : goal.remove_emptied-requires
 remove_emptied-requires g t c κs within = let w = c.requires.pending in
-    let asked = last_asks w (here w _ (omega arith) c.requires.height) c.entries.result c.entries.ensures.value c.if-entries-eq1.true
-    c.free_node.new.self c.free_node.ensures.freed in
+    let asked = last_asks w (here w _ (omega arith) c.requires.height) _ c.entries.ensures.value c.if-entries-eq1.true
+    _ c.free_node.ensures.freed in
     search (rules, fewer (last_low w) t c.decreases, within.0, within.1, asked)
 
 pub remove_child-answer-requires : goal.remove_child-answer-requires

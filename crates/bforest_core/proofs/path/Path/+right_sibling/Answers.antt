@@ -24,8 +24,8 @@ child-requires-in-Some g t c = let w = c.requires.pending in
 
 pub returns-then-index-entries : goal.returns-then-index-entries
 returns-then-index-entries g t c = λ w.
-    beside_same (one_seen w c.if-up-self.false _ (omega arith) c.requires.height) c.entries.result c.entries.ensures.value c.separator.result
-    c.child.result c.if-index-entries.true c.separator.ensures c.child.ensures
+    beside_same (one_seen w c.if-up-self.false _ (omega arith) c.requires.height) _ c.entries.ensures.value c.separator.result
+    _ c.if-index-entries.true c.separator.ensures c.child.ensures
 
 pub returns-in-None : goal.returns-in-None
 returns-in-None g t c = λ w.
@@ -33,5 +33,5 @@ returns-in-None g t c = λ w.
 
 pub returns-in-Some : goal.returns-in-Some
 returns-in-Some g t c = λ w.
-    beside_next (one_seen w c.if-up-self.false _ (omega arith) c.requires.height) c.entries.result c.entries.ensures.value c.if-index-entries.false
-    _ c.in-Some.next c.in-Some.is c.right_sibling.ensures c.child-in-Some.result c.child-in-Some.ensures
+    beside_next (one_seen w c.if-up-self.false _ (omega arith) c.requires.height) _ c.entries.ensures.value c.if-index-entries.false
+    _ c.in-Some.next c.in-Some.is c.right_sibling.ensures _ c.child-in-Some.ensures

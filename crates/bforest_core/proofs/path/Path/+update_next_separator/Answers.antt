@@ -10,14 +10,14 @@ set_separator-requires g t c = let w = c.requires.pending in let s = here w _ (o
 
 pub update_next_separator-requires : goal.update_next_separator-requires
 update_next_separator-requires g t c κs within = let w = c.requires.pending in
-    let d = above_asks (here w _ (omega arith) c.requires.height) c.entries.result c.entries.ensures.value c.if-index-entries.false in
+    let d = above_asks (here w _ (omega arith) c.requires.height) _ c.entries.ensures.value c.if-index-entries.false in
     search (rules, fewer (two_low w) t c.decreases, within.0, within.1, d)
 
 pub returns-then-index-entries : goal.returns-then-index-entries
 returns-then-index-entries g t c = λ w.
-    same_parent (here w _ (omega arith) c.requires.height) c.entries.result c.entries.ensures.value c.if-index-entries.true
-    c.set_separator.new.pool c.args.key c.set_separator.ensures
+    same_parent (here w _ (omega arith) c.requires.height) _ c.entries.ensures.value c.if-index-entries.true
+    _ c.args.key c.set_separator.ensures
 
 pub returns-else-index-entries : goal.returns-else-index-entries
 returns-else-index-entries g t c = λ w.
-    next_parent (here w _ (omega arith) c.requires.height) c.entries.result c.entries.ensures.value c.if-index-entries.false c.update_next_separator.new.pool c.args.key c.update_next_separator.ensures
+    next_parent (here w _ (omega arith) c.requires.height) _ c.entries.ensures.value c.if-index-entries.false _ c.args.key c.update_next_separator.ensures

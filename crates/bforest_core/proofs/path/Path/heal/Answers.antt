@@ -7,24 +7,24 @@ entries-left-requires g c = (search rules, counted_asks c.requires.taken.2 _ (re
 
 pub remove_leaf-requires : goal.remove_leaf-requires
 remove_leaf-requires g c = let w = c.requires.taken in
-    let alone = single w.2 _ (read_is w.2 _ (omega arith)) c.entries-left.result c.entries-left.ensures.value c.if-left-eq0.true in
+    let alone = single w.2 _ (read_is w.2 _ (omega arith)) _ c.entries-left.ensures.value c.if-left-eq0.true in
     (search rules, (search rules, (w.2.union.1.capacity, (leaf_used w.2, (w.0, tree_of w.0.nodes c.args.root, w.1, stood_in w.2, root_was w.2, alone)))))
 
 pub returns-then-left-eq0 : goal.returns-then-left-eq0
 returns-then-left-eq0 g c = record {
   healed = λ old place e. let s = stood_in e in let tree = tree_of old.nodes c.args.root in
-      let alone = single e _ (read_is e _ (omega arith)) c.entries-left.result c.entries-left.ensures.value c.if-left-eq0.true in
-      (outcome _ _ _ _ e.union e.stood c.remove_leaf.result (c.remove_leaf.ensures.removed old tree place s alone) (λ none. c.remove_leaf.ensures.emptied none old tree place s alone)).shrinks;
+      let alone = single e _ (read_is e _ (omega arith)) _ c.entries-left.ensures.value c.if-left-eq0.true in
+      (outcome _ _ _ _ e.union e.stood _ (c.remove_leaf.ensures.removed old tree place s alone) (λ none. c.remove_leaf.ensures.emptied none old tree place s alone)).shrinks;
 }
 
 pub renew_first-requires : goal.renew_first-requires
 renew_first-requires g c = let w = c.requires.taken in
-    let more = others w.2 _ (read_is w.2 _ (omega arith)) c.entries-left.result c.entries-left.ensures.value c.if-left-eq0.false in
+    let more = others w.2 _ (read_is w.2 _ (omega arith)) _ c.entries-left.ensures.value c.if-left-eq0.false in
     (search rules, (search rules, (w.0, tree_of w.0.nodes c.args.root, w.1, stood_in w.2, more)))
 
 pub returns-then-left : goal.returns-then-left
 returns-then-left g c = record {
-  healed = λ old place e. kept e _ (read_is e _ (omega arith)) c.entries-left.result c.entries-left.ensures.value c.if-left-eq0.false c.renew_first.new.pool c.renew_first.ensures c.if-left.true;
+  healed = λ old place e. kept e _ (read_is e _ (omega arith)) _ c.entries-left.ensures.value c.if-left-eq0.false _ c.renew_first.ensures c.if-left.true;
 }
 
 pub rebalance_leaf-requires : goal.rebalance_leaf-requires

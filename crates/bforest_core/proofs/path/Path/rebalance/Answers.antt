@@ -3,7 +3,7 @@ use Rattle.bforest_core.proofs.removal.Rebalancing.{balance_asks, rekey_asks, re
 use Rattle.bforest_core.proofs.path.Path.rebalance.Goals as goal
 
 pub entries-left-requires : goal.entries-left-requires
-entries-left-requires g c = (search rules, counted_asks c.requires.lost c.index-self-level.result (omega arith) c.requires.height)
+entries-left-requires g c = (search rules, counted_asks c.requires.lost _ (omega arith) c.requires.height)
 
 pub enter_next-requires : goal.enter_next-requires
 enter_next-requires g c = search (rules, past_asks c.requires.lost _ (omega arith) c.requires.height _ c.entries-left.ensures.value c.if-left-least.true c.if-self-level.true)
@@ -23,10 +23,10 @@ pub balance_nodes-requires : goal.balance_nodes-requires
 balance_nodes-requires g c = (search rules, balance_asks c.requires.lost _ (omega arith) c.requires.height _ c.entries-left.ensures.value c.if-left-least.false c.in-Some.is c.right_sibling.ensures)
 
 pub update_next_separator-requires : goal.update_next_separator-requires
-update_next_separator-requires g c = search (rules, rekey_asks c.requires.lost c.index-self-level.result (omega arith) c.requires.height c.entries-left.result c.entries-left.ensures.value c.if-left-least.false c.in-Some.is c.right_sibling.ensures c.balance_nodes.ensures.balanced c.in-Some-balance_nodes.is)
+update_next_separator-requires g c = search (rules, rekey_asks c.requires.lost _ (omega arith) c.requires.height _ c.entries-left.ensures.value c.if-left-least.false c.in-Some.is c.right_sibling.ensures c.balance_nodes.ensures.balanced c.in-Some-balance_nodes.is)
 
 pub free_node-requires : goal.free_node-requires
-free_node-requires g c = (search rules, free_asks c.requires.lost c.index-self-level.result (omega arith) c.requires.height c.entries-left.result c.entries-left.ensures.value c.if-left-least.false c.in-Some.is c.right_sibling.ensures c.balance_nodes.ensures.balanced c.in-None-balance_nodes.is)
+free_node-requires g c = (search rules, free_asks c.requires.lost _ (omega arith) c.requires.height _ c.entries-left.ensures.value c.if-left-least.false c.in-Some.is c.right_sibling.ensures c.balance_nodes.ensures.balanced c.in-None-balance_nodes.is)
 
 pub returns-in-None-clause-healed : goal.returns-in-None-clause-healed
 returns-in-None-clause-healed g c = λ same w. last_heals w c.index-self-level.result (omega arith) c.requires.height c.in-None.ensures

@@ -18,5 +18,5 @@ rebalance_leaf-requires g c = let s = c.requires.stands in let l = c.take_entry.
 pub returns : goal.returns
 returns g c = λ tree place s. let s1 = c.requires.stands in let l = c.take_entry.ensures tree place s in
     let low = c.is_past_end.ensures.within c.if-is_past_end.false c.args.pool.now tree place l in
-    removed_at (λ now. IsPathAt c.rebalance_leaf.new.self.node c.rebalance_leaf.new.self.entry c.rebalance_leaf.new.self.size now place) (λ z is at. at (entry_follows s l (stands_root c.args.root s s1.2 s1.3) low z is))
+    removed_at (λ now. IsPathAt _ _ _ now place) (λ z is at. at (entry_follows s l (stands_root c.args.root s s1.2 s1.3) low z is))
     (c.rebalance_leaf.ensures (record { old = c.args.pool.now; tree = tree; place = place; stands = s; root_is = stands_root c.args.root s s1.2 s1.3; lost = l; at_entry = λ some. low }))

@@ -8,16 +8,16 @@ free_node-requires g c = let w = c.requires.single in
 
 pub returns-then-self-eq1-clause-emptied : goal.returns-then-self-eq1-clause-emptied
 returns-then-self-eq1-clause-emptied g c = λ none old tree place s alone.
-    leaf_emptied c.requires.capacity alone s _ (omega arith) c.free_node.new.self c.free_node.ensures.freed c.if-self-eq1.true
+    leaf_emptied c.requires.capacity alone s _ (omega arith) _ c.free_node.ensures.freed c.if-self-eq1.true
 
 pub remove_emptied-requires : goal.remove_emptied-requires
 remove_emptied-requires g c = let w = c.requires.single in
-    search (rules, leaf_asks c.requires.capacity w.5 w.3 _ (omega arith) c.free_node.new.self c.free_node.ensures.freed c.if-self-eq1.false)
+    search (rules, leaf_asks c.requires.capacity w.5 w.3 _ (omega arith) _ c.free_node.ensures.freed c.if-self-eq1.false)
 
 pub collapse_root-top-requires : goal.collapse_root-top-requires
 collapse_root-top-requires g c = let w = c.requires.single in
-    let asked = collapse_asks c.requires.capacity w.5 w.3 _ (omega arith) c.free_node.new.self c.free_node.ensures.freed c.if-self-eq1.false
-    c.remove_emptied.new.pool c.remove_emptied.ensures c.args.root w.4 in
+    let asked = collapse_asks c.requires.capacity w.5 w.3 _ (omega arith) _ c.free_node.ensures.freed c.if-self-eq1.false
+    _ c.remove_emptied.ensures c.args.root w.4 in
     search (rules, asked)
 
 pub returns-clause-removed : goal.returns-clause-removed

@@ -25,19 +25,19 @@ separator-key-requires-else-index-entries g c =
 
 pub update_next_separator-requires : goal.update_next_separator-requires
 update_next_separator-requires g c = let w = c.requires.pending in
-    search (rules, above_asks (here w _ (omega arith) c.requires.height) c.entries.result c.entries.ensures.value c.if-index-entries.false)
+    search (rules, above_asks (here w _ (omega arith) c.requires.height) _ c.entries.ensures.value c.if-index-entries.false)
 
 pub remove_child-answer-requires-else-index-entries : goal.remove_child-answer-requires-else-index-entries
 remove_child-answer-requires-else-index-entries g c = let w = c.requires.pending in
     (search rules, remove_last_asks (here w _ (omega arith) c.requires.height) _ c.entries.ensures.value c.if-index-entries.false _ _ c.update_next_separator.ensures)
 
 pub returns-then-index-entries : goal.returns-then-index-entries
-returns-then-index-entries g c = λ w. merge_same (here w _ (omega arith) c.requires.height) c.entries.result c.entries.ensures.value
-    c.if-index-entries.true c.set_separator.new.pool c.separator-key.result c.set_separator.ensures c.remove_child-answer.new.pool c.saturating_sub.result
+returns-then-index-entries g c = λ w. merge_same (here w _ (omega arith) c.requires.height) _ c.entries.ensures.value
+    c.if-index-entries.true _ _ c.set_separator.ensures _ c.saturating_sub.result
     c.saturating_sub.ensures c.separator-key.ensures c.remove_child-answer.ensures.node
 
 pub returns-else-index-entries : goal.returns-else-index-entries
-returns-else-index-entries g c = λ w. merge_next (here w _ (omega arith) c.requires.height) c.entries.result c.entries.ensures.value
-    c.if-index-entries.false c.update_next_separator.new.pool c.separator-key-else-index-entries.result
-    c.update_next_separator.ensures c.remove_child-answer-else-index-entries.new.pool c.separator-key-else-index-entries.ensures
+returns-else-index-entries g c = λ w. merge_next (here w _ (omega arith) c.requires.height) _ c.entries.ensures.value
+    c.if-index-entries.false _ c.separator-key-else-index-entries.result
+    c.update_next_separator.ensures _ c.separator-key-else-index-entries.ensures
     c.remove_child-answer-else-index-entries.ensures.node

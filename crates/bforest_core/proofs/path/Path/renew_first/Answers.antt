@@ -14,4 +14,4 @@ update_separator-requires g c = let w = c.requires.taken in
 
 pub returns : goal.returns
 returns g c = λ old tree place s h.
-    ahead s _ (omega arith) h c.if-self-gt0.false c.update_separator.new.pool c.leaf_key-key.result c.leaf_key-key.ensures c.update_separator.ensures
+    ahead s _ (omega arith) h c.if-self-gt0.false _ _ c.leaf_key-key.ensures c.update_separator.ensures
