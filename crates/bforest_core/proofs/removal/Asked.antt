@@ -1,4 +1,4 @@
--- What the calls on the nodes of a path and on the rows above a level require and ensure.
+-- What the calls on the nodes of a path and on the rows above a level require and ensure. In this folder a lemma `.._asks` has what a call requires.
 use Rattle.bforest_core.proofs.Words.{◌≡◌, ℕ, suc, ◌-◌, ◌≤◌, List, [], ◌∷◌, ◌++◌, length, drop, set, slice_get, Some, refl, sym, ◌∙◌, inl, inr, map}
 use Rattle.bforest_core.proofs.Words.{length-append, arith, Heads, remove, append-nil, length-map, map-append, eqb_tells, Inner, without_child, inner_content}
 use Rattle.bforest_core.proofs.Words.{entry_keys, entry_items, ◌+◌, ◌<◌, Option, get_or, ap, Rows, IsFree, IsUsed, entry_count, with_key, Table, with_node}
@@ -11,12 +11,12 @@ pub remove_at : {A : Type 0} → (p : List A) (y : A) (ys : List A) → remove (
 remove_at [] y ys = refl
 remove_at (z ∷ p) y ys = cc (remove_at p y ys)
 
--- and of what they are mapped to
+-- removing the image of the element between two lists
 pub remove_map : {X Y : Type 0} (f : X → Y) (l : List X) (x : X) (r : List X) → remove (map f (l ++ x ∷ r)) (length l) ≡ map f (l ++ r)
 remove_map f [] x r = refl
 remove_map f (z ∷ l) x r = cc (remove_map f l x r)
 
--- and where the next element's image was replaced by its own
+-- the same, where the next element got its image first
 remove_moved : {X Y : Type 0} (f : X → Y) (l : List X) (x y z : X) (r : List X) → f z ≡ f x → remove (set (map f (l ++ x ∷ y ∷ r)) (suc (length l)) (f x)) (length l) ≡ map f (l ++ z ∷ r)
 remove_moved f [] x y z r same = cc
 remove_moved f (w ∷ l) x y z r same = cc (remove_moved f l x y z r same)

@@ -123,7 +123,6 @@ module _ {K V : Type 0} where
     none_else : (count root (flat_map numbers root_row.init) ≡ 0) × (count root t.chain ≡ 0)
     none_else = omega (arith, rows_up.apart root, count-append, count_top root root_row.init root root_row.entries, count-same root [])
 
-    -- the root meets what counting its children requires
     pub counted_asks : NodeAt t root
     counted_asks = (inner_content root_row.entries, slot_is, λ free. free)
 
@@ -140,11 +139,9 @@ module _ {K V : Type 0} where
         child : (x : _) × (root_row.entries ≡ x ∷ [])
         child = let h = some_first root_row.entries root_row.some in (h.0, cc (nil_from_length h.1 (omega (arith, count_is, ap length h.2))))
 
-        -- the root meets what reading its child requires
         pub child_asks : ChildAt t root 0
         child_asks = (drop 1 (entry_keys root_row.entries), entry_items root_row.entries, slot_is, omega (arith, item_count root_row.entries, root_row.some))
 
-        -- the root meets what freeing it requires
         pub free_asks : IsUsed t root
         free_asks = is_used t _ _ slot_is none_else.1
 

@@ -110,7 +110,6 @@ module _ {K V : Type 0} {most : ℕ} {old now : Table K V} {root place path indi
     slot_read : slice_get now.nodes read ≡ Some left
     slot_read = cc (slot_is)
 
-    -- the leaf meets what counting its entries requires
     pub counted_asks : NodeAt now read
     counted_asks = (left, slot_read, λ free. free)
 

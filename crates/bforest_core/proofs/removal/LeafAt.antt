@@ -95,7 +95,6 @@ module _ {K V : Type 0} {most : ℕ} {t v : Table K V} {path indices size tree p
   pub named : First l.entries
   named = some_first _ l.some
 
-  -- the rows above meet what the search for the next leaf requires
   abbrev pub beside_asks : OneAbove v path indices 1 size
   beside_asks = record { rows = l.rest; before = heads l.before; x = (named.0.0, get_or path 0 0); after = heads l.after; above = headed l.before _ l.after named l.above }
 
@@ -122,7 +121,6 @@ module _ {K V : Type 0} {most : ℕ} {t v : Table K V} {path indices size tree p
     slot_left : slice_get v.nodes (get_or path 0 r) ≡ Some (leaf_content l.entries)
     slot_left = cc (get_or_default path 0 r 0 (omega arith), (row-split _ _ _ (node (get_or path 0 0) l.entries ∷ l.after) l.inside).1.0)
 
-    -- the leaf meets what counting its entries requires
     pub left_asks : NodeAt v (get_or path 0 r)
     left_asks = (leaf_content l.entries, slot_left, λ free. free)
 

@@ -74,7 +74,6 @@ module _ {K V : Type 0} {most : ℕ} {t : Table K V} {path indices size : _} (ca
     leaf_num : get_or path 0 r ≡ leaf
     leaf_num = get_or_default path 0 r 0 wide
 
-    -- the leaf meets what freeing it requires
     pub free_asks : IsUsed p leaf → IsUsed p (get_or path 0 r)
     free_asks used = rw leaf_num used
 
@@ -90,7 +89,6 @@ module _ {K V : Type 0} {most : ℕ} {t : Table K V} {path indices size : _} (ca
         pub last_leaf : LastOf (heads before)
         last_leaf = let two = two_leaves _ _ s.fit.topped (λ e. more (omega arith)) in last_of _ (omega (arith, heads_are))
 
-        -- the rows above meet what removing the leaf's entry requires
         abbrev pub leaf_asks : LastAbove v path indices 1 size
         leaf_asks = record { rows = tree.above; before = last_leaf.init; y = last_leaf.last; x = (x.0, leaf); above = above_freed v leaf before x last_leaf apart freed_is (rw (← row_is) f.above) }
 
@@ -122,7 +120,6 @@ module _ {K V : Type 0} {most : ℕ} {t : Table K V} {path indices size : _} (ca
               }
 
           module _ (root : ℕ) (root_is : root_of tree ≡ root) where
-            -- the rows above meet what discarding roots requires
             pub collapse_asks : (rows : _) × (list : _) × UpTo u size rows list root
             collapse_asks = (dropped.1.rows', heads before, up_to _ _ s untrimmed refl root_is)
 

@@ -64,7 +64,7 @@ module _ {K V : Type 0} where
     pub top_one : size ≤ up → length list ≡ 1
     top_one high = rw (nil_from_length rows (omega arith)) at a.stacked
 
-    -- and only its length matters
+    -- without a row above, only the length of the list matters
     pub above_top : (list' : _) → size ≤ up → length list' ≡ length list → Above t path indices up size rows list' p
     above_top list' high same =
         record { stacked = rw (nil_from_length rows (omega arith)) (same ∙ top_one high); inside = a.inside; stands = a.stands; height = a.height; apart = a.apart }

@@ -71,7 +71,7 @@ module _ {K V X : Type 0} {content : List (K × X) → Content K V} {half most o
   Restores new path' indices' freed =
       Restored content half most old new path' indices' level size were own list place freed × Keeps path indices path' indices' level size
 
-  -- and the path stands in it, where an entry follows
+  -- the level is rebalanced, and the path stands in it, where an entry follows
   abbrev pub Stays : Table K V → List ℕ → List ℕ → List ℕ → Type 0
   Stays new path' indices' freed = (r : Restores new path' indices' freed) × (place < length list → get_or indices' level 0 < length r.0.entries)
 
@@ -136,7 +136,6 @@ module _ {K V X : Type 0} {content : List (K × X) → Content K V} {half most o
   )
 
   module _ {w path1 indices1 : _} (j : Joined content half most mid w path indices path1 indices1 level size l.before num l.entries l.after l.rest) where
-    -- the rows above meet what removing a merged node's entry requires; level and size are as in the code
     abbrev pub merge_asks : (up' size' : ℕ) → up' ≡ suc level → size' ≡ size → TwoAbove w path1 indices1 up' size'
     merge_asks up' size' up_is size_is = record { rows = l.rest; before = heads l.before; x = (j.first.0, num); y = (j.key, j.right); after = heads j.after'; above = rw (up_is, size_is) j.above }
 

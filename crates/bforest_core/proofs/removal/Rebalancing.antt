@@ -57,7 +57,6 @@ module _ {K V : Type 0} {cap least : ℕ} {t : Table K V} {path indices up size 
   slot_read : slice_get t.nodes (get_or path up r) ≡ Some (content es)
   slot_read = cc (num_is, slot_here)
 
-  -- the node meets what counting its entries requires
   pub counted_asks : NodeAt t (get_or path up r)
   counted_asks = (content es, slot_read, s.used es)
 
@@ -97,7 +96,6 @@ module _ {K V : Type 0} {cap least : ℕ} {t : Table K V} {path indices up size 
         abbrev then : NextNode after behind.0 behind.1
         then = behind.2
 
-        -- the rows above meet what entering the next node requires
         abbrev pub past_asks : TwoAbove t path indices (suc up) size
         past_asks = record { rows = rest; before = heads before; x = (e.0, n); y = (then.f.0, behind.1); after = heads then.rest; above = above_both hm (level then) }
 
@@ -107,7 +105,6 @@ module _ {K V : Type 0} {cap least : ℕ} {t : Table K V} {path indices up size 
         past_heals path' indices' moved first kept = let entered = moved past_asks in let len = ap length named.2 in
             heals then t path' indices' (settle_move hm (level then) (omega (arith, count_read m value)) (omega (arith, count_read m value)) entered first kept)
 
-  -- the rows above meet what the call for the right neighbour requires
   abbrev pub beside_asks : OneAbove t path indices (up + 1) size
   beside_asks = record { rows = rest; before = heads before; x = (e.0, n); after = heads after; above = rw add-one (headed before n after named p.above) }
 
@@ -129,7 +126,6 @@ module _ {K V : Type 0} {cap least : ℕ} {t : Table K V} {path indices up size 
     slots : (slice_get t.nodes n ≡ Some (content (e ∷ others))) × (slice_get t.nodes q ≡ Some (content (d.f ∷ d.fs)))
     slots = let both = (row-split _ _ _ (node n (e ∷ others) ∷ node q (d.f ∷ d.fs) ∷ d.rest) (level d).inside).1 in (both.0, both.1.0)
 
-    -- the two nodes meet what balancing requires
     pub balance_asks : IsUsed t (get_or path up r) × (IsUsed t q × ((get_or path up r ≢ q) × IsUnderflowedAt cap t.nodes (get_or path up r) q))
     balance_asks = let ce = s.count_is (e ∷ others) in let cf = s.count_is (d.f ∷ d.fs) in
         let both : IsUnderflowedAt cap t.nodes n q = record {
@@ -153,7 +149,6 @@ module _ {K V : Type 0} {cap least : ℕ} {t : Table K V} {path indices up size 
         pub spread : Spread content t u most n q (e ∷ others) (d.f ∷ d.fs) key
         spread = spread_at _ t u n q e _ _ _ s (apart hm (level d)).0 (omega (arith, hm.hi, hm.two)) slots.0 slots.1 (balanced_as _ got_is)
 
-        -- the rows above meet what updating the key requires
         abbrev pub rekey_asks : TwoAbove u path indices (up + 1) size
         rekey_asks = record { rows = rest; before = heads before; x = (e.0, n); y = (d.f.0, q); after = heads d.rest; above = rw add-one (above_two_put hm (level d) spread.two) }
 
@@ -166,7 +161,6 @@ module _ {K V : Type 0} {cap least : ℕ} {t : Table K V} {path indices up size 
         all_right : AllRight content t u most n q (e ∷ others) (d.f ∷ d.fs)
         all_right = all_right_at _ t u n q e _ _ _ s (apart hm (level d)).0 (omega (arith, hm.hi, hm.two)) slots.0 slots.1 (balanced_as None got_is)
 
-        -- the left node meets what freeing it requires
         pub free_asks : IsUsed u (get_or path up r)
         free_asks = rw num_is (is_used u n _ all_right.two.here (cc (none_here)))
 

@@ -120,7 +120,6 @@ module _ {K V : Type 0} where
         pub front : LastOf (heads before)
         front = last_of _ (some_heads before (omega (arith, ap length a_front, length-append a (y ∷ []))))
 
-        -- the rows above meet what the call one level up requires
         abbrev pub last_asks : LastAbove v path indices (up + 1) size
         last_asks = record { rows = rest; before = front.init; y = front.last; x = (x.0, num); above = rw add-one (above_freed v num before x front (rw l_none at whole.apart) v_is (rw (l_none, ends.0, ends.1) at (rows_above d))) }
 

@@ -57,7 +57,6 @@ module _ {K V : Type 0} where
         pub next : (y : _) × (others : _) × (l ++ r ≡ y ∷ others)
         next = some_first _ more
 
-        -- the rows above meet what writing the new first key requires
         abbrev pub above_asks : OneAbove u path indices 1 size
         above_asks = record { rows = tree.above; before = heads before; x = (x.0, n); after = heads after; above = above_then x.0 (λ rs. ap (λ z. head_of n (z ++ x ∷ rs)) (nil_from_length l (omega (arith, first, d.index_is)))) }
 
@@ -72,7 +71,6 @@ module _ {K V : Type 0} where
       slot : slice_get t.nodes read ≡ Some (leaf_content es)
       slot = cc (num_is, d.slot_is)
 
-      -- the leaf meets what counting its entries requires
       pub counted_asks : NodeAt t read
       counted_asks = (leaf_content es, slot, λ free. free)
 
@@ -91,7 +89,6 @@ module _ {K V : Type 0} where
         pub others : m ≢ 1 → (y z : K × V) × (rest : List (K × V)) × (slice_get t.nodes n ≡ Some (leaf_content (y ∷ z ∷ rest)))
         others more = let f = some_entry in let k = some_first f.1 (omega (arith, more, count_is, ap length f.2)) in (f.0, k.0, k.1, cc (d.slot_is))
 
-      -- the leaf meets what removing the entry requires
       pub out_asks : IsUsed t read × LeafKeyAt t read (get_or indices 0 0)
       out_asks = (rw num_is leaf_used, (entry_keys es, entry_items es, slot, omega (arith, keys_count es, d.index_is, length-append l (x ∷ r))))
 
@@ -105,7 +102,6 @@ module _ {K V : Type 0} where
         slot_then : slice_get u.nodes read ≡ Some (leaf_content ((next h first).0 ∷ (next h first).1))
         slot_then = cc ((w h).here, num_is, (next h first).2)
 
-        -- the leaf meets what reading its new first key requires
         pub first_asks : LeafKeyAt u read 0
         first_asks = let f = next h first in (entry_keys (f.0 ∷ f.1), entry_items (f.0 ∷ f.1), slot_then, omega arith)
 
