@@ -146,9 +146,6 @@ module _ {K V : Type 0} where
         free_asks = is_used t _ _ slot_is none_else.1
 
         module _ (only : ℕ) (reads : ReadsChild t root 0 only) (v : Table K V) (freed : v ≡ with_freed t root) where
-          only_is : child.0.1 ≡ only
-          only_is = some_same (ap (λ z. slice_get (entry_items z) 0) (sym child.1) ∙ reads (drop 1 (entry_keys root_row.entries)) (entry_items root_row.entries) slot_is)
-
           below : Stacked list root_row.init × (root_above list root_row.init ≡ child.0.1)
           below = below-root list root_row.init root child.0 (rw (← child.1) rows_up.stacked)
 
@@ -158,7 +155,7 @@ module _ {K V : Type 0} where
             stacked = below.0;
             inside = rows-same _ _ _ (λ m some. freed_other t v root freed m (ne_from_count m _ _ some none_else.0)) inside.0;
             height = omega (arith, simp length-append at rows_up.height);
-            root_is = below.1 ∙ only_is;
+            root_is = below.1 ∙ some_same (ap (λ z. slice_get (entry_items z) 0) (sym child.1) ∙ reads (drop 1 (entry_keys root_row.entries)) (entry_items root_row.entries) slot_is);
             apart = λ m. omega (arith, rows_up.apart m, count_top m root_row.init root root_row.entries, ap (λ z. count m z.chain) freed, count-append);
           }
 

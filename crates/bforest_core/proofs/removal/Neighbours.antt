@@ -1,6 +1,6 @@
 -- The right neighbour of a node, under the same parent or another: the answers of `right_sibling`, and the move of a path there.
 use Rattle.bforest_core.proofs.Words.{◌≡◌, ℕ, suc, ◌-◌, ◌≤◌, List, [], ◌∷◌, ◌++◌, length, drop, slice_get, Some, refl, sym, ◌∙◌, append_assoc, length-append}
-use Rattle.bforest_core.proofs.Words.{arith, Heads, inner_content, entry_keys, entry_items, ◌+◌, ◌<◌, Option, get_or, ap, Rows, Table, Above, NextIs, OneAbove}
+use Rattle.bforest_core.proofs.Words.{arith, Heads, inner_content, entry_keys, entry_items, ◌+◌, ◌<◌, Option, get_or, ap, Table, Above, NextIs, OneAbove}
 use Rattle.bforest_core.proofs.Words.{subst, node, flat, heads, RowIn, add-one, nil_from_length, ◌≢◌, true, false, map, None, Bool, Over, Moved}
 use Rattle.bforest_core.proofs.removal.{Asked.{Beside, ChildAt, Counts, ReadsChild, ReadsKey, Seen, no_nodes, seen, some_first}, Lifted.{NextNode, headed}}
 use Rattle.bforest_core.proofs.{removal.Lifted.{next_of, rows_above}, table.{Stored.{slice_get_at, some_same, item_count}, Tables.row-split}, rows.Zipper.Spot}
@@ -14,6 +14,11 @@ second_key : {K : Type 0} (l : Heads K) (x y : K × ℕ) (r : Heads K) → slice
 second_key [] x y r = refl
 second_key (z ∷ l) x y r = second _ l x y r
 
+-- where there is a next node, a step moves
+pub must_move : {K : Type 0} (a : Heads K) (x y : K × ℕ) (b : Heads K) (moved : Bool) → (moved ≡ false → suc (length a) ≡ length (a ++ x ∷ y ∷ b)) → moved ≡ true
+must_move a x y b true last = refl
+must_move a x y b false last = absurd (omega (arith, last refl, length-append a (x ∷ y ∷ b)))
+
 module _ {K V : Type 0} where
   -- the rows one level up, as a call there requires them
   abbrev pub up_asks : {t : Table K V} {path indices up size rows a x b : _} → Spot t path indices up size rows a x b → OneAbove t path indices (up + 1) size
@@ -23,12 +28,6 @@ module _ {K V : Type 0} where
   -- the rows above a level, as a step on it requires them
   pub over-above : {t : Table K V} {path indices level size rows list place : _} → Above t path indices level size rows list place → Over t.nodes path indices level size rows list place
   over-above p = record { stacked = p.stacked; inside = p.inside; stands = p.stands; height = p.height }
-
-  -- where there is a next node, a step moves
-  pub must_move : (t : Table K V) (path indices : List ℕ) (level size : ℕ) (rows : Rows K) (a : Heads K) (x y : K × ℕ) (b : Heads K) (moved : Bool) →
-      (moved ≡ false → suc (length a) ≡ length (a ++ x ∷ y ∷ b)) → moved ≡ true
-  must_move t path indices level size rows a x y b true last = refl
-  must_move t path indices level size rows a x y b false last = absurd (omega (arith, last refl, length-append a (x ∷ y ∷ b)))
 
   -- the rows after a step, with another index below them
   pub entered_next : {t : Table K V} {path indices path' indices' : _} (indices2 : _) {level size rows : _} (a x y b : _) → Above t path indices (suc level) size rows (a ++ x ∷ y ∷ b) (length a) →

@@ -12,7 +12,7 @@ both_back P a c b d e f w = rw (e, f) w
 
 -- a level that lost an entry is one of the path's
 pub loses_low : {K V : Type 0} {cap least : ℕ} {t : Table K V} {path indices : List ℕ} {up size : ℕ} → Loses cap least t path indices up size → up < size
-loses_low w = let p = w.on.above in omega arith
+loses_low w = omega (arith, w.on.above.height)
 
 module _ {K V : Type 0} {cap least : ℕ} {t : Table K V} {path indices up size : _} (w : Loses cap least t path indices up size) (r : ℕ) (wide : length path ≡ 17) (height : size ≤ 17) where
   abbrev X : Type 0

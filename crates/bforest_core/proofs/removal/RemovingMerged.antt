@@ -139,8 +139,7 @@ module _ {K V : Type 0} where
 
           pub next_parent : Renamed v key
           next_parent =
-              let flats = append_assoc l (x ∷ r) (flat (others key)) ∙ ap (λ z. l ++ x ∷ (z ++ flat (others key))) o.r_is ∙ ap (λ z. l ++ x ∷ (key, y.1) ∷ z) (sym o.b_is) in
-              lifted_above d _ _ (x ∷ (key, y.1) ∷ b) refl (across_other key _ _ flats (ap (λ z. head_of (n d) (z ++ x ∷ r)) o.l_is)) (rw o.after_is at f.fit) (across_in key) rebuilt
+              lifted_above d _ _ (x ∷ (key, y.1) ∷ b) refl (across_other key _ _ (append_assoc l (x ∷ r) (flat (others key)) ∙ ap (λ z. l ++ x ∷ (z ++ flat (others key))) o.r_is ∙ ap (λ z. l ++ x ∷ (key, y.1) ∷ z) (sym o.b_is)) (ap (λ z. head_of (n d) (z ++ x ∷ r)) o.l_is)) (rw o.after_is at f.fit) (across_in key) rebuilt
 
           slot_then : slice_get v.nodes (n d) ≡ Some (inner_content (old d))
           slot_then = rebuilt.frees.others (n d) f.none_rest ∙ f.slot_is

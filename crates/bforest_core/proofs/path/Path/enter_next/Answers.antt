@@ -11,8 +11,8 @@ next_node-moved-requires g c = let w = c.requires.pending in
 moved : (g : Over) (c : goal.After-way_told-1 g) (w : TwoAbove c.args.pool.now c.args.self.now.node c.args.self.now.entry (suc c.args.level) c.args.self.now.size) →
     Moved c.args.self.now.node c.args.self.now.entry c.next_node-moved.new.self.node c.next_node-moved.new.self.entry
     c.args.level w.rows (w.before ++ w.x ∷ w.y ∷ w.after) (suc (length w.before))
-moved g c w = let s0 = c.args.self.now in let o = over-above w.above in let list = w.before ++ w.x ∷ w.y ∷ w.after in
-    let yes = must_move c.args.pool.now s0.node s0.entry (suc c.args.level) s0.size w.rows w.before w.x w.y w.after c.next_node-moved.result (λ no. c.next_node-moved.ensures.last no w.rows list (length w.before) o) in
+moved g c w = let o = over-above w.above in let list = w.before ++ w.x ∷ w.y ∷ w.after in
+    let yes = must_move w.before w.x w.y w.after c.next_node-moved.result (λ no. c.next_node-moved.ensures.last no w.rows list (length w.before) o) in
     c.next_node-moved.ensures.moved yes w.rows list (length w.before) o
 
 pub returns : goal.returns
