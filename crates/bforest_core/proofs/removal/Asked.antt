@@ -148,7 +148,7 @@ module _ {K V : Type 0} where
   pub seen : {t path indices up size rows : _} (a x : _) (b : _) → Above t path indices up size rows (a ++ x ∷ b) (length a) → up < size → (r : ℕ) → length path
       ≡ 17 → size ≤ 17 → Seen t path indices up size rows a x b r
   seen {t} {path} {up} a x b p low r wide height =
-      let d = spot a x b p low in let es = d.q.l ++ x ∷ d.q.r in let num_is = get_or_default path up r 0 (omega arith) in
+      let d = spot _ _ _ p low in let es = d.q.l ++ x ∷ d.q.r in let num_is = get_or_default path up r 0 (omega arith) in
       let slot = ap (λ z. slice_get t.nodes z) num_is ∙ d.f.slot_is in let none = ap (λ z. count z t.chain) num_is ∙ d.f.none_chain in
       let counted : (m : ℕ) → Counts t (get_or path up r) m → m ≡ length es = λ m value. value (inner_content es) slot ∙ item_count es in
       record {
@@ -156,7 +156,7 @@ module _ {K V : Type 0} where
         num_is = num_is;
         slot_is = slot;
         none_chain = none;
-        used = is_used t (get_or path up r) (inner_content es) slot none;
+        used = is_used _ (get_or path up r) (inner_content es) slot none;
         node_asks = (inner_content es, slot, λ free. free);
         child_asks = (drop 1 (entry_keys es), entry_items es, slot, omega (arith, item_count es, d.count_is));
         counted = counted;

@@ -54,8 +54,8 @@ module _ {K V X : Type 0} (content : List (K × X) → Content K V) where
 
   -- two writes in sequence write two slots
   puts_two : (t u : Table K V) (n q c d old_n old_q : _) → slice_get t.nodes n ≡ Some old_n → slice_get t.nodes q ≡ Some old_q → n ≢ q → u ≡ with_node (with_node t n c) q d → PutsTwo t u n q c d
-  puts_two t u n q c d old_n old_q fn fq ne is = let v = with_node t n c in let own = n ∷ q ∷ [] in let one = puts t v n c old_n fn refl in
-      let two = puts v u q d old_q (one.same q (λ e. ne (sym e)) ∙ fq) is in
+  puts_two t u n q c d old_n old_q fn fq ne is = let v = with_node t n c in let own = n ∷ q ∷ [] in let one = puts _ _ _ c old_n fn refl in
+      let two = puts _ _ _ d old_q (one.same q (λ e. ne (sym e)) ∙ fq) is in
       record {
         here = two.same n ne ∙ one.here;
         there = two.here;
@@ -97,7 +97,7 @@ module _ {K V X : Type 0} (content : List (K × X) → Content K V) where
         elim (cases_lt most (length (e ∷ es) + length (f ∷ fs))) [
           | inl more ↦ absurd (let w = bal.shares (omega (arith, more)) in let g = w.1 in cc)
           | inr less ↦ (let w = bal.merges (omega arith) in
-              record { fits = less; left_content = b.new_left; two = puts_two t u n q _ _ _ _ fn fq ne (cc (s.joins e es f fs)) })
+              record { fits = less; left_content = b.new_left; two = puts_two _ _ _ _ _ _ _ _ fn fq ne (cc (s.joins e es f fs)) })
         ]
 
     -- where not everything fits, balancing shares the entries
@@ -125,6 +125,6 @@ module _ {K V X : Type 0} (content : List (K × X) → Content K V) where
                 left_is = left;
                 right_is = omega (arith, ap length whole, length-append (h.0 ∷ h.1) (c.x ∷ c.r));
                 key_is = some_same w.1 ∙ p.key_is;
-                two = puts_two t u n q _ _ _ _ fn fq ne cc;
+                two = puts_two _ _ _ _ _ _ _ _ fn fq ne cc;
               })
         ]

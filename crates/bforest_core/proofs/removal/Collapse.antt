@@ -72,7 +72,7 @@ module _ {K : Type 0} where
   stands-below path indices level list [] gone place low s st = omega arith
   stands-below path indices level list (row ∷ rows) gone place low s st = let at = st.0 in let full = fit_full 4 8 (omega arith) row s.1 in
       let within : length at.before < length (heads row) = omega (arith, ap length at.row_is, length-append at.before (node (get_or path level 0) at.entries ∷ at.after)) in
-      (at, stands-below path indices (suc level) (heads row) rows gone (length at.before) within s.2 st.1)
+      (at, stands-below _ _ (suc level) (heads row) rows gone (length at.before) within s.2 st.1)
 
 -- how often a number occurs in rows with a row of one node on top
 pub count_top : {K : Type 0} (m : ℕ) (init : Rows K) (root : ℕ) (es : Heads K) → count m (flat_map numbers (init ++ (node root es ∷ []) ∷ [])) ≡ count m (flat_map numbers init) + count m (root ∷ [])
@@ -143,7 +143,7 @@ module _ {K V : Type 0} where
         child_asks = (drop 1 (entry_keys root_row.entries), entry_items root_row.entries, slot_is, omega (arith, item_count root_row.entries, root_row.some))
 
         pub free_asks : IsUsed t root
-        free_asks = is_used t _ _ slot_is none_else.1
+        free_asks = is_used _ _ _ slot_is none_else.1
 
         module _ (only : ℕ) (reads : ReadsChild t root 0 only) (v : Table K V) (freed : v ≡ with_freed t root) where
           below : Stacked list root_row.init × (root_above list root_row.init ≡ child.0.1)
@@ -153,7 +153,7 @@ module _ {K V : Type 0} where
           pub trim_down : UpTo v (size - 1) root_row.init list only
           trim_down = record {
             stacked = below.0;
-            inside = rows-same _ _ _ (λ m some. freed_other t v root freed m (ne_from_count m _ _ some none_else.0)) inside.0;
+            inside = rows-same _ _ _ (λ m some. freed_other _ _ _ freed m (ne_from_count _ _ _ some none_else.0)) inside.0;
             height = omega (arith, simp length-append at rows_up.height);
             root_is = below.1 ∙ some_same (ap (λ z. slice_get (entry_items z) 0) (sym child.1) ∙ reads (drop 1 (entry_keys root_row.entries)) (entry_items root_row.entries) slot_is);
             apart = λ m. omega (arith, rows_up.apart m, count_top m root_row.init root root_row.entries, ap (λ z. count m z.chain) freed, count-append);
@@ -177,5 +177,5 @@ module _ {K V : Type 0} where
                 root_is = r.root_is;
                 same_root = λ same. absurd (omega arith);
                 old_root = λ ne. omega (arith, count-append, count-same root []);
-                frees = frees-first t _ _ _ slot_is freed (omega (arith, c root, count-same root [])) (omega (arith, none_else.0, count-append)) (λ m none. omega (arith, c m)) r.frees;
+                frees = frees-first _ _ _ _ slot_is freed (omega (arith, c root, count-same root [])) (omega (arith, none_else.0, count-append)) (λ m none. omega (arith, c m)) r.frees;
               }

@@ -49,7 +49,7 @@ module _ {K V : Type 0} where
   -- freeing one used slot frees just it
   pub frees-one : (t v : Table K V) (n old own : _) → slice_get t.nodes n ≡ Some old → v ≡ with_freed t n → 0 < count n own → Frees t v own (n ∷ [])
   frees-one t v n old own found is some = record {
-    others = λ m z. freed_other t v n is m (λ e. let h = ap (λ w. count w own) e in omega arith);
+    others = λ m z. freed_other _ _ _ is m (λ e. let h = ap (λ w. count w own) e in omega arith);
     freed_are = (rw is (freed-slot t n (slice_get_within _ n _ found)), tt);
     chain_is = cc;
     slots_are = cc (length-set t.nodes n (Free (front_of t.chain)));
@@ -61,4 +61,4 @@ module _ {K V : Type 0} where
   pub frees-first : (t : Table K V) {v u : Table K V} (n : ℕ) (old : Content K V) (own : _) {wide freed : _} → slice_get t.nodes n ≡ Some old → v ≡ with_freed t n → 0 < count n own → count n wide ≡ 0 →
       ((m : ℕ) → count m own ≡ 0 → count m wide ≡ 0) → Frees v u wide freed → Frees t u own (freed ++ n ∷ [])
   frees-first t {v} n old own {wide} found is some none less q =
-      frees-then less (λ m here. only_here m n wide here none) (frees-one t v n old own found is some) q
+      frees-then less (λ m here. only_here m n wide here none) (frees-one _ _ _ _ own found is some) q

@@ -89,7 +89,7 @@ module _ {K V : Type 0} {most : ℕ} {old now : Table K V} {root place path indi
   d = leaf_at stood_in
 
   within : get_or indices 0 0 < length es
-  within = omega (arith, d.index_is, length-append d.l (d.x ∷ d.r), leaf_count es (d.l ++ d.x ∷ d.r) (slice_get old.nodes leaf) e.leaf.slot_was d.slot_is)
+  within = omega (arith, d.index_is, length-append d.l (d.x ∷ d.r), leaf_count _ (d.l ++ d.x ∷ d.r) (slice_get old.nodes leaf) e.leaf.slot_was d.slot_is)
 
   slot_is : slice_get now.nodes leaf ≡ Some left
   slot_is = (puts _ _ _ _ _ e.leaf.slot_was e.leaf.new_is).here

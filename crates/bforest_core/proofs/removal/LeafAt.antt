@@ -63,7 +63,7 @@ module _ {K V : Type 0} where
       let len : length old ≡ suc (length es) = simp length-append (omega arith) in
       let c0 = λ (m : ℕ). ap (λ z. count m (numbers z)) d.leaves_are in let c1 = λ (m : ℕ). counts m d.before n old d.after tree.above t.chain in
       let c2 = λ (m : ℕ). counts m d.before n es d.after b.rows' v.chain in let c7 = λ (m : ℕ). ap (λ z. count m z) (b.frees.chain_is ∙ w.chain_is) in
-      let in_u = row-put _ _ _ _ n _ _ d.after d.inside w.same w.here d.none in
+      let in_u = row-put _ _ _ _ _ _ _ _ d.inside w.same w.here d.none in
       record {
         loss = record {
           before = d.before;
@@ -71,7 +71,7 @@ module _ {K V : Type 0} where
           after = d.after;
           rest = b.rows';
           on_level = record {
-            inside = row-same leaf_content u.nodes v.nodes row2 (λ m some. b.frees.others m (omega (arith, d.apart m, c1 m, c2 m))) in_u;
+            inside = row-same _ _ _ _ (λ m some. b.frees.others m (omega (arith, d.apart m, c1 m, c2 m))) in_u;
             solid = d.solid;
             fits = d.fits.2;
             some = more;
@@ -84,7 +84,7 @@ module _ {K V : Type 0} where
           };
           list_is = sym (cc (remove_flat d.before n d.l d.x d.r d.after));
           place_is = omega arith;
-          was = λ fs slot. leaf_count fs old (slice_get t.nodes n) slot d.slot_is ∙ len;
+          was = λ fs slot. leaf_count _ _ (slice_get t.nodes n) slot d.slot_is ∙ len;
           sizes_were = cc (sizes-append d.before (node n old ∷ d.after));
           numbers_are = λ m. omega (arith, c0 m, c1 m, c2 m, count-append, b.numbers_are m);
           frees = frees-after (λ m none. omega (arith, none, count-append)) (frees-puts (numbers_of tree) (omega (arith, c0 n, c1 n, count-append, count-same n (numbers d.after))) w) b.frees;

@@ -66,7 +66,7 @@ module _ {K V : Type 0} {most : ℕ} {t : Table K V} {path indices size : _} (ca
         freed = leaf ∷ [];
         freed_is = nums;
         one = refl;
-        frees = frees-one t v leaf _ _ f.slot_is freed_is (omega (arith, nums leaf, count-same leaf []));
+        frees = frees-one _ _ _ _ _ f.slot_is freed_is (omega (arith, nums leaf, count-same leaf []));
       }
 
   -- the leaf as the code reads it
@@ -102,21 +102,21 @@ module _ {K V : Type 0} {most : ℕ} {t : Table K V} {path indices size : _} (ca
               let said = dropped.1 in let hs = last_leaf.is in let full = Solid-full (half_of most) most f.half before f.solid in
               let len : suc (length last_leaf.init) ≡ length before = omega (arith, ap length hs, length-append last_leaf.init (last_leaf.last ∷ [])) in
               let first : place ≡ length (flat before) + 0 = omega (arith, place_is) in
-              let in_v = row-same _ _ _ _ (λ m some. freed_other t v leaf freed_is m (ne_from_count m leaf (numbers before) some (omega (arith, f.none)))) (row-split _ _ _ _ f.inside).0 in
+              let in_v = row-same _ _ _ _ (λ m some. freed_other _ _ _ freed_is m (ne_from_count _ _ (numbers before) some (omega (arith, f.none)))) (row-split _ _ _ _ f.inside).0 in
               let c = λ (m : ℕ). ap (λ z. count m (numbers z)) leaves_are in let c1 = λ (m : ℕ). counts m before leaf (x ∷ []) [] tree.above t.chain in
               record {
                 flat_is = sym (cc (leaves_are, place_is, remove_flat before leaf [] x [] [], flat-append before (node leaf [] ∷ []), append-nil (flat before)));
                 sizes_are = cc (append-nil (sizes before), loss_level most before 0 0 place [] (map sizes tree.above) (sizes_of tree) (cc (leaves_are, sizes-append before (node leaf (x ∷ []) ∷ []))) (omega arith) (omega (arith, place_is)));
                 half = f.half;
                 leaves_fit = fit_solid (half_of most) most f.half before f.solid;
-                leaves_in = row-same leaf_content v.nodes u.nodes before (λ m some. said.frees.others m (omega (arith, apart m, c1 m))) in_v;
+                leaves_in = row-same _ _ _ _ (λ m some. said.frees.others m (omega (arith, apart m, c1 m))) in_v;
                 some = omega (arith, heads-flat before);
                 stacked = rw hs said.stacked;
                 rows_in = said.inside;
                 height = said.height;
                 numbers_are = λ m. omega (arith, c m, c1 m, count-append, said.numbers_are m);
                 root_is = cc (root-stands s.fit s.stands);
-                frees = frees-first t leaf _ _ f.slot_is freed_is (omega (arith, c leaf, c1 leaf, count-append, count-same leaf [])) f.none_rows (λ m none. omega (arith, none, count-append)) said.frees;
+                frees = frees-first _ _ _ _ f.slot_is freed_is (omega (arith, c leaf, c1 leaf, count-append, count-same leaf [])) f.none_rows (λ m none. omega (arith, none, count-append)) said.frees;
               }
 
           module _ (root : ℕ) (root_is : root_of tree ≡ root) where

@@ -76,7 +76,7 @@ module _ {K V : Type 0} where
   -- the rows above, after a write to a slot that is not theirs
   pub above_written : {t u : Table K V} {n c path indices up size rows list p : _} → Puts t u n c → count n (flat_map numbers rows) ≡ 0 → Above t path indices up size rows list p → Above u path indices up size rows list p
   above_written {u} {n} w none a =
-      above_same a u (λ m some. w.same m (ne_from_count m n _ some none)) (λ m. omega (arith, a.apart m, ap (λ z. count m z) w.chain_is, count-append))
+      above_same a u (λ m some. w.same m (ne_from_count _ _ _ some none)) (λ m. omega (arith, a.apart m, ap (λ z. count m z) w.chain_is, count-append))
 
   module _ {t : Table K V} {path indices up size rows a x b : _} (d : Spot t path indices up size rows a x b) where
     open d use {f, whole, q.{before, l, r, after, rest}}
@@ -117,7 +117,7 @@ module _ {K V : Type 0} where
           above = record {
             stacked = (flat_at _ _ _ o.2, FitRow-join 4 8 before (node n es) ns f.solid fits, rw (← o.3) above.above.stacked);
             inside = (inside, above.above.inside);
-            stands = stands_here _ _ _ _ _ n _ _ _ _ _ f.solid refl refl refl (omega arith) place_at above.above.stands;
+            stands = stands_here _ _ _ _ _ _ _ _ _ _ _ f.solid refl refl refl (omega arith) place_at above.above.stands;
             height = omega arith;
             apart = λ m. omega (arith, whole.apart m, above.numbers_are m, c m, c2 m, c3 m, c4 m);
           };
@@ -140,10 +140,10 @@ module _ {K V : Type 0} where
     -- the row after a write of the key before an entry of the node
     pub renamed : (u : Table K V) (p y s e key hs : _) → old ≡ p ++ y ∷ s → suc e ≡ length p → u ≡ with_node t n (with_key (inner_content old) e key) →
         (p ++ (key, y.1) ∷ s) ++ flat after ≡ l ++ hs → Rekeyed t u path indices up size rows (a ++ hs) (length a)
-    renamed u p y s e key hs es_is p_is u_is flat_is = let es = p ++ (key, y.1) ∷ s in let w = puts t u n _ _ f.slot_is (cc (with_key_is p y s e key p_is)) in
+    renamed u p y s e key hs es_is p_is u_is flat_is = let es = p ++ (key, y.1) ∷ s in let w = puts _ _ _ _ _ f.slot_is (cc (with_key_is p y s e key p_is)) in
         let len : length es ≡ length old = rw es_is (simp length-append) in
         lifted es after hs len (refl, refl, flat_is, heads-put before n old es after (rw (es_is, (some_first p (omega arith)).2))) (omega arith, omega arith, f.fit.2)
-        (row-put inner_content t.nodes u.nodes before n old es after f.inside w.same w.here f.none)
+        (row-put _ _ _ _ _ _ _ _ f.inside w.same w.here f.none)
         (frees-puts _ (let c = counts n before n old after rest t.chain in omega (arith, count-same n (numbers after))) w)
         (rebuilt_same (above_written w f.none_rest rows_above))
 
@@ -151,14 +151,14 @@ module _ {K V : Type 0} where
       -- updating the key where it is a separator in the path's parent
       pub rekey_parent : 0 < get_or indices up 0 → u ≡ with_node t n (with_key (inner_content old) (get_or indices up 0 - 1) key) →
           Rekeyed t u path indices up size rows (a ++ (key, x.1) ∷ b) (length a)
-      rekey_parent some u_is = renamed u _ x _ _ _ _ refl (omega (arith, d.q.entry_is)) u_is (cc (append_assoc _ _ _))
+      rekey_parent some u_is = renamed _ _ _ _ _ _ _ refl (omega (arith, d.q.entry_is)) u_is (cc (append_assoc _ _ _))
 
       -- updating the key where it is the parent's first, in the rows above
       pub rekey_first : get_or indices up 0 ≤ 0 → Rekeyed t u path indices (suc up) size rest (heads before ++ (key, n) ∷ heads after) (length (heads before)) → Rekeyed t u path indices up size rows (a ++ (key, x.1) ∷ b) (length a)
       rekey_first none above = let l_is = nil_from_length l (omega (arith, d.q.entry_is)) in let s = row-split _ _ _ _ f.inside in
           lifted_above ((key, x.1) ∷ r) after ((key, x.1) ∷ b) (ap (λ z. length (z ++ x ∷ r)) (sym l_is))
           (refl, refl, cc (d.q.b_is, l_is), sym (heads-append before (node n ((key, x.1) ∷ r) ∷ after))) (rw l_is at f.fit)
-          (row-join inner_content t.nodes before (node n ((key, x.1) ∷ r) ∷ after) s.0 (rw l_is at s.1)) above
+          (row-join _ _ _ (node n ((key, x.1) ∷ r) ∷ after) s.0 (rw l_is at s.1)) above
 
 -- the next node has the same parent
 pub next_in : {K : Type 0} (l : Heads K) (x : K × ℕ) (r : Heads K) (e : ℕ) (y : K × ℕ) (b more : Heads K) → y ∷ b ≡ r ++ more → length l ≡ e → e + 1 < length (l ++ x ∷ r) → (ys : Heads K) × (r ≡ y ∷ ys) × (b ≡ ys ++ more)

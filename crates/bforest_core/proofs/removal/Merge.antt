@@ -99,7 +99,7 @@ module _ {K V X : Type 0} {content : List (K × X) → Content K V} {half most o
       rows = l.rest;
       row_is = refl;
       list_is = l.list_is;
-      fit = FitRow-join half most l.before (node num l.entries) l.after l.on_level.solid (stays.0, l.on_level.most_is, l.on_level.fits);
+      fit = FitRow-join _ _ _ (node num l.entries) l.after l.on_level.solid (stays.0, l.on_level.most_is, l.on_level.fits);
       inside = l.on_level.inside;
       above = l.on_level.above;
       sizes_are = cc (rw stays.1 at lost_is, sizes-append _ _);

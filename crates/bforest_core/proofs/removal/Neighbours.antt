@@ -45,7 +45,7 @@ module _ {K V : Type 0} where
 
     -- the parent of the node
     pub one_seen : (i : ℕ) → length path ≡ 17 → size ≤ 17 → Seen t path indices up size w.rows w.before w.x w.after i
-    one_seen i wide height = seen w.before w.x w.after w.above is_low i wide height
+    one_seen i wide height = seen _ w.x w.after w.above is_low i wide height
 
   module _ {t : Table K V} {path indices up size rows a x b i : _} (s : Seen t path indices up size rows a x b i) where
     open s use {d, d.q.{before, l, r, after}}

@@ -37,7 +37,7 @@ module _ {K V X : Type 0} {content : List (K × X) → Content K V} {half most :
           rest' = rest;
           stays = cc (stays.1);
           inside = rw same p.inside;
-          fit = rw same (FitRow-join half most before (node n es) after p.solid (stays.0, p.most_is, p.fits));
+          fit = rw same (FitRow-join _ _ _ (node n es) after p.solid (stays.0, p.most_is, p.fits));
           list_is = cc;
           above = above;
           number_is = m_is;
@@ -104,7 +104,7 @@ module _ {K V X : Type 0} {content : List (K × X) → Content K V} {half most :
           let x_is : e ≡ s.x = (let w = s.whole in cc) in let lo : half ≤ suc (length s.xs) = omega arith in let hi : suc (length s.xs) ≤ most = omega arith in
           let hi_q : suc (length s.ys) ≤ most = omega arith in let c = λ (m : ℕ). counts m before n (e ∷ es) (node q (f ∷ fs) ∷ after) rest t.chain in
           let c2 = λ (m : ℕ). count-row m before n (s.x ∷ s.xs) (node q (s.y ∷ s.ys) ∷ after) in
-          let in_u = row-put_two _ _ _ _ n q _ _ _ _ after p.inside s.two.same s.two.here s.two.there apart.1 apart.2 in
+          let in_u = row-put_two _ _ _ _ _ _ _ _ _ _ after p.inside s.two.same s.two.here s.two.there apart.1 apart.2 in
           let hs : heads before ++ (e.0, n) ∷ (key, q) ∷ heads after ≡ heads row2 = cc (heads-append _ _) in
           record {
             before' = before;
@@ -113,8 +113,8 @@ module _ {K V X : Type 0} {content : List (K × X) → Content K V} {half most :
             after' = node q (s.y ∷ s.ys) ∷ after;
             rest' = b.rows';
             stays = rw outcome;
-            inside = row-same content u.nodes v.nodes row2 (λ m some. b.frees.others m (omega (arith, p.apart m, c m, c2 m))) in_u;
-            fit = FitRow-join half most before (node n (s.x ∷ s.xs)) (node q (s.y ∷ s.ys) ∷ after) p.solid (lo, hi, (omega (arith, least-le half (omega (arith, hm.two)) after), hi_q, fit_q.2));
+            inside = row-same _ _ _ _ (λ m some. b.frees.others m (omega (arith, p.apart m, c m, c2 m))) in_u;
+            fit = FitRow-join _ _ _ (node n (s.x ∷ s.xs)) (node q (s.y ∷ s.ys) ∷ after) p.solid (lo, hi, (omega (arith, least-le half (omega (arith, hm.two)) after), hi_q, fit_q.2));
             list_is = simp flat-append (cc (append_assoc _ _ _, append_assoc _ _ _));
             above = rw (← hs) b.above;
             number_is = p.number_is;
@@ -134,9 +134,9 @@ module _ {K V X : Type 0} {content : List (K × X) → Content K V} {half most :
           let both : List (K × X) = (e ∷ es) ++ f ∷ fs in
           let few = lt-ltb (2 * suc (length es)) most (omega arith) in let fits = le-leb (suc (length es) + suc (length fs)) most s.fits in
           let len = length-append (e ∷ es) (f ∷ fs) in let fit_q = p.fits in let a = above_both in
-          let high = above_two rest (heads before) (e.0, n) (f.0, q) (heads after) a in let other = freed_other u v n v_is in
+          let high = above_two _ (heads before) (e.0, n) (f.0, q) (heads after) a in let other = freed_other _ _ _ v_is in
           let c = λ (m : ℕ). counts m before n (e ∷ es) (node q (f ∷ fs) ∷ after) rest t.chain in
-          let frees = frees-after (λ m none. omega (arith, c m)) (two_frees s.two) (frees-one u v n s.left_content (n ∷ []) s.two.here v_is (omega (arith, count-same n []))) in
+          let frees = frees-after (λ m none. omega (arith, c m)) (two_frees s.two) (frees-one _ _ _ _ (n ∷ []) s.two.here v_is (omega (arith, count-same n []))) in
           record {
             first = e;
             others = es;
@@ -147,22 +147,22 @@ module _ {K V X : Type 0} {content : List (K × X) → Content K V} {half most :
             entries_are = refl;
             after_is = refl;
             outcome = rw (few, fits) cc;
-            inside = row-drop_put content t.nodes v.nodes before n q (e ∷ es) (f ∷ fs) both after p.inside (λ m x y. other m x ∙ s.two.same m x y) (cc (other q (λ w. apart.0 (sym w)))) apart.1 apart.2;
-            fit = FitRow-join half most before (node q both) after p.solid (omega arith, omega arith, fit_q.2);
+            inside = row-drop_put _ _ _ _ _ _ (e ∷ es) (f ∷ fs) both after p.inside (λ m x y. other m x ∙ s.two.same m x y) (cc (other q (λ w. apart.0 (sym w)))) apart.1 apart.2;
+            fit = FitRow-join _ _ _ (node q both) after p.solid (omega arith, omega arith, fit_q.2);
             above = record {
               stacked = a.stacked;
-              inside = rows-same t.nodes v.nodes rest (λ m some. frees.others m (omega (arith, p.apart m, c m))) a.inside;
+              inside = rows-same _ _ _ (λ m some. frees.others m (omega (arith, p.apart m, c m))) a.inside;
               stands = stands-same _ _ _ _ _ _ _ (λ i high. get_or-set_other path up i q 0 (λ w. omega arith)) (λ i high. refl) a.stands;
               height = a.height;
               apart = λ m. omega (arith, p.apart m, c m, count-append m (flat_map numbers rest) v.chain, ap (λ z. count m z) frees.chain_is);
             };
-            number_is = get_or-set_same path up q 0 low;
+            number_is = get_or-set_same _ _ _ 0 low;
             entry_is = refl;
             frees = frees;
             nodes_above = λ i above. get_or-set_other path up i q 0 (λ w. omega arith);
             keeps = record {
               nodes_below = λ i below. get_or-set_other path up i q 0 (λ w. omega arith);
               entries_below = λ i low. refl;
-              same_top = get_or-set_other path up (size - 1) q 0 (λ w. omega arith);
+              same_top = get_or-set_other _ _ (size - 1) q 0 (λ w. omega arith);
             };
           }

@@ -138,7 +138,7 @@ module _ {K V : Type 0} {cap least : ℕ} {t : Table K V} {path indices up size 
           neighbour_filled = omega arith;
           underflowed = omega (arith, s.capacity_is (e ∷ others), under_is, hm.hi);
         } in
-        rw num_is (is_used t n _ slot_here none_here, (is_used t q _ slots.1 (apart hm (level d)).3, ((apart hm (level d)).0, both)))
+        rw num_is (is_used _ _ _ slot_here none_here, (is_used _ _ _ slots.1 (apart hm (level d)).3, ((apart hm (level d)).0, both)))
 
     module _ {u : Table K V} {got : Option K} (balanced : IsBalancedAt cap t (get_or path up r) next.0 q got u) where
       balanced_as : (o : Option K) → got ≡ o → IsBalancedAt cap t n d.f.0 q o u
@@ -147,7 +147,7 @@ module _ {K V : Type 0} {cap least : ℕ} {t : Table K V} {path indices up size 
       -- the two nodes share their entries, and the key between them has to be updated
       module _ {key : K} (got_is : got ≡ Some key) where
         pub spread : Spread content t u most n q (e ∷ others) (d.f ∷ d.fs) key
-        spread = spread_at _ t u n q e _ _ _ s (apart hm (level d)).0 (omega (arith, hm.hi, hm.two)) slots.0 slots.1 (balanced_as _ got_is)
+        spread = spread_at _ _ _ _ _ _ _ _ _ s (apart hm (level d)).0 (omega (arith, hm.hi, hm.two)) slots.0 slots.1 (balanced_as _ got_is)
 
         abbrev pub rekey_asks : TwoAbove u path indices (up + 1) size
         rekey_asks = record { rows = rest; before = heads before; x = (e.0, n); y = (d.f.0, q); after = heads d.rest; above = rw add-one (above_two_put hm (level d) spread.two) }
@@ -159,10 +159,10 @@ module _ {K V : Type 0} {cap least : ℕ} {t : Table K V} {path indices up size 
       -- all entries are in the right node, and the left one has to be freed
       module _ (got_is : got ≡ None) where
         all_right : AllRight content t u most n q (e ∷ others) (d.f ∷ d.fs)
-        all_right = all_right_at _ t u n q e _ _ _ s (apart hm (level d)).0 (omega (arith, hm.hi, hm.two)) slots.0 slots.1 (balanced_as None got_is)
+        all_right = all_right_at _ _ _ _ _ _ _ _ _ s (apart hm (level d)).0 (omega (arith, hm.hi, hm.two)) slots.0 slots.1 (balanced_as None got_is)
 
         pub free_asks : IsUsed u (get_or path up r)
-        free_asks = rw num_is (is_used u n _ all_right.two.here (cc (none_here)))
+        free_asks = rw num_is (is_used _ _ _ all_right.two.here (cc (none_here)))
 
         -- freeing the left node leaves the two merged
         pub free_joins : (v : _) → v ≡ with_freed u (get_or path up r) → Joins w v (set path up q) indices

@@ -71,8 +71,8 @@ module _ {K V : Type 0} where
           sizes_are = sym (cc (trimmed-is (sizes leaves) (heads leaves) t.rows' t.discarded len (rw (← t.rows_are) u.stacked) t.stacked t.topped));
           fit = record { leaves_fit = u.leaves_fit; stacked = t.stacked; topped = t.topped };
           inside = record {
-            leaves_in = row-same leaf_content mid.nodes new.nodes leaves (λ m some. t.frees.others m (omega (arith, some, u.numbers_are m, parts m, s.apart m, count-append))) u.leaves_in;
-            rows_in = rows-same mid.nodes new.nodes t.rows' (λ m some. t.frees.others m (omega (arith, some, u.numbers_are m, parts m, s.apart m, count-append))) rows_in.0;
+            leaves_in = row-same _ _ _ _ (λ m some. t.frees.others m (omega (arith, some, u.numbers_are m, parts m, s.apart m, count-append))) u.leaves_in;
+            rows_in = rows-same _ _ _ (λ m some. t.frees.others m (omega (arith, some, u.numbers_are m, parts m, s.apart m, count-append))) rows_in.0;
           };
           some = u.some;
           numbers_are = λ m. omega (arith, u.numbers_are m, parts m, t.freed_is m, count-append);

@@ -13,7 +13,7 @@ use Rattle.bforest_core.proofs.removal.{Rebalance.rebalanced_last, Collapse.head
 pub fit_solid : {K X : Type 0} (half most : ℕ) → 1 ≤ half → (row : Row K X) → Solid half most row → FitRow half most row
 fit_solid half most one [] s = tt
 fit_solid half most one (node m es ∷ []) s = (omega arith, s.1, tt)
-fit_solid half most one (node m es ∷ next ∷ ns) s = (s.0, s.1, fit_solid half most one (next ∷ ns) s.2)
+fit_solid half most one (node m es ∷ next ∷ ns) s = (s.0, s.1, fit_solid _ _ one (next ∷ ns) s.2)
 
 -- a row with an entry has a head
 some_heads : {K X : Type 0} (row : Row K X) → 1 ≤ length (flat row) → 1 ≤ length (heads row)
@@ -43,7 +43,7 @@ module _ {K V : Type 0} where
       let none : count num (flat_map numbers rest) ≡ 0 = omega (arith, apart num, c num, count-same num []) in
       let list = heads-append before (node num (x ∷ []) ∷ []) ∙ ap (λ z. z ++ (x.0, num) ∷ []) o.is ∙ append_assoc o.init (o.last ∷ []) ((x.0, num) ∷ []) in
       let len : length (heads before) ≡ suc (length o.init) = omega (arith, ap length o.is, length-append o.init (o.last ∷ [])) in
-      above_same (rw (list, len) at p) v (λ m some. freed_other t v num is m (ne_from_count m num _ some none))
+      above_same (rw (list, len) at p) v (λ m some. freed_other _ _ _ is m (ne_from_count _ _ _ some none))
       (λ m. omega (arith, apart m, c m, count-append m (flat_map numbers rest) v.chain, ap (λ z. count m z.chain) is))
 
   -- what the call ensures
@@ -71,7 +71,7 @@ module _ {K V : Type 0} where
     whole = let e = ends in rw (e.0, e.1) at d.whole
 
     known : Facts t path indices up size before num l x [] [] rest
-    known = facts t _ _ _ _ _ _ _ x _ _ _ whole
+    known = facts _ _ _ _ _ _ _ _ _ _ _ _ whole
 
     lost : left ≡ (sizes before ++ (rebalanced 8 (length l) []).1) ∷ loss_above (placed (length before) (rebalanced 8 (length l) []).0) (map sizes rest)
     lost =
@@ -90,14 +90,14 @@ module _ {K V : Type 0} where
           let len : length old ≡ suc (length l) = length-append l (x ∷ []) ∙ omega arith in
           let some : 1 ≤ length l = omega (arith, s.counted cnt value, ap (λ z. length (l ++ x ∷ z)) ends.0) in
           let u_is = removes (drop 1 (entry_keys (l ++ x ∷ r))) (entry_items (l ++ x ∷ r)) s.slot_is in
-          let put = puts t u num _ _ known.slot_is (cc (removed_last V l x some, ends.0, s.num_is, d.q.entry_is)) in
+          let put = puts _ _ _ _ _ known.slot_is (cc (removed_last V l x some, ends.0, s.num_is, d.q.entry_is)) in
           let high : up + length rest ≡ size - 1 = omega (arith, p.height) in
           let first = some_first l some in let hs = heads-put before num old l [] (simp first.2) in (
             0,
             record {
               rows' = row ∷ rest;
               stacked = (cc (flat-append before (node num l ∷ []), append-nil l, d.q.a_is), FitRow-join 4 8 before (node num l) [] f.solid (some, omega (arith, known.fit.1), tt), rw (← hs) p.stacked.2);
-              inside = (row-put inner_content t.nodes u.nodes before num old l [] known.inside put.same put.here known.none, rows-same t.nodes u.nodes rest (λ m some. put.same m (ne_from_count m num (flat_map numbers rest) some f.none_rest)) p.inside.1);
+              inside = (row-put _ _ _ _ _ _ _ _ known.inside put.same put.here known.none, rows-same _ _ _ (λ m some. put.same m (ne_from_count _ _ (flat_map numbers rest) some f.none_rest)) p.inside.1);
               height = cc (d.q.rows_are);
               sizes_are = cc (sizes-append before (node num l ∷ []), lost, rebalanced_last 8 (length l) some);
               numbers_are = λ m. omega (arith, own_is m, counts m before num l [] rest u.chain);
@@ -131,7 +131,7 @@ module _ {K V : Type 0} where
           pub empties : Drops t u path up size rows a y
           empties = let below = said.1 in let hs = front.is in let p = whole in
               let len : length before ≡ suc (length front.init) = omega (arith, Solid-full 4 8 (omega arith) before f.solid, ap length hs, length-append front.init (front.last ∷ [])) in
-              let in_v = row-same _ _ _ _ (λ m some. freed_other t v num v_is m (ne_from_count m num (numbers before) some (omega (arith, known.none))))
+              let in_v = row-same _ _ _ _ (λ m some. freed_other _ _ _ v_is m (ne_from_count _ _ (numbers before) some (omega (arith, known.none))))
               (row-split _ _ _ _ known.inside).0 in let c = λ (m : ℕ). counts m before num (l ++ x ∷ []) [] rest t.chain in (
                 suc said.0,
                 record {
@@ -142,7 +142,7 @@ module _ {K V : Type 0} where
                   sizes_are = simp (below.sizes_are, len, append-nil, lost, l_none);
                   numbers_are = λ m. omega (arith, own_is m, below.numbers_are m, ap (λ z. count m (nodes_up path z said.0)) (add-one up), count-append);
                   root_is = cc (below.root_is);
-                  frees = rw (← add-one up) (frees-first t num _ _ known.slot_is v_is (omega (arith, own_is num, count-same num [])) f.none_rest (λ m none. omega (arith, own_is m)) below.frees);
+                  frees = rw (← add-one up) (frees-first _ _ _ _ known.slot_is v_is (omega (arith, own_is num, count-same num [])) f.none_rest (λ m none. omega (arith, own_is m)) below.frees);
                 },
               )
 

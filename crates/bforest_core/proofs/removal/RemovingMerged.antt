@@ -76,7 +76,7 @@ module _ {K V : Type 0} where
       -- the next node has the same parent, where the key between the two was written
       module _ (more : index + 1 < m) (u key : _) (writes : Writes t u (get_or path up i) index key) where
         one : Puts t u (get_or path up i) (with_key (inner_content (old d)) index key)
-        one = puts t u _ _ _ s.slot_is (writes keys items s.slot_is)
+        one = puts _ _ _ _ _ s.slot_is (writes keys items s.slot_is)
 
         behind : (ys : Heads K) × (r ≡ y ∷ ys) × (b ≡ ys ++ flat after)
         behind = next_in l x r index y b (flat after) d.q.b_is d.q.entry_is (omega (arith, s.counted m value))
@@ -87,7 +87,7 @@ module _ {K V : Type 0} where
             (simp append_assoc (ap (λ z. l ++ x ∷ (key, y.1) ∷ z) (sym w.2)))
 
         pub remove_asks : IsUsed u (get_or path up i) × ChildAt u (get_or path up i) index
-        remove_asks = (is_used u _ _ one.here (cc (one.chain_is, s.none_chain)), (set keys index key, items, one.here, omega (arith, s.counted m value, item_count (old d))))
+        remove_asks = (is_used _ _ _ one.here (cc (one.chain_is, s.none_chain)), (set keys index key, items, one.here, omega (arith, s.counted m value, item_count (old d))))
 
         pub merge_same : (v j : _) → j ≡ index - 1 → ReadsKey t (get_or path up i) j key → Removes u v (get_or path up i) index → Passed v
         merge_same v j j_is reads removes = let w = behind in let es = l ++ (x.0, y.1) ∷ w.0 in let len = length-append l ((x.0, y.1) ∷ w.0) in
@@ -145,15 +145,15 @@ module _ {K V : Type 0} where
           slot_then = rebuilt.frees.others (n d) f.none_rest ∙ f.slot_is
 
           pub remove_last_asks : IsUsed v (get_or path up i) × ChildAt v (get_or path up i) index
-          remove_last_asks = (rw s.num_is (is_used v _ _ slot_then (cc (rebuilt.frees.chain_is, f.none_chain))), (keys, items, cc (s.num_is, slot_then), omega (arith, item_count (old d), d.count_is)))
+          remove_last_asks = (rw s.num_is (is_used _ _ _ slot_then (cc (rebuilt.frees.chain_is, f.none_chain))), (keys, items, cc (s.num_is, slot_then), omega (arith, item_count (old d), d.count_is)))
 
           pub merge_next : (u : _) → ReadsKey t (get_or path up i) (index - 1) key → Removes v u (get_or path up i) index → Passed u
           merge_next u reads removes = let num_is = s.num_is in let u_is = removes keys items (cc (slot_then)) in
               let key_is : key ≡ x.0 = some_same (cc (last_key l x l_some, o.r_is, d.q.entry_is, reads keys items s.slot_is)) in
               loosened l (others x.0) (omega (arith, length-append l (x ∷ r), ap length o.r_is)) l_some (omega arith)
               (across_other x.0 l _ (ap (λ z. l ++ (x.0, y.1) ∷ z) (sym o.b_is)) (ap (λ z. head_of (n d) z) o.l_is)) (rw o.after_is at f.fit) (across_in x.0)
-              (rw key_is at rebuilt) (puts v u _ _ _ slot_then (cc (removed_last V l x l_some, o.r_is, d.q.entry_is)))
+              (rw key_is at rebuilt) (puts _ _ _ _ _ slot_then (cc (removed_last V l x l_some, o.r_is, d.q.entry_is)))
 
   -- the parent of the path's node
   pub here : {t : Table K V} {path indices up size : _} (w : TwoAbove t path indices up size) (i : ℕ) → length path ≡ 17 → size ≤ 17 → Seen t path indices up size w.rows w.before w.x (w.y ∷ w.after) i
-  here w i wide height = seen w.before w.x (w.y ∷ w.after) w.above (two_low w) i wide height
+  here w i wide height = seen _ w.x (w.y ∷ w.after) w.above (two_low w) i wide height

@@ -25,11 +25,11 @@ module _ {K V : Type 0} where
 
     -- the leaf is used
     pub leaf_used : IsUsed t n
-    leaf_used = is_used t _ _ d.slot_is d.none_chain
+    leaf_used = is_used _ _ _ d.slot_is d.none_chain
 
     module _ {u : Table K V} (h : HasOthers t u path indices) where
       pub more : 1 ≤ length (l ++ r)
-      more = omega (arith, leaf_count es (h.x ∷ h.y ∷ h.more) (slice_get t.nodes n) d.slot_is h.slot_was, length-append l (x ∷ r), length-append l r)
+      more = omega (arith, leaf_count _ (h.x ∷ h.y ∷ h.more) (slice_get t.nodes n) d.slot_is h.slot_was, length-append l (x ∷ r), length-append l r)
 
       pub w : Puts t u n (leaf_content (l ++ r))
       w = let same = read_same _ n d.slot_is h.slot_was in puts t u n _ _ d.slot_is (cc (without_entry_is l x r (get_or indices 0 0) d.index_is))
