@@ -17,7 +17,8 @@ remove_map f [] x r = refl
 remove_map f (z ∷ l) x r = cc (remove_map f l x r)
 
 -- the same, where the next element got its image first
-remove_moved : {X Y : Type 0} (f : X → Y) (l : List X) (x y z : X) (r : List X) → f z ≡ f x → remove (set (map f (l ++ x ∷ y ∷ r)) (suc (length l)) (f x)) (length l) ≡ map f (l ++ z ∷ r)
+remove_moved : {X Y : Type 0} (f : X → Y) (l : List X) (x y z : X) (r : List X) → f z ≡ f x →
+    remove (set (map f (l ++ x ∷ y ∷ r)) (suc (length l)) (f x)) (length l) ≡ map f (l ++ z ∷ r)
 remove_moved f [] x y z r same = cc
 remove_moved f (w ∷ l) x y z r same = cc (remove_moved f l x y z r same)
 
@@ -33,11 +34,14 @@ module _ {K : Type 0} (V : Type 0) where
 
   -- removing a child that another follows, with the removed child's key passed to the next
   pub removed_same : (l : Heads K) (x y : K × ℕ) (r : Heads K) (key : K) → slice_get (drop 1 (entry_keys (l ++ x ∷ y ∷ r))) (length l - 1) ≡ Some key →
-      without_child {V = V} (Inner (set (drop 1 (entry_keys (l ++ x ∷ y ∷ r))) (length l) key) (entry_items (l ++ x ∷ y ∷ r))) (length l) ≡ inner_content (l ++ (x.0, y.1) ∷ r)
+      without_child {V = V} (Inner (set (drop 1 (entry_keys (l ++ x ∷ y ∷ r))) (length l) key) (entry_items (l ++ x ∷ y ∷ r))) (length l) ≡ inner_content
+      (l ++ (x.0, y.1) ∷ r)
   removed_same [] x y r key k = without_some (key ∷ entry_keys r) (x.1 ∷ y.1 ∷ entry_items r) 0 (omega arith)
   removed_same (z ∷ l) x y r key k = let less : suc (length l) - 1 ≡ length l = omega arith in
-      let key_is = some_same {x = key} {y = x.0} (sym k ∙ rw (less, map-append (λ w. w.0) l (x ∷ y ∷ r)) (slice_get_at (entry_keys l) x.0 _ _ (length-map l (λ w. w.0)))) in
-      without_some (set (entry_keys (l ++ x ∷ y ∷ r)) (suc (length l)) key) (entry_items ((z ∷ l) ++ x ∷ y ∷ r)) (suc (length l)) (simp (length-map, length-append) (omega arith))
+      let key_is = some_same {x = key} {y = x.0}
+      (sym k ∙ rw (less, map-append (λ w. w.0) l (x ∷ y ∷ r)) (slice_get_at (entry_keys l) x.0 _ _ (length-map l (λ w. w.0)))) in
+      without_some (set (entry_keys (l ++ x ∷ y ∷ r)) (suc (length l)) key) (entry_items ((z ∷ l) ++ x ∷ y ∷ r)) (suc (length l))
+      (simp (length-map, length-append) (omega arith))
       ∙ rw (less, key_is, remove_moved (λ w. w.0) l x y (x.0, y.1) r refl, remove_map (λ w. w.1) l x (y ∷ r), map-append (λ w. w.1) l (y ∷ r), map-append (λ w. w.1) l ((x.0, y.1) ∷ r)) refl
 
   -- removing the last child

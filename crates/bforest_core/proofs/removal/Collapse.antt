@@ -155,7 +155,8 @@ module _ {K V : Type 0} where
             stacked = below.0;
             inside = rows-same _ _ _ (λ m some. freed_other _ _ _ freed m (ne_from_count _ _ _ some none_else.0)) inside.0;
             height = omega (arith, simp length-append at rows_up.height);
-            root_is = below.1 ∙ some_same (ap (λ z. slice_get (entry_items z) 0) (sym child.1) ∙ reads (drop 1 (entry_keys root_row.entries)) (entry_items root_row.entries) slot_is);
+            root_is = below.1 ∙ some_same
+                (ap (λ z. slice_get (entry_items z) 0) (sym child.1) ∙ reads (drop 1 (entry_keys root_row.entries)) (entry_items root_row.entries) slot_is);
             apart = λ m. omega (arith, rows_up.apart m, count_top m root_row.init root root_row.entries, ap (λ z. count m z.chain) freed, count-append);
           }
 
@@ -177,5 +178,6 @@ module _ {K V : Type 0} where
                 root_is = r.root_is;
                 same_root = λ same. absurd (omega arith);
                 old_root = λ ne. omega (arith, count-append, count-same root []);
-                frees = frees-first _ _ _ _ slot_is freed (omega (arith, c root, count-same root [])) (omega (arith, none_else.0, count-append)) (λ m none. omega (arith, c m)) r.frees;
+                frees = frees-first _ _ _ _ slot_is freed (omega (arith, c root, count-same root [])) (omega (arith, none_else.0, count-append))
+                    (λ m none. omega (arith, c m)) r.frees;
               }

@@ -21,8 +21,10 @@ module _ {V : Type 0} (index : ℕ) where
   at-index P p None = tt
   at-index P p (Some v) = p
 
-module _ {K V : Type 0} {cmp : K → K → Ordering} (most : ℕ) {table root leaf key path indices size : _} (union : IsUnion most table) (e : EndsIn cmp table root key leaf path indices size)
-    (answer : Option (ℕ × V)) (new : _) (answer_is : answer ≡ take_answer (leaf_content e.entries) (search_of cmp (entry_keys e.entries) key)) (new_is : new ≡ with_node table leaf (with_taken (leaf_content e.entries) (search_of cmp (entry_keys e.entries) key))) where
+module _ {K V : Type 0} {cmp : K → K → Ordering} (most : ℕ) {table root leaf key path indices size : _} (union : IsUnion most table)
+    (e : EndsIn cmp table root key leaf path indices size)
+    (answer : Option (ℕ × V)) (new : _) (answer_is : answer ≡ take_answer (leaf_content e.entries) (search_of cmp (entry_keys e.entries) key))
+    (new_is : new ≡ with_node table leaf (with_taken (leaf_content e.entries) (search_of cmp (entry_keys e.entries) key))) where
   open e use {entries as es}
 
   abbrev at : ℕ

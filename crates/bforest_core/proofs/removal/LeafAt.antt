@@ -87,7 +87,8 @@ module _ {K V : Type 0} where
           was = λ fs slot. leaf_count _ _ (slice_get t.nodes n) slot d.slot_is ∙ len;
           sizes_were = cc (sizes-append d.before (node n old ∷ d.after));
           numbers_are = λ m. omega (arith, c0 m, c1 m, c2 m, count-append, b.numbers_are m);
-          frees = frees-after (λ m none. omega (arith, none, count-append)) (frees-puts (numbers_of tree) (omega (arith, c0 n, c1 n, count-append, count-same n (numbers d.after))) w) b.frees;
+          frees = frees-after (λ m none. omega (arith, none, count-append))
+              (frees-puts (numbers_of tree) (omega (arith, c0 n, c1 n, count-append, count-same n (numbers d.after))) w) b.frees;
         };
       }
 

@@ -102,7 +102,8 @@ module _ {K V : Type 0} {most : ℕ} {t : Table K V} {path indices size : _} (ca
               let said = dropped.1 in let hs = last_leaf.is in let full = Solid-full (half_of most) most f.half before f.solid in
               let len : suc (length last_leaf.init) ≡ length before = omega (arith, ap length hs, length-append last_leaf.init (last_leaf.last ∷ [])) in
               let first : place ≡ length (flat before) + 0 = omega (arith, place_is) in
-              let in_v = row-same _ _ _ _ (λ m some. freed_other _ _ _ freed_is m (ne_from_count _ _ (numbers before) some (omega (arith, f.none)))) (row-split _ _ _ _ f.inside).0 in
+              let in_v = row-same _ _ _ _ (λ m some. freed_other _ _ _ freed_is m (ne_from_count _ _ (numbers before) some (omega (arith, f.none))))
+              (row-split _ _ _ _ f.inside).0 in
               let c = λ (m : ℕ). ap (λ z. count m (numbers z)) leaves_are in let c1 = λ (m : ℕ). counts m before leaf (x ∷ []) [] tree.above t.chain in
               record {
                 flat_is = sym (cc (leaves_are, place_is, remove_flat before leaf [] x [] [], flat-append before (node leaf [] ∷ []), append-nil (flat before)));
@@ -116,7 +117,8 @@ module _ {K V : Type 0} {most : ℕ} {t : Table K V} {path indices size : _} (ca
                 height = said.height;
                 numbers_are = λ m. omega (arith, c m, c1 m, count-append, said.numbers_are m);
                 root_is = cc (root-stands s.fit s.stands);
-                frees = frees-first _ _ _ _ f.slot_is freed_is (omega (arith, c leaf, c1 leaf, count-append, count-same leaf [])) f.none_rows (λ m none. omega (arith, none, count-append)) said.frees;
+                frees = frees-first _ _ _ _ f.slot_is freed_is (omega (arith, c leaf, c1 leaf, count-append, count-same leaf [])) f.none_rows
+                    (λ m none. omega (arith, none, count-append)) said.frees;
               }
 
           module _ (root : ℕ) (root_is : root_of tree ≡ root) where
@@ -127,4 +129,5 @@ module _ {K V : Type 0} {most : ℕ} {t : Table K V} {path indices size : _} (ca
             pub drop_removed : (u2 : Table K V) (path' indices' size2 root' : _) → ((rows list : _) → UpTo u size rows list root → (gone : _)
                 × Trimmed u u2 size size2 rows list root root' gone) → Removed most t u2 path (λ z. IsPathAt path' indices' 0 z place) tree place root'
             drop_removed u2 path' indices' size2 root' trims =
-                trimmed_removed (suc dropped.0) (λ z. IsPathAt path' indices' 0 z place) s untrimmed root_is (trims dropped.1.rows' (heads before) (up_to _ _ s untrimmed refl root_is)).1 refl place_is
+                trimmed_removed (suc dropped.0) (λ z. IsPathAt path' indices' 0 z place) s untrimmed root_is
+                (trims dropped.1.rows' (heads before) (up_to _ _ s untrimmed refl root_is)).1 refl place_is

@@ -16,7 +16,8 @@ pub heads-put : {K X : Type 0} (before : Row K X) (n es fs after : _) → head_o
 heads-put before n es fs after e = simp (heads-append, e)
 
 -- writing the key of an entry
-key_set : {K : Type 0} (p : Heads K) (y : K × ℕ) (s : Heads K) (key : K) → (set (entry_keys (p ++ y ∷ s)) (length p) key ≡ entry_keys (p ++ (key, y.1) ∷ s)) × (entry_items (p ++ y ∷ s) ≡ entry_items (p ++ (key, y.1) ∷ s))
+key_set : {K : Type 0} (p : Heads K) (y : K × ℕ) (s : Heads K) (key : K) → (set (entry_keys (p ++ y ∷ s)) (length p) key ≡ entry_keys (p ++ (key, y.1) ∷ s)) ×
+    (entry_items (p ++ y ∷ s) ≡ entry_items (p ++ (key, y.1) ∷ s))
 key_set [] y s key = (refl, refl)
 key_set (z ∷ p) y s key = let again = key_set p y s key in (cc (again.0), cc (again.1))
 
@@ -34,7 +35,8 @@ pub record NextNode {K X : Type 0} (after : Row K X) (k : K) (q : ℕ) : Type 0 
   pub k_is : k ≡ f.0
 
 -- the first of nodes that have an entry
-pub first_after : {K X : Type 0} (half most : ℕ) → 1 ≤ half → (after : Row K X) → FitRow half most after → 1 ≤ length (flat after) → (k : K) × (q : ℕ) × NextNode after k q
+pub first_after : {K X : Type 0} (half most : ℕ) → 1 ≤ half → (after : Row K X) → FitRow half most after → 1 ≤ length (flat after) →
+    (k : K) × (q : ℕ) × NextNode after k q
 first_after half most one [] fit some = absurd (omega arith)
 first_after half most one (node q [] ∷ after) fit some = absurd (omega (arith, least-pos half one after))
 first_after half most one (node q (f ∷ fs) ∷ after) fit some = (f.0, q, record { f = f; fs = fs; rest = after; after_is = refl; k_is = refl })
@@ -57,7 +59,8 @@ module _ {K V : Type 0} where
 
   module _ {t : Table K V} {path indices up size rows list p : _} (a : Above t path indices up size rows list p) where
     -- the rows above, in a table that agrees on their slots
-    pub above_same : (u : Table K V) → ((m : ℕ) → 0 < count m (flat_map numbers rows) → slice_get u.nodes m ≡ slice_get t.nodes m) → Distinct (flat_map numbers rows ++ u.chain) → Above u path indices up size rows list p
+    pub above_same : (u : Table K V) → ((m : ℕ) → 0 < count m (flat_map numbers rows) → slice_get u.nodes m ≡ slice_get t.nodes m) →
+        Distinct (flat_map numbers rows ++ u.chain) → Above u path indices up size rows list p
     above_same u same apart = record { stacked = a.stacked; inside = rows-same _ _ _ same a.inside; stands = a.stands; height = a.height; apart = apart }
 
     -- without a row above, the list has one element
@@ -74,7 +77,8 @@ module _ {K V : Type 0} where
     rebuilt_same = record { rows' = rows; above = a; sizes_are = refl; numbers_are = λ m. omega arith; frees = frees-refl t _; keeps = keeps-refl }
 
   -- the rows above, after a write to a slot that is not theirs
-  pub above_written : {t u : Table K V} {n c path indices up size rows list p : _} → Puts t u n c → count n (flat_map numbers rows) ≡ 0 → Above t path indices up size rows list p → Above u path indices up size rows list p
+  pub above_written : {t u : Table K V} {n c path indices up size rows list p : _} → Puts t u n c → count n (flat_map numbers rows) ≡ 0 →
+      Above t path indices up size rows list p → Above u path indices up size rows list p
   above_written {u} {n} w none a =
       above_same a u (λ m some. w.same m (ne_from_count _ _ _ some none)) (λ m. omega (arith, a.apart m, ap (λ z. count m z) w.chain_is, count-append))
 
@@ -142,7 +146,8 @@ module _ {K V : Type 0} where
         (p ++ (key, y.1) ∷ s) ++ flat after ≡ l ++ hs → Rekeyed t u path indices up size rows (a ++ hs) (length a)
     renamed u p y s e key hs es_is p_is u_is flat_is = let es = p ++ (key, y.1) ∷ s in let w = puts _ _ _ _ _ f.slot_is (cc (with_key_is p y s e key p_is)) in
         let len : length es ≡ length old = rw es_is (simp length-append) in
-        lifted es after hs len (refl, refl, flat_is, heads-put before n old es after (rw (es_is, (some_first p (omega arith)).2))) (omega arith, omega arith, f.fit.2)
+        lifted es after hs len (refl, refl, flat_is, heads-put before n old es after (rw (es_is, (some_first p (omega arith)).2)))
+        (omega arith, omega arith, f.fit.2)
         (row-put _ _ _ _ _ _ _ _ f.inside w.same w.here f.none)
         (frees-puts _ (let c = counts n before n old after rest t.chain in omega (arith, count-same n (numbers after))) w)
         (rebuilt_same (above_written w f.none_rest rows_above))
@@ -180,5 +185,6 @@ pub record Across {K : Type 0} (l : Heads K) (r : Heads K) (after : Row K ℕ) (
 pub across : {K : Type 0} (n : ℕ) (l : Heads K) (x : K × ℕ) (r : Heads K) (after : Row K ℕ) (y : K × ℕ) (b : Heads K) → FitRow 4 8 (node n (l ++ x ∷ r) ∷ after) → y ∷ b ≡ r ++ flat after → length (l ++ x ∷ r) ≤ length l + 1 → Across l r after y b
 across n l x r after y b f e h = let len = length-append l (x ∷ r) in let none = nil_from_length r (omega arith) in
     let next = first_after 4 8 (omega arith) after f.2 (omega (arith, ap length e, length-append r (flat after))) in let a = next.2 in
-    let one = some_first l (omega (arith, ap length none, f.0, ap (λ z. least 4 z) a.after_is)) in let whole : y ∷ b ≡ a.f ∷ (a.fs ++ flat a.rest) = rw (none, a.after_is) at e in
+    let one = some_first l (omega (arith, ap length none, f.0, ap (λ z. least 4 z) a.after_is)) in let whole : y ∷ b ≡ a.f ∷ (a.fs ++ flat a.rest) =
+    rw (none, a.after_is) at e in
     record { z = one.0; zs = one.1; q = next.1; ys = a.fs; rest = a.rest; l_is = one.2; r_is = none; after_is = cc (a.after_is); b_is = cc }

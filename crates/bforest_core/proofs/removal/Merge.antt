@@ -111,7 +111,8 @@ module _ {K V X : Type 0} {content : List (K × X) → Content K V} {half most o
   )
 
   -- a level whose node stays is rebalanced
-  abbrev pub healed_restored : {new path' indices' : _} → Healed content half most mid new path indices path' indices' level size l.before num l.entries l.after l.rest → Stays new path' indices' []
+  abbrev pub healed_restored : {new path' indices' : _} →
+      Healed content half most mid new path indices path' indices' level size l.before num l.entries l.after l.rest → Stays new path' indices' []
   healed_restored {new} h = (
     (
       record {
@@ -126,7 +127,8 @@ module _ {K V X : Type 0} {content : List (K × X) → Content K V} {half most o
         inside = h.inside;
         above = h.above;
         sizes_are = cc (lost_is);
-        numbers_are = λ m. omega (arith, counts m l.before num l.entries l.after l.rest mid.chain, counts m h.before' h.number' h.entries' h.after' h.rest' new.chain, ap (λ z. count m z) h.row_numbers, h.rest_numbers m, l.numbers_are m);
+        numbers_are = λ m. omega
+            (arith, counts m l.before num l.entries l.after l.rest mid.chain, counts m h.before' h.number' h.entries' h.after' h.rest' new.chain, ap (λ z. count m z) h.row_numbers, h.rest_numbers m, l.numbers_are m);
         frees = frees-after (λ m none. omega arith) l.frees h.frees;
         place_is = omega arith;
       },
@@ -142,9 +144,12 @@ module _ {K V X : Type 0} {content : List (K × X) → Content K V} {half most o
     -- a level is rebalanced once the rows above lost the entry of a merged node
     pub joined_restored : {new : Table K V} {path' indices' : List ℕ} {up' size' : ℕ} → up' ≡ suc level → size' ≡ size → (levels : ℕ) →
         Rebuilt w new path1 indices1 path' indices' up' size' l.rest (heads l.before ++ (j.first.0, j.right) ∷ heads j.after') (length (heads l.before))
-        (loss_above (Some (length (heads l.before))) (map sizes l.rest)) (nodes_up path1 up' levels) → 1 ≤ half → Stays new path' indices' (nodes_up path level (suc levels))
-    joined_restored {new} {path'} {indices'} up_is size_is levels again one = let both = l.entries ++ j.right_entries in let row = l.before ++ node j.right both ∷ j.after' in
-        let freed = nodes_up path (suc level) levels in let r = rw (up_is, size_is, nodes_up-same path path1 (suc level) levels (λ i above. j.nodes_above i (omega (arith, above)))) at again in
+        (loss_above (Some (length (heads l.before))) (map sizes l.rest)) (nodes_up path1 up' levels) → 1 ≤ half →
+        Stays new path' indices' (nodes_up path level (suc levels))
+    joined_restored {new} {path'} {indices'} up_is size_is levels again one = let both = l.entries ++ j.right_entries in let row =
+        l.before ++ node j.right both ∷ j.after' in
+        let freed = nodes_up path (suc level) levels in let r =
+        rw (up_is, size_is, nodes_up-same path path1 (suc level) levels (λ i above. j.nodes_above i (omega (arith, above)))) at again in
         let own1 = numbers (l.before ++ node num l.entries ∷ l.after) ++ flat_map numbers l.rest in let p = l.on_level in
         let full = Solid-full half most one l.before p.solid in let c = λ (m : ℕ). counts m l.before num l.entries l.after l.rest mid.chain in
         let c0 = λ (m : ℕ). ap (λ z. count m (num ∷ numbers z)) j.after_is in let list_is = sym (cc (heads-append _ _)) in
@@ -164,7 +169,8 @@ module _ {K V X : Type 0} {content : List (K × X) → Content K V} {half most o
               inside = row-same _ _ _ _ (λ m more. r.frees.others m (omega (arith, p.apart m, c0 m, c m, count-row m l.before j.right both j.after'))) j.inside;
               above = subst (λ z. Above new path' indices' (suc level) size r.rows' z (length (heads l.before))) list_is r.above;
               sizes_are = cc (rw j.outcome at lost_is, sizes-append _ _);
-              numbers_are = λ m. omega (arith, r.numbers_are m, c0 m, c m, counts m l.before j.right both j.after' r.rows' new.chain, count-append m freed (num ∷ []), l.numbers_are m);
+              numbers_are = λ m. omega
+                  (arith, r.numbers_are m, c0 m, c m, counts m l.before j.right both j.after' r.rows' new.chain, count-append m freed (num ∷ []), l.numbers_are m);
               frees = frees-after (λ m none. omega (arith, l.numbers_are m)) l.frees left;
               place_is = omega arith;
             },

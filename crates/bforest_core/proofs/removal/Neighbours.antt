@@ -15,7 +15,8 @@ second_key [] x y r = refl
 second_key (z ∷ l) x y r = second _ l x y r
 
 -- where there is a next node, a step moves
-pub must_move : {K : Type 0} (a : Heads K) (x y : K × ℕ) (b : Heads K) (moved : Bool) → (moved ≡ false → suc (length a) ≡ length (a ++ x ∷ y ∷ b)) → moved ≡ true
+pub must_move : {K : Type 0} (a : Heads K) (x y : K × ℕ) (b : Heads K) (moved : Bool) → (moved ≡ false → suc (length a) ≡ length (a ++ x ∷ y ∷ b)) →
+    moved ≡ true
 must_move a x y b true last = refl
 must_move a x y b false last = absurd (omega (arith, last refl, length-append a (x ∷ y ∷ b)))
 
@@ -76,7 +77,8 @@ module _ {K V : Type 0} where
       pub item_asks : index + 1 < m → ChildAt t (get_or path up i) (index + 1)
       item_asks more = (keys, items, s.slot_is, omega (arith, s.counted m value, item_count (l ++ x ∷ r)))
 
-      pub beside_same : (key child : _) → index + 1 < m → ReadsKey t (get_or path up i) index key → ReadsChild t (get_or path up i) (index + 1) child → NextIs (Some (key, child)) b
+      pub beside_same : (key child : _) → index + 1 < m → ReadsKey t (get_or path up i) index key → ReadsChild t (get_or path up i) (index + 1) child →
+          NextIs (Some (key, child)) b
       beside_same key child more reads_key reads_child = let w = some_first r (omega (arith, s.counted m value, d.count_is)) in
           let high : suc (length l) ≡ index + 1 = omega (arith, d.q.entry_is) in
           let key_is = some_same (cc (second_key l x w.0 w.1, d.q.entry_is, reads_key keys items s.slot_is)) in

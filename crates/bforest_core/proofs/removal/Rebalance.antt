@@ -100,7 +100,8 @@ module _ {K V X : Type 0} {content : List (K × X) → Content K V} {half most :
       pub settle_spread : {key : K} (s : Spread content t u most n q (e ∷ es) (f ∷ fs) key) → Rebuilt u v path indices path indices (suc up) size rest (heads before ++ (e.0, n) ∷ (key, q) ∷ heads after) (length (heads before)) (map sizes rest) [] →
           Healed content half most t v path indices path indices up size before n (e ∷ es) (node q (f ∷ fs) ∷ after) rest
       settle_spread {key} s b = let both = length (e ∷ es) + length (f ∷ fs) in let row2 = before ++ node n (s.x ∷ s.xs) ∷ node q (s.y ∷ s.ys) ∷ after in
-          let outcome : rebalanced most (suc (length es)) (suc (length fs) ∷ sizes after) ≡ (false, (both - both / 2) ∷ both / 2 ∷ sizes after) = rw (lt-ltb (2 * suc (length es)) most (omega arith), lt-leb both most s.more) in let fit_q = p.fits in
+          let outcome : rebalanced most (suc (length es)) (suc (length fs) ∷ sizes after) ≡ (false, (both - both / 2) ∷ both / 2 ∷ sizes after) =
+          rw (lt-ltb (2 * suc (length es)) most (omega arith), lt-leb both most s.more) in let fit_q = p.fits in
           let x_is : e ≡ s.x = (let w = s.whole in cc) in let lo : half ≤ suc (length s.xs) = omega arith in let hi : suc (length s.xs) ≤ most = omega arith in
           let hi_q : suc (length s.ys) ≤ most = omega arith in let c = λ (m : ℕ). counts m before n (e ∷ es) (node q (f ∷ fs) ∷ after) rest t.chain in
           let c2 = λ (m : ℕ). count-row m before n (s.x ∷ s.xs) (node q (s.y ∷ s.ys) ∷ after) in
@@ -114,7 +115,8 @@ module _ {K V X : Type 0} {content : List (K × X) → Content K V} {half most :
             rest' = b.rows';
             stays = rw outcome;
             inside = row-same _ _ _ _ (λ m some. b.frees.others m (omega (arith, p.apart m, c m, c2 m))) in_u;
-            fit = FitRow-join _ _ _ (node n (s.x ∷ s.xs)) (node q (s.y ∷ s.ys) ∷ after) p.solid (lo, hi, (omega (arith, least-le half (omega (arith, hm.two)) after), hi_q, fit_q.2));
+            fit = FitRow-join _ _ _ (node n (s.x ∷ s.xs)) (node q (s.y ∷ s.ys) ∷ after) p.solid
+                (lo, hi, (omega (arith, least-le half (omega (arith, hm.two)) after), hi_q, fit_q.2));
             list_is = simp flat-append (cc (append_assoc _ _ _, append_assoc _ _ _));
             above = rw (← hs) b.above;
             number_is = p.number_is;
@@ -136,7 +138,8 @@ module _ {K V X : Type 0} {content : List (K × X) → Content K V} {half most :
           let len = length-append (e ∷ es) (f ∷ fs) in let fit_q = p.fits in let a = above_both in
           let high = above_two _ (heads before) (e.0, n) (f.0, q) (heads after) a in let other = freed_other _ _ _ v_is in
           let c = λ (m : ℕ). counts m before n (e ∷ es) (node q (f ∷ fs) ∷ after) rest t.chain in
-          let frees = frees-after (λ m none. omega (arith, c m)) (two_frees s.two) (frees-one _ _ _ _ (n ∷ []) s.two.here v_is (omega (arith, count-same n []))) in
+          let frees = frees-after (λ m none. omega (arith, c m)) (two_frees s.two)
+          (frees-one _ _ _ _ (n ∷ []) s.two.here v_is (omega (arith, count-same n []))) in
           record {
             first = e;
             others = es;
@@ -147,7 +150,8 @@ module _ {K V X : Type 0} {content : List (K × X) → Content K V} {half most :
             entries_are = refl;
             after_is = refl;
             outcome = rw (few, fits) cc;
-            inside = row-drop_put _ _ _ _ _ _ (e ∷ es) (f ∷ fs) both after p.inside (λ m x y. other m x ∙ s.two.same m x y) (cc (other q (λ w. apart.0 (sym w)))) apart.1 apart.2;
+            inside = row-drop_put _ _ _ _ _ _ (e ∷ es) (f ∷ fs) both after p.inside (λ m x y. other m x ∙ s.two.same m x y)
+                (cc (other q (λ w. apart.0 (sym w)))) apart.1 apart.2;
             fit = FitRow-join _ _ _ (node q both) after p.solid (omega arith, omega arith, fit_q.2);
             above = record {
               stacked = a.stacked;

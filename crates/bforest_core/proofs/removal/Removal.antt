@@ -79,8 +79,10 @@ module _ {K V : Type 0} where
         })
 
     -- the effect of a removal, from the answer of the call for a leaf of one entry
-    pub outcome : (found : _) → IfSome found (λ root'. Removed most old new path Now (tree_of old.nodes root) place root') → (found ≡ None → Emptied most old new (tree_of old.nodes root) place) → Said most old new path root place Now found
-    outcome None removed emptied = let i = emptied refl in let tree = tree_of old.nodes root in let r = rooted _ _ _ union s.root_is in let u = uprooted-union _ _ union s.root_is i.frees i.freed_is in
+    pub outcome : (found : _) → IfSome found (λ root'. Removed most old new path Now (tree_of old.nodes root) place root') →
+        (found ≡ None → Emptied most old new (tree_of old.nodes root) place) → Said most old new path root place Now found
+    outcome None removed emptied = let i = emptied refl in let tree = tree_of old.nodes root in let r = rooted _ _ _ union s.root_is in let u =
+        uprooted-union _ _ union s.root_is i.frees i.freed_is in
         let among = root-among _ _ _ r.fit r.inside r.some in
         record {
           at = tt;

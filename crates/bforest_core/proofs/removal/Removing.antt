@@ -15,7 +15,8 @@ length-numbers (node n es ∷ row) = ap suc (length-numbers row)
 
 module _ {K V : Type 0} where
   -- two trees in which one path stands have the same root
-  pub stands_root : {most : ℕ} {t t1 : Table K V} {path indices size tree tree1 place place1 : _} (root : ℕ) → StandsIn most t path indices size tree place → StandsIn most t1 path indices size tree1 place1 → root_of tree1 ≡ root → root_of tree ≡ root
+  pub stands_root : {most : ℕ} {t t1 : Table K V} {path indices size tree tree1 place place1 : _} (root : ℕ) → StandsIn most t path indices size tree place →
+      StandsIn most t1 path indices size tree1 place1 → root_of tree1 ≡ root → root_of tree ≡ root
   stands_root root s s1 is = root-stands s.fit s.stands ∙ sym (root-stands s1.fit s1.stands) ∙ is
 
   -- a path that stands in a tree is at an entry
@@ -24,7 +25,8 @@ module _ {K V : Type 0} where
   path-at (suc size) s = s
 
   -- a removal, with another fact of the tree that it leaves
-  pub removed_at : {most : ℕ} {old new : Table K V} {path : _} {Now : Tree K V → Type 0} (Then : Tree K V → Type 0) {tree : Tree K V} {place root' : ℕ} → ((z : Tree K V) → flat z.leaves ≡ remove (flat tree.leaves) place → Now z → Then z) →
+  pub removed_at : {most : ℕ} {old new : Table K V} {path : _} {Now : Tree K V → Type 0} (Then : Tree K V → Type 0) {tree : Tree K V} {place root' : ℕ} →
+      ((z : Tree K V) → flat z.leaves ≡ remove (flat tree.leaves) place → Now z → Then z) →
       Removed most old new path Now tree place root' → Removed most old new path Then tree place root'
   removed_at Then shows r = record { shrunk = r.shrunk; at = shows r.tree' r.flat_is r.at }
 
@@ -44,7 +46,8 @@ module _ {K V : Type 0} where
     pub frees : Frees old new (numbers_of tree) freed
 
   -- the rows of the tree meet what discarding roots requires
-  pub up_to : {most old new path indices size : _} (size1 : ℕ) {tree place : _} (root : ℕ) {leaves rows freed : _} → StandsIn most old path indices size tree place →
+  pub up_to : {most old new path indices size : _} (size1 : ℕ) {tree place : _} (root : ℕ) {leaves rows freed : _} →
+      StandsIn most old path indices size tree place →
       Untrimmed most old new tree place leaves rows freed → size1 ≡ size → root_of tree ≡ root → UpTo new size1 rows (heads leaves) root
   up_to size1 root s u size_is root_is = record {
     stacked = u.stacked;
@@ -56,7 +59,8 @@ module _ {K V : Type 0} where
 
   -- the tree after roots were discarded
   pub trimmed_removed : {most old mid new path indices size tree place root leaves rows : _} (up : ℕ) {size1 size2 root' gone : _} (Now : Tree K V → Type 0) →
-      StandsIn most old path indices size tree place → Untrimmed most old mid tree place leaves rows (nodes_up path 0 up) → root_of tree ≡ root → (t : Trimmed mid new size1 size2 rows (heads leaves) root root' gone) → size1 ≡ size →
+      StandsIn most old path indices size tree place → Untrimmed most old mid tree place leaves rows (nodes_up path 0 up) → root_of tree ≡ root →
+      (t : Trimmed mid new size1 size2 rows (heads leaves) root root' gone) → size1 ≡ size →
       Now (record { leaves = leaves; above = t.rows' }) → Removed most old new path Now tree place root'
   trimmed_removed {most} {old} {mid} {new} {path} {tree} {leaves} {rows} up {gone} Now s u root_is t size_is at = let freed = nodes_up path 0 up in
       let parts = λ (m : ℕ). ap (λ z. count m z) (ap (flat_map numbers) t.rows_are ∙ flat_map-append numbers t.rows' t.discarded) in
@@ -81,7 +85,8 @@ module _ {K V : Type 0} where
           old_root = λ ne. omega (arith, count-append, ap (λ z. count z gone) root_is);
           low = omega arith;
           order = record { roots = gone; up = up; freed_is = refl; roots_are = omega arith };
-          frees = frees-then (λ m none. omega (arith, u.numbers_are m, parts m, count-append)) (λ m some. omega (arith, some, u.numbers_are m, parts m, s.apart m, count-append)) u.frees t.frees;
+          frees = frees-then (λ m none. omega (arith, u.numbers_are m, parts m, count-append))
+              (λ m some. omega (arith, some, u.numbers_are m, parts m, s.apart m, count-append)) u.frees t.frees;
         };
         at = at;
       }
@@ -134,15 +139,19 @@ module _ {K V : Type 0} {most : ℕ} {old mid : Table K V} {path indices size tr
     up_here is = up_to _ root s untrimmed is root_is
 
     -- no root is discarded where each level keeps its nodes
-    whole : {size1 : ℕ} → size1 ≡ size → length r.0.row ≡ length tree.leaves → map sizes r.0.rows ≡ map sizes tree.above → Trimmed new new size1 size1 r.0.rows (heads r.0.row) root root []
+    whole : {size1 : ℕ} → size1 ≡ size → length r.0.row ≡ length tree.leaves → map sizes r.0.rows ≡ map sizes tree.above →
+        Trimmed new new size1 size1 r.0.rows (heads r.0.row) root root []
     whole is len same =
         let many : length (heads r.0.row) ≡ length (heads tree.leaves) = omega (arith, fit_full _ _ half _ r.0.fit, fit_full _ _ half _ s.fit.leaves_fit) in
         trim_none (up_here is) (topped-sizes _ _ _ _ s.fit.stacked r.0.above.stacked many same s.fit.topped)
 
     -- the path stands at the place, in the rows that stay
-    stands : {new2 : Table K V} {size1 size2 root' gone : _} → get_or indices' 0 0 < length r.0.entries → (t : Trimmed new new2 size1 size2 r.0.rows (heads r.0.row) root root' gone) → Stands path' indices' size2 (record { leaves = r.0.row; above = t.rows' }) place
+    stands : {new2 : Table K V} {size1 size2 root' gone : _} → get_or indices' 0 0 < length r.0.entries →
+        (t : Trimmed new new2 size1 size2 r.0.rows (heads r.0.row) root root' gone) →
+        Stands path' indices' size2 (record { leaves = r.0.row; above = t.rows' }) place
     stands within t = let st = rw t.rows_are at r.0.above.stands in
-        let few : length (heads r.0.front) < length (heads r.0.row) = omega (arith, full, fit_full _ _ half _ r.0.fit, simp length-append at (ap length r.0.row_is)) in
+        let few : length (heads r.0.front) < length (heads r.0.row) =
+        omega (arith, full, fit_full _ _ half _ r.0.fit, simp length-append at (ap length r.0.row_is)) in
         record {
           leaf = record { before = r.0.front; entries = r.0.entries; after = r.0.after; row_is = r.0.row_is; within = within; place_is = r.0.place_is };
           above = rw full at (stands-below _ _ 1 _ _ _ _ few t.stacked st);

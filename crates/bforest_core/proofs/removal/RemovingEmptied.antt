@@ -51,7 +51,8 @@ module _ {K V : Type 0} where
   Drops t u path up size rows a y = (levels : ℕ) × Dropped t u path size rows (a ++ y ∷ []) (loss_above (Some (suc (length a))) (map sizes rows)) (nodes_up path up levels)
 
   -- the level above a node that is its last, with the one before it
-  module _ {t : Table K V} {path indices up size i : _} (w : LastAbove t path indices up size) (s : Seen t path indices up size w.rows (w.before ++ w.y ∷ []) w.x [] i) where
+  module _ {t : Table K V} {path indices up size i : _} (w : LastAbove t path indices up size)
+      (s : Seen t path indices up size w.rows (w.before ++ w.y ∷ []) w.x [] i) where
     open w use {rows, before as a, y, x}
     open s use {d, d.{f, q.{before, l, r, after, rest}}}
 
@@ -78,7 +79,8 @@ module _ {K V : Type 0} where
         let e = ends in let row = rw (e.0, e.1) at d.q.rows_are in
         let len : length (l ++ x ∷ []) ≡ suc (length l) = length-append l (x ∷ []) ∙ omega arith in
         sym (lost_above _ _) ∙ loss_level 8 before (length l) (length l) (suc (length a)) [] (map sizes rest) (map sizes rows)
-        (cc (sizes-append before (node num (l ++ x ∷ []) ∷ []))) (omega arith) (omega (arith, ap length d.q.a_is, length-append (flat before) l, length-append a (y ∷ [])))
+        (cc (sizes-append before (node num (l ++ x ∷ []) ∷ []))) (omega arith)
+        (omega (arith, ap length d.q.a_is, length-append (flat before) l, length-append a (y ∷ [])))
 
     own_is : (m : ℕ) → count m (flat_map numbers rows) ≡ count m (numbers before) + count m (num ∷ []) + count m (flat_map numbers rest)
     own_is m = omega (arith, ap (λ z. count m (flat_map numbers z)) d.q.rows_are, ap (λ z. count m (num ∷ numbers z)) ends.1, counts m before num (l ++ x ∷ r) after rest t.chain)
@@ -130,7 +132,8 @@ module _ {K V : Type 0} where
 
           pub empties : Drops t u path up size rows a y
           empties = let below = said.1 in let hs = front.is in let p = whole in
-              let len : length before ≡ suc (length front.init) = omega (arith, Solid-full 4 8 (omega arith) before f.solid, ap length hs, length-append front.init (front.last ∷ [])) in
+              let len : length before ≡ suc (length front.init) =
+              omega (arith, Solid-full 4 8 (omega arith) before f.solid, ap length hs, length-append front.init (front.last ∷ [])) in
               let in_v = row-same _ _ _ _ (λ m some. freed_other _ _ _ v_is m (ne_from_count _ _ (numbers before) some (omega (arith, known.none))))
               (row-split _ _ _ _ known.inside).0 in let c = λ (m : ℕ). counts m before num (l ++ x ∷ []) [] rest t.chain in (
                 suc said.0,
@@ -142,11 +145,13 @@ module _ {K V : Type 0} where
                   sizes_are = simp (below.sizes_are, len, append-nil, lost, l_none);
                   numbers_are = λ m. omega (arith, own_is m, below.numbers_are m, ap (λ z. count m (nodes_up path z said.0)) (add-one up), count-append);
                   root_is = cc (below.root_is);
-                  frees = rw (← add-one up) (frees-first _ _ _ _ known.slot_is v_is (omega (arith, own_is num, count-same num [])) f.none_rest (λ m none. omega (arith, own_is m)) below.frees);
+                  frees = rw (← add-one up)
+                      (frees-first _ _ _ _ known.slot_is v_is (omega (arith, own_is num, count-same num [])) f.none_rest (λ m none. omega (arith, own_is m)) below.frees);
                 },
               )
 
   -- the parent of the node
-  pub here : {t : Table K V} {path indices up size : _} (w : LastAbove t path indices up size) (i : ℕ) → length path ≡ 17 → size ≤ 17 → Seen t path indices up size w.rows (w.before ++ w.y ∷ []) w.x [] i
+  pub here : {t : Table K V} {path indices up size : _} (w : LastAbove t path indices up size) (i : ℕ) → length path ≡ 17 → size ≤ 17 →
+      Seen t path indices up size w.rows (w.before ++ w.y ∷ []) w.x [] i
   here w i wide height = let len : length (w.before ++ w.y ∷ []) ≡ suc (length w.before) = length-append w.before _ ∙ omega arith in
       seen (w.before ++ w.y ∷ []) w.x [] (rw (append_assoc w.before _ _, len) w.above) (last_low w) i wide height

@@ -92,7 +92,8 @@ module _ {K V : Type 0} where
         pub merge_same : (v j : _) → j ≡ index - 1 → ReadsKey t (get_or path up i) j key → Removes u v (get_or path up i) index → Passed v
         merge_same v j j_is reads removes = let w = behind in let es = l ++ (x.0, y.1) ∷ w.0 in let len = length-append l ((x.0, y.1) ∷ w.0) in
             let key_is = reads keys items s.slot_is in let v_is = removes (set keys index key) items one.here in
-            let gone = removed_same V l x y w.0 key (cc (w.1, d.q.entry_is)) in let two = puts u v _ (inner_content es) _ one.here (cc (gone, w.1, d.q.entry_is)) in
+            let gone = removed_same V l x y w.0 key (cc (w.1, d.q.entry_is)) in let two =
+            puts u v _ (inner_content es) _ one.here (cc (gone, w.1, d.q.entry_is)) in
             loosened es after (omega (arith, length-append l (x ∷ r), ap length w.1)) (omega arith) (omega arith)
             (refl, refl, simp (append_assoc, w.2), heads-put before (n d) (old d) es after (head-other (n d) l x.0 x.1 y.1 r w.0)) f.fit f.inside
             (rebuilt_same (rows_above d)) (rw s.num_is at (puts-then one two))
@@ -120,7 +121,8 @@ module _ {K V : Type 0} where
         across_other key es hs flat_is head = (ap (λ z. sizes z) (sym o.after_is), ap (λ z. numbers z) (sym o.after_is), flat_is, simp (heads-append, head))
 
         pub named : heads (before ++ node (n d) (old d) ∷ after) ≡ names y.0
-        named = heads-append before _ ∙ ap (λ z. heads before ++ (head_of (n d) (z ++ x ∷ r) ++ heads after)) o.l_is ∙ ap (λ z. heads before ++ (o.z.0, n d) ∷ heads z) o.after_is
+        named = heads-append before _ ∙ ap (λ z. heads before ++ (head_of (n d) (z ++ x ∷ r) ++ heads after)) o.l_is
+            ∙ ap (λ z. heads before ++ (o.z.0, n d) ∷ heads z) o.after_is
 
         -- the rows above, where the two parents are neighbours, meet what the call one level up requires
         abbrev pub above_asks : TwoAbove t path indices (up + 1) size
@@ -139,7 +141,8 @@ module _ {K V : Type 0} where
 
           pub next_parent : Renamed v key
           next_parent =
-              lifted_above d _ _ (x ∷ (key, y.1) ∷ b) refl (across_other key _ _ (append_assoc l (x ∷ r) (flat (others key)) ∙ ap (λ z. l ++ x ∷ (z ++ flat (others key))) o.r_is ∙ ap (λ z. l ++ x ∷ (key, y.1) ∷ z) (sym o.b_is)) (ap (λ z. head_of (n d) (z ++ x ∷ r)) o.l_is)) (rw o.after_is at f.fit) (across_in key) rebuilt
+              lifted_above d _ _ (x ∷ (key, y.1) ∷ b) refl
+              (across_other key _ _ (append_assoc l (x ∷ r) (flat (others key)) ∙ ap (λ z. l ++ x ∷ (z ++ flat (others key))) o.r_is ∙ ap (λ z. l ++ x ∷ (key, y.1) ∷ z) (sym o.b_is)) (ap (λ z. head_of (n d) (z ++ x ∷ r)) o.l_is)) (rw o.after_is at f.fit) (across_in key) rebuilt
 
           slot_then : slice_get v.nodes (n d) ≡ Some (inner_content (old d))
           slot_then = rebuilt.frees.others (n d) f.none_rest ∙ f.slot_is
@@ -155,5 +158,6 @@ module _ {K V : Type 0} where
               (rw key_is at rebuilt) (puts _ _ _ _ _ slot_then (cc (removed_last V l x l_some, o.r_is, d.q.entry_is)))
 
   -- the parent of the path's node
-  pub here : {t : Table K V} {path indices up size : _} (w : TwoAbove t path indices up size) (i : ℕ) → length path ≡ 17 → size ≤ 17 → Seen t path indices up size w.rows w.before w.x (w.y ∷ w.after) i
+  pub here : {t : Table K V} {path indices up size : _} (w : TwoAbove t path indices up size) (i : ℕ) → length path ≡ 17 → size ≤ 17 →
+      Seen t path indices up size w.rows w.before w.x (w.y ∷ w.after) i
   here w i wide height = seen _ w.x (w.y ∷ w.after) w.above (two_low w) i wide height

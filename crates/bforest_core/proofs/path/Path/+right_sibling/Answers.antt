@@ -29,7 +29,8 @@ returns-then-index-entries g t c = λ w.
 
 pub returns-in-None : goal.returns-in-None
 returns-in-None g t c = λ w.
-    none_right (one_seen w c.if-up-self.false _ (omega arith) c.requires.height) _ c.entries.ensures.value c.if-index-entries.false _ c.in-None.is c.right_sibling.ensures
+    none_right (one_seen w c.if-up-self.false _ (omega arith) c.requires.height) _ c.entries.ensures.value c.if-index-entries.false _ c.in-None.is
+    c.right_sibling.ensures
 
 pub returns-in-Some : goal.returns-in-Some
 returns-in-Some g t c = λ w.

@@ -6,7 +6,8 @@ pub entries-left-requires : goal.entries-left-requires
 entries-left-requires g c = (search rules, counted_asks c.requires.lost _ (omega arith) c.requires.height)
 
 pub enter_next-requires : goal.enter_next-requires
-enter_next-requires g c = search (rules, past_asks c.requires.lost _ (omega arith) c.requires.height _ c.entries-left.ensures.value c.if-left-least.true c.if-self-level.true)
+enter_next-requires g c =
+    search (rules, past_asks c.requires.lost _ (omega arith) c.requires.height _ c.entries-left.ensures.value c.if-left-least.true c.if-self-level.true)
 
 pub returns-then-self-level-clause-healed : goal.returns-then-self-level-clause-healed
 returns-then-self-level-clause-healed g c = λ same w.
@@ -23,10 +24,12 @@ pub balance_nodes-requires : goal.balance_nodes-requires
 balance_nodes-requires g c = (search rules, balance_asks c.requires.lost _ (omega arith) c.requires.height _ c.entries-left.ensures.value c.if-left-least.false c.in-Some.is c.right_sibling.ensures)
 
 pub update_next_separator-requires : goal.update_next_separator-requires
-update_next_separator-requires g c = search (rules, rekey_asks c.requires.lost _ (omega arith) c.requires.height _ c.entries-left.ensures.value c.if-left-least.false c.in-Some.is c.right_sibling.ensures c.balance_nodes.ensures.balanced c.in-Some-balance_nodes.is)
+update_next_separator-requires g c =
+    search (rules, rekey_asks c.requires.lost _ (omega arith) c.requires.height _ c.entries-left.ensures.value c.if-left-least.false c.in-Some.is c.right_sibling.ensures c.balance_nodes.ensures.balanced c.in-Some-balance_nodes.is)
 
 pub free_node-requires : goal.free_node-requires
-free_node-requires g c = (search rules, free_asks c.requires.lost _ (omega arith) c.requires.height _ c.entries-left.ensures.value c.if-left-least.false c.in-Some.is c.right_sibling.ensures c.balance_nodes.ensures.balanced c.in-None-balance_nodes.is)
+free_node-requires g c =
+    (search rules, free_asks c.requires.lost _ (omega arith) c.requires.height _ c.entries-left.ensures.value c.if-left-least.false c.in-Some.is c.right_sibling.ensures c.balance_nodes.ensures.balanced c.in-None-balance_nodes.is)
 
 pub returns-in-None-clause-healed : goal.returns-in-None-clause-healed
 returns-in-None-clause-healed g c = λ same w. last_heals w c.index-self-level.result (omega arith) c.requires.height c.in-None.ensures

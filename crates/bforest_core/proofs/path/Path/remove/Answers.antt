@@ -22,7 +22,9 @@ remove_entry-requires g c = let w = c.requires.stands in let s = stands_in _ _ c
 pub returns-then-entries-eq1 : goal.returns-then-entries-eq1
 returns-then-entries-eq1 g c = removes (λ at. let s = stands_in _ _ c.requires.union at.on in let tree = tree_of c.args.pool.now.nodes at.root in
     let alone = single s _ (omega arith) c.entries.result c.entries.ensures.value c.if-entries-eq1.true in
-    outcome _ _ _ _ c.requires.union at.on c.remove_leaf.result (c.remove_leaf.ensures.removed c.args.pool.now tree at.place s alone) (λ none. c.remove_leaf.ensures.emptied none c.args.pool.now tree at.place s alone)) (λ none. c.remove_leaf.ensures.end)
+    outcome _ _ _ _ c.requires.union at.on c.remove_leaf.result (c.remove_leaf.ensures.removed c.args.pool.now tree at.place s alone)
+    (λ none. c.remove_leaf.ensures.emptied none c.args.pool.now tree at.place s alone)) (λ none. c.remove_leaf.ensures.end)
 
 pub returns-else-entries-eq1 : goal.returns-else-entries-eq1
-returns-else-entries-eq1 g c = removes (λ at. removal _ _ _ _ c.requires.union at.on (c.remove_entry.ensures _ _ (stands_in _ _ c.requires.union at.on))) (λ none. absurd cc)
+returns-else-entries-eq1 g c = removes (λ at. removal _ _ _ _ c.requires.union at.on (c.remove_entry.ensures _ _ (stands_in _ _ c.requires.union at.on)))
+    (λ none. absurd cc)
