@@ -106,7 +106,7 @@ module _ {K V : Type 0} {most : ℕ} {t : Table K V} {path indices size : _} (ca
               (row-split _ _ _ _ f.inside).0 in
               let c = λ (m : ℕ). ap (λ z. count m (numbers z)) leaves_are in let c1 = λ (m : ℕ). counts m before leaf (x ∷ []) [] tree.above t.chain in
               record {
-                flat_is = sym (cc (leaves_are, place_is, remove_flat before leaf [] x [] [], flat-append before (node leaf [] ∷ []), append-nil (flat before)));
+                flat_is = sym (cc (leaves_are, place_is, remove_flat before leaf [] x [] [], flat-append _ _, append-nil _));
                 sizes_are = cc (append-nil (sizes before), loss_level most before 0 0 place [] (map sizes tree.above) (sizes_of tree) (cc (leaves_are, sizes-append before (node leaf (x ∷ []) ∷ []))) (omega arith) (omega (arith, place_is)));
                 half = f.half;
                 leaves_fit = fit_solid (half_of most) most f.half before f.solid;

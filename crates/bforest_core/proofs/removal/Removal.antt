@@ -65,7 +65,7 @@ module _ {K V : Type 0} where
             order = record {
               roots = i.order.roots;
               up = i.order.up;
-              chain_is = cc (append_assoc i.order.roots (nodes_up path 0 i.order.up) old.chain);
+              chain_is = cc (append_assoc _ _ _);
               roots_are = omega arith;
             };
             last = (λ is. absurd cc, λ one. absurd (let low = place_low _ _ _ tree place s.stands in omega (arith, length-remove (flat tree.leaves) place low, ap length i.flat_is)));

@@ -79,7 +79,7 @@ module _ {K V : Type 0} where
         let e = ends in let row = rw (e.0, e.1) at d.q.rows_are in
         let len : length (l ++ x ∷ []) ≡ suc (length l) = length-append l (x ∷ []) ∙ omega arith in
         sym (lost_above _ _) ∙ loss_level 8 before (length l) (length l) (suc (length a)) [] (map sizes rest) (map sizes rows)
-        (cc (sizes-append before (node num (l ++ x ∷ []) ∷ []))) (omega arith)
+        (cc (sizes-append _ _)) (omega arith)
         (omega (arith, ap length d.q.a_is, length-append (flat before) l, length-append a (y ∷ [])))
 
     own_is : (m : ℕ) → count m (flat_map numbers rows) ≡ count m (numbers before) + count m (num ∷ []) + count m (flat_map numbers rest)
@@ -98,10 +98,10 @@ module _ {K V : Type 0} where
             0,
             record {
               rows' = row ∷ rest;
-              stacked = (cc (flat-append before (node num l ∷ []), append-nil l, d.q.a_is), FitRow-join 4 8 before (node num l) [] f.solid (some, omega (arith, known.fit.1), tt), rw (← hs) p.stacked.2);
+              stacked = (cc (flat-append _ _, append-nil _, d.q.a_is), FitRow-join 4 8 before (node num l) [] f.solid (some, omega (arith, known.fit.1), tt), rw (← hs) p.stacked.2);
               inside = (row-put _ _ _ _ _ _ _ _ known.inside put.same put.here known.none, rows-same _ _ _ (λ m some. put.same m (ne_from_count _ _ (flat_map numbers rest) some f.none_rest)) p.inside.1);
               height = cc (d.q.rows_are);
-              sizes_are = cc (sizes-append before (node num l ∷ []), lost, rebalanced_last 8 (length l) some);
+              sizes_are = cc (sizes-append _ _, lost, rebalanced_last 8 (length l) some);
               numbers_are = λ m. omega (arith, own_is m, counts m before num l [] rest u.chain);
               root_is = ap (λ z. root_above z rest) (sym hs) ∙ top_rows _ _ _ _ _ _ _ p.stacked p.stands ∙ ap (λ z. get_or path z 0) high;
               frees = frees-puts (flat_map numbers rows) (omega (arith, own_is num, count-same num [])) put;
@@ -117,7 +117,7 @@ module _ {K V : Type 0} where
         l_none = nil_from_length l (omega (arith, s.counted cnt value, length-append l (x ∷ r)))
 
         a_front : flat before ≡ a ++ y ∷ []
-        a_front = cc (append-nil (flat before), l_none, d.q.a_is)
+        a_front = cc (append-nil _, l_none, d.q.a_is)
 
         pub front : LastOf (heads before)
         front = last_of _ (some_heads before (omega (arith, ap length a_front, length-append a (y ∷ []))))
