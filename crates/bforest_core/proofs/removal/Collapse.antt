@@ -102,9 +102,8 @@ module _ {K V : Type 0} where
   }
 
   -- a leaf that is the root stays
-  pub trim_leaf : {t : Table K V} {size : ℕ} (rows : _) {list root : _} → UpTo t size rows list root → size ≡ 1 → Trimmed t t size size rows list root root []
-  trim_leaf [] u one = trim_none u tt
-  trim_leaf (row ∷ rows) u one = absurd (omega arith)
+  pub trim_leaf : {t : Table K V} {size rows list root : _} → UpTo t size rows list root → size ≡ 1 → Trimmed t t size size rows list root root []
+  trim_leaf {rows} u one = trim_none u (rw (nil_from_length rows (omega (arith, u.height))) tt)
 
   -- there is a level above the leaves
   module _ {t : Table K V} {size rows list root : _} (u : UpTo t size rows list root) (more : size ≢ 1) where

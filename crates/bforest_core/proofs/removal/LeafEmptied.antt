@@ -1,6 +1,6 @@
 -- Removing the only entry of a leaf together with the leaf, which is the rightmost.
 use Rattle.bforest_core.proofs.Words.{sizes_of, ◌≡◌, ℕ, suc, ◌+◌, ◌≤◌, ◌<◌, List, [], ◌∷◌, ◌++◌, map, length, get_or, slice_get, refl, sym, ap, ◌∙◌}
-use Rattle.bforest_core.proofs.Words.{length-append, arith, flat_map, Table, node, flat, heads, numbers, FitRow, Tree, half_of, leaf_content, count, Distinct}
+use Rattle.bforest_core.proofs.Words.{length-append, arith, flat_map, Table, node, flat, heads, numbers, FitRow, Tree, half_of, count, Distinct}
 use Rattle.bforest_core.proofs.Words.{numbers_of, StandsIn, nil_from_length, get_or_default, ◌≢◌, IsSingle, IsUsed, Heads, Rows, append-nil, with_freed, sizes}
 use Rattle.bforest_core.proofs.Words.{LastAbove, nodes_up, IsLeafCapacity, Topped, root_of, IsPathAt, UpTo, Trimmed, Removed, Emptied}
 use Rattle.bforest_core.proofs.{table.Tables.{count-append, counts, count-same, row-split, row-same, ne_from_count}, removal.RemovingEmptied.{Drops, LastOf}}

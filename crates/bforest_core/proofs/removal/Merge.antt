@@ -138,8 +138,8 @@ module _ {K V X : Type 0} {content : List (K × X) → Content K V} {half most o
   )
 
   module _ {w path1 indices1 : _} (j : Joined content half most mid w path indices path1 indices1 level size l.before num l.entries l.after l.rest) where
-    abbrev pub merge_asks : (up' size' : ℕ) → up' ≡ suc level → size' ≡ size → TwoAbove w path1 indices1 up' size'
-    merge_asks up' size' up_is size_is = record { rows = l.rest; before = heads l.before; x = (j.first.0, num); y = (j.key, j.right); after = heads j.after'; above = rw (up_is, size_is) j.above }
+    abbrev pub merge_asks : {up' size' : ℕ} → up' ≡ suc level → size' ≡ size → TwoAbove w path1 indices1 up' size'
+    merge_asks up_is size_is = record { rows = l.rest; before = heads l.before; x = (j.first.0, num); y = (j.key, j.right); after = heads j.after'; above = rw (up_is, size_is) j.above }
 
     -- a level is rebalanced once the rows above lost the entry of a merged node
     pub joined_restored : {new : Table K V} {path' indices' : List ℕ} {up' size' : ℕ} → up' ≡ suc level → size' ≡ size → (levels : ℕ) →

@@ -1,7 +1,7 @@
 -- The effect of a removal from the tree under a root on the table.
 use Rattle.bforest_core.proofs.Words.{length-remove, IsTrue, ◌≡◌, ℕ, suc, ◌<◌, Option, Some, None, IfSome, List, ◌++◌, length, refl, sym, ap, ◌∙◌}
 use Rattle.bforest_core.proofs.Words.{subst, inl, inr, append_assoc, length-append, arith, eqb_tells, length-map, Table, flat, sizes, Tree, sizes_of}
-use Rattle.bforest_core.proofs.Words.{nodes_up, shrink, count, root_of, numbers_of, Stands, tree_of, IsUnion, is_root, Shrinks, StandsUnder, node_count}
+use Rattle.bforest_core.proofs.Words.{shrink, count, root_of, numbers_of, Stands, tree_of, IsUnion, is_root, Shrinks, StandsUnder, node_count}
 use Rattle.bforest_core.proofs.{Words.{StandsIn, Removed, Emptied, IsPathAt, OnEntry, Path, RemovesHere}, union.Roots.{exchanged-freed, uprooted-union}, union.Account.{length-same, nodes-count}}
 use Rattle.bforest_core.proofs.{rows.LevelRows.flat-append, table.Tables.count-append, union.Forests.root-among, union.Exchange.IsPlanted, union.Unions.rooted}
 

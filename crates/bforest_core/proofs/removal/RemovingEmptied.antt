@@ -1,7 +1,7 @@
 -- Removing the entry of a level's rightmost node, which was removed, and the nodes that this empties: the answers of `remove_emptied`.
 use Rattle.bforest_core.proofs.Words.{◌≡◌, ℕ, suc, ◌+◌, ◌≤◌, Some, List, [], ◌∷◌, ◌++◌, map, length, get_or, refl, sym, ap, ◌∙◌, append_assoc, length-append}
 use Rattle.bforest_core.proofs.Words.{arith, Row, flat_map, Table, node, flat, heads, numbers, FitRow, Solid, entry_keys, count, Distinct, Above}
-use Rattle.bforest_core.proofs.Words.{nil_from_length, ◌≢◌, entry_items, ◌-◌, drop, Heads, Rows, append-nil, with_freed, sizes, loss_above, inner_content}
+use Rattle.bforest_core.proofs.Words.{nil_from_length, ◌≢◌, entry_items, ◌-◌, drop, Heads, Rows, append-nil, with_freed, sizes, loss_above}
 use Rattle.bforest_core.proofs.{Words.{root_above, LastAbove, nodes_up, Dropped, rebalanced, add-one}, table.Tables.{count-append, counts, count-same}}
 use Rattle.bforest_core.proofs.{table.Tables.{row-split, row-put, row-same, puts, rows-same, ne_from_count}, rows.LevelRows.{flat-append, sizes-append}}
 use Rattle.bforest_core.proofs.rows.{LevelRows.{Solid-full, heads-append, FitRow-join}, Zipper.{Cut_above, Facts, facts}, Tops.top_rows}

@@ -3,7 +3,7 @@ use Rattle.bforest_core.proofs.removal.Collapse.{trim_leaf, counted_asks, trim_s
 use Rattle.bforest_core.proofs.path.Path.+collapse_root.Goals as goal
 
 pub returns-then-self-eq1-clause-trimmed : goal.returns-then-self-eq1-clause-trimmed
-returns-then-self-eq1-clause-trimmed g t c = λ rows list u. ([], trim_leaf rows u c.if-self-eq1.true)
+returns-then-self-eq1-clause-trimmed g t c = λ rows list u. ([], trim_leaf u c.if-self-eq1.true)
 
 pub entries-count-requires : goal.entries-count-requires
 entries-count-requires g t c = (search rules, counted_asks c.requires.rooted.2 c.if-self-eq1.false)

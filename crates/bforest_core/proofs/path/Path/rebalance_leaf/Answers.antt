@@ -1,5 +1,5 @@
-use Rattle.bforest_core.proofs.Words.{rules, true, ◌≡◌, ℕ, List, ◌-◌, ◌/◌, ◌∙◌, arith, IsLeafCapacity, Loses, Table, Unbalanced, half_of}
-use Rattle.bforest_core.proofs.removal.Removing.{healed_removed, leaf_merge_asks, collapse_asks, joined_removed}
+use Rattle.bforest_core.proofs.Words.{rules, refl, true, ◌≡◌, ℕ, List, ◌-◌, ◌/◌, ◌∙◌, arith, IsLeafCapacity, Loses, Table, Unbalanced, half_of}
+use Rattle.bforest_core.proofs.removal.{Merge.merge_asks, Removing.{healed_removed, collapse_asks, joined_removed}}
 use Rattle.bforest_core.proofs.path.Path.rebalance_leaf.Goals as goal
 
 half_left : (n : ℕ) → IsLeafCapacity n → n - n / 2 ≡ half_of n
@@ -16,7 +16,7 @@ rebalance-requires g c =
 
 pub merge_above-requires : goal.merge_above-requires
 merge_above-requires g c = let u = c.requires.lost in let j = c.rebalance.ensures.joined c.if-rebalance.true (lost c.requires.capacity u) in
-    (search rules, (search rules, (omega (arith, u.stands.low, u.stands.stands.size_is, c.rebalance.ensures.size), leaf_merge_asks u.stands u.lost u.root_is j c.rebalance.ensures.size)))
+    (search rules, (search rules, (omega (arith, u.stands.low, u.stands.stands.size_is, c.rebalance.ensures.size), merge_asks u.lost.loss j (refl {a = 1}) c.rebalance.ensures.size)))
 
 pub collapse_root-requires : goal.collapse_root-requires
 collapse_root-requires g c = let u = c.requires.lost in let j = c.rebalance.ensures.joined c.if-rebalance.true (lost c.requires.capacity u) in
