@@ -95,7 +95,7 @@ module _ {K V X : Type 0} (content : List (K × X) → Content K V) where
     pub all_right_at : IsBalancedAt cap t n f.0 q None u → AllRight t u most n q (e ∷ es) (f ∷ fs)
     all_right_at b = let bal = balances_at b in
         elim (cases_lt most (length (e ∷ es) + length (f ∷ fs))) [
-          | inl more ↦ absurd (let w = bal.shares (omega (arith, more)) in let g = w.1 in cc)
+          | inl more ↦ absurd (let w = bal.shares (omega arith) in let g = w.1 in cc)
           | inr less ↦ (let w = bal.merges (omega arith) in
               record { fits = less; left_content = b.new_left; two = puts_two _ _ _ _ _ _ _ _ fn fq ne (cc (s.joins e es f fs)) })
         ]
@@ -107,8 +107,8 @@ module _ {K V X : Type 0} (content : List (K × X) → Content K V) where
         let len = length-append (e ∷ es) (f ∷ fs) in
         elim (cases_lt most (length (e ∷ es) + length (f ∷ fs))) [
           | inr less ↦ absurd (let w = bal.merges (omega arith) in let g = w.0 in cc)
-          | inl more ↦ (let w = bal.shares (omega (arith, more)) in
-              let c = cut ((e ∷ es) ++ f ∷ fs) (both - both / 2) (omega (arith, more, two)) in let h = some_first c.l (omega (arith, more, two)) in
+          | inl more ↦ (let w = bal.shares (omega arith) in
+              let c = cut ((e ∷ es) ++ f ∷ fs) (both - both / 2) (omega (arith, more)) in let h = some_first c.l (omega (arith, more, two)) in
               let whole = c.es_is ∙ ap (λ z. z ++ c.x ∷ c.r) h.2 in let left = ap length (sym h.2) ∙ c.place_is in
               let cuts : IsCut (content ((h.0 ∷ h.1) ++ c.x ∷ c.r)) (both - both / 2) b.new_left w.0 b.new_right =
               subst (λ z. IsCut (content ((h.0 ∷ h.1) ++ c.x ∷ c.r)) (left_share z) b.new_left w.0 b.new_right) total

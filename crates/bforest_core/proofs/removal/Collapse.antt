@@ -103,12 +103,12 @@ module _ {K V : Type 0} where
 
   -- a leaf that is the root stays
   pub trim_leaf : {t : Table K V} {size rows list root : _} → UpTo t size rows list root → size ≡ 1 → Trimmed t t size size rows list root root []
-  trim_leaf {rows} u one = trim_none u (rw (nil_from_length rows (omega (arith, u.height))) tt)
+  trim_leaf {rows} u one = trim_none u (rw (nil_from_length rows (omega arith)) tt)
 
   -- there is a level above the leaves
   module _ {t : Table K V} {size rows list root : _} (u : UpTo t size rows list root) (more : size ≢ 1) where
     pub root_row : Top rows root
-    root_row = let w = some_first rows (omega (arith, u.height)) in rw w.2 (top_of_rows _ w.0 w.1 root (rw w.2 at u.stacked) (rw w.2 at u.root_is))
+    root_row = let w = some_first rows (omega arith) in rw w.2 (top_of_rows _ w.0 w.1 root (rw w.2 at u.stacked) (rw w.2 at u.root_is))
 
     rows_up : UpTo t size (root_row.init ++ (node root root_row.entries ∷ []) ∷ []) list root
     rows_up = rw (← root_row.rows_are) u
@@ -172,7 +172,7 @@ module _ {K V : Type 0} where
                 stacked = r.stacked;
                 topped = r.topped;
                 size_is = r.size_is;
-                freed_is = λ m. omega (arith, c m, count-append, r.freed_is m);
+                freed_is = λ m. omega (arith, c m, count-append);
                 one_each = simp length-append (omega arith);
                 root_is = r.root_is;
                 same_root = λ same. absurd (omega arith);

@@ -41,8 +41,8 @@ module _ {K V : Type 0} where
   -- a tree in which a path stands can be cut at the path's entry
   pub leaf_at : {most t path indices size tree place : _} → StandsIn most t path indices size tree place → LeafAt most t path indices size tree place
   leaf_at {most} {t} {indices = indices} s = let at = s.stands.leaf in let e = get_or indices 0 0 in
-      let more = some_first (drop e at.entries) (omega (arith, length-drop e at.entries, at.within)) in
-      let c = rw more.2 at (cut_leaf {t = t} at.before at.entries at.after s.fit s.inside s.apart at.row_is (omega (arith, at.within)) at.place_is s.stands.above) in
+      let more = some_first (drop e at.entries) (omega (arith, length-drop e at.entries)) in
+      let c = rw more.2 at (cut_leaf {t = t} at.before at.entries at.after s.fit s.inside s.apart at.row_is (omega arith) at.place_is s.stands.above) in
       let one : 1 ≤ most = omega (arith, c.fits.1, length-append (take e at.entries) (more.0 ∷ more.1)) in let half : 1 ≤ half_of most = omega arith in
       let full = Solid-full (half_of most) most half c.before c.solid in
       record {
@@ -51,7 +51,7 @@ module _ {K V : Type 0} where
         r = more.1;
         cut = c;
         half = half;
-        above = record { stacked = c.fit.stacked; inside = s.inside.rows_in; stands = rw full c.stands; height = omega (arith, s.stands.size_is); apart = λ m. omega (arith, c.apart m, count-append) };
+        above = record { stacked = c.fit.stacked; inside = s.inside.rows_in; stands = rw full c.stands; height = omega arith; apart = λ m. omega (arith, c.apart m, count-append) };
       }
 
   -- the leaf without the entry, under rows that have its first key
@@ -80,13 +80,13 @@ module _ {K V : Type 0} where
             above = b.above;
             number_is = refl;
             entry_was = omega (arith, length-append d.l d.r);
-            apart = λ m. omega (arith, d.apart m, c1 m, c2 m, c7 m, b.numbers_are m);
+            apart = λ m. omega (arith, d.apart m, c1 m, c2 m, c7 m);
           };
           list_is = sym (cc (remove_flat d.before n d.l d.x d.r d.after));
           place_is = omega arith;
           was = λ fs slot. leaf_count _ _ (slice_get t.nodes n) slot d.slot_is ∙ len;
           sizes_were = cc (sizes-append d.before (node n old ∷ d.after));
-          numbers_are = λ m. omega (arith, c0 m, c1 m, c2 m, count-append, b.numbers_are m);
+          numbers_are = λ m. omega (arith, c0 m, c1 m, c2 m, count-append);
           frees = frees-after (λ m none. omega (arith, none, count-append))
               (frees-puts (numbers_of tree) (omega (arith, c0 n, c1 n, count-append, count-same n (numbers d.after))) w) b.frees;
         };

@@ -11,7 +11,7 @@ use Rattle.bforest_core.proofs.rows.{LevelRows.{flat-append, sizes-append, Solid
 -- no node follows a node of one entry
 none_after : {K X : Type 0} (half most m : ℕ) (es : List (K × X)) (after : _) → 2 ≤ half → length es ≡ 1 → FitRow half most (node m es ∷ after) → after ≡ []
 none_after half most m es [] two one f = refl
-none_after half most m es (next ∷ after) two one f = absurd (omega (arith, f.0, one))
+none_after half most m es (next ∷ after) two one f = absurd (omega (arith, f.0))
 
 two_leaves : {K : Type 0} (list : Heads K) (rows : Rows K) → Topped list rows → length rows ≢ 0 → 2 ≤ length list
 two_leaves list [] topped ne = absurd (ne refl)
@@ -107,7 +107,7 @@ module _ {K V : Type 0} {most : ℕ} {t : Table K V} {path indices size : _} (ca
               let c = λ (m : ℕ). ap (λ z. count m (numbers z)) leaves_are in let c1 = λ (m : ℕ). counts m before leaf (x ∷ []) [] tree.above t.chain in
               record {
                 flat_is = sym (cc (leaves_are, place_is, remove_flat before leaf [] x [] [], flat-append _ _, append-nil _));
-                sizes_are = cc (append-nil (sizes before), loss_level most before 0 0 place [] (map sizes tree.above) (sizes_of tree) (cc (leaves_are, sizes-append before (node leaf (x ∷ []) ∷ []))) (omega arith) (omega (arith, place_is)));
+                sizes_are = cc (append-nil (sizes before), loss_level most before 0 0 place [] (map sizes tree.above) (sizes_of tree) (cc (leaves_are, sizes-append before (node leaf (x ∷ []) ∷ []))) (omega arith) (omega arith));
                 half = f.half;
                 leaves_fit = fit_solid (half_of most) most f.half before f.solid;
                 leaves_in = row-same _ _ _ _ (λ m some. said.frees.others m (omega (arith, apart m, c1 m))) in_v;
@@ -115,7 +115,7 @@ module _ {K V : Type 0} {most : ℕ} {t : Table K V} {path indices size : _} (ca
                 stacked = rw hs said.stacked;
                 rows_in = said.inside;
                 height = said.height;
-                numbers_are = λ m. omega (arith, c m, c1 m, count-append, said.numbers_are m);
+                numbers_are = λ m. omega (arith, c m, c1 m, count-append);
                 root_is = cc (root-stands s.fit s.stands);
                 frees = frees-first _ _ _ _ f.slot_is freed_is (omega (arith, c leaf, c1 leaf, count-append, count-same leaf [])) f.none_rows
                     (λ m none. omega (arith, none, count-append)) said.frees;

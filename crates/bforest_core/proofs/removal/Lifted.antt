@@ -156,11 +156,11 @@ module _ {K V : Type 0} where
       -- updating the key where it is a separator in the path's parent
       pub rekey_parent : 0 < get_or indices up 0 → u ≡ with_node t n (with_key (inner_content old) (get_or indices up 0 - 1) key) →
           Rekeyed t u path indices up size rows (a ++ (key, x.1) ∷ b) (length a)
-      rekey_parent some u_is = renamed _ _ _ _ _ _ _ refl (omega (arith, d.q.entry_is)) u_is (cc (append_assoc _ _ _))
+      rekey_parent some u_is = renamed _ _ _ _ _ _ _ refl (omega arith) u_is (cc (append_assoc _ _ _))
 
       -- updating the key where it is the parent's first, in the rows above
       pub rekey_first : get_or indices up 0 ≤ 0 → Rekeyed t u path indices (suc up) size rest (heads before ++ (key, n) ∷ heads after) (length (heads before)) → Rekeyed t u path indices up size rows (a ++ (key, x.1) ∷ b) (length a)
-      rekey_first none above = let l_is = nil_from_length l (omega (arith, d.q.entry_is)) in let s = row-split _ _ _ _ f.inside in
+      rekey_first none above = let l_is = nil_from_length l (omega arith) in let s = row-split _ _ _ _ f.inside in
           lifted_above ((key, x.1) ∷ r) after ((key, x.1) ∷ b) (ap (λ z. length (z ++ x ∷ r)) (sym l_is))
           (refl, refl, cc (d.q.b_is, l_is), sym (heads-append before (node n ((key, x.1) ∷ r) ∷ after))) (rw l_is at f.fit)
           (row-join _ _ _ (node n ((key, x.1) ∷ r) ∷ after) s.0 (rw l_is at s.1)) above

@@ -149,7 +149,7 @@ module _ {K V X : Type 0} {content : List (K × X) → Content K V} {half most o
     joined_restored {new} {path'} {indices'} up_is size_is levels again one = let both = l.entries ++ j.right_entries in let row =
         l.before ++ node j.right both ∷ j.after' in
         let freed = nodes_up path (suc level) levels in let r =
-        rw (up_is, size_is, nodes_up-same path path1 (suc level) levels (λ i above. j.nodes_above i (omega (arith, above)))) at again in
+        rw (up_is, size_is, nodes_up-same path path1 (suc level) levels (λ i above. j.nodes_above i (omega arith))) at again in
         let own1 = numbers (l.before ++ node num l.entries ∷ l.after) ++ flat_map numbers l.rest in let p = l.on_level in
         let full = Solid-full half most one l.before p.solid in let c = λ (m : ℕ). counts m l.before num l.entries l.after l.rest mid.chain in
         let c0 = λ (m : ℕ). ap (λ z. count m (num ∷ numbers z)) j.after_is in let list_is = sym (cc (heads-append _ _)) in
@@ -171,12 +171,12 @@ module _ {K V X : Type 0} {content : List (K × X) → Content K V} {half most o
               sizes_are = cc (rw j.outcome at lost_is, sizes-append _ _);
               numbers_are = λ m. omega
                   (arith, r.numbers_are m, c0 m, c m, counts m l.before j.right both j.after' r.rows' new.chain, count-append m freed (num ∷ []), l.numbers_are m);
-              frees = frees-after (λ m none. omega (arith, l.numbers_are m)) l.frees left;
+              frees = frees-after (λ m none. omega arith) l.frees left;
               place_is = omega arith;
             },
             record {
-              nodes_below = λ i low. r.nodes_below i (omega (arith, low)) ∙ j.nodes_below i low;
-              entries_below = λ i low. r.entries_below i (omega (arith, low)) ∙ j.entries_below i low;
+              nodes_below = λ i low. r.nodes_below i (omega arith) ∙ j.nodes_below i low;
+              entries_below = λ i low. r.entries_below i (omega arith) ∙ j.entries_below i low;
               same_top = r.same_top ∙ j.same_top;
             },
           ),

@@ -23,7 +23,7 @@ must_move a x y b false last = absurd (omega (arith, last refl, length-append a 
 module _ {K V : Type 0} where
   -- the rows one level up, as a call there requires them
   abbrev pub up_asks : {t : Table K V} {path indices up size rows a x b : _} → Spot t path indices up size rows a x b → OneAbove t path indices (up + 1) size
-  up_asks {path = path} {up = up} {x = x} d = let h = some_first (d.q.l ++ x ∷ d.q.r) (omega (arith, d.count_is)) in
+  up_asks {path = path} {up = up} {x = x} d = let h = some_first (d.q.l ++ x ∷ d.q.r) (omega arith) in
       record { rows = d.q.rest; before = heads d.q.before; x = (h.0.0, get_or path up 0); after = heads d.q.after; above = rw add-one (headed d.q.before (get_or path up 0) d.q.after h (rows_above d)) }
 
   -- the rows above a level, as a step on it requires them
@@ -42,7 +42,7 @@ module _ {K V : Type 0} where
 
   module _ {t : Table K V} {path indices up size : _} (w : OneAbove t path indices up size) (other : up ≢ size) where
     pub is_low : up < size
-    is_low = omega (arith, w.above.height)
+    is_low = omega arith
 
     -- the parent of the node
     pub one_seen : (i : ℕ) → length path ≡ 17 → size ≤ 17 → Seen t path indices up size w.rows w.before w.x w.after i
@@ -79,15 +79,15 @@ module _ {K V : Type 0} where
 
       pub beside_same : (key child : _) → index + 1 < m → ReadsKey t (get_or path up i) index key → ReadsChild t (get_or path up i) (index + 1) child →
           NextIs (Some (key, child)) b
-      beside_same key child more reads_key reads_child = let w = some_first r (omega (arith, s.counted m value, d.count_is)) in
-          let high : suc (length l) ≡ index + 1 = omega (arith, d.q.entry_is) in
+      beside_same key child more reads_key reads_child = let w = some_first r (omega (arith, s.counted m value)) in
+          let high : suc (length l) ≡ index + 1 = omega arith in
           let key_is = some_same (cc (second_key l x w.0 w.1, d.q.entry_is, reads_key keys items s.slot_is)) in
           let child_is = some_same (cc (second (λ z. z.1) _ x _ _, reads_child keys items s.slot_is)) in
           (w.1 ++ flat after, d.q.b_is ∙ ap (λ z. z ++ flat after) w.2 ∙ ap (λ z. (z, w.0.1) ∷ (w.1 ++ flat after)) key_is ∙ ap (λ z. (key, z) ∷ (w.1 ++ flat after)) child_is)
 
       module _ (less : m ≤ index + 1) where
         behind : b ≡ flat after
-        behind = cc (d.q.b_is, nil_from_length r (omega (arith, s.counted m value, d.count_is)))
+        behind = cc (d.q.b_is, nil_from_length r (omega (arith, s.counted m value)))
 
         -- there is no right neighbour
         pub none_right : (o : Option (K × ℕ)) → o ≡ None → Beside t path indices (up + 1) size o → NextIs None b

@@ -125,7 +125,7 @@ module _ {K V X : Type 0} {content : List (K × X) → Content K V} {half most :
             sizes_are = rw outcome (cc (sizes-append _ _));
             rest_sizes = b.sizes_are;
             row_numbers = simp numbers-append;
-            rest_numbers = λ m. omega (arith, b.numbers_are m);
+            rest_numbers = λ m. omega arith;
             frees = frees-after (λ m none. omega (arith, c m)) (frees-wider (numbers row ++ flat_map numbers rest) (λ m none. omega (arith, c m)) (two_frees s.two)) b.frees;
             keeps = keeps-refl;
           }

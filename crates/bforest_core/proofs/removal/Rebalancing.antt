@@ -12,7 +12,7 @@ both_back P a c b d e f w = rw (e, f) w
 
 -- a level that lost an entry is one of the path's
 pub loses_low : {K V : Type 0} {cap least : ℕ} {t : Table K V} {path indices : List ℕ} {up size : ℕ} → Loses cap least t path indices up size → up < size
-loses_low w = omega (arith, w.on.above.height)
+loses_low w = omega arith
 
 module _ {K V : Type 0} {cap least : ℕ} {t : Table K V} {path indices up size : _} (w : Loses cap least t path indices up size) (r : ℕ) (wide : length path ≡ 17) (height : size ≤ 17) where
   abbrev X : Type 0
@@ -39,7 +39,7 @@ module _ {K V : Type 0} {cap least : ℕ} {t : Table K V} {path indices up size 
   s = kind_stored _ _
 
   low : up < length path
-  low = omega (arith, p.above.height)
+  low = omega arith
 
   half_some : 1 ≤ half
   half_some = omega (arith, hm.two)
@@ -103,7 +103,7 @@ module _ {K V : Type 0} {cap least : ℕ} {t : Table K V} {path indices up size 
         pub past_heals : (path' indices' : _) → Enters t path indices path' indices' up size → get_or indices' up 0 ≡ 0 →
             Keeps path indices path' indices' up size → Heals w t path' indices'
         past_heals path' indices' moved first kept = let entered = moved past_asks in let len = ap length named.2 in
-            heals then t path' indices' (settle_move hm (level then) (omega (arith, count_read m value)) (omega (arith, count_read m value)) entered first kept)
+            heals then t path' indices' (settle_move hm (level then) (omega arith) (omega (arith, count_read m value)) entered first kept)
 
   abbrev pub beside_asks : OneAbove t path indices (up + 1) size
   beside_asks = record { rows = rest; before = heads before; x = (e.0, n); after = heads after; above = rw add-one (headed before n after named p.above) }

@@ -18,7 +18,7 @@ module _ {K V : Type 0} where
 
   -- the place where a path stands is that of an entry
   pub place_low : (path indices size : _) (tree : Tree K V) (place : ℕ) → Stands path indices size tree place → place < length (flat tree.leaves)
-  place_low path indices size tree place s = let at = s.leaf in rw at.row_is (simp (flat-append, length-append) (omega (arith, at.place_is, at.within)))
+  place_low path indices size tree place s = let at = s.leaf in rw at.row_is (simp (flat-append, length-append) (omega (arith, at.place_is)))
 
   -- the effect of a removal on the table and the path, with the root that is left, if any
   pub record Said (most : ℕ) (old new : Table K V) (path : List ℕ) (root place : ℕ) (Now : Tree K V → Type 0) (found : Option ℕ) : Type 0 where

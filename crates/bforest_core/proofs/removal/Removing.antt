@@ -96,7 +96,7 @@ module _ {K V : Type 0} {most : ℕ} {old mid : Table K V} {path indices size tr
   n = get_or path 0 0
 
   half : 1 ≤ half_of most
-  half = let one : 1 ≤ most = omega (arith, l.on_level.some, l.on_level.most_is) in omega arith
+  half = let one : 1 ≤ most = omega (arith, l.on_level.some) in omega arith
 
   -- the leaves and the rows above them were as many
   sizes_were : (sizes tree.leaves ≡ sizes l.before ++ suc (length l.entries) ∷ sizes l.after) × (map sizes tree.above ≡ map sizes l.rest)
@@ -178,7 +178,7 @@ module _ {K V : Type 0} {most : ℕ} {old mid : Table K V} {path indices size tr
 
   -- an entry follows in what is left
   pub entry_follows : get_or indices 0 0 < length (l.entries ++ flat l.after) → (z : Tree K V) → flat z.leaves ≡ remove (flat tree.leaves) place → place < length (flat z.leaves)
-  entry_follows low z is = omega (arith, left_is z is, l.place_is)
+  entry_follows low z is = omega (arith, left_is z is)
 
   -- the removal is complete where the path was at the last entry
   pub past_removed : l.after ≡ [] → get_or indices 0 0 ≡ length l.entries → Removed most old mid path (λ z. IsPathAt path indices 0 z place) tree place root

@@ -114,7 +114,7 @@ module _ {K V : Type 0} where
         v_is = cc (s.num_is)
 
         pub l_none : l ≡ []
-        l_none = nil_from_length l (omega (arith, s.counted cnt value, length-append l (x ∷ r)))
+        l_none = nil_from_length l (omega (arith, s.counted cnt value))
 
         a_front : flat before ≡ a ++ y ∷ []
         a_front = cc (append-nil _, l_none, d.q.a_is)
@@ -134,7 +134,7 @@ module _ {K V : Type 0} where
           empties = let below = said.1 in let hs = front.is in let p = whole in
               let len : length before ≡ suc (length front.init) =
               omega (arith, Solid-full 4 8 (omega arith) before f.solid, ap length hs, length-append front.init (front.last ∷ [])) in
-              let in_v = row-same _ _ _ _ (λ m some. freed_other _ _ _ v_is m (ne_from_count _ _ (numbers before) some (omega (arith, known.none))))
+              let in_v = row-same _ _ _ _ (λ m some. freed_other _ _ _ v_is m (ne_from_count _ _ (numbers before) some (omega arith)))
               (row-split _ _ _ _ known.inside).0 in let c = λ (m : ℕ). counts m before num (l ++ x ∷ []) [] rest t.chain in (
                 suc said.0,
                 record {

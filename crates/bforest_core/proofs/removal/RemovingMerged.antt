@@ -59,9 +59,9 @@ module _ {K V : Type 0} where
             some = some;
             lost_one = omega arith;
             most_is = omega arith;
-            above = above_written w (omega (arith, above.numbers_are num, f.none_rest)) (rw (← o.3) above.above);
+            above = above_written w (omega (arith, above.numbers_are num)) (rw (← o.3) above.above);
             number_is = refl;
-            entry_was = omega (arith, d.q.entry_is);
+            entry_was = omega arith;
             apart = λ i. omega (arith, whole.apart i, above.numbers_are i, c i, c2 i, c3 i, c4 i);
           };
           list_is = flat_at d es ((x.0, y.1) ∷ b) ns o.2;
@@ -83,7 +83,7 @@ module _ {K V : Type 0} where
 
         pub same_parent : Renamed u key
         same_parent = let w = behind in let es_is = ap (λ z. l ++ x ∷ z) w.1 ∙ sym (append_assoc l (x ∷ []) (y ∷ w.0)) in
-            renamed d u _ y _ _ _ _ es_is (omega (arith, length-append l (x ∷ []), d.q.entry_is)) (rw s.num_is at (writes keys items s.slot_is))
+            renamed d u _ y _ _ _ _ es_is (omega (arith, length-append l (x ∷ []))) (rw s.num_is at (writes keys items s.slot_is))
             (simp append_assoc (ap (λ z. l ++ x ∷ (key, y.1) ∷ z) (sym w.2)))
 
         pub remove_asks : IsUsed u (get_or path up i) × ChildAt u (get_or path up i) index
@@ -101,7 +101,7 @@ module _ {K V : Type 0} where
       -- the next node has the next parent
       module _ (less : m ≤ index + 1) where
         pub o : Across l r after y b
-        o = across (n d) l x r after y b f.fit d.q.b_is (omega (arith, s.counted m value, d.q.entry_is))
+        o = across (n d) l x r after y b f.fit d.q.b_is (omega (arith, s.counted m value))
 
         l_some : 1 ≤ length l
         l_some = omega (arith, ap length o.l_is)
@@ -129,7 +129,7 @@ module _ {K V : Type 0} where
         above_asks = record { rows = rest; before = heads before; x = (o.z.0, n d); y = (y.0, o.q); after = heads o.rest; above = rw add-one (rw named at (rows_above d)) }
 
         pub index_some : 1 ≤ index
-        index_some = omega (arith, l_some, d.q.entry_is)
+        index_some = omega (arith, l_some)
 
         pub last_key_asks : KeyAt t (get_or path up i) (index - 1)
         last_key_asks = s.low_key_asks (index - 1) (omega (arith, index_some))
@@ -148,7 +148,7 @@ module _ {K V : Type 0} where
           slot_then = rebuilt.frees.others (n d) f.none_rest ∙ f.slot_is
 
           pub remove_last_asks : IsUsed v (get_or path up i) × ChildAt v (get_or path up i) index
-          remove_last_asks = (rw s.num_is (is_used _ _ _ slot_then (cc (rebuilt.frees.chain_is, f.none_chain))), (keys, items, cc (s.num_is, slot_then), omega (arith, item_count (old d), d.count_is)))
+          remove_last_asks = (rw s.num_is (is_used _ _ _ slot_then (cc (rebuilt.frees.chain_is, f.none_chain))), (keys, items, cc (s.num_is, slot_then), omega (arith, item_count (old d))))
 
           pub merge_next : (u : _) → ReadsKey t (get_or path up i) (index - 1) key → Removes v u (get_or path up i) index → Passed u
           merge_next u reads removes = let num_is = s.num_is in let u_is = removes keys items (cc (slot_then)) in
