@@ -116,7 +116,7 @@ module _ {K V X : Type 0} {content : List (K × X) → Content K V} {half most :
             stays = rw outcome;
             inside = row-same _ _ _ _ (λ m some. b.frees.others m (omega (arith, p.apart m, c m, c2 m))) in_u;
             fit = FitRow-join _ _ _ (node n (s.x ∷ s.xs)) (node q (s.y ∷ s.ys) ∷ after) p.solid
-                (lo, hi, (omega (arith, least-le half (omega (arith, hm.two)) after), hi_q, fit_q.2));
+                (lo, hi, (omega (arith, least-le half (omega arith) after), hi_q, fit_q.2));
             list_is = simp flat-append (cc (append_assoc _ _ _, append_assoc _ _ _));
             above = rw (← hs) b.above;
             number_is = p.number_is;

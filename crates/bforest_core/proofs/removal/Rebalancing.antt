@@ -86,7 +86,7 @@ module _ {K V : Type 0} {cap least : ℕ} {t : Table K V} {path indices up size 
     module _ (healthy : least ≤ m) where
       -- a healthy node in which the path stands stays
       pub stay_heals : get_or indices up 0 ≢ m → Heals w t path indices
-      stay_heals inside = settle_stay hm p (inl (omega (arith, count_read m value))) (λ some. omega (arith, count_read m value, p.entry_was))
+      stay_heals inside = settle_stay hm p (inl (omega (arith, count_read m value))) (λ some. omega (arith, count_read m value))
 
       module _ (past : get_or indices up 0 ≡ m) where
         -- there is a next node where the path is past the node's last entry
