@@ -117,10 +117,10 @@ module _ {K V : Type 0} where
 
     -- an index above the leaves is that of one of 8 children
     pub one_small : OneAbove t path indices up size → up < size → get_or indices up 0 < 8
-    one_small w low = let d = spot _ _ _ w.above low in omega (arith, d.count_is)
+    one_small w low = let d = spot _ _ _ w.above low in omega arith
 
     pub two_small : TwoAbove t path indices up size → get_or indices up 0 < 8
-    two_small w = let d = spot _ _ _ w.above (two_low w) in omega (arith, d.count_is)
+    two_small w = let d = spot _ _ _ w.above (two_low w) in omega arith
 
   -- the answer of the call for the right neighbour
   abbrev pub Beside : Table K V → List ℕ → List ℕ → ℕ → ℕ → Option (K × ℕ) → Type 0
@@ -164,7 +164,7 @@ module _ {K V : Type 0} where
         node_asks = (inner_content es, slot, λ free. free);
         child_asks = (drop 1 (entry_keys es), entry_items es, slot, omega (arith, item_count es));
         counted = counted;
-        low_key_asks = λ i below. (drop 1 (entry_keys es), entry_items es, slot, omega (arith, d.count_is, key_count es));
+        low_key_asks = λ i below. (drop 1 (entry_keys es), entry_items es, slot, omega (arith, key_count es));
         key_asks = λ m i value more. (drop 1 (entry_keys es), entry_items es, slot, omega (arith, counted m value, key_count es));
       }
 

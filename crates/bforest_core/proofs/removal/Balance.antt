@@ -108,7 +108,7 @@ module _ {K V X : Type 0} (content : List (K × X) → Content K V) where
         elim (cases_lt most (length (e ∷ es) + length (f ∷ fs))) [
           | inr less ↦ absurd (let w = bal.merges (omega arith) in let g = w.0 in cc)
           | inl more ↦ (let w = bal.shares (omega arith) in
-              let c = cut ((e ∷ es) ++ f ∷ fs) (both - both / 2) (omega (arith, more)) in let h = some_first c.l (omega (arith, more)) in
+              let c = cut ((e ∷ es) ++ f ∷ fs) (both - both / 2) (omega arith) in let h = some_first c.l (omega (arith, more)) in
               let whole = c.es_is ∙ ap (λ z. z ++ c.x ∷ c.r) h.2 in let left = ap length (sym h.2) ∙ c.place_is in
               let cuts : IsCut (content ((h.0 ∷ h.1) ++ c.x ∷ c.r)) (both - both / 2) b.new_left w.0 b.new_right =
               subst (λ z. IsCut (content ((h.0 ∷ h.1) ++ c.x ∷ c.r)) (left_share z) b.new_left w.0 b.new_right) total

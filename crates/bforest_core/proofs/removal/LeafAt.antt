@@ -43,7 +43,7 @@ module _ {K V : Type 0} where
   leaf_at {most} {t} {indices = indices} s = let at = s.stands.leaf in let e = get_or indices 0 0 in
       let more = some_first (drop e at.entries) (omega (arith, length-drop e at.entries)) in
       let c = rw more.2 at (cut_leaf {t = t} at.before at.entries at.after s.fit s.inside s.apart at.row_is (omega arith) at.place_is s.stands.above) in
-      let one : 1 ≤ most = omega (arith, c.fits.1, length-append (take e at.entries) (more.0 ∷ more.1)) in let half : 1 ≤ half_of most = omega arith in
+      let one : 1 ≤ most = omega (arith, length-append (take e at.entries) (more.0 ∷ more.1)) in let half : 1 ≤ half_of most = omega arith in
       let full = Solid-full (half_of most) most half c.before c.solid in
       record {
         l = take e at.entries;
@@ -71,7 +71,7 @@ module _ {K V : Type 0} where
           after = d.after;
           rest = b.rows';
           on_level = record {
-            inside = row-same _ _ _ _ (λ m some. b.frees.others m (omega (arith, d.apart m, c1 m, c2 m))) in_u;
+            inside = row-same _ _ _ _ (λ m some. b.frees.others m (omega (arith, c1 m, c2 m))) in_u;
             solid = d.solid;
             fits = d.fits.2;
             some = more;
@@ -80,14 +80,14 @@ module _ {K V : Type 0} where
             above = b.above;
             number_is = refl;
             entry_was = omega (arith, length-append d.l d.r);
-            apart = λ m. omega (arith, d.apart m, c1 m, c2 m, c7 m);
+            apart = λ m. omega (arith, c1 m, c2 m, c7 m);
           };
           list_is = sym (cc (remove_flat d.before n d.l d.x d.r d.after));
           place_is = omega arith;
           was = λ fs slot. leaf_count _ _ (slice_get t.nodes n) slot d.slot_is ∙ len;
           sizes_were = cc (sizes-append d.before (node n old ∷ d.after));
           numbers_are = λ m. omega (arith, c0 m, c1 m, c2 m, count-append);
-          frees = frees-after (λ m none. omega (arith, none, count-append))
+          frees = frees-after (λ m none. omega (arith, count-append))
               (frees-puts (numbers_of tree) (omega (arith, c0 n, c1 n, count-append, count-same n (numbers d.after))) w) b.frees;
         };
       }

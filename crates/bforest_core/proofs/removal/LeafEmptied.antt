@@ -11,7 +11,7 @@ use Rattle.bforest_core.proofs.rows.{LevelRows.{flat-append, sizes-append, Solid
 -- no node follows a node of one entry
 none_after : {K X : Type 0} (half most m : ℕ) (es : List (K × X)) (after : _) → 2 ≤ half → length es ≡ 1 → FitRow half most (node m es ∷ after) → after ≡ []
 none_after half most m es [] two one f = refl
-none_after half most m es (next ∷ after) two one f = absurd (omega (arith, f.0))
+none_after half most m es (next ∷ after) two one f = absurd (omega arith)
 
 two_leaves : {K : Type 0} (list : Heads K) (rows : Rows K) → Topped list rows → length rows ≢ 0 → 2 ≤ length list
 two_leaves list [] topped ne = absurd (ne refl)
@@ -118,7 +118,7 @@ module _ {K V : Type 0} {most : ℕ} {t : Table K V} {path indices size : _} (ca
                 numbers_are = λ m. omega (arith, c m, c1 m, count-append);
                 root_is = cc (root-stands s.fit s.stands);
                 frees = frees-first _ _ _ _ f.slot_is freed_is (omega (arith, c leaf, c1 leaf, count-append, count-same leaf [])) f.none_rows
-                    (λ m none. omega (arith, none, count-append)) said.frees;
+                    (λ m none. omega (arith, count-append)) said.frees;
               }
 
           module _ (root : ℕ) (root_is : root_of tree ≡ root) where

@@ -2,9 +2,9 @@
 use Rattle.bforest_core.proofs.Words.{◌≡◌, ℕ, suc, ◌-◌, ◌≤◌, List, [], ◌∷◌, ◌++◌, length, set, slice_get, refl, sym, ◌∙◌, append_assoc, length-append, arith}
 use Rattle.bforest_core.proofs.Words.{Heads, inner_content, entry_keys, entry_items, ◌+◌, ◌<◌, get_or, ap, with_key, Table, with_node, sizes, count, Above}
 use Rattle.bforest_core.proofs.Words.{subst, Row, flat_map, node, flat, heads, head_of, numbers, FitRow, RowIn, Distinct, Frees, nil_from_length, Rekeyed}
-use Rattle.bforest_core.proofs.table.Tables.{count-append, count-same, count-row, counts, row-put, row-same, rows-same, ne_from_count, Puts, puts, row-split}
-use Rattle.bforest_core.proofs.{table.Tables.row-join, rows.LevelRows.{least-pos, flat-append, heads-append, sizes-append, FitRow-join}}
-use Rattle.bforest_core.proofs.{removal.Frees.{frees-puts, frees-refl, frees-wider}, rows.Zipper.{Spot, stands_here}, removal.Asked.{First, keeps-refl, some_first}, Words.least}
+use Rattle.bforest_core.proofs.{Words.least, table.Tables.{count-append, count-same, count-row, counts, row-put, row-same, rows-same, ne_from_count, Puts}}
+use Rattle.bforest_core.proofs.{table.Tables.{puts, row-split, row-join}, rows.LevelRows.{least-pos, flat-append, heads-append, sizes-append, FitRow-join}}
+use Rattle.bforest_core.proofs.{rows.Zipper.{Spot, stands_here}, removal.{Frees.{frees-puts, frees-refl, frees-wider}, Asked.{First, keeps-refl, some_first}}}
 
 -- a node's first key does not change with a later entry's item
 pub head-other : {K X : Type 0} (n : ℕ) (l : List (K × X)) (k : K) (x y : X) (r s : List (K × X)) → head_of n (l ++ (k, x) ∷ r) ≡ head_of n (l ++ (k, y) ∷ s)
@@ -94,7 +94,7 @@ module _ {K V : Type 0} where
     -- the rows above the path's row
     pub rows_above : Above t path indices (suc up) size rest (heads (before ++ node n old ∷ after)) (length (heads before))
     rows_above = let p = whole in let c = λ (m : ℕ). counts m before n old after rest t.chain in
-        record { stacked = p.stacked.2; inside = p.inside.1; stands = d.q.stands; height = omega arith; apart = λ m. omega (arith, p.apart m, c m, count-append m (flat_map numbers rest) t.chain) }
+        record { stacked = p.stacked.2; inside = p.inside.1; stands = d.q.stands; height = omega arith; apart = λ m. omega (arith, c m, count-append m (flat_map numbers rest) t.chain) }
 
     -- the list of a level's nodes, with other nodes from the path's on
     pub flat_at : (es hs ns : _) → es ++ flat ns ≡ l ++ hs → flat (before ++ node n es ∷ ns) ≡ a ++ hs
@@ -123,7 +123,7 @@ module _ {K V : Type 0} where
             inside = (inside, above.above.inside);
             stands = stands_here _ _ _ _ _ _ _ _ _ _ _ f.solid refl refl refl (omega arith) place_at above.above.stands;
             height = omega arith;
-            apart = λ m. omega (arith, whole.apart m, above.numbers_are m, c m, c2 m, c3 m, c4 m);
+            apart = λ m. omega (arith, above.numbers_are m, c m, c2 m, c3 m, c4 m);
           };
           sizes_are = let same = o.0 in cc (sizes-append _ _, sizes-append _ _);
           numbers_are = λ m. omega (arith, c m, c2 m, c3 m, above.numbers_are m, ap (λ z. count m (flat_map numbers z)) d.q.rows_are);
@@ -167,7 +167,7 @@ module _ {K V : Type 0} where
 
 -- the next node has the same parent
 pub next_in : {K : Type 0} (l : Heads K) (x : K × ℕ) (r : Heads K) (e : ℕ) (y : K × ℕ) (b more : Heads K) → y ∷ b ≡ r ++ more → length l ≡ e → e + 1 < length (l ++ x ∷ r) → (ys : Heads K) × (r ≡ y ∷ ys) × (b ≡ ys ++ more)
-next_in l x [] e y b more is l_is high = absurd (omega (arith, l_is, length-append l (x ∷ [])))
+next_in l x [] e y b more is l_is high = absurd (omega (arith, length-append l (x ∷ [])))
 next_in l x (w ∷ ys) e y b more is l_is high = (ys, cc, cc)
 
 -- the next node has the next parent
@@ -185,6 +185,6 @@ pub record Across {K : Type 0} (l : Heads K) (r : Heads K) (after : Row K ℕ) (
 pub across : {K : Type 0} (n : ℕ) (l : Heads K) (x : K × ℕ) (r : Heads K) (after : Row K ℕ) (y : K × ℕ) (b : Heads K) → FitRow 4 8 (node n (l ++ x ∷ r) ∷ after) → y ∷ b ≡ r ++ flat after → length (l ++ x ∷ r) ≤ length l + 1 → Across l r after y b
 across n l x r after y b f e h = let len = length-append l (x ∷ r) in let none = nil_from_length r (omega arith) in
     let next = first_after 4 8 (omega arith) after f.2 (omega (arith, ap length e, length-append r (flat after))) in let a = next.2 in
-    let one = some_first l (omega (arith, ap length none, f.0, ap (λ z. least 4 z) a.after_is)) in let whole : y ∷ b ≡ a.f ∷ (a.fs ++ flat a.rest) =
+    let one = some_first l (omega (arith, f.0, ap (λ z. least 4 z) a.after_is)) in let whole : y ∷ b ≡ a.f ∷ (a.fs ++ flat a.rest) =
     rw (none, a.after_is) at e in
     record { z = one.0; zs = one.1; q = next.1; ys = a.fs; rest = a.rest; l_is = one.2; r_is = none; after_is = cc (a.after_is); b_is = cc }

@@ -166,7 +166,7 @@ module _ {K V X : Type 0} {content : List (K × X) → Content K V} {half most o
               row_is = ap (λ z. l.before ++ node z both ∷ j.after') (sym (cc (r.nodes_below level (omega arith))));
               list_is = cc (flat-append _ _, append_assoc _ _ _, flat-append _ _);
               fit = j.fit;
-              inside = row-same _ _ _ _ (λ m more. r.frees.others m (omega (arith, p.apart m, c0 m, c m, count-row m l.before j.right both j.after'))) j.inside;
+              inside = row-same _ _ _ _ (λ m more. r.frees.others m (omega (arith, c0 m, c m, count-row m l.before j.right both j.after'))) j.inside;
               above = subst (λ z. Above new path' indices' (suc level) size r.rows' z (length (heads l.before))) list_is r.above;
               sizes_are = cc (rw j.outcome at lost_is, sizes-append _ _);
               numbers_are = λ m. omega

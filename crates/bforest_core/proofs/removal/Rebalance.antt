@@ -80,9 +80,9 @@ module _ {K V X : Type 0} {content : List (K × X) → Content K V} {half most :
     apart = let c = λ (m : ℕ). counts m before n (e ∷ es) (node q (f ∷ fs) ∷ after) rest t.chain in let sn = count-same n (q ∷ numbers after) in
         let sq = count-same q (numbers after) in (
           λ same. let h = ap (λ z. count z (q ∷ numbers after)) same in omega (arith, c n),
-          omega (arith, p.apart n, c n),
-          omega (arith, p.apart q, c q),
-          omega (arith, p.apart q, c q),
+          omega (arith, c n),
+          omega (arith, c q),
+          omega (arith, c q),
         )
 
     -- writing the two slots changes only slots of the row
@@ -92,7 +92,7 @@ module _ {K V X : Type 0} {content : List (K × X) → Content K V} {half most :
     -- the rows above, after a write of the two slots
     pub above_two_put : {u c d : _} → PutsTwo content t u n q c d → Above u path indices (suc up) size rest (heads before ++ (e.0, n) ∷ (f.0, q) ∷ heads after) (length (heads before))
     above_two_put {u} w = let k = λ (m : ℕ). counts m before n (e ∷ es) (node q (f ∷ fs) ∷ after) rest t.chain in let b = above_both in
-        above_same b u (λ m some. (two_frees w).others m (omega (arith, p.apart m, k m)))
+        above_same b u (λ m some. (two_frees w).others m (omega (arith, k m)))
         (λ m. omega (arith, b.apart m, ap (λ z. count m z) w.frees.chain_is, count-append))
 
     module _ {u : Table K V} (v : Table K V) (under : length (e ∷ es) < half) where
@@ -114,7 +114,7 @@ module _ {K V X : Type 0} {content : List (K × X) → Content K V} {half most :
             after' = node q (s.y ∷ s.ys) ∷ after;
             rest' = b.rows';
             stays = rw outcome;
-            inside = row-same _ _ _ _ (λ m some. b.frees.others m (omega (arith, p.apart m, c m, c2 m))) in_u;
+            inside = row-same _ _ _ _ (λ m some. b.frees.others m (omega (arith, c m, c2 m))) in_u;
             fit = FitRow-join _ _ _ (node n (s.x ∷ s.xs)) (node q (s.y ∷ s.ys) ∷ after) p.solid
                 (lo, hi, (omega (arith, least-le half (omega arith) after), hi_q, fit_q.2));
             list_is = simp flat-append (cc (append_assoc _ _ _, append_assoc _ _ _));
@@ -155,10 +155,10 @@ module _ {K V X : Type 0} {content : List (K × X) → Content K V} {half most :
             fit = FitRow-join _ _ _ (node q both) after p.solid (omega arith, omega arith, fit_q.2);
             above = record {
               stacked = a.stacked;
-              inside = rows-same _ _ _ (λ m some. frees.others m (omega (arith, p.apart m, c m))) a.inside;
+              inside = rows-same _ _ _ (λ m some. frees.others m (omega (arith, c m))) a.inside;
               stands = stands-same _ _ _ _ _ _ _ (λ i high. get_or-set_other path up i q 0 (λ w. omega arith)) (λ i high. refl) a.stands;
               height = a.height;
-              apart = λ m. omega (arith, p.apart m, c m, count-append m (flat_map numbers rest) v.chain, ap (λ z. count m z) frees.chain_is);
+              apart = λ m. omega (arith, c m, count-append m (flat_map numbers rest) v.chain, ap (λ z. count m z) frees.chain_is);
             };
             number_is = get_or-set_same _ _ _ 0 low;
             entry_is = refl;

@@ -1,11 +1,11 @@
 -- Rebalancing a level, from what its calls state: the answers of `rebalance`.
 use Rattle.bforest_core.proofs.Words.{◌≡◌, ℕ, suc, ◌+◌, ◌≤◌, ◌<◌, ◌≢◌, List, ◌∷◌, length, slice_get, Option, Some, None, ap, ◌∙◌, subst, inl, inr}
-use Rattle.bforest_core.proofs.Words.{length-append, arith, Content, Table, IsBalancedAt, content_at, half_at, most_at, set, get_or, with_freed, node}
-use Rattle.bforest_core.proofs.Words.{flat, heads, count, OnLevel, Healed, Joined, add-one, get_or_default, Item, Heals, Joins, Loses, IsUsed}
-use Rattle.bforest_core.proofs.{Words.{IsUnderflowedAt, OneAbove, TwoAbove, Keeps}, removal.Rebalance.{above_both, above_two_put, apart, settle_join}}
-use Rattle.bforest_core.proofs.removal.{Rebalance.{settle_move, settle_spread, settle_stay}, Balance.{AllRight, IsHalf, IsStored, Spread, all_right_at}}
-use Rattle.bforest_core.proofs.removal.{Balance.{kind_half, kind_stored, spread_at}, Asked.{NodeAt, Counts, Beside, Rekeys, Enters, no_nodes, some_first}}
-use Rattle.bforest_core.proofs.{removal.{Asked.First, Lifted.{headed, NextNode, first_after, next_of}}, table.Tables.{row-split, is_used}, rows.Zipper.apart_here}
+use Rattle.bforest_core.proofs.Words.{length-append, arith, Content, Table, IsBalancedAt, content_at, half_at, most_at, set, get_or, with_freed, node, flat}
+use Rattle.bforest_core.proofs.Words.{heads, count, OnLevel, Healed, Joined, add-one, get_or_default, Item, Heals, Joins, Loses, IsUsed, IsUnderflowedAt}
+use Rattle.bforest_core.proofs.{Words.{OneAbove, TwoAbove, Keeps}, removal.Rebalance.{above_both, above_two_put, apart, settle_join, settle_move}}
+use Rattle.bforest_core.proofs.removal.{Rebalance.{settle_spread, settle_stay}, Balance.{AllRight, IsHalf, IsStored, Spread, all_right_at, kind_half}}
+use Rattle.bforest_core.proofs.removal.{Balance.{kind_stored, spread_at}, Asked.{NodeAt, Counts, Beside, Rekeys, Enters, no_nodes, some_first, First}}
+use Rattle.bforest_core.proofs.{removal.Lifted.{headed, NextNode, first_after, next_of}, table.Tables.{row-split, is_used}, rows.Zipper.apart_here}
 
 both_back : {A B : Type 0} (P : A → B → Type 0) (a c : A) (b d : B) → a ≡ c → b ≡ d → P c d → P a b
 both_back P a c b d e f w = rw (e, f) w

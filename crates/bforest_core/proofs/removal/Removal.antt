@@ -1,9 +1,10 @@
 -- The effect of a removal from the tree under a root on the table.
-use Rattle.bforest_core.proofs.Words.{length-remove, IsTrue, ◌≡◌, ℕ, suc, ◌<◌, Option, Some, None, IfSome, List, ◌++◌, length, refl, sym, ap, ◌∙◌}
-use Rattle.bforest_core.proofs.Words.{subst, inl, inr, append_assoc, length-append, arith, eqb_tells, length-map, Table, flat, sizes, Tree, sizes_of}
-use Rattle.bforest_core.proofs.Words.{shrink, count, root_of, numbers_of, Stands, tree_of, IsUnion, is_root, Shrinks, StandsUnder, node_count}
-use Rattle.bforest_core.proofs.{Words.{StandsIn, Removed, Emptied, IsPathAt, OnEntry, Path, RemovesHere}, union.Roots.{exchanged-freed, uprooted-union}, union.Account.{length-same, nodes-count}}
-use Rattle.bforest_core.proofs.{rows.LevelRows.flat-append, table.Tables.count-append, union.Forests.root-among, union.Exchange.IsPlanted, union.Unions.rooted}
+use Rattle.bforest_core.proofs.Words.{length-remove, IsTrue, ◌≡◌, ℕ, suc, ◌<◌, Option, Some, None, IfSome, List, ◌++◌, length, refl, sym, ap, ◌∙◌, subst, inl}
+use Rattle.bforest_core.proofs.Words.{inr, append_assoc, length-append, arith, eqb_tells, length-map, Table, flat, sizes, Tree, sizes_of, shrink, count}
+use Rattle.bforest_core.proofs.Words.{root_of, numbers_of, Stands, tree_of, IsUnion, is_root, Shrinks, StandsUnder, node_count, StandsIn, Removed, Emptied}
+use Rattle.bforest_core.proofs.{Words.{IsPathAt, OnEntry, Path, RemovesHere}, union.{Roots.{exchanged-freed, uprooted-union}, Account.length-same}}
+use Rattle.bforest_core.proofs.{union.{Account.nodes-count, Forests.root-among, Exchange.IsPlanted, Unions.rooted}, rows.LevelRows.flat-append}
+use Rattle.bforest_core.proofs.table.Tables.{count-append}
 
 -- an implication, applied to the value of an option, if any
 pub if_some : {A : Type 0} (P Q : A → Type 0) (found : Option A) → ((x : A) → P x → Q x) → IfSome found P → IfSome found Q
@@ -18,7 +19,7 @@ module _ {K V : Type 0} where
 
   -- the place where a path stands is that of an entry
   pub place_low : (path indices size : _) (tree : Tree K V) (place : ℕ) → Stands path indices size tree place → place < length (flat tree.leaves)
-  place_low path indices size tree place s = let at = s.leaf in rw at.row_is (simp (flat-append, length-append) (omega (arith, at.place_is)))
+  place_low path indices size tree place s = let at = s.leaf in rw at.row_is (simp (flat-append, length-append) (omega arith))
 
   -- the effect of a removal on the table and the path, with the root that is left, if any
   pub record Said (most : ℕ) (old new : Table K V) (path : List ℕ) (root place : ℕ) (Now : Tree K V → Type 0) (found : Option ℕ) : Type 0 where
@@ -51,7 +52,7 @@ module _ {K V : Type 0} where
             same_root = (
               λ same. elim (eqb_tells (length i.tree'.above) (length tree.above)) [
                 | inl w ↦ omega arith
-                | inr w ↦ absurd (omega (arith, i.old_root w.1, rooted_is same, i.numbers_are (root_of i.tree'), r.apart (root_of i.tree'), count-append))
+                | inr w ↦ absurd (omega (arith, rooted_is same, i.numbers_are (root_of i.tree'), r.apart (root_of i.tree'), count-append))
               ],
               λ same. cc (i.same_root (omega arith)),
             );
@@ -73,7 +74,7 @@ module _ {K V : Type 0} where
             none_left = λ is. absurd cc;
             freed_root = λ ne. elim (eqb_tells (length i.tree'.above) (length tree.above)) [
               | inl w ↦ absurd (ne (ap Some (cc (i.same_root w.1))))
-              | inr w ↦ omega (arith, i.old_root w.1, ap (λ z. count z i.freed) r.root_is, ap (λ z. count root z) i.frees.chain_is, count-append root i.freed old.chain)
+              | inr w ↦ omega (arith, ap (λ z. count z i.freed) r.root_is, ap (λ z. count root z) i.frees.chain_is, count-append root i.freed old.chain)
             ];
           };
         })
@@ -100,7 +101,7 @@ module _ {K V : Type 0} where
             last = (λ is. i.single, λ is. refl);
             ended = λ is. record { union = u.0; root_gone = u.1; others = u.2; limit_is = i.frees.limit_is };
             none_left = λ is. i.none_left;
-            freed_root = λ ne. omega (arith, i.freed_is root, ap (λ z. count z (numbers_of tree)) r.root_is, ap (λ z. count root z) i.frees.chain_is, count-append root i.freed old.chain);
+            freed_root = λ ne. omega (arith, ap (λ z. count z (numbers_of tree)) r.root_is, ap (λ z. count root z) i.frees.chain_is, count-append root i.freed old.chain);
           };
         }
     outcome (Some root') removed emptied = removal removed

@@ -75,8 +75,8 @@ module _ {K V : Type 0} where
           sizes_are = sym (cc (trimmed-is (sizes leaves) (heads leaves) t.rows' t.discarded len (rw (← t.rows_are) u.stacked) t.stacked t.topped));
           fit = record { leaves_fit = u.leaves_fit; stacked = t.stacked; topped = t.topped };
           inside = record {
-            leaves_in = row-same _ _ _ _ (λ m some. t.frees.others m (omega (arith, some, u.numbers_are m, parts m, s.apart m, count-append))) u.leaves_in;
-            rows_in = rows-same _ _ _ (λ m some. t.frees.others m (omega (arith, some, u.numbers_are m, parts m, s.apart m, count-append))) rows_in.0;
+            leaves_in = row-same _ _ _ _ (λ m some. t.frees.others m (omega (arith, u.numbers_are m, parts m, s.apart m, count-append))) u.leaves_in;
+            rows_in = rows-same _ _ _ (λ m some. t.frees.others m (omega (arith, u.numbers_are m, parts m, s.apart m, count-append))) rows_in.0;
           };
           some = u.some;
           numbers_are = λ m. omega (arith, u.numbers_are m, parts m, t.freed_is m, count-append);
@@ -86,7 +86,7 @@ module _ {K V : Type 0} where
           low = omega arith;
           order = record { roots = gone; up = up; freed_is = refl; roots_are = omega arith };
           frees = frees-then (λ m none. omega (arith, u.numbers_are m, parts m, count-append))
-              (λ m some. omega (arith, some, u.numbers_are m, parts m, s.apart m, count-append)) u.frees t.frees;
+              (λ m some. omega (arith, u.numbers_are m, parts m, s.apart m, count-append)) u.frees t.frees;
         };
         at = at;
       }
@@ -96,7 +96,7 @@ module _ {K V : Type 0} {most : ℕ} {old mid : Table K V} {path indices size tr
   n = get_or path 0 0
 
   half : 1 ≤ half_of most
-  half = let one : 1 ≤ most = omega (arith, l.on_level.some) in omega arith
+  half = let one : 1 ≤ most = omega arith in omega arith
 
   -- the leaves and the rows above them were as many
   sizes_were : (sizes tree.leaves ≡ sizes l.before ++ suc (length l.entries) ∷ sizes l.after) × (map sizes tree.above ≡ map sizes l.rest)

@@ -1,13 +1,12 @@
 -- Removing the entry of a level's rightmost node, which was removed, and the nodes that this empties: the answers of `remove_emptied`.
 use Rattle.bforest_core.proofs.Words.{◌≡◌, ℕ, suc, ◌+◌, ◌≤◌, Some, List, [], ◌∷◌, ◌++◌, map, length, get_or, refl, sym, ap, ◌∙◌, append_assoc, length-append}
 use Rattle.bforest_core.proofs.Words.{arith, Row, flat_map, Table, node, flat, heads, numbers, FitRow, Solid, entry_keys, count, Distinct, Above}
-use Rattle.bforest_core.proofs.Words.{nil_from_length, ◌≢◌, entry_items, ◌-◌, drop, Heads, Rows, append-nil, with_freed, sizes, loss_above}
-use Rattle.bforest_core.proofs.{Words.{root_above, LastAbove, nodes_up, Dropped, rebalanced, add-one}, table.Tables.{count-append, counts, count-same}}
-use Rattle.bforest_core.proofs.{table.Tables.{row-split, row-put, row-same, puts, rows-same, ne_from_count}, rows.LevelRows.{flat-append, sizes-append}}
-use Rattle.bforest_core.proofs.rows.{LevelRows.{Solid-full, heads-append, FitRow-join}, Zipper.{Cut_above, Facts, facts}, Tops.top_rows}
-use Rattle.bforest_core.proofs.removal.{Asked.{some_first, no_nodes, Counts, Removes, Seen, last_low, seen, removed_last}, Frees.{frees-puts, freed_other}}
-use Rattle.bforest_core.proofs.removal.{Frees.frees-first, Lifted.{heads-put, above_same, rows_above}, Merge.{placed, loss_level, lost_above}}
-use Rattle.bforest_core.proofs.removal.{Rebalance.rebalanced_last, Collapse.heads-flat}
+use Rattle.bforest_core.proofs.Words.{nil_from_length, ◌≢◌, entry_items, ◌-◌, drop, Heads, Rows, append-nil, with_freed, sizes, loss_above, root_above}
+use Rattle.bforest_core.proofs.{Words.{LastAbove, nodes_up, Dropped, rebalanced, add-one}, table.Tables.{count-append, counts, count-same, row-split, row-put}}
+use Rattle.bforest_core.proofs.{table.Tables.{row-same, puts, rows-same, ne_from_count}, rows.LevelRows.{flat-append, sizes-append, Solid-full, heads-append}}
+use Rattle.bforest_core.proofs.{rows.{LevelRows.FitRow-join, Zipper.{Cut_above, Facts, facts}, Tops.top_rows}, removal.Asked.{some_first, no_nodes, Counts}}
+use Rattle.bforest_core.proofs.removal.{Asked.{Removes, Seen, last_low, seen, removed_last}, Frees.{frees-puts, freed_other, frees-first}, Lifted.heads-put}
+use Rattle.bforest_core.proofs.removal.{Lifted.{above_same, rows_above}, Merge.{placed, loss_level, lost_above}, Rebalance.rebalanced_last, Collapse.heads-flat}
 
 -- solid nodes fit as a row
 pub fit_solid : {K X : Type 0} (half most : ℕ) → 1 ≤ half → (row : Row K X) → Solid half most row → FitRow half most row
@@ -40,11 +39,11 @@ module _ {K V : Type 0} where
       Above t path indices up size rest (heads (before ++ node num (x ∷ []) ∷ [])) (length (heads before)) →
       Above v path indices up size rest (o.init ++ o.last ∷ (x.0, num) ∷ []) (suc (length o.init))
   above_freed {t} v num before x {rest} o apart is p = let c = λ (m : ℕ). counts m before num (x ∷ []) [] rest t.chain in
-      let none : count num (flat_map numbers rest) ≡ 0 = omega (arith, apart num, c num, count-same num []) in
+      let none : count num (flat_map numbers rest) ≡ 0 = omega (arith, c num, count-same num []) in
       let list = heads-append before (node num (x ∷ []) ∷ []) ∙ ap (λ z. z ++ (x.0, num) ∷ []) o.is ∙ append_assoc o.init (o.last ∷ []) ((x.0, num) ∷ []) in
       let len : length (heads before) ≡ suc (length o.init) = omega (arith, ap length o.is, length-append o.init (o.last ∷ [])) in
       above_same (rw (list, len) at p) v (λ m some. freed_other _ _ _ is m (ne_from_count _ _ _ some none))
-      (λ m. omega (arith, apart m, c m, count-append m (flat_map numbers rest) v.chain, ap (λ z. count m z.chain) is))
+      (λ m. omega (arith, c m, count-append m (flat_map numbers rest) v.chain, ap (λ z. count m z.chain) is))
 
   -- what the call ensures
   abbrev pub Drops : Table K V → Table K V → List ℕ → ℕ → ℕ → Rows K → Heads K → K × ℕ → Type 0
@@ -140,7 +139,7 @@ module _ {K V : Type 0} where
                 record {
                   rows' = before ∷ below.rows';
                   stacked = (a_front, fit_solid 4 8 (omega arith) _ f.solid, rw hs below.stacked);
-                  inside = (row-same _ _ _ _ (λ m some. below.frees.others m (omega (arith, some, p.apart m, c m))) in_v, below.inside);
+                  inside = (row-same _ _ _ _ (λ m some. below.frees.others m (omega (arith, p.apart m, c m))) in_v, below.inside);
                   height = cc (d.q.rows_are, below.height);
                   sizes_are = simp (below.sizes_are, len, append-nil, lost, l_none);
                   numbers_are = λ m. omega (arith, own_is m, below.numbers_are m, ap (λ z. count m (nodes_up path z said.0)) (add-one up), count-append);

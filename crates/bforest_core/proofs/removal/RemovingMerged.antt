@@ -46,23 +46,23 @@ module _ {K V : Type 0} where
         let c = λ (i : ℕ). counts i before num was after rest t.chain in let c2 = λ (i : ℕ). counts i before num es ns above.rows' u.chain in
         let c3 = λ (i : ℕ). ap (λ z. count i (num ∷ z)) o.1 in let c4 = λ (i : ℕ). ap (λ z. count i z) (w.chain_is ∙ above.frees.chain_is) in
         let row_v = row-same inner_content t.nodes v.nodes (before ++ node num was ∷ ns)
-        (λ i some. above.frees.others i (omega (arith, whole.apart i, c i, c3 i, count-row i before num was ns))) inside in
+        (λ i some. above.frees.others i (omega (arith, c i, c3 i, count-row i before num was ns))) inside in
         record {
           before = before;
           entries = es;
           after = ns;
           rest = above.rows';
           on_level = record {
-            inside = row-put _ _ _ _ _ _ _ ns row_v w.same w.here (omega (arith, f.none, ap (λ z. count num z) o.1));
+            inside = row-put _ _ _ _ _ _ _ ns row_v w.same w.here (omega (arith, ap (λ z. count num z) o.1));
             solid = f.solid;
             fits = fits.2;
             some = some;
             lost_one = omega arith;
             most_is = omega arith;
-            above = above_written w (omega (arith, above.numbers_are num)) (rw (← o.3) above.above);
+            above = above_written w (omega arith) (rw (← o.3) above.above);
             number_is = refl;
             entry_was = omega arith;
-            apart = λ i. omega (arith, whole.apart i, above.numbers_are i, c i, c2 i, c3 i, c4 i);
+            apart = λ i. omega (arith, above.numbers_are i, c i, c2 i, c3 i, c4 i);
           };
           list_is = flat_at d es ((x.0, y.1) ∷ b) ns o.2;
           place_is = place_at d;
@@ -87,14 +87,14 @@ module _ {K V : Type 0} where
             (simp append_assoc (ap (λ z. l ++ x ∷ (key, y.1) ∷ z) (sym w.2)))
 
         pub remove_asks : IsUsed u (get_or path up i) × ChildAt u (get_or path up i) index
-        remove_asks = (is_used _ _ _ one.here (cc (one.chain_is, s.none_chain)), (set keys index key, items, one.here, omega (arith, s.counted m value, item_count (old d))))
+        remove_asks = (is_used _ _ _ one.here (cc (one.chain_is, s.none_chain)), (set keys index key, items, one.here, omega (arith, item_count (old d))))
 
         pub merge_same : (v j : _) → j ≡ index - 1 → ReadsKey t (get_or path up i) j key → Removes u v (get_or path up i) index → Passed v
         merge_same v j j_is reads removes = let w = behind in let es = l ++ (x.0, y.1) ∷ w.0 in let len = length-append l ((x.0, y.1) ∷ w.0) in
             let key_is = reads keys items s.slot_is in let v_is = removes (set keys index key) items one.here in
             let gone = removed_same V l x y w.0 key (cc (w.1, d.q.entry_is)) in let two =
             puts u v _ (inner_content es) _ one.here (cc (gone, w.1, d.q.entry_is)) in
-            loosened es after (omega (arith, length-append l (x ∷ r), ap length w.1)) (omega arith) (omega arith)
+            loosened es after (omega (arith, ap length w.1)) (omega arith) (omega arith)
             (refl, refl, simp (append_assoc, w.2), heads-put before (n d) (old d) es after (head-other (n d) l x.0 x.1 y.1 r w.0)) f.fit f.inside
             (rebuilt_same (rows_above d)) (rw s.num_is at (puts-then one two))
 
@@ -153,7 +153,7 @@ module _ {K V : Type 0} where
           pub merge_next : (u : _) → ReadsKey t (get_or path up i) (index - 1) key → Removes v u (get_or path up i) index → Passed u
           merge_next u reads removes = let num_is = s.num_is in let u_is = removes keys items (cc (slot_then)) in
               let key_is : key ≡ x.0 = some_same (cc (last_key l x l_some, o.r_is, d.q.entry_is, reads keys items s.slot_is)) in
-              loosened l (others x.0) (omega (arith, length-append l (x ∷ r), ap length o.r_is)) l_some (omega arith)
+              loosened l (others x.0) (omega (arith, ap length o.r_is)) l_some (omega arith)
               (across_other x.0 l _ (ap (λ z. l ++ (x.0, y.1) ∷ z) (sym o.b_is)) (ap (λ z. head_of (n d) z) o.l_is)) (rw o.after_is at f.fit) (across_in x.0)
               (rw key_is at rebuilt) (puts _ _ _ _ _ slot_then (cc (removed_last V l x l_some, o.r_is, d.q.entry_is)))
 

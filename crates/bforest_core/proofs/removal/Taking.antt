@@ -58,7 +58,7 @@ module _ {K V : Type 0} where
         next = some_first _ more
 
         abbrev pub above_asks : OneAbove u path indices 1 size
-        above_asks = record { rows = tree.above; before = heads before; x = (x.0, n); after = heads after; above = above_then x.0 (λ rs. ap (λ z. head_of n (z ++ x ∷ rs)) (nil_from_length l (omega (arith, first, d.index_is)))) }
+        above_asks = record { rows = tree.above; before = heads before; x = (x.0, n); after = heads after; above = above_then x.0 (λ rs. ap (λ z. head_of n (z ++ x ∷ rs)) (nil_from_length l (omega (arith, d.index_is)))) }
 
     -- the leaf as the code reads it
     module _ (i : ℕ) (wide : 0 < length path) where
@@ -87,7 +87,7 @@ module _ {K V : Type 0} where
 
         -- the leaf has another entry
         pub others : m ≢ 1 → (y z : K × V) × (rest : List (K × V)) × (slice_get t.nodes n ≡ Some (leaf_content (y ∷ z ∷ rest)))
-        others more = let f = some_entry in let k = some_first f.1 (omega (arith, more, count_is, ap length f.2)) in (f.0, k.0, k.1, cc (d.slot_is))
+        others more = let f = some_entry in let k = some_first f.1 (omega (arith, count_is, ap length f.2)) in (f.0, k.0, k.1, cc (d.slot_is))
 
       pub out_asks : IsUsed t read × LeafKeyAt t read (get_or indices 0 0)
       out_asks = (rw num_is leaf_used, (entry_keys es, entry_items es, slot, omega (arith, keys_count es, d.index_is, length-append l (x ∷ r))))
