@@ -2,12 +2,12 @@
 use Rattle.bforest_core.proofs.Words.{drop-append_seam, ◌≡◌, ℕ, suc, ◌-◌, ◌^◌, ◌≤◌, ◌<◌, ◌≢◌, ◌↔◌, IsTrue, Option, Some, None, List, [], ◌∷◌, ◌++◌, drop, map}
 use Rattle.bforest_core.proofs.Words.{length, insert, slice_get, sym, ap, ◌∙◌, subst, inl, inr, length-append, arith, Heads, Row, Rows, flat_map, cases_lt}
 use Rattle.bforest_core.proofs.Words.{eqb_tells, length-map, Table, fresh_nodes, front_of, free_count, slot_count, room, reserved, IsFullAt, node, flat}
-use Rattle.bforest_core.proofs.Words.{heads, sizes, numbers, Stacked, Topped, Tree, sizes_of, leaf_gain, gain_above, growth, need, Stands, count, root_of}
+use Rattle.bforest_core.proofs.Words.{IsFit, heads, sizes, numbers, Stacked, Topped, Tree, sizes_of, leaf_gain, gain_above, growth, need, Stands, count, root_of}
 use Rattle.bforest_core.proofs.Words.{numbers_of, top_of, Placed, Inserted, GrowsFor, tree_of, is_root, IsUnion, Changes, TakesNodes, PlacedUnder, StandsUnder}
 use Rattle.bforest_core.proofs.{Words.{InsertsHere, Ok, Path, Placing, refl, place}, union.Reserved.{reserved-union, reserved-roots, reserved-then}}
 use Rattle.bforest_core.proofs.{rows.Counts.{once_below, below-one, few-below}, table.Allocating.{reserved-enough, reserved-free}}
 use Rattle.bforest_core.proofs.{table.Lists.slice_get-append_left, table.Chains.length-fresh_nodes, rows.Bounds.climb-seventeen, union.Unions.Rooted}
-use Rattle.bforest_core.proofs.{union.Unions.rooted, table.Tables.count-append, rows.Tops.root-stands, union.Forests.root-among, union.Exchange.IsPlanted}
+use Rattle.bforest_core.proofs.{union.Unions.rooted, table.Tables.count-append, rows.Tops.{root-points, root-stands}, union.Forests.root-among, union.Exchange.IsPlanted}
 use Rattle.bforest_core.proofs.{union.Roots.exchanged, removal.Removal.place_low}
 
 -- a row has no more heads than nodes
@@ -60,43 +60,46 @@ module _ {K V : Type 0} where
       omega (arith, some, r.apart root', ap (λ z. count root' z) chain_is, count-append)
 
   -- inserting an entry into the tree under a root, after the nodes that it needs were reserved
-  pub insertion : {most : ℕ} (old : _) {new : _} (root memory : ℕ) {place path' indices' size' entry : _} → IsUnion most old →
-      IsTrue (is_root old.nodes root) → size' ≤ 17 →
+  pub insertion : {most : ℕ} (old : _) {new : _} (root memory : ℕ) {place path indices size path' indices' size' entry : _} → IsUnion most old →
+      PlacedUnder old.nodes root path indices size place → size' ≤ 17 →
       GrowsFor (need most place (sizes_of (tree_of old.nodes root))) old (reserved old (need most place (sizes_of (tree_of old.nodes root))) memory) →
-      Inserted most (reserved old (need most place (sizes_of (tree_of old.nodes root))) memory) new path' indices' size' (tree_of old.nodes root) place entry →
+      Inserted most (reserved old (need most place (sizes_of (tree_of old.nodes root))) memory) new path indices path' indices' size size' (tree_of old.nodes root) place entry →
       Insertion most old new root (top_of path' size') place entry path' indices' size'
-  insertion {most} old {new} root memory {place} {path'} {indices'} {size'} union is low held i =
-      let tree = tree_of old.nodes root in let n = need most place (sizes_of tree) in let mid = reserved old n memory in let root' = root_of i.tree' in
-      let roots = reserved-roots most old n memory union root in let same = roots.1 is in let union_mid = reserved-union most old n memory union in
-      let r = rw same at (rooted most mid root union_mid (roots.0 ∙ is)) in let nums = λ (m : ℕ). ap (λ z. count m (numbers_of z)) same in
-      let planted : IsPlanted most new.nodes i.tree' = record { fit = i.fit; inside = i.inside; some = omega (arith, place_low path' indices' size' i.tree' place i.stands); low = omega (arith, low) } in
-      let e = exchanged root i.taken union_mid (roots.0 ∙ is) planted i.chain_is i.slots_are (λ m. omega (arith, i.numbers_are m, nums m)) (λ m none. i.others m (omega (arith, nums m))) in
-      let levels : length (growth most place (sizes_of tree)) ≡ suc (length i.tree'.above) = omega (arith, ap length i.sizes_are, length-map i.tree'.above sizes) in
-      let levels_were : length (sizes_of tree) ≡ suc (length tree.above) = omega (arith, length-map tree.above sizes) in
-      rw (← root-stands i.fit i.stands) (record {
+  insertion {most} old {new} root memory {place} {size = size} {path'} {indices'} {size'} union p low held i =
+      let tree = tree_of old.nodes root in let n = need most place (sizes_of tree) in let mid = reserved old n memory in
+      let roots = reserved-roots most old n memory union root in let same = roots.1 p.root_is in let union_mid = reserved-union most old n memory union in
+      let r = rw same at (rooted most mid root union_mid (roots.0 ∙ p.root_is)) in let nums = λ (m : ℕ). ap (λ z. count m (numbers_of z)) same in
+      let tree' : Tree K V = record { leaves = i.row'; above = i.rows' } in
+      let fit : IsFit most tree' = record { leaves_fit = i.fit; stacked = i.above.stacked; topped = i.topped r.fit.topped } in
+      let stands : Stands path' indices' size' tree' place = record { leaf = i.at; above = i.above.stands; size_is = omega (arith, i.above.height) } in
+      let planted : IsPlanted most new.nodes tree' = record { fit = fit; inside = record { leaves_in = i.inside; rows_in = i.above.inside }; some = omega (arith, place_low path' indices' size' tree' place stands); low = omega (arith, low, i.above.height) } in
+      let e = exchanged root i.taken union_mid (roots.0 ∙ p.root_is) planted i.chain_is i.slots_are (λ m. omega (arith, i.numbers_are m, nums m)) (λ m none. i.others m (omega (arith, nums m))) in
+      let levels : length (growth most place (sizes_of tree)) ≡ size' = omega (arith, ap length i.sizes_are, length-map i.rows' sizes, i.above.height) in
+      let root_is = root-stands fit stands in let root_was = root-points _ _ _ _ _ _ (omega arith) r.fit p.at.points in
+      rw (← root_is) (record {
         changes = record {
           union = e.union;
           root_is = e.root_is;
           list_is = simp (e.tree_is, i.flat_is);
           sizes_are = ap sizes_of e.tree_is ∙ i.sizes_are;
-          others = reserved-then most old n memory new root root' union e.others;
+          others = reserved-then most old n memory new root (root_of tree') union e.others;
           old_gone = e.old_gone;
-          new_came = λ ne was. e.new_came ne ((reserved-roots most old n memory union root').0 ∙ was);
+          new_came = λ ne was. e.new_came ne ((reserved-roots most old n memory union (root_of tree')).0 ∙ was);
           limit_is = i.limit_is;
         };
         takes = record {
-          slots = omega (arith, length-append old.nodes (fresh_nodes (slot_count old) (n - free_count old) (front_of old.chain)), length-fresh_nodes K V (slot_count old) (n - free_count old) (front_of old.chain));
-          free = omega (arith, ap length i.chain_is, length-append i.taken new.chain, reserved-free old n memory);
+          slots = omega (arith, i.slots_are, length-append old.nodes (fresh_nodes (slot_count old) (n - free_count old) (front_of old.chain)), length-fresh_nodes K V (slot_count old) (n - free_count old) (front_of old.chain));
+          free = omega (arith, i.taken_is, ap length i.chain_is, length-append i.taken new.chain, reserved-free old n memory);
           memory = record { grows = rw i.memory_is held.grows; stays = λ enough. i.memory_is ∙ held.stays enough };
           chain_is = sym (ap (λ z. drop n z) i.chain_is ∙ ap (λ z. drop z (i.taken ++ new.chain)) (sym i.taken_is) ∙ drop-append_seam i.taken new.chain);
         };
-        stands = record { root_is = e.root_is; stands = subst (λ z. Stands path' indices' size' z place) (sym e.tree_is) i.stands };
+        stands = record { root_is = e.root_is; stands = subst (λ z. Stands path' indices' size' z place) (sym e.tree_is) stands };
         same_root = (
-          λ same_number. elim (eqb_tells (length i.tree'.above) (length tree.above)) [
-            | inl w ↦ omega arith
-            | inr w ↦ absurd (new_ne new root' i.taken r i.chain_is (i.new_root w.1) same_number)
+          λ same_number. elim (eqb_tells size' size) [
+            | inl w ↦ omega (arith, length-map tree.above sizes, levels)
+            | inr w ↦ absurd (new_ne new (top_of path' size') i.taken r i.chain_is (i.new_top w.1) (sym root_is ∙ same_number))
           ],
-          λ same_levels. i.same_root (omega arith) ∙ r.root_is,
+          λ same_levels. root_is ∙ i.same_top (omega (arith, length-map tree.above sizes, levels)) ∙ sym root_was ∙ r.root_is,
         );
       })
 
@@ -109,13 +112,13 @@ module _ {K V : Type 0} where
 
   -- inserting an entry into a leaf with room
   pub put-here : {most : ℕ} {old new : Table K V} {root place path indices size entry : _} → IsUnion most old → PlacedUnder old.nodes root path indices size place →
-      Inserted most old new path indices size (tree_of old.nodes root) place entry → Put most old new root place entry path indices size
+      Inserted most old new path indices path indices size size (tree_of old.nodes root) place entry → Put most old new root place entry path indices size
   put-here {most} {old} {new} {root} {place} {path} {indices} {size} {entry} union p i = let n = need most place (sizes_of (tree_of old.nodes root)) in
-      let enough : n ≤ free_count old = omega (arith, ap length i.chain_is, length-append i.taken new.chain) in let levels = under-low most old union p in
+      let enough : n ≤ free_count old = omega (arith, i.taken_is, ap length i.chain_is, length-append i.taken new.chain) in let levels = under-low most old union p in
       record {
         some = levels.0;
         low = levels.1;
-        is = insertion old root old.memory union p.root_is levels.1 (record { grows = omega arith; stays = λ more. refl }) (rw (reserved-enough old n enough) i);
+        is = insertion old root old.memory union p levels.1 (record { grows = omega arith; stays = λ more. refl }) (rw (reserved-enough old n enough) i);
         enough = omega (arith, enough);
       }
 
@@ -130,12 +133,12 @@ module _ {K V : Type 0} where
   pub put-split : (most : ℕ) (old mid new : Table K V) {root place path indices size : _} (n path' indices' size' : _) (entry : K × V) → IsUnion most old → PlacedUnder old.nodes root path indices size place → slot_count old ≤ 4294967295 →
       ((tree place : _) → Placed most old path indices size tree place → n ≡ need most place (sizes_of tree)) → ¬ (room old < n) →
       mid ≡ reserved old n mid.memory → GrowsFor n old mid →
-      ((tree place : _) → Placed most mid path indices size tree place → Inserted most mid new path' indices' size' tree place entry) → Put most old new root place entry path' indices' size'
+      ((tree place : _) → Placed most mid path indices size tree place → Inserted most mid new path indices path' indices' size size' tree place entry) → Put most old new root place entry path' indices' size'
   put-split most old mid new {root} {place} n path' indices' size' entry union p slots needs enough mid_is held inserts =
       let tree = tree_of old.nodes root in let n_is = needs tree place (placed-under most old union p) in
       let mid_old = mid_is ∙ ap (λ z. reserved old z mid.memory) n_is in let i = inserts tree place (placed-mid _ _ _ _ union p mid_old) in
-      let low : size' ≤ 17 = omega (arith, ap length i.sizes_are, length-map i.tree'.above sizes, growth-low most old root place union p.root_is slots) in
-      record { some = omega arith; low = low; is = insertion old root mid.memory union p.root_is low (subst (λ z. GrowsFor z old (reserved old z mid.memory)) n_is (rw mid_is at held)) (rw mid_old at i); enough = omega (arith, enough) }
+      let low : size' ≤ 17 = omega (arith, i.above.height, ap length i.sizes_are, length-map i.rows' sizes, growth-low most old root place union p.root_is slots) in
+      record { some = omega (arith, i.above.height); low = low; is = insertion old root mid.memory union p low (subst (λ z. GrowsFor z old (reserved old z mid.memory)) n_is (rw mid_is at held)) (rw mid_old at i); enough = omega (arith, enough) }
 
   -- a full leaf is full after nodes were reserved
   pub full-reserved : (most : ℕ) (table : Table K V) (n memory m content : _) → slice_get table.nodes m ≡ Some content → IsFullAt most table.nodes m →

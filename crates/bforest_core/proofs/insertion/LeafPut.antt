@@ -1,12 +1,12 @@
 -- Putting a value in at a key of the leaf in which a search for the key ends: the answers of `put_in_leaf`.
-use Rattle.bforest_core.proofs.Words.{◌≡◌, ℕ, ◌<◌, ◌↔◌, IsTrue, Option, Some, None, List, ◌∷◌, ◌++◌, map, length, insert, slice_get, sym, ap, ◌∙◌, subst}
+use Rattle.bforest_core.proofs.Words.{◌≡◌, ℕ, suc, ◌<◌, ◌↔◌, IsTrue, Option, Some, None, List, ◌∷◌, ◌++◌, map, length, insert, slice_get, sym, ap, ◌∙◌, subst}
 use Rattle.bforest_core.proofs.Words.{Table, IsFullAt, flat, sizes, sizes_of, gain_above, growth, Placed, tree_of, IsUnion, Changes, PlacedUnder, StandsUnder}
 use Rattle.bforest_core.proofs.Words.{Ok, refl, put_answer, with_put, search_of-keys_of, value_for-absent, value_for-present, Bool, Result, Err, get_or, set}
 use Rattle.bforest_core.proofs.Words.{nat_lt, if◌then◌else◌, true, false, length-set, EndsIn, PutsInLeaf, IsUsed, entry_count, entry_keys, is_present}
 use Rattle.bforest_core.proofs.Words.{leaf_content, place, value_for, search_of, with_entry, with_node, with_value_at, need_above, is_some, option_map}
-use Rattle.bforest_core.proofs.{Words.{get_or-set_same, lt-ltb, ltb-true, PutsEntry}, union.Written.{entry-used, value-written}}
-use Rattle.bforest_core.proofs.{insertion.Insertion.{placed-under, put-here}, table.Stored.{keys_count, read_same}, insertion.HalvingLeaf.put_full}
-use Rattle.bforest_core.proofs.{insertion.HalvingLeaf.put_inserts, insertion.LeafSpot.{leaf_spot, room_gain}, walks.LeafSearch.items-read}
+use Rattle.bforest_core.proofs.{Words.{arith, get_or-set_same, lt-ltb, ltb-true, PutsEntry}, union.Written.{entry-used, value-written}}
+use Rattle.bforest_core.proofs.{insertion.Insertion.{placed-under, put-here}, table.Stored.read_same, insertion.Nodes.put_full}
+use Rattle.bforest_core.proofs.{insertion.LeafSpot.{leaf_spot, put_inserts, site}, walks.LeafSearch.items-read}
 use Rattle.bforest_core.proofs.{table.Tables.is_used, table.Read.slot-is}
 use Rattle.bforest_nodes.specs.Content.{with_value as content_with}
 use Rattle.bforest_nodes.specs.Entries.{with_value}
@@ -106,9 +106,8 @@ module _ {K V : Type 0} {cmp : K → K → Ordering} (most : ℕ) {table : Table
       -- where the leaf has room, the entry is inserted
       inserts_there : has_room ≡ true → PutsInLeaf cmp table root key most value path indices size answer new
       inserts_there fits = let tree = tree_of table.nodes root in let ok = said ∙ ap (λ b. if b then Ok None else Err (place cmp es key)) fits in
-          let d = leaf_spot (is_placed none) in let gain = room_gain (is_placed none) (rw (← keys_count (d.l ++ d.r)) ((put_says.room _ _ d.slot_is).0 fits)) in
-          let levels = ap (λ z. length (z.1 ∷ gain_above z.0 (map sizes tree.above))) gain in
-          let put = put-here union (placed none) (put_inserts (is_placed none) 0 e.wide put_says fits) in
+          let inserts = put_inserts (is_placed none) 0 (omega (arith, e.wide)) put_says fits in let levels = ap (λ z. suc (length (gain_above z (map sizes tree.above)))) inserts.0 in
+          let put = put-here union (placed none) inserts.1 in
           let put_is = after ∙ ap (λ b. with_node table leaf (if b then with_entry (leaf_content es) (place cmp es key) key value else leaf_content es)) fits in
           record {
             ok = rw ok (sym gone);
@@ -118,7 +117,7 @@ module _ {K V : Type 0} {cmp : K → K → Ordering} (most : ℕ) {table : Table
             written = λ old is. absurd (let bad = sym ok ∙ is in cc);
             inserted = λ is. subst (λ z. Changes most table new root z (insert list at (key, value)) (growth most at (sizes_of tree))) (put.is.same_root.1 levels) put.is.changes;
             takes = λ is. put.is.takes;
-            room = λ is. ap (λ z. need_above z.0 (map sizes tree.above)) gain;
+            room = λ is. ap (λ z. need_above z (map sizes tree.above)) inserts.0;
             levels = λ is. levels;
             full = λ index is. absurd (let bad = sym ok ∙ is in cc);
             placed = λ index is. absurd (let bad = sym ok ∙ is in cc);
@@ -128,7 +127,7 @@ module _ {K V : Type 0} {cmp : K → K → Ordering} (most : ℕ) {table : Table
       -- where the leaf is full, nothing changes
       refuses : has_room ≡ false → PutsInLeaf cmp table root key most value path indices size answer new
       refuses past = let err = said ∙ ap (λ b. if b then Ok None else Err (place cmp es key)) past in
-          let same : new ≡ table = (put_full (is_placed none) 0 e.wide put_says past).1 in
+          let same : new ≡ table = (put_full (site (is_placed none) (key, value)) 0 (omega (arith, e.wide)) put_says past).1 in
           record {
             ok = rw err tt;
             slots = cc;
@@ -160,7 +159,7 @@ module _ {K V : Type 0} {cmp : K → K → Ordering} (most : ℕ) {table : Table
         absurd (let bad : Ok (value_for cmp es key) ≡ Err index = cc (search_of-keys_of cmp es key, items-read _ _, value_for-present cmp es key here) in cc)
     full_by false none true fits index err = absurd (let bad = sym (said none ∙ ap (λ b. if b then Ok None else Err (place cmp es key)) fits) ∙ err in cc)
     full_by false none false past index err =
-        rw (← e.leaf_is) (put_full (is_placed none) 0 e.wide (put_says none) past).0
+        rw (← e.leaf_is) (put_full (site (is_placed none) (key, value)) 0 (omega (arith, e.wide)) (put_says none) past).0
 
     -- the leaf is full where the key's place is answered
     pub is-full : (index : ℕ) → answer ≡ Err index → IsFullAt most table.nodes leaf

@@ -1,12 +1,13 @@
--- The leaf where an entry may be inserted, and the insertion where the leaf has room.
-use Rattle.bforest_core.proofs.Words.{◌≡◌, ◌⊎◌, ℕ, suc, ◌+◌, ◌≤◌, ◌<◌, List, [], ◌∷◌, ◌++◌, map, length, take, drop, insert, get_or, Some, None, inl, inr}
-use Rattle.bforest_core.proofs.Words.{refl, sym, ap, ◌∙◌, append_assoc, length-append, arith, Heads, Row, Rows, flat_map, cases_lt, length-map, Table, node}
-use Rattle.bforest_core.proofs.Words.{flat, heads, sizes, numbers, Stacked, Topped, Tree, IsFit, half_of, leaf_gain, leaf_content, count, StandsAbove, Stands}
-use Rattle.bforest_core.proofs.Words.{Placed, Inserted, Content, RowsIn, IsAt, ◌≢◌, Bool, IsLeafCapacity, head_of, need_above, Above, LeafHalved, false}
-use Rattle.bforest_core.proofs.{Words.{IsTrue, ◌↔◌, false≢true}, table.Tables.{counts, row-put, rows-same, ne_from_count, absent_ne, Puts, count-append}}
-use Rattle.bforest_core.proofs.{rows.LevelRows.{flat-append, least-pos, sizes-append, FitRow-split, heads-append}, insertion.Grow.{FitRow-put, leaf_room}}
-use Rattle.bforest_core.proofs.{insertion.Grow.{InHalf, leaf_full}, rows.Tops.{root-stands, root-points}, rows.Zipper.{LeafCut, cut_leaf}}
-use Rattle.bforest_core.proofs.{insertion.Halving.Halves, insertion.Parted.part}
+-- The leaf where an entry may be inserted: the insertion where the leaf has room, or its split.
+use Rattle.bforest_core.proofs.Words.{◌≡◌, ◌≢◌, ◌⊎◌, ℕ, suc, ◌+◌, ◌-◌, ◌/◌, ◌≤◌, ◌<◌, nat_le, if◌then◌else◌, Bool, true, false, List, [], ◌∷◌, ◌++◌, map, length}
+use Rattle.bforest_core.proofs.Words.{take, drop, insert, get_or, set, Some, None, inl, inr, refl, sym, ap, ◌∙◌, append_assoc, length-append, arith, flat_map, cases_lt}
+use Rattle.bforest_core.proofs.Words.{Heads, Row, Rows, LevelNode, node, flat, heads, sizes, numbers, FitRow, Stacked, Topped, Tree, half_of, leaf_gain, need_above}
+use Rattle.bforest_core.proofs.Words.{length-map, le-leb, lt-leb, get_or-set_same, get_or-set_other, count, StandsAbove, RowsIn, IsAt, Table, Content, Leaf, front_of}
+use Rattle.bforest_core.proofs.Words.{IsUsed, IsFullAt, IsSplitAt, IsLeafCapacity, PutsEntry, Placed, Inserted, LeafHalved}
+use Rattle.bforest_core.proofs.{rows.LevelRows.{Solid-full, flat-append, heads-append, least-pos, sizes-append}, insertion.Grow.{leaf_full, leaf_room}}
+use Rattle.bforest_core.proofs.insertion.Nodes.{Early, Inserting, Late, PutAsks, leaf_kind, early_asks, early_halves, late_asks, late_halves, left_count, put_raises}
+use Rattle.bforest_core.proofs.{table.Tables.{count-append, counts}, rows.Zipper.{LeafCut, cut_leaf}}
+use Rattle.bforest_nodes.specs.declared.node.SplitOff.{SplitOff}
 
 module _ {K : Type 0} where
   -- a list with its first key replaced
@@ -95,9 +96,10 @@ insert_flat before n l r after x =
 pub rows_count : {K : Type 0} (xs ys : Rows K) → map sizes ys ≡ map sizes xs → length ys ≡ length xs
 rows_count xs ys e = omega (arith, ap length e, length-map xs sizes, length-map ys sizes)
 
--- a test that answers false disproves its condition
-pub not_so : {A : Type 0} {full : Bool} → full ≡ false → (IsTrue full ↔ A) → ¬ A
-not_so none h = λ a. false≢true (sym none ∙ h.1 a)
+-- the capacity of a row's nodes is not 0
+some_most : {K X : Type 0} (half most : ℕ) (first : LevelNode K X) (row : Row K X) → FitRow half most (first ∷ row) → 1 ≤ most
+some_most half most (node n es) [] f = omega arith
+some_most half most (node n es) (next ∷ row) f = some_most half most next row f.2
 
 module _ {K V : Type 0} where
   -- the tree, cut at the place in its leaf
@@ -118,92 +120,93 @@ module _ {K V : Type 0} where
 
     open d use {before, l, r, after}
 
-    abbrev pub n : ℕ
+    abbrev n : ℕ
     n = get_or ms 0 0
 
     abbrev e : ℕ
     e = get_or js 0 0
 
-    -- the rows over the leaves after the insertion
-    renewed : (entry : K × V) → 1 ≤ most → Renewed t.nodes ms js 1 tree.above (heads (before ++ node n (l ++ entry ∷ r) ∷ after))
-    renewed entry one = renew _ _ _ 1 _ _ _ _ entry r after d.first (omega (arith, (FitRow-split (half_of most) most before (node n (l ++ r)) after d.fit.leaves_fit).1.0, least-pos (half_of most) (omega (arith, one)) after)) d.fit.stacked d.fit.topped p.inside.rows_in
-
     -- the sizes of the leaves where the leaf has room, and where it is full
     pub room_gain : length (l ++ r) < most → leaf_gain most place (sizes tree.leaves) ≡ (None, sizes before ++ suc (length (l ++ r)) ∷ sizes after)
     room_gain room = cc (d.leaves_are, d.place_is, sizes-append before (node n (l ++ r) ∷ after), leaf_room most before (length (l ++ r)) (length l) (sizes after) (omega (arith, length-append l r)) d.first room)
 
-    full_gain : length (l ++ r) ≡ most → leaf_gain most place (sizes tree.leaves) ≡ (Some (length before), sizes before ++ half_of most ∷ half_of most ∷ sizes after)
+    pub full_gain : length (l ++ r) ≡ most → leaf_gain most place (sizes tree.leaves) ≡ (Some (length before), sizes before ++ half_of most ∷ half_of most ∷ sizes after)
     full_gain full = cc (d.leaves_are, d.place_is, sizes-append before (node n (l ++ r) ∷ after), leaf_full most before (length (l ++ r)) (length l) (sizes after) (omega (arith, length-append l r)) d.first full)
 
-    -- the need of a full leaf
-    pub leaf_need_full : length (l ++ r) ≡ most → need_above (leaf_gain most place (sizes tree.leaves)).0 (map sizes tree.above) ≡ need_above (Some (length before)) (map sizes tree.above)
-    leaf_need_full full = cc (full_gain full)
-
-    pub put_leaf : {u : Table K V} (entry : _) → length (l ++ r) < most → Puts t u n (leaf_content (l ++ entry ∷ r)) → Inserted most t u ms js size tree place entry
-    put_leaf {u} entry room w =
-        let old = l ++ r in let es = l ++ entry ∷ r in let row2 = before ++ node n es ∷ after in let above = renewed entry (omega (arith, room)) in
-        let len : length es ≡ suc (length old) = omega (arith, length-append l (entry ∷ r), length-append l r) in
-        let none2 = ap (λ z. count n z) above.numbers_are ∙ d.none_rows in
-        let c0 = λ (m : ℕ). ap (λ z. count m (numbers z ++ flat_map numbers tree.above)) d.leaves_are in
-        let c2 = λ (m : ℕ). counts m before n old after tree.above t.chain in let g = room_gain room in
-        let fit' : IsFit most (record { leaves = row2; above = above.rows' }) = record { leaves_fit = FitRow-put (half_of most) most before after n old es len room d.fit.leaves_fit; stacked = above.stacked; topped = above.topped } in
-        let stands : Stands ms js size (record { leaves = row2; above = above.rows' }) place = record {
-          leaf = record { before = before; entries = es; after = after; row_is = refl; within = omega (arith, d.index_is, length-append l (entry ∷ r)); place_is = omega (arith, d.place_is, d.index_is) };
-          above = above.stands (length before) d.stands;
-          size_is = p.at.points.size_is ∙ omega (arith, rows_count _ _ above.sizes_are);
-        } in
+    -- the leaf where the entry is inserted
+    pub site : (entry : K × V) → Inserting (leaf_kind most) t ms js 0 size tree.leaves tree.above (insert (flat tree.leaves) place entry) place (leaf_gain most place (sizes tree.leaves)) entry
+    site entry =
+        let one = some_most (half_of most) most (node n (l ++ r)) after d.fits in let half : 1 ≤ half_of most = omega arith in
+        let up = renew t.nodes ms js 1 tree.above before n l entry r after d.first (omega (arith, d.fits.0, least-pos (half_of most) half after)) d.fit.stacked d.fit.topped p.inside.rows_in in
+        let full = Solid-full (half_of most) most half before d.solid in let c = λ (m : ℕ). counts m before n (l ++ r) after tree.above t.chain in
         record {
-          tree' = record { leaves = row2; above = above.rows' };
-          taken = [];
-          flat_is = flat-append before _ ∙ sym (insert_flat before n l r after entry) ∙ sym (cc (d.leaves_are, d.place_is));
-          sizes_are = simp (sizes-append, len, above.sizes_are, g);
-          fit = fit';
-          inside = record {
-            leaves_in = row-put _ _ _ _ n _ _ _ d.inside w.same w.here d.none;
-            rows_in = rows-same _ _ _ (λ m some. w.same m (ne_from_count m n _ some none2)) above.inside;
+          before = before;
+          es = l ++ r;
+          l = l;
+          r = r;
+          after = after;
+          rest = up.rows';
+          es_is = refl;
+          index_is = omega (arith, d.index_is);
+          place_is = omega (arith, d.place_is, d.index_is);
+          room_gain = room_gain;
+          full_gain = full_gain;
+          grow = record {
+            half_some = half;
+            more = omega (arith, length-append l (entry ∷ r), length-append l r);
+            row_is = d.leaves_are;
+            list_is = sym (insert_flat before n l r after entry) ∙ sym (cc (d.leaves_are, d.place_is));
+            inside = d.inside;
+            fit = d.fit.leaves_fit;
+            apart = rw (sym up.numbers_are) at d.apart;
+            above = record {
+              stacked = up.stacked;
+              inside = up.inside;
+              stands = rw full (up.stands (length before) d.stands);
+              height = omega (arith, p.at.points.size_is, rows_count _ _ up.sizes_are);
+              apart = λ m. omega (arith, d.apart m, c m, count-append m (flat_map numbers up.rows') t.chain, ap (λ z. count m z) up.numbers_are);
+            };
+            topped = λ top. up.topped;
+            sizes_above = up.sizes_are;
+            numbers_above = up.numbers_are;
           };
-          stands = stands;
-          numbers_are = λ m. omega (arith, c0 m, ap (λ z. count m z) above.numbers_are, c2 m, counts m before n es after above.rows' u.chain);
-          taken_is = cc;
-          others = λ m z. w.same m (absent_ne m n (numbers after) (omega (arith, c0 m, c2 m)));
-          chain_is = sym w.chain_is;
-          slots_are = w.slots_are;
-          limit_is = w.limit_is;
-          memory_is = w.memory_is;
-          same_root = λ same. root-stands fit' stands ∙ sym (root-points _ _ _ _ _ _ (omega (arith, room)) p.fit p.at.points);
-          new_root = λ other. absurd (other (rows_count _ _ above.sizes_are));
         }
 
-    -- the split leaf, except for where the path stands
-    pub leaf_parted : {u : Table K V} (ms' js' : _) (entry : K × V) {middle right : _} (moved : Bool) → IsLeafCapacity most → length (l ++ r) ≡ most →
-        (h : Halves leaf_content t u n right middle (l ++ entry ∷ r) (half_of most) (half_of most)) →
-        ((i : ℕ) → i ≢ 0 → get_or ms' i 0 ≡ get_or ms i 0) → ((i : ℕ) → i ≢ 0 → get_or js' i 0 ≡ get_or js i 0) → length (heads before) ≡ length before →
-        InHalf before n right (h.z ∷ h.xs) (h.y ∷ h.ys) after (get_or ms' 0 0) (get_or js' 0 0) place moved →
-        LeafHalved most t u ms ms' js' size tree place entry middle right moved
-    leaf_parted ms' js' entry moved capacity full h far_m far_j solid_full stands =
-        let up = renewed entry (omega arith) in let few : half_of most ≤ most = omega arith in
-        let hs0 : heads (before ++ node n (l ++ entry ∷ r) ∷ after) ≡ heads before ++ (h.z.0, n) ∷ heads after = heads-append before _
-        ∙ ap (λ z. heads before ++ (head_of n z ++ heads after)) h.grown_is in
-        let c = λ (m : ℕ). counts m before n (l ++ r) after tree.above t.chain in
-        let above : Above t ms js 1 size up.rows' (heads before ++ (h.z.0, n) ∷ heads after) (length (heads before)) = record {
-          stacked = rw (← hs0) up.stacked;
-          inside = up.inside;
-          stands = rw solid_full (up.stands (length before) d.stands);
-          height = omega (arith, p.at.points.size_is, rows_count _ _ up.sizes_are);
-          apart = λ m. omega (arith, d.apart m, c m, count-append m (flat_map numbers up.rows') t.chain, ap (λ z. count m z) up.numbers_are);
-        } in
-        let apart = rw (sym up.numbers_are) at d.apart in let list_is = sym (insert_flat before n l r after entry) ∙ sym (cc (d.leaves_are, d.place_is)) in
-        record {
-          parted = part before (l ++ r) after ms' js' moved d.inside d.fit.leaves_fit (omega arith) (omega arith, few, omega arith, few) apart h above list_is far_m far_j stands;
-          leaves_were = d.leaves_are;
-          gain_is = full_gain full ∙ rw (solid_full, sizes-append _ _, h.left_is, h.right_is) refl;
-          topped = rw (← hs0) up.topped;
-          sizes_above = up.sizes_are;
-          numbers_above = up.numbers_are;
-        }
+    -- a successful insertion leaves the tree with the entry inserted
+    pub put_inserts : {u : Table K V} {key : K} {value : V} {put : Bool} (i : ℕ) → 0 < length ms → PutsEntry most t u (get_or ms 0 i) e key value put → put ≡ true →
+        ((leaf_gain most place (sizes tree.leaves)).0 ≡ None) × Inserted most t u ms js ms js size size tree place (key, value)
+    put_inserts {key = key} {value} i low said done = let g = put_raises (site (key, value)) i low said done js 0 (omega arith) (omega arith) (omega arith) (λ i other. refl) in
+        (g.0, record { taken = []; taken_is = sym (ap (λ z. need_above z (map sizes tree.above)) g.0); raised = g.1 })
 
-    -- the rows above the leaf
-    abbrev pub leaf_above : (rows : _) × (list : _) × (at : ℕ) × Above t ms js 1 size rows list at
-    leaf_above = let s = d in let above : Above t ms js 1 size tree.above (heads (before ++ node n (l ++ r) ∷ after)) (length before) =
-        record { stacked = s.fit.stacked; inside = p.inside.rows_in; stands = s.stands; height = omega (arith, p.at.points.size_is); apart = λ m. omega (arith, s.apart m, count-append) } in
-        (tree.above, heads (before ++ node n (l ++ r) ∷ after), length before, above)
+    module _ (i : ℕ) (low : 0 < length ms) (x : K × V) (s : Table K V) (full : IsFullAt most t.nodes (get_or ms 0 0)) {right : ℕ} {parts : SplitOff K} (front : front_of t.chain ≡ Some right) (used : IsUsed s right)
+        (split : IsSplitAt most t (get_or ms 0 i) e parts s) (capacity : IsLeafCapacity most) where
+      abbrev q : ℕ
+      q = parts.lhs_entries
+
+      cut_at : q ≡ (if nat_le e (most / 2) then most / 2 else (most + 1) / 2)
+      cut_at = left_count (site x) i low s full front used split
+
+      early : e ≤ most / 2 → Early (leaf_kind {K = K} {V = V} most) e q
+      early few = let q_is = rw (le-leb e (most / 2) few) at cut_at in let one : half_of most ≡ suc q = omega arith in let two : half_of most ≡ most - q = omega arith in
+          (omega arith, omega arith, omega arith, λ rest. cc)
+
+      late : most / 2 < e → Late (leaf_kind {K = K} {V = V} most) e q
+      late more = let q_is = rw (lt-leb e (most / 2) more) at cut_at in let two : half_of most ≡ suc (most - q) = omega arith in
+          (omega arith, omega arith, omega arith, omega arith, omega arith, λ rest. cc)
+
+      pub leaf_early_asks : e ≤ most / 2 → PutAsks Leaf s (get_or ms 0 i) e
+      leaf_early_asks few = early_asks (site x) i low s full front used split (early few)
+
+      pub late_within : most / 2 < e → q ≤ e
+      late_within more = (late more).0
+
+      pub leaf_late_asks : most / 2 < e → PutAsks Leaf s right (e - q)
+      leaf_late_asks more = late_asks (site x) i low s full front used split (late more)
+
+      pub leaf_early : {u : Table K V} {put : Bool} → e ≤ most / 2 → PutsEntry most s u (get_or ms 0 i) e x.0 x.1 put → LeafHalved most t u ms js ms js size tree place x parts.crit_key right false
+      leaf_early few said = early_halves (site x) i low s full front used split (early few) said js 0 (omega arith) (omega arith) (omega arith) (λ i other. refl)
+
+      pub leaf_late : {u : Table K V} {put : Bool} (first : K) → most / 2 < e → PutsEntry most s u right (e - q) x.0 x.1 put → (e - q ≡ 0 → first ≡ x.0) → (0 < e - q → first ≡ parts.crit_key) → 1 ≤ length js →
+          LeafHalved most t u ms js (set ms 0 right) (set js 0 (e - q)) size tree place x first right true
+      leaf_late first more said zero some low_js = let at = (site x).index_is in late_halves (site x) i low s full front used split (late more) first said (λ none. zero (omega arith)) (λ few. some (omega arith)) (set js 0 (e - q)) 0
+          (omega arith) (omega (arith, get_or-set_same js 0 (e - q) 0 low_js)) (omega arith) (λ i other. get_or-set_other js 0 i (e - q) 0 other)

@@ -133,7 +133,8 @@ impl<K: Copy, V: Copy, const N: usize> Path<K, V, N> {
             self.now.size tree place }
         ensures inserted { result ≡ true → (tree : Tree K V) (place : ℕ)
             → Placed N pool.old self.now.node self.now.entry self.now.size tree place
-            → Inserted N pool.old pool.new self.now.node self.now.entry self.now.size tree place (key, value) }
+            → Inserted N pool.old pool.new self.now.node self.now.entry self.now.node self.now.entry
+            self.now.size self.now.size tree place (key, value) }
         ensures full { result ≡ false → IsFullAt N pool.old.nodes (get_or self.now.node 0 0) }
         ensures pool { result ≡ false → pool.new ≡ pool.old }
     {
@@ -148,8 +149,8 @@ impl<K: Copy, V: Copy, const N: usize> Path<K, V, N> {
             self.old.size tree place × (need N place (sizes_of tree) ≤ length pool.old.chain)
             × (length (growth N place (sizes_of tree)) ≤ most_levels) }
         ensures inserted { (tree : Tree K V) (place : ℕ) → Placed N pool.old self.old.node self.old.entry
-            self.old.size tree place → Inserted N pool.old pool.new self.new.node self.new.entry self.new.size
-            tree place (key, value) }
+            self.old.size tree place → Inserted N pool.old pool.new self.old.node self.old.entry self.new.node
+            self.new.entry self.old.size self.new.size tree place (key, value) }
     {
         let leaf = self.node[0];
         let half = self.halve_leaf(key, value, pool);
@@ -163,8 +164,8 @@ impl<K: Copy, V: Copy, const N: usize> Path<K, V, N> {
         requires placed { (tree : Tree K V) × (place : ℕ) × Placed N pool.old self.old.node self.old.entry
             self.old.size tree place }
         ensures halved { (tree : Tree K V) (place : ℕ) → Placed N pool.old self.old.node self.old.entry
-            self.old.size tree place → LeafHalved N pool.old pool.new self.old.node self.new.node
-            self.new.entry self.old.size tree place (key, value) result.key result.node result.moved }
+            self.old.size tree place → LeafHalved N pool.old pool.new self.old.node self.old.entry
+            self.new.node self.new.entry self.old.size tree place (key, value) result.key result.node result.moved }
         ensures size { self.new.size ≡ self.old.size }
     {
         let leaf = self.node[0];

@@ -1,27 +1,28 @@
-use Rattle.bforest_core.proofs.{Words.{rules, arith, sym}, insertion.LeafParted.{level_above, level_full, level_room, level_used, level_within}}
-use Rattle.bforest_core.proofs.insertion.Rise.{need_top}
+use Rattle.bforest_core.proofs.{Words.{rules, arith, sym, ap}, insertion.Needs.{full_needs, level_needs, needs_one, over, room_needs, used, within}}
+use Rattle.bforest_core.proofs.insertion.Level.{need_top}
 use Rattle.bforest_core.proofs.path.Path.+needed_above.Goals as goal
 
 pub node-requires : goal.node-requires
-node-requires g t c = (search rules, omega (arith, level_within c.requires.pending.3 c.if-up-self.false (omega arith) c.index-self-up.result))
+node-requires g t c = (search rules, omega (arith, within (level_needs g.row.N c.requires.pending.3 c.if-up-self.false) (omega arith) c.index-self-up.result))
 
 pub is_full-requires : goal.is_full-requires
-is_full-requires g t c = (search rules, level_used c.requires.pending.3 c.if-up-self.false (omega arith) _ _ c.node.ensures.value)
+is_full-requires g t c = (search rules, used (level_needs g.row.N c.requires.pending.3 c.if-up-self.false) (omega arith) c.index-self-up.result _ c.node.ensures.value)
 
 pub needed_above-requires : goal.needed_above-requires
-needed_above-requires g t c κs within = let above = level_above c.requires.pending.3 c.if-up-self.false (omega arith) c.index-self-up.result in
+needed_above-requires g t c κs within = let above = over (level_needs g.row.N c.requires.pending.3 c.if-up-self.false) (omega arith) 0 in
     (omega arith, (within.0, (within.1, ((λ a m. search rules), (search rules, (search rules, (c.requires.height, above)))))))
 
 pub returns-then-is_full : goal.returns-then-is_full
 returns-then-is_full g t c = record {
-  value = λ rows list place p. level_full p c.if-up-self.false (omega arith) c.index-self-up.result c.node.result.now c.node.ensures.value g.row.N
-      c.is_full.result c.is_full.ensures.full c.if-is_full.true c.needed_above.result c.needed_above.ensures.value;
+  value = λ rows list place p. (let more = full_needs (level_needs g.row.N p c.if-up-self.false) (omega arith) c.index-self-up.result _ c.node.ensures.value _ c.is_full.ensures.full c.if-is_full.true
+      c.needed_above.result c.needed_above.ensures.value in omega (arith, more, needs_one g.row.N p c.if-up-self.false));
   few = omega arith;
 }
 
 pub returns-else-is_full : goal.returns-else-is_full
 returns-else-is_full g t c = record {
-  value = λ rows list place p. level_room p c.if-up-self.false (omega arith) _ _ c.node.ensures.value _ _ c.is_full.ensures.full c.if-is_full.false;
+  value = λ rows list place p. (let none = room_needs (level_needs g.row.N p c.if-up-self.false) (omega arith) c.index-self-up.result _ c.node.ensures.value _ c.is_full.ensures.full c.if-is_full.false in
+      omega (arith, none, needs_one g.row.N p c.if-up-self.false));
   few = omega arith;
 }
 

@@ -1,5 +1,5 @@
 use Rattle.bforest_core.proofs.{Words.{◌<◌, [], ◌∷◌, length, ap, ◌∙◌, arith, get_or-set_same, get_or-set_other, Inner}, table.Tables.takes}
-use Rattle.bforest_core.proofs.{table.Tables.length-with_front, insertion.Rise.settle_root}
+use Rattle.bforest_core.proofs.{table.Tables.length-with_front, insertion.Level.settle_root}
 use Rattle.bforest_core.proofs.path.Path.push_root.Goals as goal
 
 pub returns : goal.returns

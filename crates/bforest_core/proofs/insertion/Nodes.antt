@@ -1,0 +1,227 @@
+-- A new entry in the path's node on a level, or in one half of it, for leaves and inner nodes alike.
+use Rattle.bforest_core.proofs.Words.{◌≡◌, ℕ, suc, ◌+◌, ◌-◌, ◌/◌, ◌≤◌, ◌<◌, ◌≢◌, nat_le, nat_lt, if◌then◌else◌, Bool, true, false, Option, Some, None, List, [], ◌∷◌}
+use Rattle.bforest_core.proofs.Words.{◌++◌, length, drop, map, refl, sym, ap, ◌∙◌, append_assoc, length-append, arith, Row, Rows, node, flat, sizes, half_of}
+use Rattle.bforest_core.proofs.Words.{get_or, set, slice_get, get_or_default, get_or-set_same, get_or-set_other, false≢true, Content, Leaf, Inner, IsFree, Table}
+use Rattle.bforest_core.proofs.Words.{entry_count, entry_capacity, left_half, with_entry, with_child, entry_keys, entry_items, leaf_content, with_node}
+use Rattle.bforest_core.proofs.Words.{front_of, IsUsed, IsFullAt, IsSplitAt, PutsIn, Halved, Raised, gain_above}
+use Rattle.bforest_core.proofs.{insertion.Halving.{Cuts, Split, counted, split_at, into_left, into_right}, insertion.Level.{Growing, alone, halved, put_level, seen}}
+use Rattle.bforest_core.proofs.{Words.{count, inner_content}, rows.LevelRows.FitRow-split}
+use Rattle.bforest_core.proofs.{insertion.Grow.{in_left, in_right}, table.Tables.{count-same, is_used, puts, row-split, Puts}, table.Lists.set-kept}
+use Rattle.bforest_core.proofs.table.Stored.{inner_cuts, item_count, key_count, keys_count, leaf_cuts, with_child_is, with_entry_is}
+use Rattle.bforest_nodes.specs.declared.node.SplitOff.{SplitOff}
+
+-- leaves or inner nodes: how entries are stored, how many there may be, how many entries `behind` an index a new one goes, and the halves of a
+-- full node with a new entry
+pub record Kind (K V X : Type 0) : Type 0 where
+  pub cap : ℕ
+  pub half : ℕ
+  pub most : ℕ
+  pub behind : ℕ
+  pub left : ℕ → ℕ
+  pub halves : ℕ → List ℕ → List ℕ
+  pub stored : List K → List X → Content K V
+  pub keys : List (K × X) → List K
+  pub content : List (K × X) → Content K V
+  pub size : List K → List X → ℕ
+  pub write : ℕ → K × X → Content K V → Content K V
+  pub content_is : (es : _) → content es ≡ stored (keys es) (entry_items es)
+  pub size_is : (es : _) → size (keys es) (entry_items es) ≡ length es
+  pub low : (es : _) (e : ℕ) → e + behind ≤ length es → e ≤ length (keys es)
+  pub used : (es : _) → (¬ IsFree (content es)) × (entry_count (content es) ≡ length es) × (entry_capacity cap (content es) ≡ most)
+  pub left_is : (es : _) (e : ℕ) → left_half cap (content es) e ≡ left e
+  pub writes : (l r : _) (e : ℕ) (y : K × X) → length l ≡ e + behind → write e y (content (l ++ r)) ≡ content (l ++ y ∷ r)
+  pub cuts : (q : ℕ) → behind ≤ q → Cuts content q
+
+module _ {K V : Type 0} where
+  pub inner_parts : (q : ℕ) → 1 ≤ q → Cuts {K = K} {V = V} inner_content q
+  inner_parts q some [] y ys left right key e c = absurd (omega arith)
+  inner_parts q some (z ∷ zs) y ys left right key e c = inner_cuts V z _ y _ q _ _ key e c
+
+  abbrev pub leaf_kind : ℕ → Kind K V V
+  leaf_kind most = record {
+    cap = most;
+    half = half_of most;
+    most = most;
+    behind = 0;
+    left = λ e. if nat_le e (most / 2) then most / 2 else (most + 1) / 2;
+    halves = λ e rest. half_of most ∷ half_of most ∷ rest;
+    stored = Leaf;
+    keys = entry_keys;
+    content = leaf_content;
+    size = λ keys vals. length keys;
+    write = λ e y content. with_entry content e y.0 y.1;
+    content_is = λ es. refl;
+    size_is = keys_count;
+    low = λ es e low. omega (arith, keys_count es);
+    used = λ es. ((λ free. free), keys_count es, refl);
+    left_is = λ es e. refl;
+    writes = λ l r e y is. with_entry_is V l r y.0 y.1 e (omega arith);
+    cuts = λ q some zs y ys left right key is c. leaf_cuts V zs y ys q left right key is c;
+  }
+
+  abbrev pub inner_kind : ℕ → Kind K V ℕ
+  inner_kind cap = record {
+    cap = cap;
+    half = 4;
+    most = 8;
+    behind = 1;
+    left = λ e. 4;
+    halves = λ e rest. if nat_lt e 4 then 5 ∷ 4 ∷ rest else 4 ∷ 5 ∷ rest;
+    stored = Inner;
+    keys = λ es. drop 1 (entry_keys es);
+    content = inner_content;
+    size = λ keys children. length children;
+    write = λ e y content. with_child content e y.0 y.1;
+    content_is = λ es. refl;
+    size_is = item_count;
+    low = λ es e low. omega (arith, key_count es);
+    used = λ es. ((λ free. free), item_count es, refl);
+    left_is = λ es e. refl;
+    writes = with_child_is V;
+    cuts = inner_parts;
+  }
+
+-- an entry of a full node, at this index, goes into the left half, which was cut after its first `q` entries, or into the right one
+abbrev pub Early : {K V X : Type 0} → Kind K V X → ℕ → ℕ → Type 0
+Early k e q = (e + k.behind ≤ q) × (k.half ≤ suc q) × (k.half + q ≤ k.most) × ((rest : List ℕ) → k.halves e rest ≡ suc q ∷ (k.most - q) ∷ rest)
+
+abbrev pub Late : {K V X : Type 0} → Kind K V X → ℕ → ℕ → Type 0
+Late k e q = (q ≤ e) × (k.half ≤ q) × (k.half + q ≤ suc k.most) × (q < k.most) × (k.behind ≤ q) × ((rest : List ℕ) → k.halves e rest ≡ q ∷ suc (k.most - q) ∷ rest)
+
+-- what a call that inserts into a node requires
+abbrev pub PutAsks : {K V X : Type 0} → (List K → List X → Content K V) → Table K V → ℕ → ℕ → Type 0
+PutAsks {K} {V} {X} stored t number index = IsUsed t number × ((keys : List K) × (items : List X) × (slice_get t.nodes number ≡ Some (stored keys items)) × (index ≤ length keys))
+
+-- the path's node on a level, which is to hold the entry `y` behind the entries `l`. The path's place on the level is `place`
+pub record Inserting {K V X : Type 0} (k : Kind K V X) (t : Table K V) (ms js : List ℕ) (up size : ℕ) (row : Row K X) (rows : Rows K) (list : List (K × X)) (place : ℕ) (gain : Option ℕ × List ℕ) (y : K × X) : Type 0 where
+  pub before : Row K X
+  pub es : List (K × X)
+  pub l : List (K × X)
+  pub r : List (K × X)
+  pub after : Row K X
+  pub rest : Rows K
+  pub es_is : es ≡ l ++ r
+  pub index_is : length l ≡ get_or js up 0 + k.behind
+  pub place_is : place ≡ length (flat before) + get_or js up 0
+  pub room_gain : length es < k.most → gain ≡ (None, sizes before ++ suc (length es) ∷ sizes after)
+  pub full_gain : length es ≡ k.most → gain ≡ (Some (length before), sizes before ++ k.halves (get_or js up 0) (sizes after))
+  pub grow : Growing k.content k.half k.most t ms js up size row before es (l ++ y ∷ r) after rows rest list
+
+module _ {K V X : Type 0} (k : Kind K V X) {t : Table K V} {n : ℕ} (es : List (K × X)) where
+  -- a node meets what inserting an entry requires
+  asks : {number : ℕ} → number ≡ n → slice_get t.nodes n ≡ Some (k.content es) → IsUsed t n → (e : ℕ) → e + k.behind ≤ length es → PutAsks k.stored t number e
+  asks here found used e within = rw here (used, (k.keys es, entry_items es, found ∙ ap Some (k.content_is es), k.low es e within))
+
+  module _ {u : Table K V} {number e : ℕ} {y : K × X} {put : Bool} (here : number ≡ n) (found : slice_get t.nodes n ≡ Some (k.content es)) (said : PutsIn k.stored k.size k.most (k.write e y) t u number put) where
+    slot_is : slice_get t.nodes number ≡ Some (k.stored (k.keys es) (entry_items es))
+    slot_is = cc (here, k.content_is es)
+
+    room : put ≡ true → length es < k.most
+    room done = rw (k.size_is es) at ((said.room _ _ slot_is).0 done)
+
+    put_in : length es < k.most → u ≡ with_node t n (k.write e y (k.content es))
+    put_in fewer = (rw ((said.room _ _ slot_is).1 (rw (k.size_is es) fewer)) at (said.node _ _ slot_is)) ∙ cc (here, k.content_is es)
+
+    -- a failed insertion had no room and changes nothing
+    put_past : put ≡ false → (¬ (length es < k.most)) × (u ≡ t)
+    put_past none = (λ fewer. false≢true (sym none ∙ (said.room _ _ slot_is).1 (rw (k.size_is es) fewer)), (rw none at (said.node _ _ slot_is)) ∙ ap (λ z. record t { nodes = z }) (set-kept _ _ _ slot_is))
+
+module _ {K V X : Type 0} {k : Kind K V X} {t : Table K V} {ms js up size row rows list place gain y : _} (w : Inserting k t ms js up size row rows list place gain y) (i : ℕ) (low : up < length ms) where
+  open w use {before, l, r, after, es, grow}
+
+  abbrev num : ℕ
+  num = get_or ms up 0
+
+  abbrev read : ℕ
+  read = get_or ms up i
+
+  abbrev e : ℕ
+  e = get_or js up 0
+
+  num_is : read ≡ num
+  num_is = get_or_default ms up i 0 low
+
+  found : slice_get t.nodes num ≡ Some (k.content es)
+  found = (row-split _ _ before (node num es ∷ after) grow.inside).1.0
+
+  none_chain : count num t.chain ≡ 0
+  none_chain = (alone grow).2
+
+  within : e + k.behind ≤ length es
+  within = omega (arith, w.index_is, ap length w.es_is, length-append l r)
+
+  pub put_asks : PutAsks k.stored t read e
+  put_asks = asks k es num_is found (is_used t num _ found none_chain) e within
+
+  module _ {u : Table K V} {put : Bool} (said : PutsIn k.stored k.size k.most (k.write e y) t u read put) where
+    -- a successful insertion leaves the level with the entry, and the path at it or `ahead` of where it stood
+    pub put_raises : put ≡ true → (js' : List ℕ) (ahead : ℕ) {p : ℕ} → ahead ≤ k.behind → get_or js' up 0 ≡ e + ahead → p ≡ place + ahead → ((i : ℕ) → i ≢ up → get_or js' i 0 ≡ get_or js i 0) →
+        (gain.0 ≡ None) × Raised k.content k.half k.most t u ms js ms js' up size size row rows list p (gain.1 ∷ gain_above gain.0 (map sizes rows)) []
+    put_raises done js' ahead few index_is place_is far = let fewer = room k es num_is found said done in let gain_is = w.room_gain fewer in
+        (ap (λ z. z.0) gain_is, put_level grow js' gain_is fewer (puts t u num _ _ found (put_in k es num_is found said fewer ∙ cc (k.writes l r e y w.index_is))) far (omega (arith, w.index_is, length-append l (y ∷ r))) (omega (arith, w.place_is)))
+
+    -- a failed insertion means that the node is full, and changes nothing
+    pub put_full : put ≡ false → IsFullAt k.cap t.nodes num × (u ≡ t)
+    put_full none = let past = put_past k es num_is found said none in let used = k.used es in let most_is = (FitRow-split k.half k.most before (node num es) after grow.fit).1.1 in
+        (rw found (used.0, omega (arith, used.1, used.2, past.0)), past.1)
+
+  module _ (s : Table K V) (full : IsFullAt k.cap t.nodes num) where
+    -- the node meets what a split of it requires
+    pub full_asks : 0 < length t.chain → IsUsed t read × (IsFullAt k.cap t.nodes read × (0 < length t.chain))
+    full_asks some = (put_asks.0, (rw num_is full, some))
+
+    pub full_is : length es ≡ k.most
+    full_is = let used = k.used es in let w = rw found at full in omega (arith, used.1, used.2, w.1)
+
+    module _ {right : ℕ} {parts : SplitOff K} (front : front_of t.chain ≡ Some right) (right_used : IsUsed s right) (split : IsSplitAt k.cap t read e parts s) where
+      abbrev pub q : ℕ
+      q = parts.lhs_entries
+
+      -- how many entries are left of the cut
+      pub left_count : q ≡ k.left e
+      left_count = counted k.content num num_is es found split ∙ k.left_is es e
+
+      cut : k.behind ≤ q → q < k.most → Split k.content t s num right q es parts.crit_key
+      cut some less = split_at k.content num num_is es found split right (k.cuts q some) (omega (arith, full_is)) none_chain front right_used.within
+
+      -- the entry goes into the left half
+      module _ (early : Early k e q) where
+        left_cut : Split k.content t s num right q es parts.crit_key
+        left_cut = cut (omega (arith, early.0)) (omega (arith, early.2, grow.half_some))
+
+        pub early_asks : PutAsks k.stored s read e
+        early_asks = asks k left_cut.zs num_is left_cut.two.here (is_used s num _ left_cut.two.here (omega (arith, none_chain, ap (λ z. count num z) left_cut.two.chain_is))) e (omega (arith, early.0, left_cut.count_is))
+
+        pub early_halves : {u : Table K V} {put : Bool} → PutsIn k.stored k.size k.most (k.write e y) s u read put → (js' : List ℕ) (ahead : ℕ) {p : ℕ} → ahead ≤ k.behind → get_or js' up 0 ≡ e + ahead → p ≡ place + ahead →
+            ((i : ℕ) → i ≢ up → get_or js' i 0 ≡ get_or js i 0) → Halved k.content k.half k.most t u ms js ms js' up size row rows gain list p parts.crit_key right false
+        early_halves {u} said js' ahead few index_is place_is far =
+            let h = into_left k.content u left_cut (k.write e y) l y r w.es_is (omega (arith, w.index_is, early.0)) (λ mid. k.writes l mid e y w.index_is)
+            (put_in k left_cut.zs num_is left_cut.two.here said (omega (arith, left_cut.count_is, early.2, grow.half_some))) in
+            halved grow ms js' false (w.full_gain full_is ∙ ap (λ z. (Some (length before), sizes before ++ z)) (early.3 (sizes after) ∙ ap (λ z. suc q ∷ (z - q) ∷ sizes after) (sym full_is)))
+            (omega (arith, early.1), omega (arith, early.2, grow.half_some), omega (arith, early.2, full_is), omega (arith, full_is)) h (λ i other. refl) far
+            (in_left _ _ _ _ _ _ _ _ (seen grow) (omega (arith, h.left_is, early.0)) (omega (arith, w.place_is)))
+
+      -- the entry goes into the right half
+      module _ (late : Late k e q) where
+        right_cut : Split k.content t s num right q es parts.crit_key
+        right_cut = cut late.4 late.3
+
+        abbrev rights : List (K × X)
+        rights = right_cut.y ∷ right_cut.ys
+
+        rights_are : q + length rights ≡ length es
+        rights_are = omega (arith, ap length right_cut.es_is, length-append right_cut.zs rights, right_cut.count_is)
+
+        pub late_asks : PutAsks k.stored s right (e - q)
+        late_asks = asks k rights refl right_cut.two.there right_used (e - q) (omega (arith, rights_are, within, late.0))
+
+        pub late_halves : {u : Table K V} {put : Bool} (first : K) → PutsIn k.stored k.size k.most (k.write (e - q) y) s u right put →
+            (length l - q ≡ 0 → first ≡ y.0) → (0 < length l - q → first ≡ parts.crit_key) → (js' : List ℕ) (ahead : ℕ) {p : ℕ} → ahead ≤ k.behind → get_or js' up 0 ≡ e - q + ahead → p ≡ place + ahead →
+            ((i : ℕ) → i ≢ up → get_or js' i 0 ≡ get_or js i 0) → Halved k.content k.half k.most t u ms js (set ms up right) js' up size row rows gain list p first right true
+        late_halves {u} first said zero more js' ahead few index_is place_is far =
+            let h = into_right k.content u right_cut (k.write (e - q) y) l y r first w.es_is (omega (arith, w.index_is, late.0)) (omega (arith, late.1, grow.half_some)) zero more
+            (λ mid is. k.writes mid r (e - q) y (omega (arith, is, w.index_is, late.0)))
+            (put_in k rights refl right_cut.two.there said (omega (arith, rights_are, full_is, late.1, grow.half_some))) in
+            halved grow (set ms up right) js' true (w.full_gain full_is ∙ ap (λ z. (Some (length before), sizes before ++ z)) (late.5 (sizes after) ∙ ap (λ z. q ∷ suc (z - q) ∷ sizes after) (sym full_is)))
+            (late.1, omega (arith, late.3), omega (arith, late.2, full_is), omega (arith, late.1, grow.half_some, full_is)) h (λ i other. get_or-set_other ms up i right 0 other) far
+            (in_right _ _ _ _ _ _ _ _ _ (seen grow) (get_or-set_same ms up right 0 low) (omega (arith, h.right_is, rights_are, within, late.0, ap length w.es_is, length-append l r, w.index_is)) (omega (arith, w.place_is, h.left_is, late.0)))
