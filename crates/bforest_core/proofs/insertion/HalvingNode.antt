@@ -3,8 +3,8 @@ use Rattle.bforest_core.proofs.Words.{◌≡◌, ◌≢◌, ℕ, suc, ◌+◌, �
 use Rattle.bforest_core.proofs.Words.{append_assoc, length-append, arith, Row, node, flat, head_of, heads, sizes, Table, map, get_or, set, get_or-set_same}
 use Rattle.bforest_core.proofs.Words.{get_or-set_other, front_of, IsUsed, IsFullAt, IsSplitAt, Inner, inner_gain, need_above, GrownBy, HalvedBy, OneAbove, PutsChild}
 use Rattle.bforest_core.proofs.{Words.{le-ltb, lt-ltb, add-one}, insertion.Grow.{gain_full, gain_room, gain_spot, head-grown}, rows.Zipper.{Spot, spot}}
-use Rattle.bforest_core.proofs.insertion.Level.{grown, need_some, next_asks, next_takes, step, step_is, step_most}
-use Rattle.bforest_core.proofs.insertion.Nodes.{Early, Inserting, Late, PutAsks, inner_kind, early_asks, early_halves, full_is, late_asks, late_halves, left_count, put_raises}
+use Rattle.bforest_core.proofs.insertion.Level.{grown, need_some, next_asks, next_takes}
+use Rattle.bforest_core.proofs.insertion.Nodes.{Inserting, Moves, full_is, inner_kind, put_raises}
 use Rattle.bforest_core.proofs.{Words.{Some, gain_above, get_or_default}, removal.Lifted.{heads-put, place_at, rows_above}}
 use Rattle.bforest_nodes.specs.declared.node.SplitOff.{SplitOff}
 
@@ -57,47 +57,11 @@ module _ {K V : Type 0} {t : Table K V} {ms js up size : _} (w : OneAbove t ms j
         });
       }
 
-  module _ (i : ℕ) (low : up < length ms) (moved : Bool) (index : ℕ) (low_js : up < length js) where
-    abbrev pub js' : List ℕ
-    js' = set js up index
-
-    far : (i : ℕ) → i ≢ up → get_or js' i 0 ≡ get_or js i 0
-    far i other = get_or-set_other js up i index 0 other
-
-    index_is : (at : ℕ) → index ≡ (if moved then suc at else at) → get_or js' up 0 ≡ at + step moved
-    index_is at is = get_or-set_same js up index 0 low_js ∙ is ∙ step_is moved at
-
-    -- a successful insertion needs one node in all and leaves the rows grown
-    pub put_grows : {u : Table K V} {key : K} {child : ℕ} {put : Bool} → PutsChild t u (get_or ms up i) e key child put → put ≡ true → index ≡ (if moved then suc e else e) → GrownBy w (key, child) moved u ms js' size []
-    put_grows {key = key} {child} said done is = let g = put_raises (site (key, child)) i low said done js' (step moved) (step_most moved) (index_is e is) (step_is moved (length a)) far in
-        (sym (ap (λ z. need_above (Some (length a)) (map sizes z)) d.q.rows_are ∙ ap (λ z. suc (need_above z (map sizes rest))) g.0), grown (length a) p d.q.rows_are g.1)
-
-    module _ (s : Table K V) (full : IsFullAt cap t.nodes (get_or ms up 0)) {right : ℕ} {parts : SplitOff K} (front : front_of t.chain ≡ Some right) (used : IsUsed s right) (split : IsSplitAt cap t (get_or ms up i) e parts s) where
-      abbrev q : ℕ
-      q = parts.lhs_entries
-
-      four : q ≡ 4
-      four = left_count (site x) i low s full front used split
-
-      early : e < 4 → Early (inner_kind {K = K} {V = V} cap) e q
-      early low_e = rw four (omega arith, omega arith, omega arith, λ rest. (let is = lt-ltb e 4 low_e in rw is refl))
-
-      late : 4 ≤ e → Late (inner_kind {K = K} {V = V} cap) e q
-      late high_e = rw four (high_e, omega arith, omega arith, omega arith, omega arith, λ rest. (let is = le-ltb e 4 high_e in rw is refl))
-
-      pub node_early_asks : e < 4 → PutAsks Inner s (get_or ms up i) e
-      node_early_asks low_e = early_asks (site x) i low s full front used split (early low_e)
-
-      pub node_late_asks : 4 ≤ e → PutAsks Inner s right (e - 4)
-      node_late_asks high_e = rw four at (late_asks (site x) i low s full front used split (late high_e))
-
-      pub node_early : {u : Table K V} {key : K} {child : ℕ} {put : Bool} → e < 4 → PutsChild s u (get_or ms up i) e key child put → index ≡ (if moved then suc e else e) →
-          HalvedBy w (key, child) moved u ms js' parts.crit_key right false
-      node_early {key = key} {child} low_e said is = (row, rest, d.q.rows_are, early_halves (site (key, child)) i low s full front used split (early low_e) said js' (step moved) (step_most moved) (index_is e is) (step_is moved (length a)) far)
-
-      pub node_late : {u : Table K V} {key : K} {child : ℕ} {put : Bool} → 4 ≤ e → PutsChild s u right (e - 4) key child put → index ≡ (if moved then suc (e - 4) else e - 4) →
-          HalvedBy w (key, child) moved u (set ms up right) js' parts.crit_key right true
-      node_late {key = key} {child} high_e said is = (row, rest, d.q.rows_are, late_halves (site (key, child)) i low s full front used split (late high_e) parts.crit_key (rw (← four) at said) (λ none. absurd (omega (arith, (site (key, child)).index_is, four))) (λ some. refl) js' (step moved) (step_most moved) (rw (← four) at (index_is (e - 4) is)) (step_is moved (length a)) far)
+  -- a successful insertion needs one node in all and leaves the rows grown
+  pub put_grows : (i : ℕ) → up < length ms → {u : Table K V} {key : K} {child : ℕ} {put : Bool} → PutsChild t u (get_or ms up i) e key child put → put ≡ true → {js' : List ℕ} (moved : Bool) →
+      Moves js js' up 1 e (length a) (if moved then suc (length a) else length a) → GrownBy w (key, child) moved u ms js' size []
+  put_grows i low {key = key} {child} said done moved m = let g = put_raises (site (key, child)) i low said done m in
+      (sym (ap (λ z. need_above (Some (length a)) (map sizes z)) d.q.rows_are ∙ ap (λ z. suc (need_above z (map sizes rest))) g.0), grown (length a) p d.q.rows_are g.1)
 
 module _ {K V : Type 0} where
   -- a node is free for the split of a full node

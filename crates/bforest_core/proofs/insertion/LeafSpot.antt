@@ -5,7 +5,7 @@ use Rattle.bforest_core.proofs.Words.{Heads, Row, Rows, LevelNode, node, flat, h
 use Rattle.bforest_core.proofs.Words.{length-map, le-leb, lt-leb, get_or-set_same, get_or-set_other, count, StandsAbove, RowsIn, IsAt, Table, Content, Leaf, front_of}
 use Rattle.bforest_core.proofs.Words.{IsUsed, IsFullAt, IsSplitAt, IsLeafCapacity, PutsEntry, Placed, Inserted, LeafHalved}
 use Rattle.bforest_core.proofs.{rows.LevelRows.{Solid-full, flat-append, heads-append, least-pos, sizes-append}, insertion.Grow.{leaf_full, leaf_room}}
-use Rattle.bforest_core.proofs.insertion.Nodes.{Early, Inserting, Late, PutAsks, leaf_kind, early_asks, early_halves, late_asks, late_halves, left_count, put_raises}
+use Rattle.bforest_core.proofs.insertion.Nodes.{Inserting, leaf_kind, here, put_raises}
 use Rattle.bforest_core.proofs.{table.Tables.{count-append, counts}, rows.Zipper.{LeafCut, cut_leaf}}
 use Rattle.bforest_nodes.specs.declared.node.SplitOff.{SplitOff}
 
@@ -175,38 +175,5 @@ module _ {K V : Type 0} where
     -- a successful insertion leaves the tree with the entry inserted
     pub put_inserts : {u : Table K V} {key : K} {value : V} {put : Bool} (i : ℕ) → 0 < length ms → PutsEntry most t u (get_or ms 0 i) e key value put → put ≡ true →
         ((leaf_gain most place (sizes tree.leaves)).0 ≡ None) × Inserted most t u ms js ms js size size tree place (key, value)
-    put_inserts {key = key} {value} i low said done = let g = put_raises (site (key, value)) i low said done js 0 (omega arith) (omega arith) (omega arith) (λ i other. refl) in
+    put_inserts {key = key} {value} i low said done = let g = put_raises (site (key, value)) i low said done here in
         (g.0, record { taken = []; taken_is = sym (ap (λ z. need_above z (map sizes tree.above)) g.0); raised = g.1 })
-
-    module _ (i : ℕ) (low : 0 < length ms) (x : K × V) (s : Table K V) (full : IsFullAt most t.nodes (get_or ms 0 0)) {right : ℕ} {parts : SplitOff K} (front : front_of t.chain ≡ Some right) (used : IsUsed s right)
-        (split : IsSplitAt most t (get_or ms 0 i) e parts s) (capacity : IsLeafCapacity most) where
-      abbrev q : ℕ
-      q = parts.lhs_entries
-
-      cut_at : q ≡ (if nat_le e (most / 2) then most / 2 else (most + 1) / 2)
-      cut_at = left_count (site x) i low s full front used split
-
-      early : e ≤ most / 2 → Early (leaf_kind {K = K} {V = V} most) e q
-      early few = let q_is = rw (le-leb e (most / 2) few) at cut_at in let one : half_of most ≡ suc q = omega arith in let two : half_of most ≡ most - q = omega arith in
-          (omega arith, omega arith, omega arith, λ rest. cc)
-
-      late : most / 2 < e → Late (leaf_kind {K = K} {V = V} most) e q
-      late more = let q_is = rw (lt-leb e (most / 2) more) at cut_at in let two : half_of most ≡ suc (most - q) = omega arith in
-          (omega arith, omega arith, omega arith, omega arith, omega arith, λ rest. cc)
-
-      pub leaf_early_asks : e ≤ most / 2 → PutAsks Leaf s (get_or ms 0 i) e
-      leaf_early_asks few = early_asks (site x) i low s full front used split (early few)
-
-      pub late_within : most / 2 < e → q ≤ e
-      late_within more = (late more).0
-
-      pub leaf_late_asks : most / 2 < e → PutAsks Leaf s right (e - q)
-      leaf_late_asks more = late_asks (site x) i low s full front used split (late more)
-
-      pub leaf_early : {u : Table K V} {put : Bool} → e ≤ most / 2 → PutsEntry most s u (get_or ms 0 i) e x.0 x.1 put → LeafHalved most t u ms js ms js size tree place x parts.crit_key right false
-      leaf_early few said = early_halves (site x) i low s full front used split (early few) said js 0 (omega arith) (omega arith) (omega arith) (λ i other. refl)
-
-      pub leaf_late : {u : Table K V} {put : Bool} (first : K) → most / 2 < e → PutsEntry most s u right (e - q) x.0 x.1 put → (e - q ≡ 0 → first ≡ x.0) → (0 < e - q → first ≡ parts.crit_key) → 1 ≤ length js →
-          LeafHalved most t u ms js (set ms 0 right) (set js 0 (e - q)) size tree place x first right true
-      leaf_late first more said zero some low_js = let at = (site x).index_is in late_halves (site x) i low s full front used split (late more) first said (λ none. zero (omega arith)) (λ few. some (omega arith)) (set js 0 (e - q)) 0
-          (omega arith) (omega (arith, get_or-set_same js 0 (e - q) 0 low_js)) (omega arith) (λ i other. get_or-set_other js 0 i (e - q) 0 other)

@@ -4,19 +4,20 @@ use Rattle.bforest_core.proofs.Words.{◌++◌, length, drop, map, refl, sym, ap
 use Rattle.bforest_core.proofs.Words.{get_or, set, slice_get, get_or_default, get_or-set_same, get_or-set_other, false≢true, Content, Leaf, Inner, IsFree, Table}
 use Rattle.bforest_core.proofs.Words.{entry_count, entry_capacity, left_half, with_entry, with_child, entry_keys, entry_items, leaf_content, with_node}
 use Rattle.bforest_core.proofs.Words.{front_of, IsUsed, IsFullAt, IsSplitAt, PutsIn, Halved, Raised, gain_above}
-use Rattle.bforest_core.proofs.{insertion.Halving.{Cuts, Split, counted, split_at, into_left, into_right}, insertion.Level.{Growing, alone, halved, put_level, seen}}
-use Rattle.bforest_core.proofs.{Words.{count, inner_content}, rows.LevelRows.FitRow-split}
+use Rattle.bforest_core.proofs.{insertion.Halving.{Cuts, Split, counted, split_at, into_left, into_right}, insertion.Level.{Growing, alone, halved, put_level, seen, step, step_is, step_most}}
+use Rattle.bforest_core.proofs.{Words.{IsLeafCapacity, count, inner_content, le-leb, le-ltb, lt-leb, lt-ltb}, rows.LevelRows.FitRow-split}
 use Rattle.bforest_core.proofs.{insertion.Grow.{in_left, in_right}, table.Tables.{count-same, is_used, puts, row-split, Puts}, table.Lists.set-kept}
 use Rattle.bforest_core.proofs.table.Stored.{inner_cuts, item_count, key_count, keys_count, leaf_cuts, with_child_is, with_entry_is}
 use Rattle.bforest_nodes.specs.declared.node.SplitOff.{SplitOff}
 
--- leaves or inner nodes: how entries are stored, how many there may be, how many entries `behind` an index a new one goes, and the halves of a
--- full node with a new entry
+-- leaves or inner nodes: how entries are stored, how many there may be, how many entries `behind` an index a new one goes, and how a full node is
+-- cut for a new entry: at an index below `mid` the entry goes into the left half
 pub record Kind (K V X : Type 0) : Type 0 where
   pub cap : ℕ
   pub half : ℕ
   pub most : ℕ
   pub behind : ℕ
+  pub mid : ℕ
   pub left : ℕ → ℕ
   pub halves : ℕ → List ℕ → List ℕ
   pub stored : List K → List X → Content K V
@@ -31,18 +32,17 @@ pub record Kind (K V X : Type 0) : Type 0 where
   pub left_is : (es : _) (e : ℕ) → left_half cap (content es) e ≡ left e
   pub writes : (l r : _) (e : ℕ) (y : K × X) → length l ≡ e + behind → write e y (content (l ++ r)) ≡ content (l ++ y ∷ r)
   pub cuts : (q : ℕ) → behind ≤ q → Cuts content q
+  pub early : IsLeafCapacity cap → (e : ℕ) → e < mid → (e + behind ≤ left e) × (half ≤ suc (left e)) × (half + left e ≤ most) × ((rest : _) → halves e rest ≡ suc (left e) ∷ (most - left e) ∷ rest)
+  pub late : IsLeafCapacity cap → (e : ℕ) → mid ≤ e → (left e ≤ e) × (half ≤ left e) × (half + left e ≤ suc most) × (left e < most) × (behind ≤ left e) × ((rest : _) → halves e rest ≡ left e ∷ suc (most - left e) ∷ rest)
 
 module _ {K V : Type 0} where
-  pub inner_parts : (q : ℕ) → 1 ≤ q → Cuts {K = K} {V = V} inner_content q
-  inner_parts q some [] y ys left right key e c = absurd (omega arith)
-  inner_parts q some (z ∷ zs) y ys left right key e c = inner_cuts V z _ y _ q _ _ key e c
-
   abbrev pub leaf_kind : ℕ → Kind K V V
   leaf_kind most = record {
     cap = most;
     half = half_of most;
     most = most;
     behind = 0;
+    mid = suc (most / 2);
     left = λ e. if nat_le e (most / 2) then most / 2 else (most + 1) / 2;
     halves = λ e rest. half_of most ∷ half_of most ∷ rest;
     stored = Leaf;
@@ -57,7 +57,15 @@ module _ {K V : Type 0} where
     left_is = λ es e. refl;
     writes = λ l r e y is. with_entry_is V l r y.0 y.1 e (omega arith);
     cuts = λ q some zs y ys left right key is c. leaf_cuts V zs y ys q left right key is c;
+    early = λ c e low. (let one : half_of most ≡ suc (most / 2) = omega arith in let two : half_of most ≡ most - most / 2 = omega arith in
+        rw (le-leb e (most / 2) (omega arith)) (omega arith, omega arith, omega arith, λ rest. cc));
+    late = λ c e high. (let two : half_of most ≡ suc (most - half_of most) = omega arith in
+        rw (lt-leb e (most / 2) (omega arith)) (omega arith, omega arith, omega arith, omega arith, omega arith, λ rest. cc));
   }
+
+  pub inner_parts : (q : ℕ) → 1 ≤ q → Cuts {K = K} {V = V} inner_content q
+  inner_parts q some [] y ys left right key e c = absurd (omega arith)
+  inner_parts q some (z ∷ zs) y ys left right key e c = inner_cuts V z _ y _ q _ _ key e c
 
   abbrev pub inner_kind : ℕ → Kind K V ℕ
   inner_kind cap = record {
@@ -65,6 +73,7 @@ module _ {K V : Type 0} where
     half = 4;
     most = 8;
     behind = 1;
+    mid = 4;
     left = λ e. 4;
     halves = λ e rest. if nat_lt e 4 then 5 ∷ 4 ∷ rest else 4 ∷ 5 ∷ rest;
     stored = Inner;
@@ -79,14 +88,30 @@ module _ {K V : Type 0} where
     left_is = λ es e. refl;
     writes = with_child_is V;
     cuts = inner_parts;
+    early = λ c e low. (omega arith, omega arith, omega arith, λ rest. (let is = lt-ltb e 4 low in rw is refl));
+    late = λ c e high. (omega arith, omega arith, omega arith, omega arith, omega arith, λ rest. (let is = le-ltb e 4 high in rw is refl));
   }
 
--- an entry of a full node, at this index, goes into the left half, which was cut after its first `q` entries, or into the right one
-abbrev pub Early : {K V X : Type 0} → Kind K V X → ℕ → ℕ → Type 0
-Early k e q = (e + k.behind ≤ q) × (k.half ≤ suc q) × (k.half + q ≤ k.most) × ((rest : List ℕ) → k.halves e rest ≡ suc q ∷ (k.most - q) ∷ rest)
+-- the path was at this index of its node and this place of its level. By the indices `js'` it is there, or one entry further, at the place `p`
+pub record Moves (js js' : List ℕ) (up behind at place p : ℕ) : Type 0 where
+  pub ahead : ℕ
+  pub few : ahead ≤ behind
+  pub index_is : get_or js' up 0 ≡ at + ahead
+  pub p_is : p ≡ place + ahead
+  pub far : (i : ℕ) → i ≢ up → get_or js' i 0 ≡ get_or js i 0
 
-abbrev pub Late : {K V X : Type 0} → Kind K V X → ℕ → ℕ → Type 0
-Late k e q = (q ≤ e) × (k.half ≤ q) × (k.half + q ≤ suc k.most) × (q < k.most) × (k.behind ≤ q) × ((rest : List ℕ) → k.halves e rest ≡ q ∷ suc (k.most - q) ∷ rest)
+pub here : {js : List ℕ} {up place : ℕ} → Moves js js up 0 (get_or js up 0) place place
+here = record { ahead = 0; few = omega arith; index_is = omega arith; p_is = omega arith; far = λ i other. refl }
+
+pub goes : {js : List ℕ} {up behind at place index : ℕ} (moved : Bool) → step moved ≤ behind → up < length js → index ≡ (if moved then suc at else at) →
+    Moves js (set js up index) up behind at place (if moved then suc place else place)
+goes {js} {up} {at = at} {place} {index} moved few low is = record {
+  ahead = step moved;
+  few = few;
+  index_is = get_or-set_same js up index 0 low ∙ is ∙ step_is moved at;
+  p_is = step_is moved place;
+  far = λ i other. get_or-set_other js up i index 0 other;
+}
 
 -- what a call that inserts into a node requires
 abbrev pub PutAsks : {K V X : Type 0} → (List K → List X → Content K V) → Table K V → ℕ → ℕ → Type 0
@@ -154,11 +179,11 @@ module _ {K V X : Type 0} {k : Kind K V X} {t : Table K V} {ms js up size row ro
   put_asks = asks k es num_is found (is_used t num _ found none_chain) e within
 
   module _ {u : Table K V} {put : Bool} (said : PutsIn k.stored k.size k.most (k.write e y) t u read put) where
-    -- a successful insertion leaves the level with the entry, and the path at it or `ahead` of where it stood
-    pub put_raises : put ≡ true → (js' : List ℕ) (ahead : ℕ) {p : ℕ} → ahead ≤ k.behind → get_or js' up 0 ≡ e + ahead → p ≡ place + ahead → ((i : ℕ) → i ≢ up → get_or js' i 0 ≡ get_or js i 0) →
+    -- a successful insertion leaves the level with the entry
+    pub put_raises : put ≡ true → {js' : List ℕ} {p : ℕ} → Moves js js' up k.behind e place p →
         (gain.0 ≡ None) × Raised k.content k.half k.most t u ms js ms js' up size size row rows list p (gain.1 ∷ gain_above gain.0 (map sizes rows)) []
-    put_raises done js' ahead few index_is place_is far = let fewer = room k es num_is found said done in let gain_is = w.room_gain fewer in
-        (ap (λ z. z.0) gain_is, put_level grow js' gain_is fewer (puts t u num _ _ found (put_in k es num_is found said fewer ∙ cc (k.writes l r e y w.index_is))) far (omega (arith, w.index_is, length-append l (y ∷ r))) (omega (arith, w.place_is)))
+    put_raises done {js'} m = let fewer = room k es num_is found said done in let gain_is = w.room_gain fewer in
+        (ap (λ z. z.0) gain_is, put_level grow js' gain_is fewer (puts t u num _ _ found (put_in k es num_is found said fewer ∙ cc (k.writes l r e y w.index_is))) m.far (omega (arith, w.index_is, length-append l (y ∷ r))) (omega (arith, w.place_is)))
 
     -- a failed insertion means that the node is full, and changes nothing
     pub put_full : put ≡ false → IsFullAt k.cap t.nodes num × (u ≡ t)
@@ -173,38 +198,38 @@ module _ {K V X : Type 0} {k : Kind K V X} {t : Table K V} {ms js up size row ro
     pub full_is : length es ≡ k.most
     full_is = let used = k.used es in let w = rw found at full in omega (arith, used.1, used.2, w.1)
 
-    module _ {right : ℕ} {parts : SplitOff K} (front : front_of t.chain ≡ Some right) (right_used : IsUsed s right) (split : IsSplitAt k.cap t read e parts s) where
-      abbrev pub q : ℕ
+    module _ {right : ℕ} {parts : SplitOff K} (front : front_of t.chain ≡ Some right) (right_used : IsUsed s right) (split : IsSplitAt k.cap t read e parts s) (capacity : IsLeafCapacity k.cap) where
+      abbrev q : ℕ
       q = parts.lhs_entries
 
       -- how many entries are left of the cut
       pub left_count : q ≡ k.left e
       left_count = counted k.content num num_is es found split ∙ k.left_is es e
 
-      cut : k.behind ≤ q → q < k.most → Split k.content t s num right q es parts.crit_key
-      cut some less = split_at k.content num num_is es found split right (k.cuts q some) (omega (arith, full_is)) none_chain front right_used.within
+      cut : k.behind ≤ k.left e → k.left e < k.most → Split k.content t s num right q es parts.crit_key
+      cut some less = split_at k.content num num_is es found split right (k.cuts q (omega (arith, left_count))) (omega (arith, full_is, left_count)) none_chain front right_used.within
 
       -- the entry goes into the left half
-      module _ (early : Early k e q) where
+      module _ (few : e < k.mid) where
         left_cut : Split k.content t s num right q es parts.crit_key
-        left_cut = cut (omega (arith, early.0)) (omega (arith, early.2, grow.half_some))
+        left_cut = let early = k.early capacity e few in cut (omega (arith, early.0)) (omega (arith, early.2, grow.half_some))
 
         pub early_asks : PutAsks k.stored s read e
-        early_asks = asks k left_cut.zs num_is left_cut.two.here (is_used s num _ left_cut.two.here (omega (arith, none_chain, ap (λ z. count num z) left_cut.two.chain_is))) e (omega (arith, early.0, left_cut.count_is))
+        early_asks = asks k left_cut.zs num_is left_cut.two.here (is_used s num _ left_cut.two.here (omega (arith, none_chain, ap (λ z. count num z) left_cut.two.chain_is))) e (omega (arith, (k.early capacity e few).0, left_count, left_cut.count_is))
 
-        pub early_halves : {u : Table K V} {put : Bool} → PutsIn k.stored k.size k.most (k.write e y) s u read put → (js' : List ℕ) (ahead : ℕ) {p : ℕ} → ahead ≤ k.behind → get_or js' up 0 ≡ e + ahead → p ≡ place + ahead →
-            ((i : ℕ) → i ≢ up → get_or js' i 0 ≡ get_or js i 0) → Halved k.content k.half k.most t u ms js ms js' up size row rows gain list p parts.crit_key right false
-        early_halves {u} said js' ahead few index_is place_is far =
+        pub early_halves : {u : Table K V} {put : Bool} → PutsIn k.stored k.size k.most (k.write e y) s u read put → {js' : List ℕ} {p : ℕ} → Moves js js' up k.behind e place p →
+            Halved k.content k.half k.most t u ms js ms js' up size row rows gain list p parts.crit_key right false
+        early_halves {u} said {js'} m = let early = rw (← left_count) at (k.early capacity e few) in
             let h = into_left k.content u left_cut (k.write e y) l y r w.es_is (omega (arith, w.index_is, early.0)) (λ mid. k.writes l mid e y w.index_is)
             (put_in k left_cut.zs num_is left_cut.two.here said (omega (arith, left_cut.count_is, early.2, grow.half_some))) in
             halved grow ms js' false (w.full_gain full_is ∙ ap (λ z. (Some (length before), sizes before ++ z)) (early.3 (sizes after) ∙ ap (λ z. suc q ∷ (z - q) ∷ sizes after) (sym full_is)))
-            (omega (arith, early.1), omega (arith, early.2, grow.half_some), omega (arith, early.2, full_is), omega (arith, full_is)) h (λ i other. refl) far
+            (omega (arith, early.1), omega (arith, early.2, grow.half_some), omega (arith, early.2, full_is), omega (arith, full_is)) h (λ i other. refl) m.far
             (in_left _ _ _ _ _ _ _ _ (seen grow) (omega (arith, h.left_is, early.0)) (omega (arith, w.place_is)))
 
       -- the entry goes into the right half
-      module _ (late : Late k e q) where
+      module _ (more : k.mid ≤ e) where
         right_cut : Split k.content t s num right q es parts.crit_key
-        right_cut = cut late.4 late.3
+        right_cut = let late = k.late capacity e more in cut late.4 late.3
 
         abbrev rights : List (K × X)
         rights = right_cut.y ∷ right_cut.ys
@@ -212,16 +237,19 @@ module _ {K V X : Type 0} {k : Kind K V X} {t : Table K V} {ms js up size row ro
         rights_are : q + length rights ≡ length es
         rights_are = omega (arith, ap length right_cut.es_is, length-append right_cut.zs rights, right_cut.count_is)
 
-        pub late_asks : PutAsks k.stored s right (e - q)
-        late_asks = asks k rights refl right_cut.two.there right_used (e - q) (omega (arith, rights_are, within, late.0))
+        pub late_within : q ≤ e
+        late_within = omega (arith, (k.late capacity e more).0, left_count)
 
-        pub late_halves : {u : Table K V} {put : Bool} (first : K) → PutsIn k.stored k.size k.most (k.write (e - q) y) s u right put →
-            (length l - q ≡ 0 → first ≡ y.0) → (0 < length l - q → first ≡ parts.crit_key) → (js' : List ℕ) (ahead : ℕ) {p : ℕ} → ahead ≤ k.behind → get_or js' up 0 ≡ e - q + ahead → p ≡ place + ahead →
-            ((i : ℕ) → i ≢ up → get_or js' i 0 ≡ get_or js i 0) → Halved k.content k.half k.most t u ms js (set ms up right) js' up size row rows gain list p first right true
-        late_halves {u} first said zero more js' ahead few index_is place_is far =
-            let h = into_right k.content u right_cut (k.write (e - q) y) l y r first w.es_is (omega (arith, w.index_is, late.0)) (omega (arith, late.1, grow.half_some)) zero more
-            (λ mid is. k.writes mid r (e - q) y (omega (arith, is, w.index_is, late.0)))
+        pub late_asks : {at : ℕ} → at ≡ e - k.left e → PutAsks k.stored s right at
+        late_asks {at} at_is = asks k rights refl right_cut.two.there right_used at (omega (arith, rights_are, within, late_within, left_count))
+
+        pub late_halves : {u : Table K V} {put : Bool} {at : ℕ} (first : K) → at ≡ e - k.left e → PutsIn k.stored k.size k.most (k.write at y) s u right put →
+            (at + k.behind ≡ 0 → first ≡ y.0) → (0 < at + k.behind → first ≡ parts.crit_key) → {js' : List ℕ} {p : ℕ} → Moves js js' up k.behind at place p →
+            Halved k.content k.half k.most t u ms js (set ms up right) js' up size row rows gain list p first right true
+        late_halves {u} {at = at} first at_is said zero some {js'} m = let late = rw (← left_count) at (k.late capacity e more) in let rest_is : length l - q ≡ at + k.behind = omega (arith, w.index_is, late.0, left_count) in
+            let h = into_right k.content u right_cut (k.write at y) l y r first w.es_is (omega (arith, w.index_is, late.0)) (omega (arith, late.1, grow.half_some)) (λ none. zero (omega arith)) (λ few. some (omega arith))
+            (λ mid is. k.writes mid r at y (omega arith))
             (put_in k rights refl right_cut.two.there said (omega (arith, rights_are, full_is, late.1, grow.half_some))) in
             halved grow (set ms up right) js' true (w.full_gain full_is ∙ ap (λ z. (Some (length before), sizes before ++ z)) (late.5 (sizes after) ∙ ap (λ z. q ∷ suc (z - q) ∷ sizes after) (sym full_is)))
-            (late.1, omega (arith, late.3), omega (arith, late.2, full_is), omega (arith, late.1, grow.half_some, full_is)) h (λ i other. get_or-set_other ms up i right 0 other) far
-            (in_right _ _ _ _ _ _ _ _ _ (seen grow) (get_or-set_same ms up right 0 low) (omega (arith, h.right_is, rights_are, within, late.0, ap length w.es_is, length-append l r, w.index_is)) (omega (arith, w.place_is, h.left_is, late.0)))
+            (late.1, omega (arith, late.3), omega (arith, late.2, full_is), omega (arith, late.1, grow.half_some, full_is)) h (λ i other. get_or-set_other ms up i right 0 other) m.far
+            (in_right _ _ _ _ _ _ _ _ _ (seen grow) (get_or-set_same ms up right 0 low) (omega (arith, h.right_is, rights_are, within)) (omega (arith, w.place_is, h.left_is, late.0)))

@@ -1,5 +1,5 @@
-use Rattle.bforest_core.proofs.{Words.{rules, arith}, insertion.LeafSpot.{late_within, leaf_early, leaf_early_asks, leaf_late, leaf_late_asks, site}}
-use Rattle.bforest_core.proofs.insertion.Nodes.{full_asks}
+use Rattle.bforest_core.proofs.Words.{◌-◌, refl, false, rules, arith, ap, get_or}
+use Rattle.bforest_core.proofs.insertion.{LeafSpot.site, Nodes.{early_asks, early_halves, full_asks, late_asks, late_halves, late_within, left_count, goes, here}}
 use Rattle.bforest_core.proofs.path.Path.halve_leaf.Goals as goal
 
 pub split_node-right-requires : goal.split_node-right-requires
@@ -8,21 +8,23 @@ split_node-right-requires g c =
 
 pub put_entry-room-requires : goal.put_entry-room-requires
 put_entry-room-requires g c = let said = c.split_node-right.ensures in
-    (search rules, leaf_early_asks c.requires.placed.2 _ (omega arith) (c.args.key, c.args.value) _ c.requires.full said.node said.used said.split said.capacity c.if-index.true)
+    (search rules, early_asks (site c.requires.placed.2 (c.args.key, c.args.value)) c.index-self-0.result (omega arith) _ c.requires.full said.node said.used said.split said.capacity (omega (arith, c.if-index.true)))
 
 pub overflow_sub-behind : goal.overflow_sub-behind
 overflow_sub-behind g c = let said = c.split_node-right.ensures in
-    late_within c.requires.placed.2 _ (omega arith) (c.args.key, c.args.value) _ c.requires.full said.node said.used said.split said.capacity c.if-index.false
+    late_within (site c.requires.placed.2 (c.args.key, c.args.value)) c.index-self-0.result (omega arith) _ c.requires.full said.node said.used said.split said.capacity c.if-index.false
 
 pub put_entry-room-requires-else-index : goal.put_entry-room-requires-else-index
 put_entry-room-requires-else-index g c = let said = c.split_node-right.ensures in
-    (search rules, leaf_late_asks c.requires.placed.2 _ (omega arith) (c.args.key, c.args.value) _ c.requires.full said.node said.used said.split said.capacity c.if-index.false)
+    let left = left_count (site c.requires.placed.2 (c.args.key, c.args.value)) c.index-self-0.result (omega arith) _ c.requires.full said.node said.used said.split said.capacity in
+    (search rules, late_asks (site c.requires.placed.2 (c.args.key, c.args.value)) c.index-self-0.result (omega arith) _ c.requires.full said.node said.used said.split said.capacity c.if-index.false (ap (λ z. get_or c.args.self.now.entry 0 0 - z) left))
 
 pub returns-then-index-clause-halved : goal.returns-then-index-clause-halved
 returns-then-index-clause-halved g c = λ tree place p. let said = c.split_node-right.ensures in
-    leaf_early p _ (omega arith) (c.args.key, c.args.value) _ c.requires.full said.node said.used said.split said.capacity c.if-index.true c.put_entry-room.ensures
+    early_halves (site p (c.args.key, c.args.value)) c.index-self-0.result (omega arith) _ c.requires.full said.node said.used said.split said.capacity (omega (arith, c.if-index.true)) c.put_entry-room.ensures here
 
 pub returns-else-index-clause-halved : goal.returns-else-index-clause-halved
 returns-else-index-clause-halved g c = λ tree place p. let said = c.split_node-right.ensures in let first = c.first_key.ensures in
-    leaf_late p _ (omega arith) (c.args.key, c.args.value) _ c.requires.full said.node said.used said.split said.capacity c.first_key.result c.if-index.false
-    c.put_entry-room-else-index.ensures first.front first.behind (omega arith)
+    let left = left_count (site p (c.args.key, c.args.value)) c.index-self-0.result (omega arith) _ c.requires.full said.node said.used said.split said.capacity in
+    late_halves (site p (c.args.key, c.args.value)) c.index-self-0.result (omega arith) _ c.requires.full said.node said.used said.split said.capacity c.if-index.false c.first_key.result
+    (ap (λ z. get_or c.args.self.now.entry 0 0 - z) left) c.put_entry-room-else-index.ensures (λ none. first.front (omega arith)) (λ some. first.behind (omega arith)) (goes false (omega arith) (omega arith) refl)

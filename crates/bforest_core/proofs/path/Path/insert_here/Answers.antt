@@ -1,4 +1,5 @@
-use Rattle.bforest_core.proofs.{Words.{rules, arith}, insertion.HalvingNode.{site, put_grows}, insertion.Nodes.{put_asks, put_full}, removal.Asked.one_small}
+use Rattle.bforest_core.proofs.{Words.{rules, arith}, insertion.HalvingNode.{site, put_grows}, insertion.Nodes.{goes, put_asks, put_full}, removal.Asked.one_small}
+use Rattle.bforest_core.proofs.insertion.Level.{step_most}
 use Rattle.bforest_core.proofs.path.Path.insert_here.Goals as goal
 
 pub put_child-requires : goal.put_child-requires
@@ -9,7 +10,7 @@ index_behind-requires g c = omega (arith, one_small c.requires.pending c.require
 
 pub returns-then-put_child-clause-grown : goal.returns-then-put_child-clause-grown
 returns-then-put_child-clause-grown g c = λ done w. put_grows w c.requires.within g.row.N c.index-self-up.result (omega arith)
-    c.args.half.moved c.index_behind.result (omega arith) c.put_child.ensures c.if-put_child.true c.index_behind.ensures.value
+    c.put_child.ensures c.if-put_child.true _ (goes c.args.half.moved (step_most _) (omega arith) c.index_behind.ensures.value)
 
 pub returns-else-put_child-clause-full : goal.returns-else-put_child-clause-full
 returns-else-put_child-clause-full g c = λ full.
