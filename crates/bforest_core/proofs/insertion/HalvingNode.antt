@@ -5,7 +5,7 @@ use Rattle.bforest_core.proofs.Words.{get_or-set_other, front_of, IsUsed, IsFull
 use Rattle.bforest_core.proofs.{Words.{le-ltb, lt-ltb, add-one}, insertion.Grow.{gain_full, gain_room, gain_spot, head-grown}, rows.Zipper.{Spot, spot}}
 use Rattle.bforest_core.proofs.insertion.Level.{grown, need_some, next_asks, next_takes}
 use Rattle.bforest_core.proofs.insertion.Nodes.{Inserting, Moves, full_is, inner_kind, put_raises}
-use Rattle.bforest_core.proofs.{Words.{Some, gain_above, get_or_default}, removal.Lifted.{heads-put, place_at, rows_above}}
+use Rattle.bforest_core.proofs.{Words.{Some, gain_above, get_or_default}, removal.Lifted.{heads-put, place_at, rows_above}, rows.LevelRows.Solid-full}
 use Rattle.bforest_nodes.specs.declared.node.SplitOff.{SplitOff}
 
 module _ {K V : Type 0} {t : Table K V} {ms js up size : _} (w : OneAbove t ms js up size) (within : up < size) (cap : ℕ) where
@@ -41,7 +41,7 @@ module _ {K V : Type 0} {t : Table K V} {ms js up size : _} (w : OneAbove t ms j
         index_is = omega (arith, length-append l (x ∷ []), q.entry_is);
         place_is = place_at d;
         room_gain = λ room. gain ∙ gain_room before (length es) (length l) (sizes after) low room;
-        full_gain = λ full. rw (← q.entry_is) (gain ∙ gain_full before (length es) (length l) (sizes after) low full);
+        full_gain = λ full. rw (← q.entry_is, Solid-full 4 8 (omega arith) before f.solid) (gain ∙ gain_full before (length es) (length l) (sizes after) low full);
         grow = rw (append_assoc l (x ∷ []) (y ∷ r)) (record {
           half_some = omega arith;
           more = omega (arith, length-append l (x ∷ y ∷ r), length-append l (x ∷ r));
@@ -53,7 +53,7 @@ module _ {K V : Type 0} {t : Table K V} {ms js up size : _} (w : OneAbove t ms j
           above = rw hs at (rows_above d);
           topped = λ top. rw hs at top;
           sizes_above = refl;
-          numbers_above = refl;
+          numbers_above = λ m. refl;
         });
       }
 
@@ -68,7 +68,7 @@ module _ {K V : Type 0} where
   pub room_then : (cap : ℕ) {t : Table K V} {ms js : List ℕ} {up size : ℕ} (w : OneAbove t ms js up size) (within : up < size) → up < length ms →
       IsFullAt cap t.nodes (get_or ms up 0) → need_above (Some (length w.before)) (map sizes w.rows) ≤ suc (length t.chain) → 0 < length t.chain
   room_then cap {t} {ms} {up} w within low full enough = let s = site w within cap w.x in let q = (d w within cap).q in
-      omega (arith, ap (λ z. need_above z.0 (map sizes q.rest)) (s.full_gain (full_is s 0 low t full)), need_some (length s.before) (map sizes q.rest), ap (λ z. need_above (Some (length w.before)) (map sizes z)) q.rows_are)
+      omega (arith, ap (λ z. need_above z.0 (map sizes q.rest)) (s.full_gain (full_is s 0 low t full)), need_some (length (heads s.before)) (map sizes q.rest), ap (λ z. need_above (Some (length w.before)) (map sizes z)) q.rows_are)
 
   -- the node was split
   module _ {t t2 : Table K V} {ms js ms2 js2 : List ℕ} {up size size2 : ℕ} (w : OneAbove t ms js up size) (child : K × ℕ) (moved : Bool) {key2 : K} {right : ℕ} {moved2 : Bool} (h : HalvedBy w child moved t2 ms2 js2 key2 right moved2)

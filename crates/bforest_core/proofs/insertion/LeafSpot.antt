@@ -1,85 +1,32 @@
 -- The leaf where an entry may be inserted: the insertion where the leaf has room, or its split.
-use Rattle.bforest_core.proofs.Words.{◌≡◌, ◌≢◌, ◌⊎◌, ℕ, suc, ◌+◌, ◌-◌, ◌/◌, ◌≤◌, ◌<◌, nat_le, if◌then◌else◌, Bool, true, false, List, [], ◌∷◌, ◌++◌, map, length}
-use Rattle.bforest_core.proofs.Words.{take, drop, insert, get_or, set, Some, None, inl, inr, refl, sym, ap, ◌∙◌, append_assoc, length-append, arith, flat_map, cases_lt}
-use Rattle.bforest_core.proofs.Words.{Heads, Row, Rows, LevelNode, node, flat, heads, sizes, numbers, FitRow, Stacked, Topped, Tree, half_of, leaf_gain, need_above}
-use Rattle.bforest_core.proofs.Words.{length-map, le-leb, lt-leb, get_or-set_same, get_or-set_other, count, StandsAbove, RowsIn, IsAt, Table, Content, Leaf, front_of}
-use Rattle.bforest_core.proofs.Words.{IsUsed, IsFullAt, IsSplitAt, IsLeafCapacity, PutsEntry, Placed, Inserted, LeafHalved}
+use Rattle.bforest_core.proofs.Words.{◌≡◌, ◌⊎◌, ℕ, zero, suc, ◌+◌, ◌≤◌, ◌<◌, Bool, true, List, [], ◌∷◌, ◌++◌, map, length, take, drop, insert, get_or, Some, None, inl, inr}
+use Rattle.bforest_core.proofs.Words.{refl, sym, ap, ◌∙◌, append_assoc, length-append, arith, cases_lt, nil_from_length, Heads, Row, Rows, LevelNode, node, flat, heads}
+use Rattle.bforest_core.proofs.Words.{sizes, FitRow, Tree, half_of, leaf_gain, need_above, Table, PutsEntry, Above, Rekeyed, Placed, Inserted}
 use Rattle.bforest_core.proofs.{rows.LevelRows.{Solid-full, flat-append, heads-append, least-pos, sizes-append}, insertion.Grow.{leaf_full, leaf_room}}
-use Rattle.bforest_core.proofs.insertion.Nodes.{Inserting, leaf_kind, here, put_raises}
-use Rattle.bforest_core.proofs.{table.Tables.{count-append, counts}, rows.Zipper.{LeafCut, cut_leaf}}
-use Rattle.bforest_nodes.specs.declared.node.SplitOff.{SplitOff}
+use Rattle.bforest_core.proofs.{insertion.Nodes.{Inserting, here, leaf_kind, put_raises}, table.Tables.{count-append, counts}, removal.LeafAt.as_many_heads}
+use Rattle.bforest_core.proofs.{rows.Zipper.{LeafCut, cut_leaf, spot}, removal.Lifted.{above_top, heads-put, rebuilt_same, rekey_first, rows_above}}
+use Rattle.bforest_core.proofs.removal.Collapse.{heads-flat, topped-sizes}
 
-module _ {K : Type 0} where
-  -- a list with its first key replaced
-  abbrev rekey : {X : Type 0} → K → List (K × X) → List (K × X)
-  rekey key [] = []
-  rekey key (e ∷ es) = (key, e.1) ∷ es
-
-  -- a row with its first key replaced
-  abbrev rekey_row : K → Row K ℕ → Row K ℕ
-  rekey_row key [] = []
-  rekey_row key (node n es ∷ row) = node n (rekey key es) ∷ row
-
-  length_rekey : {X : Type 0} (key : K) (es : List (K × X)) → length (rekey key es) ≡ length es
-  length_rekey key [] = refl
-  length_rekey key (e ∷ es) = refl
-
-  at_rekey : (key row n j p before es after : _) → row ≡ before ++ node n es ∷ after → j < length es → p ≡ length (flat before) + j →
-      (at : IsAt (rekey_row key row) n j p) × (length at.before ≡ length before)
-  at_rekey key row n j p [] es after is low place = (
-    record { before = []; entries = rekey key es; after = after; row_is = cc; within = omega (arith, length_rekey key es); place_is = place },
-    refl,
-  )
-  at_rekey key row n j p (node m fs ∷ before) es after is low place = (
-    record {
-      before = node m (rekey key fs) ∷ before;
-      entries = es;
-      after = after;
-      row_is = cc;
-      within = low;
-      place_is = omega (arith, length-append fs (flat before), length-append (rekey key fs) (flat before), length_rekey key fs);
-    },
-    refl,
-  )
-
--- rows over this list of nodes that are stored exactly as the old ones
-pub record Renewed {K V : Type 0} (slots : List (Content K V)) (ms js : List ℕ) (up : ℕ) (rows : Rows K) (list : Heads K) : Type 0 where
-  pub rows' : Rows K
-  pub stacked : Stacked list rows'
-  pub topped : Topped list rows'
-  pub inside : RowsIn slots rows'
-  pub stands : (place : ℕ) → StandsAbove ms js up rows place → StandsAbove ms js up rows' place
-  pub sizes_are : map sizes rows' ≡ map sizes rows
-  pub numbers_are : flat_map numbers rows' ≡ flat_map numbers rows
-
-module _ {K V : Type 0} (slots : List (Content K V)) (ms js : _) where
-  -- the rows over a list whose first key was replaced
-  renew_first : (up rows list key : _) → Stacked list rows → Topped list rows → RowsIn slots rows → Renewed slots ms js up rows (rekey key list)
-  renew_first up [] list key s t i = record { rows' = []; stacked = length_rekey key list ∙ s; topped = tt; inside = tt; stands = λ place st. st; sizes_are = refl; numbers_are = refl }
-  renew_first up ([] ∷ rows) list key s t i = absurd (omega (arith, ap length s.0))
-  renew_first up ((node n [] ∷ row) ∷ rows) list key s t i = absurd (omega (arith, least-pos 4 (omega arith) row))
-  renew_first up ((node n (e ∷ es) ∷ row) ∷ rows) list key s t i = let r = renew_first (suc up) rows (heads (node n (e ∷ es) ∷ row)) key s.2 t.1 i.1 in
-      record {
-        rows' = (node n ((key, e.1) ∷ es) ∷ row) ∷ r.rows';
-        stacked = (ap (λ z. rekey key z) s.0, s.1, r.stacked);
-        topped = (omega (arith, length_rekey key list), r.topped);
-        inside = (i.0, r.inside);
-        stands = λ place st. (let a = at_rekey _ _ _ _ _ _ _ _ st.0.row_is st.0.within st.0.place_is in
-            (a.0, rw a.1 (r.stands (length st.0.before) st.1)));
-        sizes_are = cc (r.sizes_are);
-        numbers_are = cc (r.numbers_are);
-      }
+module _ {K V : Type 0} {t : Table K V} {path indices : List ℕ} {size : ℕ} where
+  -- the rows above a level, under another first key of its first node
+  first_rekeyed : (count up : ℕ) (rows : Rows K) (a : Heads K) (x : K × ℕ) (b : Heads K) (key : K) → length rows ≡ count → length a ≡ 0 → Above t path indices up size rows (a ++ x ∷ b) (length a) →
+      Rekeyed t t path indices up size rows (a ++ (key, x.1) ∷ b) (length a)
+  first_rekeyed zero up rows a x b key none front p =
+      rebuilt_same (above_top rows (a ++ (key, x.1) ∷ b) (omega (arith, p.height)) (omega (arith, length-append a (x ∷ b), length-append a ((key, x.1) ∷ b))) p)
+  first_rekeyed (suc count) up rows a x b key some front p = let d = spot a x b p (omega (arith, p.height)) in let q = d.q in
+      let l_is = nil_from_length q.l (omega (arith, ap length q.a_is, length-append (flat q.before) q.l)) in
+      rekey_first d t key (omega (arith, ap length q.a_is, length-append (flat q.before) q.l, q.entry_is))
+      (first_rekeyed count (suc up) q.rest (heads q.before) (x.0, get_or path up 0) (heads q.after) key (omega (arith, ap length q.rows_are))
+      (omega (arith, heads-flat q.before, ap length q.a_is, length-append (flat q.before) q.l)) (rw (heads-append q.before _, l_is) at (rows_above d)))
 
   -- the rows over the leaves after an insertion into one, at the front of the first leaf only
-  pub renew : (up rows : _) (before : Row K V) (n l entry r after : _) → (before ≡ []) ⊎ (1 ≤ length l) → 1 ≤ length (l ++ r) →
-      Stacked (heads (before ++ node n (l ++ r) ∷ after)) rows → Topped (heads (before ++ node n (l ++ r) ∷ after)) rows → RowsIn slots rows → Renewed slots ms js up rows (heads (before ++ node n (l ++ entry ∷ r) ∷ after))
-  renew up rows before n (x ∷ l) entry r after at some s t i =
-      let same : heads (before ++ node n (x ∷ (l ++ r)) ∷ after) ≡ heads (before ++ node n (x ∷ (l ++ entry ∷ r)) ∷ after) = heads-append before _ ∙ sym (heads-append before _) in
-      rw (← same) (record { rows' = rows; stacked = s; topped = t; inside = i; stands = λ place st. st; sizes_are = refl; numbers_are = refl })
-  renew up rows (z ∷ before) n [] entry r after (inl none) some s t i = absurd cc
-  renew up rows [] n [] entry [] after (inl none) some s t i = absurd (omega arith)
-  renew up rows [] n [] entry (y ∷ r) after (inl none) some s t i = renew_first _ _ _ _ s t i
-  renew up rows before n [] entry r after (inr one) some s t i = absurd (omega arith)
+  renewed : (rows : Rows K) (before : Row K V) (n : ℕ) (l : List (K × V)) (entry : K × V) (r : List (K × V)) (after : Row K V) → (before ≡ []) ⊎ (1 ≤ length l) → 1 ≤ length (l ++ r) →
+      Above t path indices 1 size rows (heads (before ++ node n (l ++ r) ∷ after)) (length (heads before)) → Rekeyed t t path indices 1 size rows (heads (before ++ node n (l ++ entry ∷ r) ∷ after)) (length (heads before))
+  renewed rows before n (x ∷ l) entry r after at some p = rebuilt_same (rw (heads-put before n (x ∷ (l ++ r)) (x ∷ (l ++ entry ∷ r)) after refl) at p)
+  renewed rows (z ∷ before) n [] entry r after (inl none) some p = absurd cc
+  renewed rows [] n [] entry [] after (inl none) some p = absurd (omega arith)
+  renewed rows [] n [] entry (y ∷ r) after (inl none) some p = first_rekeyed (length rows) 1 rows [] (y.0, n) (heads after) entry.0 refl refl p
+  renewed rows before n [] entry r after (inr one) some p = absurd (omega arith)
 
 insert_between : {A : Type 0} (p s : List A) (x : A) → insert (p ++ s) (length p) x ≡ p ++ x ∷ s
 insert_between [] s x = refl
@@ -91,10 +38,6 @@ pub insert_flat : {K V : Type 0} (before : Row K V) (n l r after x : _) →
 insert_flat before n l r after x =
     let whole : flat (before ++ node n (l ++ r) ∷ after) ≡ (flat before ++ l) ++ (r ++ flat after) = simp (flat-append, append_assoc) in
     rw (whole, ← length-append _ l, insert_between _ _ x) (simp append_assoc)
-
--- rows of the same sizes are as many
-pub rows_count : {K : Type 0} (xs ys : Rows K) → map sizes ys ≡ map sizes xs → length ys ≡ length xs
-rows_count xs ys e = omega (arith, ap length e, length-map xs sizes, length-map ys sizes)
 
 -- the capacity of a row's nodes is not 0
 some_most : {K X : Type 0} (half most : ℕ) (first : LevelNode K X) (row : Row K X) → FitRow half most (first ∷ row) → 1 ≤ most
@@ -126,49 +69,44 @@ module _ {K V : Type 0} where
     abbrev e : ℕ
     e = get_or js 0 0
 
+    half : 1 ≤ half_of most
+    half = let one = some_most (half_of most) most (node n (l ++ r)) after d.fits in omega arith
+
+    seen : length (heads before) ≡ length before
+    seen = Solid-full (half_of most) most half before d.solid
+
     -- the sizes of the leaves where the leaf has room, and where it is full
     pub room_gain : length (l ++ r) < most → leaf_gain most place (sizes tree.leaves) ≡ (None, sizes before ++ suc (length (l ++ r)) ∷ sizes after)
     room_gain room = cc (d.leaves_are, d.place_is, sizes-append before (node n (l ++ r) ∷ after), leaf_room most before (length (l ++ r)) (length l) (sizes after) (omega (arith, length-append l r)) d.first room)
 
-    pub full_gain : length (l ++ r) ≡ most → leaf_gain most place (sizes tree.leaves) ≡ (Some (length before), sizes before ++ half_of most ∷ half_of most ∷ sizes after)
-    full_gain full = cc (d.leaves_are, d.place_is, sizes-append before (node n (l ++ r) ∷ after), leaf_full most before (length (l ++ r)) (length l) (sizes after) (omega (arith, length-append l r)) d.first full)
+    pub full_gain : length (l ++ r) ≡ most → leaf_gain most place (sizes tree.leaves) ≡ (Some (length (heads before)), sizes before ++ half_of most ∷ half_of most ∷ sizes after)
+    full_gain full = cc (seen, d.leaves_are, d.place_is, sizes-append before (node n (l ++ r) ∷ after), leaf_full most before (length (l ++ r)) (length l) (sizes after) (omega (arith, length-append l r)) d.first full)
+
+    -- the rows above the leaf
+    pub above : Above t ms js 1 size tree.above (heads (before ++ node n (l ++ r) ∷ after)) (length (heads before))
+    above = record { stacked = d.fit.stacked; inside = p.inside.rows_in; stands = rw seen d.stands; height = omega (arith, p.at.points.size_is); apart = λ m. omega (arith, d.apart m, count-append) }
 
     -- the leaf where the entry is inserted
     pub site : (entry : K × V) → Inserting (leaf_kind most) t ms js 0 size tree.leaves tree.above (insert (flat tree.leaves) place entry) place (leaf_gain most place (sizes tree.leaves)) entry
     site entry =
-        let one = some_most (half_of most) most (node n (l ++ r)) after d.fits in let half : 1 ≤ half_of most = omega arith in
-        let up = renew t.nodes ms js 1 tree.above before n l entry r after d.first (omega (arith, d.fits.0, least-pos (half_of most) half after)) d.fit.stacked d.fit.topped p.inside.rows_in in
-        let full = Solid-full (half_of most) most half before d.solid in let c = λ (m : ℕ). counts m before n (l ++ r) after tree.above t.chain in
+        let some : 1 ≤ length (l ++ r) = omega (arith, d.fits.0, least-pos (half_of most) half after) in let new : 1 ≤ length (l ++ entry ∷ r) = omega (arith, length-append l (entry ∷ r)) in
+        let up = renewed tree.above before n l entry r after d.first some above in
         record {
-          before = before;
-          es = l ++ r;
-          l = l;
-          r = r;
-          after = after;
-          rest = up.rows';
-          es_is = refl;
+          before = before; es = l ++ r; l = l; r = r; after = after; rest = up.rows'; es_is = refl;
           index_is = omega (arith, d.index_is);
           place_is = omega (arith, d.place_is, d.index_is);
-          room_gain = room_gain;
-          full_gain = full_gain;
+          room_gain = room_gain; full_gain = full_gain;
           grow = record {
             half_some = half;
             more = omega (arith, length-append l (entry ∷ r), length-append l r);
             row_is = d.leaves_are;
             list_is = sym (insert_flat before n l r after entry) ∙ sym (cc (d.leaves_are, d.place_is));
-            inside = d.inside;
-            fit = d.fit.leaves_fit;
-            apart = rw (sym up.numbers_are) at d.apart;
-            above = record {
-              stacked = up.stacked;
-              inside = up.inside;
-              stands = rw full (up.stands (length before) d.stands);
-              height = omega (arith, p.at.points.size_is, rows_count _ _ up.sizes_are);
-              apart = λ m. omega (arith, d.apart m, c m, count-append m (flat_map numbers up.rows') t.chain, ap (λ z. count m z) up.numbers_are);
-            };
-            topped = λ top. up.topped;
+            inside = d.inside; fit = d.fit.leaves_fit;
+            apart = λ m. omega (arith, d.apart m, up.numbers_are m, counts m before n (l ++ r) after up.rows' t.chain, counts m before n (l ++ r) after tree.above t.chain);
+            above = up.above;
+            topped = λ top. topped-sizes _ _ _ _ d.fit.stacked up.above.stacked (as_many_heads before n (l ++ r) (l ++ entry ∷ r) after some new) up.sizes_are d.fit.topped;
             sizes_above = up.sizes_are;
-            numbers_above = up.numbers_are;
+            numbers_above = λ m. omega (arith, up.numbers_are m);
           };
         }
 

@@ -4,7 +4,7 @@ use Rattle.bforest_core.proofs.Words.{sym, ap, ◌∙◌, arith, length-map, len
 use Rattle.bforest_core.proofs.Words.{heads, head_of, sizes, numbers, FitRow, Stacked, Topped, Content, Table, Inner, RowIn, IsAt, Distinct, count, top_of, Above}
 use Rattle.bforest_core.proofs.Words.{gain_above, need_above, inner_content, OneAbove, Grown, GrownBy, Halved, Raised, Draws, add-one}
 use Rattle.bforest_core.proofs.{insertion.Grow.{InHalf, FitRow-halved, FitRow-put, flat-halved, heads-halved, one_more}, insertion.Halving.Halves}
-use Rattle.bforest_core.proofs.{table.Tables.{Puts, Takes, count-append, count-same, counts, ne_from_count, absent_ne, row-changed, row-put, row-same}}
+use Rattle.bforest_core.proofs.{table.Tables.{Puts, Takes, count-append, count-row, count-same, counts, ne_from_count, absent_ne, row-changed, row-put, row-same}}
 use Rattle.bforest_core.proofs.{table.Tables.rows-same, rows.LevelRows.{flat-append, sizes-append, heads-append, FitRow-split, Solid-full}}
 use Rattle.bforest_core.proofs.rows.Zipper.{apart_here, stands-same}
 
@@ -77,7 +77,7 @@ pub record Growing {K V X : Type 0} (content : List (K × X) → Content K V) (h
   pub above : Above t ms js (suc up) size rest (heads (before ++ node (get_or ms up 0) fs ∷ after)) (length (heads before))
   pub topped : Topped (heads row) rows → Topped (heads (before ++ node (get_or ms up 0) fs ∷ after)) rest
   pub sizes_above : map sizes rest ≡ map sizes rows
-  pub numbers_above : flat_map numbers rest ≡ flat_map numbers rows
+  pub numbers_above : (m : ℕ) → count m (flat_map numbers rest) ≡ count m (flat_map numbers rows)
 
 module _ {K V X : Type 0} {content : List (K × X) → Content K V} {half most : ℕ} {t : Table K V} {ms js up size row before es fs after rows rest list : _}
     (w : Growing content half most t ms js up size row before es fs after rows rest list) where
@@ -90,6 +90,9 @@ module _ {K V X : Type 0} {content : List (K × X) → Content K V} {half most :
 
   pub seen : length (heads before) ≡ length before
   seen = Solid-full half most w.half_some before (FitRow-split half most before (node n es) after w.fit).0
+
+  was : (m : ℕ) → count m (numbers row ++ flat_map numbers rows) ≡ count m (numbers before) + count m (n ∷ numbers after) + count m (flat_map numbers rest)
+  was m = omega (arith, count-append m (numbers row) (flat_map numbers rows), ap (λ z. count m (numbers z)) w.row_is, count-row m before n es after, w.numbers_above m)
 
   -- where the node has room, it holds the new entry
   pub put_level : {u : Table K V} (js' : List ℕ) {p : ℕ} {gain : Option ℕ × List ℕ} → gain ≡ (None, sizes before ++ suc (length es) ∷ sizes after) → length es < most → Puts t u n (content fs) →
@@ -105,19 +108,16 @@ module _ {K V X : Type 0} {content : List (K × X) → Content K V} {half most :
     above = rw seen at (above-moved u ms js' (λ m some. s.same m (ne_from_count m n _ some alone.1)) (λ m. omega (arith, w.apart m, c m, ap (λ z. count m z) s.chain_is, count-append m (flat_map numbers rest) u.chain)) (λ i other. refl) far w.above);
     topped = w.topped;
     sizes_are = rw gain_is (cc (sizes-append before (node n fs ∷ after)));
-    draws = rw (w.row_is, ← w.numbers_above) (record {
-      numbers_are = λ m. omega (arith, c m, counts m before n fs after rest t.chain);
-      others = λ m none. s.same m (absent_ne m n (numbers after) (omega (arith, c m)));
-      chain_is = sym s.chain_is;
-      slots_are = s.slots_are;
-      limit_is = s.limit_is;
-      memory_is = s.memory_is;
-    });
+    draws = record {
+      numbers_are = λ m. omega (arith, was m, counts m before n fs after rest t.chain);
+      others = λ m none. s.same m (absent_ne m n (numbers after) (omega (arith, was m)));
+      chain_is = sym s.chain_is; slots_are = s.slots_are; limit_is = s.limit_is; memory_is = s.memory_is;
+    };
     climbs = record { nodes_below = λ i low. refl; entries_below = λ i low. far i (λ e. omega arith); same_top = λ same. refl; new_top = λ other. absurd (other refl) };
   }
 
   -- the node is split, and one half holds the new entry
-  pub halved : {u : Table K V} (ms' js' : List ℕ) {middle : K} {right big small p : ℕ} {gain : Option ℕ × List ℕ} (moved : Bool) → gain ≡ (Some (length before), sizes before ++ big ∷ small ∷ sizes after) →
+  pub halved : {u : Table K V} (ms' js' : List ℕ) {middle : K} {right big small p : ℕ} {gain : Option ℕ × List ℕ} (moved : Bool) → gain ≡ (Some (length (heads before)), sizes before ++ big ∷ small ∷ sizes after) →
       (half ≤ big) × (big ≤ most) × (half ≤ small) × (small ≤ most) → (h : Halves content t u n right middle fs big small) → ((i : ℕ) → i ≢ up → get_or ms' i 0 ≡ get_or ms i 0) →
       ((i : ℕ) → i ≢ up → get_or js' i 0 ≡ get_or js i 0) → InHalf before n right (h.z ∷ h.xs) (h.y ∷ h.ys) after (get_or ms' up 0) (get_or js' up 0) p moved →
       Halved content half most t u ms js ms' js' up size row rows gain list p middle right moved
@@ -145,18 +145,15 @@ module _ {K V X : Type 0} {content : List (K × X) → Content K V} {half most :
             (λ m. omega (arith, w.apart m, c m, c4 m, count-append m (flat_map numbers rest) u.chain)) far_m far_j w.above);
         topped = rw hs at w.topped;
         sizes_above = w.sizes_above;
-        gain_is = cc (seen, sizes-append before (node n (h.z ∷ h.xs) ∷ node right (h.y ∷ h.ys) ∷ after), h.left_is, h.right_is);
+        gain_is = cc (sizes-append before (node n (h.z ∷ h.xs) ∷ node right (h.y ∷ h.ys) ∷ after), h.left_is, h.right_is);
         at = at.0;
         at_is = at.1;
         apart = λ m. omega (arith, w.apart m, c m, c2 m, c4 m);
-        draws = rw (w.row_is, ← w.numbers_above) (record {
-          numbers_are = λ m. omega (arith, c m, c2 m);
-          others = λ m none. h.two.same m (absent_ne m n (numbers after) (omega (arith, c m))) (absent_ne m right [] (omega arith));
-          chain_is = h.two.chain_is;
-          slots_are = h.two.slots_are;
-          limit_is = h.two.limit_is;
-          memory_is = h.two.memory_is;
-        });
+        draws = record {
+          numbers_are = λ m. omega (arith, was m, c2 m);
+          others = λ m none. h.two.same m (absent_ne m n (numbers after) (omega (arith, was m))) (absent_ne m right [] (omega arith));
+          chain_is = h.two.chain_is; slots_are = h.two.slots_are; limit_is = h.two.limit_is; memory_is = h.two.memory_is;
+        };
         nodes_below = λ i low. far_m i (λ e. omega arith);
         entries_below = λ i low. far_j i (λ e. omega arith);
         nodes_above = λ i high. far_m i (λ e. omega arith);

@@ -2,7 +2,7 @@
 use Rattle.bforest_core.proofs.Words.{◌≡◌, ◌≢◌, ◌↔◌, ◌∷◌, count, flat, ℕ, suc, ◌+◌, ◌≤◌, ◌<◌, IsTrue, Bool, true, false, Some, List, map, length, ◌++◌, get_or, slice_get, sym, ap, ◌∙◌, arith}
 use Rattle.bforest_core.proofs.Words.{add-one, get_or_default, slice_get_within, false≢true, Content, IsFree, entry_count, entry_capacity, Table, node, heads, sizes}
 use Rattle.bforest_core.proofs.Words.{numbers, flat_map, inner_gain, leaf_gain, need_above, Above, Placed}
-use Rattle.bforest_core.proofs.{insertion.Grow.{gain_full, gain_room}, insertion.LeafSpot.{d, full_gain, room_gain}, insertion.Level.need_some}
+use Rattle.bforest_core.proofs.{insertion.Grow.{gain_full, gain_room}, insertion.LeafSpot.{above, d, full_gain, room_gain}, insertion.Level.need_some}
 use Rattle.bforest_core.proofs.{insertion.Nodes.{Kind, inner_kind, leaf_kind}, rows.LevelRows.sizes-append, table.Stored.some_same, table.Tables.count-append}
 use Rattle.bforest_core.proofs.walks.Steps.{Spot, spot}
 
@@ -57,7 +57,7 @@ module _ {K V : Type 0} where
     rows = tree.above;
     list = _;
     at = _;
-    above = record { stacked = s.fit.stacked; inside = p.inside.rows_in; stands = s.stands; height = omega (arith, p.at.points.size_is); apart = λ m. omega (arith, s.apart m, count-append) };
+    above = above p;
     room = λ room. ap (λ z. need_above z.0 (map sizes tree.above)) (room_gain p room);
     full = λ full. ap (λ z. need_above z.0 (map sizes tree.above)) (full_gain p full);
   }

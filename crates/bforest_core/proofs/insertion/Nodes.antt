@@ -1,6 +1,6 @@
 -- A new entry in the path's node on a level, or in one half of it, for leaves and inner nodes alike.
 use Rattle.bforest_core.proofs.Words.{◌≡◌, ℕ, suc, ◌+◌, ◌-◌, ◌/◌, ◌≤◌, ◌<◌, ◌≢◌, nat_le, nat_lt, if◌then◌else◌, Bool, true, false, Option, Some, None, List, [], ◌∷◌}
-use Rattle.bforest_core.proofs.Words.{◌++◌, length, drop, map, refl, sym, ap, ◌∙◌, append_assoc, length-append, arith, Row, Rows, node, flat, sizes, half_of}
+use Rattle.bforest_core.proofs.Words.{◌++◌, length, drop, map, refl, sym, ap, ◌∙◌, append_assoc, length-append, arith, Row, Rows, node, flat, heads, sizes, half_of}
 use Rattle.bforest_core.proofs.Words.{get_or, set, slice_get, get_or_default, get_or-set_same, get_or-set_other, false≢true, Content, Leaf, Inner, IsFree, Table}
 use Rattle.bforest_core.proofs.Words.{entry_count, entry_capacity, left_half, with_entry, with_child, entry_keys, entry_items, leaf_content, with_node}
 use Rattle.bforest_core.proofs.Words.{front_of, IsUsed, IsFullAt, IsSplitAt, PutsIn, Halved, Raised, gain_above}
@@ -129,7 +129,7 @@ pub record Inserting {K V X : Type 0} (k : Kind K V X) (t : Table K V) (ms js : 
   pub index_is : length l ≡ get_or js up 0 + k.behind
   pub place_is : place ≡ length (flat before) + get_or js up 0
   pub room_gain : length es < k.most → gain ≡ (None, sizes before ++ suc (length es) ∷ sizes after)
-  pub full_gain : length es ≡ k.most → gain ≡ (Some (length before), sizes before ++ k.halves (get_or js up 0) (sizes after))
+  pub full_gain : length es ≡ k.most → gain ≡ (Some (length (heads before)), sizes before ++ k.halves (get_or js up 0) (sizes after))
   pub grow : Growing k.content k.half k.most t ms js up size row before es (l ++ y ∷ r) after rows rest list
 
 module _ {K V X : Type 0} (k : Kind K V X) {t : Table K V} {n : ℕ} (es : List (K × X)) where
@@ -222,7 +222,7 @@ module _ {K V X : Type 0} {k : Kind K V X} {t : Table K V} {ms js up size row ro
         early_halves {u} said {js'} m = let early = rw (← left_count) at (k.early capacity e few) in
             let h = into_left k.content u left_cut (k.write e y) l y r w.es_is (omega (arith, w.index_is, early.0)) (λ mid. k.writes l mid e y w.index_is)
             (put_in k left_cut.zs num_is left_cut.two.here said (omega (arith, left_cut.count_is, early.2, grow.half_some))) in
-            halved grow ms js' false (w.full_gain full_is ∙ ap (λ z. (Some (length before), sizes before ++ z)) (early.3 (sizes after) ∙ ap (λ z. suc q ∷ (z - q) ∷ sizes after) (sym full_is)))
+            halved grow ms js' false (w.full_gain full_is ∙ ap (λ z. (Some (length (heads before)), sizes before ++ z)) (early.3 (sizes after) ∙ ap (λ z. suc q ∷ (z - q) ∷ sizes after) (sym full_is)))
             (omega (arith, early.1), omega (arith, early.2, grow.half_some), omega (arith, early.2, full_is), omega (arith, full_is)) h (λ i other. refl) m.far
             (in_left _ _ _ _ _ _ _ _ (seen grow) (omega (arith, h.left_is, early.0)) (omega (arith, w.place_is)))
 
@@ -250,6 +250,6 @@ module _ {K V X : Type 0} {k : Kind K V X} {t : Table K V} {ms js up size row ro
             let h = into_right k.content u right_cut (k.write at y) l y r first w.es_is (omega (arith, w.index_is, late.0)) (omega (arith, late.1, grow.half_some)) (λ none. zero (omega arith)) (λ few. some (omega arith))
             (λ mid is. k.writes mid r at y (omega arith))
             (put_in k rights refl right_cut.two.there said (omega (arith, rights_are, full_is, late.1, grow.half_some))) in
-            halved grow (set ms up right) js' true (w.full_gain full_is ∙ ap (λ z. (Some (length before), sizes before ++ z)) (late.5 (sizes after) ∙ ap (λ z. q ∷ suc (z - q) ∷ sizes after) (sym full_is)))
+            halved grow (set ms up right) js' true (w.full_gain full_is ∙ ap (λ z. (Some (length (heads before)), sizes before ++ z)) (late.5 (sizes after) ∙ ap (λ z. q ∷ suc (z - q) ∷ sizes after) (sym full_is)))
             (late.1, omega (arith, late.3), omega (arith, late.2, full_is), omega (arith, late.1, grow.half_some, full_is)) h (λ i other. get_or-set_other ms up i right 0 other) m.far
             (in_right _ _ _ _ _ _ _ _ _ (seen grow) (get_or-set_same ms up right 0 low) (omega (arith, h.right_is, rights_are, within)) (omega (arith, w.place_is, h.left_is, late.0)))

@@ -1,11 +1,11 @@
-use Rattle.bforest_core.proofs.Words.{rules, length, map, ap, arith, get_or_default, sizes, need_above}
+use Rattle.bforest_core.proofs.Words.{rules, length, map, ap, arith, get_or_default, heads, sizes, need_above}
 use Rattle.bforest_core.proofs.insertion.{LeafSpot.site, Nodes.full_is, Level.{need_some, next_asks, next_takes}}
 use Rattle.bforest_core.proofs.path.Path.split_leaf.Goals as goal
 
 pub halve_leaf-half-requires : goal.halve_leaf-half-requires
 halve_leaf-half-requires g c = let w = c.requires.placed in let at = site w.2 (c.args.key, c.args.value) in
     let some = ap (λ z. need_above z.0 (map sizes w.0.above)) (at.full_gain (full_is at 0 (omega arith) c.args.pool.now c.requires.full)) in
-    (search rules, (search rules, (omega (arith, w.3, some, need_some (length at.before) (map sizes w.0.above)), (c.requires.full, (w.0, w.1, w.2)))))
+    (search rules, (search rules, (omega (arith, w.3, some, need_some (length (heads at.before)) (map sizes w.0.above)), (c.requires.full, (w.0, w.1, w.2)))))
 
 pub insert_above-requires : goal.insert_above-requires
 insert_above-requires g c = let w = c.requires.placed in let half = c.halve_leaf-half.ensures in
