@@ -6,5 +6,4 @@ pub mod Nodes
 pub mod HalvingNode
 pub mod LeafSpot
 pub mod Insertion
-pub mod Needs
 pub mod LeafPut

@@ -73,21 +73,10 @@ module _ {K V X : Type 0} (content : List (K × X) → Content K V) where
         let ne : n ≢ right = λ v. let h = ap (λ k. count k t.chain) v in omega (arith, ap (λ k. count right k) w.chain_is, count-same right mid.chain) in
         let put = puts _ s n _ _ (w.same n ne ∙ was) sp.after in
         record {
-          zs = c.l;
-          y = c.x;
-          ys = c.r;
-          es_is = c.es_is;
-          count_is = c.place_is;
-          key_is = p.key_is;
+          zs = c.l; y = c.x; ys = c.r; es_is = c.es_is; count_is = c.place_is; key_is = p.key_is;
           two = record {
-            ne = ne;
-            here = cc;
-            there = cc (put.same right (λ e. ne (sym e)));
-            same = λ m a b. put.same m a ∙ w.same m b;
-            chain_is = cc;
-            slots_are = cc;
-            limit_is = cc;
-            memory_is = cc;
+            ne = ne; here = cc; there = cc (put.same right (λ e. ne (sym e))); same = λ m a b. put.same m a ∙ w.same m b; chain_is = cc; slots_are = cc;
+            limit_is = cc; memory_is = cc;
           };
         }
 
@@ -95,13 +84,7 @@ module _ {K V X : Type 0} (content : List (K × X) → Content K V) where
     -- one of the two nodes was written
     two_put : {m c : _} (xs ys : _) → Puts s u m c → slice_get u.nodes n ≡ Some (content xs) → slice_get u.nodes right ≡ Some (content ys) → ((k : ℕ) → k ≢ n → k ≢ right → k ≢ m) → Two t u n right xs ys
     two_put xs ys put here there apart = record {
-      ne = w.ne;
-      here = here;
-      there = there;
-      same = λ k a b. put.same k (apart k a b) ∙ w.same k a b;
-      chain_is = cc;
-      slots_are = cc;
-      limit_is = cc;
+      ne = w.ne; here = here; there = there; same = λ k a b. put.same k (apart k a b) ∙ w.same k a b; chain_is = cc; slots_are = cc; limit_is = cc;
       memory_is = cc;
     }
 

@@ -31,44 +31,34 @@ module _ {K V : Type 0} {t : Table K V} {ms js up size : _} (w : OneAbove t ms j
       let gain = ap (λ z. inner_gain (length z) (sizes row)) q.a_is ∙ gain_spot before n es l after in
       let low : length l < length es = omega (arith, length-append l (x ∷ r)) in
       record {
-        before = before;
-        es = es;
-        l = l ++ x ∷ [];
-        r = r;
-        after = after;
-        rest = rest;
-        es_is = sym (append_assoc l (x ∷ []) r);
-        index_is = omega (arith, length-append l (x ∷ []), q.entry_is);
-        place_is = place_at d;
+        before = before; es = es; l = l ++ x ∷ []; r = r; after = after; rest = rest; es_is = sym (append_assoc l (x ∷ []) r);
+        index_is = omega (arith, length-append l (x ∷ []), q.entry_is); place_is = place_at d;
         room_gain = λ room. gain ∙ gain_room before (length es) (length l) (sizes after) low room;
         full_gain = λ full. rw (← q.entry_is, Solid-full 4 8 (omega arith) before f.solid) (gain ∙ gain_full before (length es) (length l) (sizes after) low full);
         grow = rw (append_assoc l (x ∷ []) (y ∷ r)) (record {
-          half_some = omega arith;
-          more = omega (arith, length-append l (x ∷ y ∷ r), length-append l (x ∷ r));
-          row_is = refl;
+          half_some = omega arith; more = omega (arith, length-append l (x ∷ y ∷ r), length-append l (x ∷ r)); row_is = refl;
           list_is = ap (λ z. flat before ++ z) (append_assoc l (x ∷ y ∷ r) (flat after)) ∙ sym (append_assoc (flat before) l _) ∙ sym (cc (q.a_is, q.b_is));
-          inside = f.inside;
-          fit = whole.stacked.1;
-          apart = whole.apart;
-          above = rw hs at (rows_above d);
-          topped = λ top. rw hs at top;
-          sizes_above = refl;
+          inside = f.inside; fit = whole.stacked.1; apart = whole.apart; above = rw hs at (rows_above d); topped = λ top. rw hs at top; sizes_above = refl;
           numbers_above = λ m. refl;
         });
       }
+
+  -- the level needs one node more than those above it
+  pub needs_one : need_above (Some (length a)) (map sizes rows) ≡ suc (need_above (inner_gain (length a) (sizes row)).0 (map sizes rest))
+  needs_one = ap (λ z. need_above (Some (length a)) (map sizes z)) d.q.rows_are
 
   -- a successful insertion needs one node in all and leaves the rows grown
   pub put_grows : (i : ℕ) → up < length ms → {u : Table K V} {key : K} {child : ℕ} {put : Bool} → PutsChild t u (get_or ms up i) e key child put → put ≡ true → {js' : List ℕ} (moved : Bool) →
       Moves js js' up 1 e (length a) (if moved then suc (length a) else length a) → GrownBy w (key, child) moved u ms js' size []
   put_grows i low {key = key} {child} said done moved m = let g = put_raises (site (key, child)) i low said done m in
-      (sym (ap (λ z. need_above (Some (length a)) (map sizes z)) d.q.rows_are ∙ ap (λ z. suc (need_above z (map sizes rest))) g.0), grown (length a) p d.q.rows_are g.1)
+      (sym (needs_one ∙ ap (λ z. suc (need_above z (map sizes rest))) g.0), grown (length a) p d.q.rows_are g.1)
 
 module _ {K V : Type 0} where
   -- a node is free for the split of a full node
   pub room_then : (cap : ℕ) {t : Table K V} {ms js : List ℕ} {up size : ℕ} (w : OneAbove t ms js up size) (within : up < size) → up < length ms →
       IsFullAt cap t.nodes (get_or ms up 0) → need_above (Some (length w.before)) (map sizes w.rows) ≤ suc (length t.chain) → 0 < length t.chain
   room_then cap {t} {ms} {up} w within low full enough = let s = site w within cap w.x in let q = (d w within cap).q in
-      omega (arith, ap (λ z. need_above z.0 (map sizes q.rest)) (s.full_gain (full_is s 0 low t full)), need_some (length (heads s.before)) (map sizes q.rest), ap (λ z. need_above (Some (length w.before)) (map sizes z)) q.rows_are)
+      omega (arith, ap (λ z. need_above z.0 (map sizes q.rest)) (s.full_gain (full_is s 0 low t full)), need_some (length (heads s.before)) (map sizes q.rest), needs_one w within cap)
 
   -- the node was split
   module _ {t t2 : Table K V} {ms js ms2 js2 : List ℕ} {up size size2 : ℕ} (w : OneAbove t ms js up size) (child : K × ℕ) (moved : Bool) {key2 : K} {right : ℕ} {moved2 : Bool} (h : HalvedBy w child moved t2 ms2 js2 key2 right moved2)

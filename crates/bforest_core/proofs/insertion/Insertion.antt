@@ -78,14 +78,9 @@ module _ {K V : Type 0} where
       let root_is = root-stands fit stands in let root_was = root-points _ _ _ _ _ _ (omega arith) r.fit p.at.points in
       rw (← root_is) (record {
         changes = record {
-          union = e.union;
-          root_is = e.root_is;
-          list_is = simp (e.tree_is, i.flat_is);
-          sizes_are = ap sizes_of e.tree_is ∙ i.sizes_are;
-          others = reserved-then most old n memory new root (root_of tree') union e.others;
-          old_gone = e.old_gone;
-          new_came = λ ne was. e.new_came ne ((reserved-roots most old n memory union (root_of tree')).0 ∙ was);
-          limit_is = i.limit_is;
+          union = e.union; root_is = e.root_is; list_is = simp (e.tree_is, i.flat_is); sizes_are = ap sizes_of e.tree_is ∙ i.sizes_are;
+          others = reserved-then most old n memory new root (root_of tree') union e.others; old_gone = e.old_gone;
+          new_came = λ ne was. e.new_came ne ((reserved-roots most old n memory union (root_of tree')).0 ∙ was); limit_is = i.limit_is;
         };
         takes = record {
           slots = omega (arith, i.slots_are, length-append old.nodes (fresh_nodes (slot_count old) (n - free_count old) (front_of old.chain)), length-fresh_nodes K V (slot_count old) (n - free_count old) (front_of old.chain));
@@ -116,8 +111,7 @@ module _ {K V : Type 0} where
   put-here {most} {old} {new} {root} {place} {path} {indices} {size} {entry} union p i = let n = need most place (sizes_of (tree_of old.nodes root)) in
       let enough : n ≤ free_count old = omega (arith, i.taken_is, ap length i.chain_is, length-append i.taken new.chain) in let levels = under-low most old union p in
       record {
-        some = levels.0;
-        low = levels.1;
+        some = levels.0; low = levels.1;
         is = insertion old root old.memory union p levels.1 (record { grows = omega arith; stays = λ more. refl }) (rw (reserved-enough old n enough) i);
         enough = omega (arith, enough);
       }
@@ -150,13 +144,7 @@ module _ {K V : Type 0} where
       → ((at : Placing old path) → Put most old new at.root at.place (key, value) path'.node path'.entry path'.size) →
       InsertsHere old new path path' key value (Ok root')
   inserts root' is put = record {
-    inserted = λ at. rw is (put at).is.changes;
-    account = λ at. (put at).is.takes;
-    stands = λ at. rw is (put at).is.stands;
-    same_root = λ at. rw is (put at).is.same_root;
-    full = λ at. (λ is. absurd cc, λ short. absurd (omega (arith, (put at).enough)));
-    memory = λ at is. absurd cc;
-    enough = λ at enough. refl;
-    refused_pool = tt;
-    refused_path = tt;
+    inserted = λ at. rw is (put at).is.changes; account = λ at. (put at).is.takes; stands = λ at. rw is (put at).is.stands;
+    same_root = λ at. rw is (put at).is.same_root; full = λ at. (λ is. absurd cc, λ short. absurd (omega (arith, (put at).enough)));
+    memory = λ at is. absurd cc; enough = λ at enough. refl; refused_pool = tt; refused_path = tt;
   }

@@ -5,7 +5,7 @@ use Rattle.bforest_core.proofs.Words.{sizes, FitRow, Tree, half_of, leaf_gain, n
 use Rattle.bforest_core.proofs.{rows.LevelRows.{Solid-full, flat-append, heads-append, least-pos, sizes-append}, insertion.Grow.{leaf_full, leaf_room}}
 use Rattle.bforest_core.proofs.{insertion.Nodes.{Inserting, here, leaf_kind, put_raises}, table.Tables.{count-append, counts}, removal.LeafAt.as_many_heads}
 use Rattle.bforest_core.proofs.{rows.Zipper.{LeafCut, cut_leaf, spot}, removal.Lifted.{above_top, heads-put, rebuilt_same, rekey_first, rows_above}}
-use Rattle.bforest_core.proofs.removal.Collapse.{heads-flat, topped-sizes}
+use Rattle.bforest_core.proofs.removal.{Asked.some_first, Collapse.{heads-flat, topped-sizes}}
 
 module _ {K V : Type 0} {t : Table K V} {path indices : List ℕ} {size : ℕ} where
   -- the rows above a level, under another first key of its first node
@@ -76,37 +76,38 @@ module _ {K V : Type 0} where
     seen = Solid-full (half_of most) most half before d.solid
 
     -- the sizes of the leaves where the leaf has room, and where it is full
-    pub room_gain : length (l ++ r) < most → leaf_gain most place (sizes tree.leaves) ≡ (None, sizes before ++ suc (length (l ++ r)) ∷ sizes after)
+    room_gain : length (l ++ r) < most → leaf_gain most place (sizes tree.leaves) ≡ (None, sizes before ++ suc (length (l ++ r)) ∷ sizes after)
     room_gain room = cc (d.leaves_are, d.place_is, sizes-append before (node n (l ++ r) ∷ after), leaf_room most before (length (l ++ r)) (length l) (sizes after) (omega (arith, length-append l r)) d.first room)
 
-    pub full_gain : length (l ++ r) ≡ most → leaf_gain most place (sizes tree.leaves) ≡ (Some (length (heads before)), sizes before ++ half_of most ∷ half_of most ∷ sizes after)
+    full_gain : length (l ++ r) ≡ most → leaf_gain most place (sizes tree.leaves) ≡ (Some (length (heads before)), sizes before ++ half_of most ∷ half_of most ∷ sizes after)
     full_gain full = cc (seen, d.leaves_are, d.place_is, sizes-append before (node n (l ++ r) ∷ after), leaf_full most before (length (l ++ r)) (length l) (sizes after) (omega (arith, length-append l r)) d.first full)
 
     -- the rows above the leaf
-    pub above : Above t ms js 1 size tree.above (heads (before ++ node n (l ++ r) ∷ after)) (length (heads before))
+    above : Above t ms js 1 size tree.above (heads (before ++ node n (l ++ r) ∷ after)) (length (heads before))
     above = record { stacked = d.fit.stacked; inside = p.inside.rows_in; stands = rw seen d.stands; height = omega (arith, p.at.points.size_is); apart = λ m. omega (arith, d.apart m, count-append) }
+
+    -- the leaf has an entry
+    some : 1 ≤ length (l ++ r)
+    some = omega (arith, d.fits.0, least-pos (half_of most) half after)
+
+    pub one_entry : K × V
+    one_entry = (some_first (l ++ r) some).0
 
     -- the leaf where the entry is inserted
     pub site : (entry : K × V) → Inserting (leaf_kind most) t ms js 0 size tree.leaves tree.above (insert (flat tree.leaves) place entry) place (leaf_gain most place (sizes tree.leaves)) entry
     site entry =
-        let some : 1 ≤ length (l ++ r) = omega (arith, d.fits.0, least-pos (half_of most) half after) in let new : 1 ≤ length (l ++ entry ∷ r) = omega (arith, length-append l (entry ∷ r)) in
+        let new : 1 ≤ length (l ++ entry ∷ r) = omega (arith, length-append l (entry ∷ r)) in
         let up = renewed tree.above before n l entry r after d.first some above in
         record {
-          before = before; es = l ++ r; l = l; r = r; after = after; rest = up.rows'; es_is = refl;
-          index_is = omega (arith, d.index_is);
-          place_is = omega (arith, d.place_is, d.index_is);
-          room_gain = room_gain; full_gain = full_gain;
+          before = before; es = l ++ r; l = l; r = r; after = after; rest = up.rows'; es_is = refl; index_is = omega (arith, d.index_is);
+          place_is = omega (arith, d.place_is, d.index_is); room_gain = room_gain; full_gain = full_gain;
           grow = record {
-            half_some = half;
-            more = omega (arith, length-append l (entry ∷ r), length-append l r);
-            row_is = d.leaves_are;
-            list_is = sym (insert_flat before n l r after entry) ∙ sym (cc (d.leaves_are, d.place_is));
-            inside = d.inside; fit = d.fit.leaves_fit;
+            half_some = half; more = omega (arith, length-append l (entry ∷ r), length-append l r); row_is = d.leaves_are;
+            list_is = sym (insert_flat before n l r after entry) ∙ sym (cc (d.leaves_are, d.place_is)); inside = d.inside; fit = d.fit.leaves_fit;
             apart = λ m. omega (arith, d.apart m, up.numbers_are m, counts m before n (l ++ r) after up.rows' t.chain, counts m before n (l ++ r) after tree.above t.chain);
             above = up.above;
             topped = λ top. topped-sizes _ _ _ _ d.fit.stacked up.above.stacked (as_many_heads before n (l ++ r) (l ++ entry ∷ r) after some new) up.sizes_are d.fit.topped;
-            sizes_above = up.sizes_are;
-            numbers_above = λ m. omega (arith, up.numbers_are m);
+            sizes_above = up.sizes_are; numbers_above = λ m. omega (arith, up.numbers_are m);
           };
         }
 

@@ -46,10 +46,7 @@ module _ {K V : Type 0} where
   draws-then row mid {are} {taken} d e = record {
     numbers_are = λ m. omega (arith, d.numbers_are m, e.numbers_are m, count-append m row mid, count-append m row are);
     others = λ m none. (let none_above : count m mid + count m taken ≡ 0 = omega (arith, d.numbers_are m, count-append m row mid) in e.others m none_above ∙ d.others m (omega arith));
-    chain_is = cc;
-    slots_are = cc;
-    limit_is = cc;
-    memory_is = cc;
+    chain_is = cc; slots_are = cc; limit_is = cc; memory_is = cc;
   }
 
   -- the rows above a level, after a change of the table and of the path on that level
@@ -57,11 +54,8 @@ module _ {K V : Type 0} where
       Distinct (flat_map numbers rows ++ u.chain) → ((i : ℕ) → i ≢ up → get_or ms' i 0 ≡ get_or ms i 0) → ((i : ℕ) → i ≢ up → get_or js' i 0 ≡ get_or js i 0) →
       Above t ms js (suc up) size rows list p → Above u ms' js' (suc up) size rows list p
   above-moved u ms' js' {rows = rows} same apart far_m far_j a = record {
-    stacked = a.stacked;
-    inside = rows-same _ u.nodes rows same a.inside;
-    stands = stands-same _ _ _ _ _ _ _ (λ i high. far_m i (λ e. omega arith)) (λ i high. far_j i (λ e. omega arith)) a.stands;
-    height = a.height;
-    apart = apart;
+    stacked = a.stacked; inside = rows-same _ u.nodes rows same a.inside;
+    stands = stands-same _ _ _ _ _ _ _ (λ i high. far_m i (λ e. omega arith)) (λ i high. far_j i (λ e. omega arith)) a.stands; height = a.height; apart = apart;
   }
 
 -- the path's node on a level and the rows above it: the node's entries `es` become `fs`, and the rows above are given under its new head
@@ -99,15 +93,12 @@ module _ {K V X : Type 0} {content : List (K × X) → Content K V} {half most :
       ((i : ℕ) → i ≢ up → get_or js' i 0 ≡ get_or js i 0) → get_or js' up 0 < length fs → p ≡ length (flat before) + get_or js' up 0 →
       Raised content half most t u ms js ms js' up size size row rows list p (gain.1 ∷ gain_above gain.0 (map sizes rows)) []
   put_level {u} js' gain_is room s far within place = let c = λ (m : ℕ). counts m before n es after rest t.chain in record {
-    row' = before ++ node n fs ∷ after;
-    rows' = rest;
-    flat_is = flat-append before _ ∙ w.list_is;
+    row' = before ++ node n fs ∷ after; rows' = rest; flat_is = flat-append before _ ∙ w.list_is;
     fit = FitRow-put half most before after n es fs w.more room w.fit;
     inside = row-put content t.nodes u.nodes before n es fs after w.inside s.same s.here alone.0;
     at = record { before = before; entries = fs; after = after; row_is = refl; within = within; place_is = place };
     above = rw seen at (above-moved u ms js' (λ m some. s.same m (ne_from_count m n _ some alone.1)) (λ m. omega (arith, w.apart m, c m, ap (λ z. count m z) s.chain_is, count-append m (flat_map numbers rest) u.chain)) (λ i other. refl) far w.above);
-    topped = w.topped;
-    sizes_are = rw gain_is (cc (sizes-append before (node n fs ∷ after)));
+    topped = w.topped; sizes_are = rw gain_is (cc (sizes-append before (node n fs ∷ after)));
     draws = record {
       numbers_are = λ m. omega (arith, was m, counts m before n fs after rest t.chain);
       others = λ m none. s.same m (absent_ne m n (numbers after) (omega (arith, was m)));
@@ -130,32 +121,21 @@ module _ {K V X : Type 0} {content : List (K × X) → Content K V} {half most :
       let none_right : count right (numbers before) + count right (numbers after) ≡ 0 = omega (arith, w.apart right, c right, c4 right) in
       let none_above : count right (flat_map numbers rest) ≡ 0 = omega (arith, w.apart right, c right, c4 right) in
       record {
-        before = before;
-        after = after;
-        rest = rest;
-        first = h.z;
-        lefts = h.xs;
-        next = h.y;
-        rights = h.ys;
-        key_is = h.middle_is;
+        before = before; after = after; rest = rest; first = h.z; lefts = h.xs; next = h.y; rights = h.ys; key_is = h.middle_is;
         flat_is = flat-halved before after n right (h.z ∷ h.xs) (h.y ∷ h.ys) ∙ ap (λ z. flat before ++ (z ++ flat after)) (sym h.grown_is) ∙ w.list_is;
         fit = FitRow-halved half most before after n right es (h.z ∷ h.xs) (h.y ∷ h.ys) w.half_some w.fit (omega arith) (omega arith) (omega arith) (omega arith);
         inside = row-changed content t.nodes u.nodes before (node n es ∷ []) (node n (h.z ∷ h.xs) ∷ node right (h.y ∷ h.ys) ∷ []) after n right w.inside h.two.same (h.two.here, (h.two.there, tt)) none.0 none_right;
         above = rw hs at (above-moved u ms' js' (λ m some. h.two.same m (ne_from_count m n _ some none.1) (ne_from_count m right _ some none_above))
             (λ m. omega (arith, w.apart m, c m, c4 m, count-append m (flat_map numbers rest) u.chain)) far_m far_j w.above);
-        topped = rw hs at w.topped;
-        sizes_above = w.sizes_above;
-        gain_is = cc (sizes-append before (node n (h.z ∷ h.xs) ∷ node right (h.y ∷ h.ys) ∷ after), h.left_is, h.right_is);
-        at = at.0;
-        at_is = at.1;
+        topped = rw hs at w.topped; sizes_above = w.sizes_above;
+        gain_is = cc (sizes-append before (node n (h.z ∷ h.xs) ∷ node right (h.y ∷ h.ys) ∷ after), h.left_is, h.right_is); at = at.0; at_is = at.1;
         apart = λ m. omega (arith, w.apart m, c m, c2 m, c4 m);
         draws = record {
           numbers_are = λ m. omega (arith, was m, c2 m);
           others = λ m none. h.two.same m (absent_ne m n (numbers after) (omega (arith, was m))) (absent_ne m right [] (omega arith));
           chain_is = h.two.chain_is; slots_are = h.two.slots_are; limit_is = h.two.limit_is; memory_is = h.two.memory_is;
         };
-        nodes_below = λ i low. far_m i (λ e. omega arith);
-        entries_below = λ i low. far_j i (λ e. omega arith);
+        nodes_below = λ i low. far_m i (λ e. omega arith); entries_below = λ i low. far_j i (λ e. omega arith);
         nodes_above = λ i high. far_m i (λ e. omega arith);
       }
 
@@ -177,15 +157,10 @@ module _ {K V X : Type 0} {content : List (K × X) → Content K V} {half most :
       let hs = heads-halved before after node_was right first lefts next rights key h.key_is in let here_m = g.nodes_below up (omega arith) in let here_j = g.entries_below up (omega arith) in
       let above = rw (← hs, ← h.at_is) at g.above in
       record {
-        row' = halves;
-        rows' = g.rows';
-        flat_is = h.flat_is;
-        fit = h.fit;
+        row' = halves; rows' = g.rows'; flat_is = h.flat_is; fit = h.fit;
         inside = row-same content u.nodes v.nodes halves (λ m some. g.others m (omega (arith, h.apart m, count-append m (numbers halves ++ flat_map numbers rest) u.chain, count-append m (numbers halves) (flat_map numbers rest), ap (λ z. count m z) g.chain_is, count-append m taken v.chain))) h.inside;
         at = record { before = h.at.before; entries = h.at.entries; after = h.at.after; row_is = rw here_m h.at.row_is; within = rw here_j h.at.within; place_is = rw here_j h.at.place_is };
-        above = above;
-        topped = λ top. rw hs (g.topped _ (one_more _ _ _ _) (h.topped top));
-        sizes_are = cc;
+        above = above; topped = λ top. rw hs (g.topped _ (one_more _ _ _ _) (h.topped top)); sizes_are = cc;
         draws = draws-then (numbers halves) (flat_map numbers rest) h.draws g.draws;
         climbs = record {
           nodes_below = λ i low. g.nodes_below i (omega arith) ∙ h.nodes_below i low;
@@ -221,16 +196,10 @@ module _ {K V : Type 0} where
   grown was ab is g = rw is (record {
     rows' = g.row' ∷ g.rows';
     above = record {
-      stacked = (g.flat_is, g.fit, g.above.stacked);
-      inside = (g.inside, g.above.inside);
-      stands = (g.at, g.above.stands);
-      height = omega (arith, g.above.height);
-      apart = draws-apart g.draws (rw is at ab.apart);
+      stacked = (g.flat_is, g.fit, g.above.stacked); inside = (g.inside, g.above.inside); stands = (g.at, g.above.stands);
+      height = omega (arith, g.above.height); apart = draws-apart g.draws (rw is at ab.apart);
     };
-    topped = λ old le top. (omega (arith, top.0), g.topped top.1);
-    sizes_are = g.sizes_are;
-    draws = g.draws;
-    climbs = g.climbs;
+    topped = λ old le top. (omega (arith, top.0), g.topped top.1); sizes_are = g.sizes_are; draws = g.draws; climbs = g.climbs;
   })
 
   -- splitting the root adds a new root
@@ -250,29 +219,20 @@ module _ {K V : Type 0} where
           record {
             rows' = (node root es ∷ []) ∷ [];
             above = record {
-              stacked = (refl, (omega arith, omega arith, tt), refl);
-              inside = ((w.here, tt), tt);
+              stacked = (refl, (omega arith, omega arith, tt), refl); inside = ((w.here, tt), tt);
               stands = (
                 record { before = []; entries = es; after = []; row_is = rw m_is refl; within = omega (arith, step_is moved 0, step_most moved); place_is = sym j_is ∙ (let none : get_or js' size 0 ≡ 0 + get_or js' size 0 = omega arith in none) },
                 refl,
               );
-              height = omega arith;
-              apart = λ m. omega (arith, ab.apart m, ap (λ z. count m z) w.chain_is);
+              height = omega arith; apart = λ m. omega (arith, ab.apart m, ap (λ z. count m z) w.chain_is);
             };
-            topped = λ old le top. (omega arith, tt);
-            sizes_are = refl;
+            topped = λ old le top. (omega arith, tt); sizes_are = refl;
             draws = record {
-              numbers_are = λ m. omega arith;
-              others = λ m z. w.same m (absent_ne m root [] (omega arith));
-              chain_is = w.chain_is;
-              slots_are = w.slots_are;
-              limit_is = w.limit_is;
-              memory_is = w.memory_is;
+              numbers_are = λ m. omega arith; others = λ m z. w.same m (absent_ne m root [] (omega arith)); chain_is = w.chain_is; slots_are = w.slots_are;
+              limit_is = w.limit_is; memory_is = w.memory_is;
             };
             climbs = record {
-              nodes_below = λ i low. far_m i (λ e. omega arith);
-              entries_below = λ i low. far_j i (λ e. omega arith);
-              same_top = λ same. absurd (omega arith);
+              nodes_below = λ i low. far_m i (λ e. omega arith); entries_below = λ i low. far_j i (λ e. omega arith); same_top = λ same. absurd (omega arith);
               new_top = λ other. (let top : size' - 1 ≡ size = omega arith in
                   rw (ap (λ z. get_or ms' z 0) top ∙ m_is) (omega (arith, count-same root [])));
             };

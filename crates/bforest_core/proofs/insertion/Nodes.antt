@@ -5,9 +5,10 @@ use Rattle.bforest_core.proofs.Words.{get_or, set, slice_get, get_or_default, ge
 use Rattle.bforest_core.proofs.Words.{entry_count, entry_capacity, left_half, with_entry, with_child, entry_keys, entry_items, leaf_content, with_node}
 use Rattle.bforest_core.proofs.Words.{front_of, IsUsed, IsFullAt, IsSplitAt, PutsIn, Halved, Raised, gain_above}
 use Rattle.bforest_core.proofs.{insertion.Halving.{Cuts, Split, counted, split_at, into_left, into_right}, insertion.Level.{Growing, alone, halved, put_level, seen, step, step_is, step_most}}
+use Rattle.bforest_core.proofs.{Words.{IsTrue, OneAbove, need_above, slice_get_within, ◌↔◌, add-one}, removal.Asked.some_first, removal.Lifted.headed}
 use Rattle.bforest_core.proofs.{Words.{IsLeafCapacity, count, inner_content, le-leb, le-ltb, lt-leb, lt-ltb}, rows.LevelRows.FitRow-split}
 use Rattle.bforest_core.proofs.{insertion.Grow.{in_left, in_right}, table.Tables.{count-same, is_used, puts, row-split, Puts}, table.Lists.set-kept}
-use Rattle.bforest_core.proofs.table.Stored.{inner_cuts, item_count, key_count, keys_count, leaf_cuts, with_child_is, with_entry_is}
+use Rattle.bforest_core.proofs.table.Stored.{inner_cuts, item_count, key_count, keys_count, leaf_cuts, some_same, with_child_is, with_entry_is}
 use Rattle.bforest_nodes.specs.declared.node.SplitOff.{SplitOff}
 
 -- leaves or inner nodes: how entries are stored, how many there may be, how many entries `behind` an index a new one goes, and how a full node is
@@ -38,24 +39,10 @@ pub record Kind (K V X : Type 0) : Type 0 where
 module _ {K V : Type 0} where
   abbrev pub leaf_kind : ℕ → Kind K V V
   leaf_kind most = record {
-    cap = most;
-    half = half_of most;
-    most = most;
-    behind = 0;
-    mid = suc (most / 2);
-    left = λ e. if nat_le e (most / 2) then most / 2 else (most + 1) / 2;
-    halves = λ e rest. half_of most ∷ half_of most ∷ rest;
-    stored = Leaf;
-    keys = entry_keys;
-    content = leaf_content;
-    size = λ keys vals. length keys;
-    write = λ e y content. with_entry content e y.0 y.1;
-    content_is = λ es. refl;
-    size_is = keys_count;
-    low = λ es e low. omega (arith, keys_count es);
-    used = λ es. ((λ free. free), keys_count es, refl);
-    left_is = λ es e. refl;
-    writes = λ l r e y is. with_entry_is V l r y.0 y.1 e (omega arith);
+    cap = most; half = half_of most; most = most; behind = 0; mid = suc (most / 2); left = λ e. if nat_le e (most / 2) then most / 2 else (most + 1) / 2;
+    halves = λ e rest. half_of most ∷ half_of most ∷ rest; stored = Leaf; keys = entry_keys; content = leaf_content; size = λ keys vals. length keys;
+    write = λ e y content. with_entry content e y.0 y.1; content_is = λ es. refl; size_is = keys_count; low = λ es e low. omega (arith, keys_count es);
+    used = λ es. ((λ free. free), keys_count es, refl); left_is = λ es e. refl; writes = λ l r e y is. with_entry_is V l r y.0 y.1 e (omega arith);
     cuts = λ q some zs y ys left right key is c. leaf_cuts V zs y ys q left right key is c;
     early = λ c e low. (let one : half_of most ≡ suc (most / 2) = omega arith in let two : half_of most ≡ most - most / 2 = omega arith in
         rw (le-leb e (most / 2) (omega arith)) (omega arith, omega arith, omega arith, λ rest. cc));
@@ -69,25 +56,10 @@ module _ {K V : Type 0} where
 
   abbrev pub inner_kind : ℕ → Kind K V ℕ
   inner_kind cap = record {
-    cap = cap;
-    half = 4;
-    most = 8;
-    behind = 1;
-    mid = 4;
-    left = λ e. 4;
-    halves = λ e rest. if nat_lt e 4 then 5 ∷ 4 ∷ rest else 4 ∷ 5 ∷ rest;
-    stored = Inner;
-    keys = λ es. drop 1 (entry_keys es);
-    content = inner_content;
-    size = λ keys children. length children;
-    write = λ e y content. with_child content e y.0 y.1;
-    content_is = λ es. refl;
-    size_is = item_count;
-    low = λ es e low. omega (arith, key_count es);
-    used = λ es. ((λ free. free), item_count es, refl);
-    left_is = λ es e. refl;
-    writes = with_child_is V;
-    cuts = inner_parts;
+    cap = cap; half = 4; most = 8; behind = 1; mid = 4; left = λ e. 4; halves = λ e rest. if nat_lt e 4 then 5 ∷ 4 ∷ rest else 4 ∷ 5 ∷ rest; stored = Inner;
+    keys = λ es. drop 1 (entry_keys es); content = inner_content; size = λ keys children. length children; write = λ e y content. with_child content e y.0 y.1;
+    content_is = λ es. refl; size_is = item_count; low = λ es e low. omega (arith, key_count es); used = λ es. ((λ free. free), item_count es, refl);
+    left_is = λ es e. refl; writes = with_child_is V; cuts = inner_parts;
     early = λ c e low. (omega arith, omega arith, omega arith, λ rest. (let is = lt-ltb e 4 low in rw is refl));
     late = λ c e high. (omega arith, omega arith, omega arith, omega arith, omega arith, λ rest. (let is = le-ltb e 4 high in rw is refl));
   }
@@ -106,10 +78,7 @@ here = record { ahead = 0; few = omega arith; index_is = omega arith; p_is = ome
 pub goes : {js : List ℕ} {up behind at place index : ℕ} (moved : Bool) → step moved ≤ behind → up < length js → index ≡ (if moved then suc at else at) →
     Moves js (set js up index) up behind at place (if moved then suc place else place)
 goes {js} {up} {at = at} {place} {index} moved few low is = record {
-  ahead = step moved;
-  few = few;
-  index_is = get_or-set_same js up index 0 low ∙ is ∙ step_is moved at;
-  p_is = step_is moved place;
+  ahead = step moved; few = few; index_is = get_or-set_same js up index 0 low ∙ is ∙ step_is moved at; p_is = step_is moved place;
   far = λ i other. get_or-set_other js up i index 0 other;
 }
 
@@ -152,7 +121,7 @@ module _ {K V X : Type 0} (k : Kind K V X) {t : Table K V} {n : ℕ} (es : List 
     put_past none = (λ fewer. false≢true (sym none ∙ (said.room _ _ slot_is).1 (rw (k.size_is es) fewer)), (rw none at (said.node _ _ slot_is)) ∙ ap (λ z. record t { nodes = z }) (set-kept _ _ _ slot_is))
 
 module _ {K V X : Type 0} {k : Kind K V X} {t : Table K V} {ms js up size row rows list place gain y : _} (w : Inserting k t ms js up size row rows list place gain y) (i : ℕ) (low : up < length ms) where
-  open w use {before, l, r, after, es, grow}
+  open w use {before, l, r, after, rest, es, grow}
 
   abbrev num : ℕ
   num = get_or ms up 0
@@ -177,6 +146,34 @@ module _ {K V X : Type 0} {k : Kind K V X} {t : Table K V} {ms js up size row ro
 
   pub put_asks : PutAsks k.stored t read e
   put_asks = asks k es num_is found (is_used t num _ found none_chain) e within
+
+  -- the slot of the path's node is within the table
+  pub slot_within : read < length t.nodes
+  slot_within = slice_get_within _ _ (k.content es) (cc (num_is, found))
+
+  -- the rows above the level
+  abbrev pub over : OneAbove t ms js (up + 1) size
+  over = let h = some_first (l ++ y ∷ r) (omega (arith, length-append l (y ∷ r))) in
+      record { rows = rest; before = heads before; x = (h.0.0, num); after = heads after; above = rw (add-one up) (headed before num after h grow.above) }
+
+  -- the code reads the node, and whether it is full
+  module _ {content : Content K V} (is : slice_get t.nodes read ≡ Some content) where
+    content_is : content ≡ k.content es
+    content_is = some_same (cc (num_is, found))
+
+    pub not_free : ¬ IsFree content
+    not_free = rw content_is (k.used es).0
+
+    module _ {full : Bool} (says : IsTrue full ↔ (entry_count content ≡ entry_capacity k.cap content)) where
+      tells : IsTrue full ↔ (length es ≡ k.most)
+      tells = rw (content_is, (k.used es).1, (k.used es).2) at says
+
+      pub full_needs : full ≡ true → {more : ℕ} → ((v : OneAbove t ms js (up + 1) size) → more ≡ need_above (Some (length v.before)) (map sizes v.rows)) → more ≡ need_above gain.0 (map sizes rows)
+      full_needs so says_more = says_more over ∙ sym (cc (w.full_gain (tells.0 so), grow.sizes_above))
+
+      pub room_needs : full ≡ false → need_above gain.0 (map sizes rows) ≡ 0
+      room_needs none = let fewer : ¬ (length es ≡ k.most) = λ is. false≢true (sym none ∙ tells.1 is) in
+          ap (λ z. need_above z.0 (map sizes rows)) (w.room_gain (omega (arith, fewer, (FitRow-split k.half k.most before (node num es) after grow.fit).1.1)))
 
   module _ {u : Table K V} {put : Bool} (said : PutsIn k.stored k.size k.most (k.write e y) t u read put) where
     -- a successful insertion leaves the level with the entry

@@ -108,14 +108,12 @@ impl<K: Copy, V: Copy, const N: usize> Path<K, V, N> {
     }
 
     // How many nodes a split of the path's node below level `up` takes.
-    #[tactic(auto, using(crate::proofs::removal::Asked::above_low))]
+    #[tactic(auto, using(crate::proofs::removal::Asked::one_low))]
     fn needed_above(&self, up: usize, pool: &NodePool<K, V, N>) -> u32
         requires height { self.now.size ≤ most_levels }
-        requires pending { (rows : List (List (LevelNode K ℕ))) × (list : List (K × ℕ)) × (place : ℕ)
-            × Above pool.now self.now.node self.now.entry up self.now.size rows list place }
-        ensures value { (rows : List (List (LevelNode K ℕ))) (list : List (K × ℕ)) (place : ℕ)
-            → Above pool.now self.now.node self.now.entry up self.now.size rows list place → result
-            ≡ need_above (Some place) (map sizes rows) }
+        requires pending { OneAbove pool.now self.now.node self.now.entry up self.now.size }
+        ensures value { (w : OneAbove pool.now self.now.node self.now.entry up self.now.size)
+            → result ≡ need_above (Some (length w.before)) (map sizes w.rows) }
         ensures few { result + up ≤ 2 + self.now.size }
     {
         if up == self.size {
