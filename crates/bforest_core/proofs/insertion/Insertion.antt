@@ -4,11 +4,12 @@ use Rattle.bforest_core.proofs.Words.{length, insert, slice_get, sym, ap, ◌∙
 use Rattle.bforest_core.proofs.Words.{eqb_tells, length-map, Table, fresh_nodes, front_of, free_count, slot_count, room, reserved, IsFullAt, node, flat}
 use Rattle.bforest_core.proofs.Words.{IsFit, heads, sizes, numbers, Stacked, Topped, Tree, sizes_of, leaf_gain, gain_above, growth, need, Stands, count, root_of}
 use Rattle.bforest_core.proofs.Words.{numbers_of, top_of, Placed, Inserted, GrowsFor, tree_of, is_root, IsUnion, Changes, TakesNodes, PlacedUnder, StandsUnder}
-use Rattle.bforest_core.proofs.{Words.{InsertsHere, Ok, Path, Placing, refl, place}, union.Reserved.{reserved-union, reserved-roots, reserved-then}}
+use Rattle.bforest_core.proofs.{Words.{InsertsHere, list_under, Ok, Path, Placing, refl, place}, union.Reserved.{reserved-union, reserved-roots, reserved-then}}
 use Rattle.bforest_core.proofs.{rows.Counts.{once_below, below-one, few-below}, table.Allocating.{reserved-enough, reserved-free}}
 use Rattle.bforest_core.proofs.{table.Lists.slice_get-append_left, table.Chains.length-fresh_nodes, rows.Bounds.climb-seventeen, union.Unions.Rooted}
 use Rattle.bforest_core.proofs.{union.Unions.rooted, table.Tables.count-append, rows.Tops.{root-points, root-stands}, union.Forests.root-among, union.Exchange.IsPlanted}
 use Rattle.bforest_core.proofs.{union.Roots.exchanged, removal.Removal.place_low}
+use Rattle.bforest_core.specs.Paths.{sizes_under}
 
 -- a row has no more heads than nodes
 heads-few : {K X : Type 0} (row : Row K X) → length (heads row) ≤ length (numbers row)
@@ -48,11 +49,14 @@ module _ {K V : Type 0} where
   under-low most table union p = (omega arith, omega (arith, (rooted _ _ _ union p.root_is).low))
 
   -- what an insertion states of the table and of the path
-  pub record Insertion (most : ℕ) (old new : Table K V) (root root' place : ℕ) (entry : K × V) (path' indices' : List ℕ) (size' : ℕ) : Type 0 where
-    pub changes : Changes most old new root root' (insert (flat (tree_of old.nodes root).leaves) place entry) (growth most place (sizes_of (tree_of old.nodes root)))
-    pub takes : TakesNodes (need most place (sizes_of (tree_of old.nodes root))) old new
-    pub stands : StandsUnder new.nodes root' path' indices' size' place
-    pub same_root : (root' ≡ root) ↔ (length (growth most place (sizes_of (tree_of old.nodes root))) ≡ length (sizes_of (tree_of old.nodes root)))
+  pub record Put (most : ℕ) (old new : Table K V) (root place : ℕ) (entry : K × V) (path' indices' : List ℕ) (size' : ℕ) : Type 0 where
+    pub some : 0 < size'
+    pub low : size' ≤ 17
+    pub enough : need most place (sizes_under old root) ≤ room old
+    pub changes : Changes most old new root (top_of path' size') (insert (list_under old root) place entry) (growth most place (sizes_under old root))
+    pub takes : TakesNodes (need most place (sizes_under old root)) old new
+    pub stands : StandsUnder new.nodes (top_of path' size') path' indices' size' place
+    pub same_root : (top_of path' size' ≡ root) ↔ (length (growth most place (sizes_under old root)) ≡ length (sizes_under old root))
 
   -- a root that was on the chain differs from the old root
   new_ne : {most : ℕ} {table : Table K V} (new : Table K V) {root : ℕ} {tree : Tree K V} (root' taken : _) → Rooted most table root tree → table.chain ≡ taken ++ new.chain → 0 < count root' taken → root' ≢ root
@@ -61,11 +65,11 @@ module _ {K V : Type 0} where
 
   -- inserting an entry into the tree under a root, after the nodes that it needs were reserved
   pub insertion : {most : ℕ} (old : _) {new : _} (root memory : ℕ) {place path indices size path' indices' size' entry : _} → IsUnion most old →
-      PlacedUnder old.nodes root path indices size place → size' ≤ 17 →
-      GrowsFor (need most place (sizes_of (tree_of old.nodes root))) old (reserved old (need most place (sizes_of (tree_of old.nodes root))) memory) →
-      Inserted most (reserved old (need most place (sizes_of (tree_of old.nodes root))) memory) new path indices path' indices' size size' (tree_of old.nodes root) place entry →
-      Insertion most old new root (top_of path' size') place entry path' indices' size'
-  insertion {most} old {new} root memory {place} {size = size} {path'} {indices'} {size'} union p low held i =
+      PlacedUnder old.nodes root path indices size place → size' ≤ 17 → need most place (sizes_under old root) ≤ room old →
+      GrowsFor (need most place (sizes_under old root)) old (reserved old (need most place (sizes_under old root)) memory) →
+      Inserted most (reserved old (need most place (sizes_under old root)) memory) new path indices path' indices' size size' (tree_of old.nodes root) place entry →
+      Put most old new root place entry path' indices' size'
+  insertion {most} old {new} root memory {place} {size = size} {path'} {indices'} {size'} union p low enough held i =
       let tree = tree_of old.nodes root in let n = need most place (sizes_of tree) in let mid = reserved old n memory in
       let roots = reserved-roots most old n memory union root in let same = roots.1 p.root_is in let union_mid = reserved-union most old n memory union in
       let r = rw same at (rooted most mid root union_mid (roots.0 ∙ p.root_is)) in let nums = λ (m : ℕ). ap (λ z. count m (numbers_of z)) same in
@@ -75,46 +79,43 @@ module _ {K V : Type 0} where
       let planted : IsPlanted most new.nodes tree' = record { fit = fit; inside = record { leaves_in = i.inside; rows_in = i.above.inside }; some = omega (arith, place_low path' indices' size' tree' place stands); low = omega (arith, low, i.above.height) } in
       let e = exchanged root i.taken union_mid (roots.0 ∙ p.root_is) planted i.chain_is i.slots_are (λ m. omega (arith, i.numbers_are m, nums m)) (λ m none. i.others m (omega (arith, nums m))) in
       let levels : length (growth most place (sizes_of tree)) ≡ size' = omega (arith, ap length i.sizes_are, length-map i.rows' sizes, i.above.height) in
-      let root_is = root-stands fit stands in let root_was = root-points _ _ _ _ _ _ (omega arith) r.fit p.at.points in
-      rw (← root_is) (record {
-        changes = record {
-          union = e.union; root_is = e.root_is; list_is = simp (e.tree_is, i.flat_is); sizes_are = ap sizes_of e.tree_is ∙ i.sizes_are;
-          others = reserved-then most old n memory new root (root_of tree') union e.others; old_gone = e.old_gone;
-          new_came = λ ne was. e.new_came ne ((reserved-roots most old n memory union (root_of tree')).0 ∙ was); limit_is = i.limit_is;
-        };
+      let root_is = root-stands fit stands in
+      record {
+        some = omega (arith, i.above.height);
+        low = low;
+        enough = enough;
+        changes = rw (← root_is) (record {
+          union = e.union;
+          root_is = e.root_is;
+          list_is = simp (e.tree_is, i.flat_is);
+          sizes_are = ap sizes_of e.tree_is ∙ i.sizes_are;
+          others = reserved-then most old n memory new root (root_of tree') union e.others;
+          old_gone = e.old_gone;
+          new_came = λ ne was. e.new_came ne ((reserved-roots most old n memory union (root_of tree')).0 ∙ was);
+          limit_is = i.limit_is;
+        });
         takes = record {
           slots = omega (arith, i.slots_are, length-append old.nodes (fresh_nodes (slot_count old) (n - free_count old) (front_of old.chain)), length-fresh_nodes K V (slot_count old) (n - free_count old) (front_of old.chain));
           free = omega (arith, i.taken_is, ap length i.chain_is, length-append i.taken new.chain, reserved-free old n memory);
           memory = record { grows = rw i.memory_is held.grows; stays = λ enough. i.memory_is ∙ held.stays enough };
           chain_is = sym (ap (λ z. drop n z) i.chain_is ∙ ap (λ z. drop z (i.taken ++ new.chain)) (sym i.taken_is) ∙ drop-append_seam i.taken new.chain);
         };
-        stands = record { root_is = e.root_is; stands = subst (λ z. Stands path' indices' size' z place) (sym e.tree_is) stands };
+        stands = rw (← root_is) (record { root_is = e.root_is; stands = subst (λ z. Stands path' indices' size' z place) (sym e.tree_is) stands });
         same_root = (
-          λ same_number. elim (eqb_tells size' size) [
+          λ same. elim (eqb_tells size' size) [
             | inl w ↦ omega (arith, length-map tree.above sizes, levels)
-            | inr w ↦ absurd (new_ne new (top_of path' size') i.taken r i.chain_is (i.new_top w.1) (sym root_is ∙ same_number))
+            | inr w ↦ absurd (new_ne new (top_of path' size') i.taken r i.chain_is (i.new_top w.1) same)
           ],
-          λ same_levels. root_is ∙ i.same_top (omega (arith, length-map tree.above sizes, levels)) ∙ sym root_was ∙ r.root_is,
+          λ same. i.same_top (omega (arith, length-map tree.above sizes, levels)) ∙ sym (root-points _ _ _ _ _ _ (omega arith) r.fit p.at.points) ∙ r.root_is,
         );
-      })
-
-  -- an entry was inserted, with or without new nodes, and the path has at least one level and at most 17
-  pub record Put (most : ℕ) (old new : Table K V) (root place : ℕ) (entry : K × V) (path' indices' : List ℕ) (size' : ℕ) : Type 0 where
-    pub some : 0 < size'
-    pub low : size' ≤ 17
-    pub is : Insertion most old new root (top_of path' size') place entry path' indices' size'
-    pub enough : need most place (sizes_of (tree_of old.nodes root)) ≤ room old
+      }
 
   -- inserting an entry into a leaf with room
   pub put-here : {most : ℕ} {old new : Table K V} {root place path indices size entry : _} → IsUnion most old → PlacedUnder old.nodes root path indices size place →
       Inserted most old new path indices path indices size size (tree_of old.nodes root) place entry → Put most old new root place entry path indices size
-  put-here {most} {old} {new} {root} {place} {path} {indices} {size} {entry} union p i = let n = need most place (sizes_of (tree_of old.nodes root)) in
-      let enough : n ≤ free_count old = omega (arith, i.taken_is, ap length i.chain_is, length-append i.taken new.chain) in let levels = under-low most old union p in
-      record {
-        some = levels.0; low = levels.1;
-        is = insertion old root old.memory union p levels.1 (record { grows = omega arith; stays = λ more. refl }) (rw (reserved-enough old n enough) i);
-        enough = omega (arith, enough);
-      }
+  put-here {most} {old} {new} {root} {place} {path} {indices} {size} {entry} union p i = let n = need most place (sizes_under old root) in
+      let enough : n ≤ free_count old = omega (arith, i.taken_is, ap length i.chain_is, length-append i.taken new.chain) in
+      insertion old root old.memory union p (under-low most old union p).1 (omega (arith, enough)) (record { grows = omega arith; stays = λ more. refl }) (rw (reserved-enough old n enough) i)
 
   -- reserving nodes leaves the path at its place
   pub placed-mid : (most : ℕ) (old mid : Table K V) {root place path indices size : _} (n : ℕ) {memory : ℕ} → IsUnion most old →
@@ -132,7 +133,7 @@ module _ {K V : Type 0} where
       let tree = tree_of old.nodes root in let n_is = needs tree place (placed-under most old union p) in
       let mid_old = mid_is ∙ ap (λ z. reserved old z mid.memory) n_is in let i = inserts tree place (placed-mid _ _ _ _ union p mid_old) in
       let low : size' ≤ 17 = omega (arith, i.above.height, ap length i.sizes_are, length-map i.rows' sizes, growth-low most old root place union p.root_is slots) in
-      record { some = omega (arith, i.above.height); low = low; is = insertion old root mid.memory union p low (subst (λ z. GrowsFor z old (reserved old z mid.memory)) n_is (rw mid_is at held)) (rw mid_old at i); enough = omega (arith, enough) }
+      insertion old root mid.memory union p low (omega (arith, enough)) (subst (λ z. GrowsFor z old (reserved old z mid.memory)) n_is (rw mid_is at held)) (rw mid_old at i)
 
   -- a full leaf is full after nodes were reserved
   pub full-reserved : (most : ℕ) (table : Table K V) (n memory m content : _) → slice_get table.nodes m ≡ Some content → IsFullAt most table.nodes m →
@@ -144,7 +145,7 @@ module _ {K V : Type 0} where
       → ((at : Placing old path) → Put most old new at.root at.place (key, value) path'.node path'.entry path'.size) →
       InsertsHere old new path path' key value (Ok root')
   inserts root' is put = record {
-    inserted = λ at. rw is (put at).is.changes; account = λ at. (put at).is.takes; stands = λ at. rw is (put at).is.stands;
-    same_root = λ at. rw is (put at).is.same_root; full = λ at. (λ is. absurd cc, λ short. absurd (omega (arith, (put at).enough)));
+    inserted = λ at. rw is (put at).changes; account = λ at. (put at).takes; stands = λ at. rw is (put at).stands;
+    same_root = λ at. rw is (put at).same_root; full = λ at. (λ is. absurd cc, λ short. absurd (omega (arith, (put at).enough)));
     memory = λ at is. absurd cc; enough = λ at enough. refl; refused_pool = tt; refused_path = tt;
   }

@@ -2,7 +2,7 @@
 use Rattle.bforest_core.proofs.Words.{◌≡◌, ℕ, suc, ◌+◌, ◌-◌, ◌≤◌, ◌<◌, ◌≢◌, if◌then◌else◌, Bool, true, false, Option, Some, None, List, [], ◌∷◌, ◌++◌, length, refl}
 use Rattle.bforest_core.proofs.Words.{sym, ap, ◌∙◌, arith, length-map, length-append, append_assoc, get_or, slice_get, map, flat_map, Heads, Row, Rows, node, flat}
 use Rattle.bforest_core.proofs.Words.{heads, head_of, sizes, numbers, FitRow, Stacked, Topped, Content, Table, Inner, RowIn, IsAt, Distinct, count, top_of, Above}
-use Rattle.bforest_core.proofs.Words.{gain_above, need_above, inner_content, OneAbove, Grown, GrownBy, Halved, Raised, Draws, add-one}
+use Rattle.bforest_core.proofs.Words.{gain_above, need_above, inner_content, OneAbove, Grown, GrownBy, Halved, Raised, Draws, add-one, set, get_or-set_same, get_or-set_other}
 use Rattle.bforest_core.proofs.{insertion.Grow.{InHalf, FitRow-halved, FitRow-put, flat-halved, heads-halved, one_more}, insertion.Halving.Halves}
 use Rattle.bforest_core.proofs.{table.Tables.{Puts, Takes, count-append, count-row, count-same, counts, ne_from_count, absent_ne, row-changed, row-put, row-same}}
 use Rattle.bforest_core.proofs.{table.Tables.rows-same, rows.LevelRows.{flat-append, sizes-append, heads-append, FitRow-split, Solid-full}}
@@ -203,39 +203,35 @@ module _ {K V : Type 0} where
   })
 
   -- splitting the root adds a new root
-  pub settle_root : {t u : Table K V} {ms js : List ℕ} (ms' js' : List ℕ) {size : ℕ} (size' left : ℕ) {root : ℕ} (rows : Rows K)
-      (a : Heads K) (first : K) (b : Heads K) (key : K) (child : ℕ) (moved : Bool)
-      → Above t ms js size size rows (a ++ (first, left) ∷ b) (length a) → Takes t u root (Inner (key ∷ []) (left ∷ child ∷ [])) →
-      size' ≡ suc size → get_or ms' size 0 ≡ root → get_or js' size 0 ≡ (if moved then 1 else 0) → ((i : ℕ) → i ≢ size → get_or ms' i 0 ≡ get_or ms i 0) → ((i : ℕ) → i ≢ size → get_or js' i 0 ≡ get_or js i 0) →
-      (taken : List ℕ) × ((suc (length taken) ≡ need_above (Some (length a)) (map sizes rows)) × Grown t u ms js ms' js' size size size' rows (a ++ (first, left) ∷ (key, child) ∷ b) (if moved then suc (length a) else length a) (gain_above (Some (length a)) (map sizes rows)) taken)
-  settle_root ms' js' size' left (row ∷ rows) a first b key child moved ab w size_is m_is j_is far_m far_j = absurd (omega arith)
-  settle_root ms' js' size' left [] (y ∷ a) first b key child moved ab w size_is m_is j_is far_m far_j = absurd (omega arith)
-  settle_root ms' js' size' left [] [] first (y ∷ b) key child moved ab w size_is m_is j_is far_m far_j = absurd (omega arith)
-  settle_root ms' js' {size} size' left {root} [] [] first [] key child moved ab w size_is m_is j_is far_m far_j =
-      let es : Heads K = (first, left) ∷ (key, child) ∷ [] in (
-        root ∷ [],
-        (
-          refl,
-          record {
-            rows' = (node root es ∷ []) ∷ [];
-            above = record {
-              stacked = (refl, (omega arith, omega arith, tt), refl); inside = ((w.here, tt), tt);
-              stands = (
-                record { before = []; entries = es; after = []; row_is = rw m_is refl; within = omega (arith, step_is moved 0, step_most moved); place_is = sym j_is ∙ (let none : get_or js' size 0 ≡ 0 + get_or js' size 0 = omega arith in none) },
-                refl,
-              );
-              height = omega arith; apart = λ m. omega (arith, ab.apart m, ap (λ z. count m z) w.chain_is);
-            };
-            topped = λ old le top. (omega arith, tt); sizes_are = refl;
-            draws = record {
-              numbers_are = λ m. omega arith; others = λ m z. w.same m (absent_ne m root [] (omega arith)); chain_is = w.chain_is; slots_are = w.slots_are;
-              limit_is = w.limit_is; memory_is = w.memory_is;
-            };
-            climbs = record {
-              nodes_below = λ i low. far_m i (λ e. omega arith); entries_below = λ i low. far_j i (λ e. omega arith); same_top = λ same. absurd (omega arith);
-              new_top = λ other. (let top : size' - 1 ≡ size = omega arith in
-                  rw (ap (λ z. get_or ms' z 0) top ∙ m_is) (omega (arith, count-same root [])));
-            };
-          },
-        ),
-      )
+  pub settle_root : {t u : Table K V} {ms js : List ℕ} {size root : ℕ} (index : ℕ) (rows : Rows K) (a : Heads K) (x : K × ℕ) (b : Heads K) (y : K × ℕ) (moved : Bool) →
+      Above t ms js size size rows (a ++ x ∷ b) (length a) → Takes t u root (Inner (y.0 ∷ []) (x.1 ∷ y.1 ∷ [])) → size < length ms → size < length js → index ≡ (if moved then 1 else 0) →
+      (taken : List ℕ) × ((suc (length taken) ≡ need_above (Some (length a)) (map sizes rows))
+      × Grown t u ms js (set ms size root) (set js size index) size size (size + 1) rows (a ++ x ∷ y ∷ b) (if moved then suc (length a) else length a) (gain_above (Some (length a)) (map sizes rows)) taken)
+  settle_root index (row ∷ rows) a x b y moved p w low_m low_j is = absurd (omega arith)
+  settle_root index [] (z ∷ a) x b y moved p w low_m low_j is = absurd (omega arith)
+  settle_root index [] [] x (z ∷ b) y moved p w low_m low_j is = absurd (omega arith)
+  settle_root {ms = ms} {js} {size} {root} index [] [] x [] y moved p w low_m low_j is =
+      let m_is = get_or-set_same ms size root 0 low_m in let j_is = get_or-set_same js size index 0 low_j in
+      (root ∷ [], (refl, record {
+        rows' = (node root (x ∷ y ∷ []) ∷ []) ∷ [];
+        above = record {
+          stacked = (refl, (omega arith, omega arith, tt), refl);
+          inside = ((w.here, tt), tt);
+          stands = (record { before = []; entries = x ∷ y ∷ []; after = []; row_is = rw m_is refl; within = omega (arith, j_is, is, step_is moved 0, step_most moved); place_is = omega (arith, j_is, is) }, refl);
+          height = omega arith;
+          apart = λ m. omega (arith, p.apart m, ap (λ z. count m z) w.chain_is);
+        };
+        topped = λ old le top. (omega arith, tt);
+        sizes_are = refl;
+        draws = record {
+          numbers_are = λ m. omega arith;
+          others = λ m z. w.same m (absent_ne m root [] (omega arith));
+          chain_is = w.chain_is; slots_are = w.slots_are; limit_is = w.limit_is; memory_is = w.memory_is;
+        };
+        climbs = record {
+          nodes_below = λ i low. get_or-set_other ms size i root 0 (λ e. omega arith);
+          entries_below = λ i low. get_or-set_other js size i index 0 (λ e. omega arith);
+          same_top = λ same. absurd (omega arith);
+          new_top = λ other. (let top : size + 1 - 1 ≡ size = omega arith in rw (top, m_is) (omega (arith, count-same root [])));
+        };
+      }))

@@ -12,10 +12,6 @@ pub returns-then-put_child-clause-grown : goal.returns-then-put_child-clause-gro
 returns-then-put_child-clause-grown g c = λ done w. put_grows w c.requires.within g.row.N c.index-self-up.result (omega arith)
     c.put_child.ensures c.if-put_child.true _ (goes c.args.half.moved (step_most _) (omega arith) c.index_behind.ensures.value)
 
-pub returns-else-put_child-clause-full : goal.returns-else-put_child-clause-full
-returns-else-put_child-clause-full g c = λ full.
-    (put_full (site c.requires.pending c.requires.within g.row.N (c.args.half.key, c.args.half.node)) c.index-self-up.result (omega arith) c.put_child.ensures c.if-put_child.false).0
-
-pub returns-else-put_child-clause-pool : goal.returns-else-put_child-clause-pool
-returns-else-put_child-clause-pool g c = λ full.
-    (put_full (site c.requires.pending c.requires.within g.row.N (c.args.half.key, c.args.half.node)) c.index-self-up.result (omega arith) c.put_child.ensures c.if-put_child.false).1
+pub returns-else-put_child : goal.returns-else-put_child
+returns-else-put_child g c = let full = put_full (site c.requires.pending c.requires.within g.row.N (c.args.half.key, c.args.half.node)) c.index-self-up.result (omega arith) c.put_child.ensures c.if-put_child.false in
+    record { grown = search rules; full = λ none. full.0; pool = λ none. full.1; path = search rules; size = search rules }
