@@ -2,6 +2,7 @@
 pub mod Grow
 pub mod Halving
 pub mod Level
+pub mod Kinds
 pub mod Nodes
 pub mod HalvingNode
 pub mod LeafSpot

@@ -3,10 +3,10 @@ use Rattle.std.specs.Prelude.{◌≡◌, ◌≢◌, ℕ, zero, suc, ◌+◌, ◌
 use Rattle.std.specs.List.{flat_map}
 use Rattle.bforest_nodes.specs.Content.{Content}
 use Rattle.bforest_core.specs.Table.{Table}
-use Rattle.bforest_core.specs.Levels.{LevelNode, node, flat, head_of, heads, sizes, numbers, FitRow, Stacked, Topped, Tree, IsFit, half_of, sizes_of}
+use Rattle.bforest_core.specs.Levels.{LevelNode, node, flat, heads, sizes, numbers, FitRow, Stacked, Topped, Tree, IsFit, half_of, sizes_of}
 use Rattle.bforest_core.specs.Sizes.{gain_above, inner_gain, leaf_gain, growth, need, need_above}
 use Rattle.bforest_core.specs.Descent.{SameAbove}
-use Rattle.bforest_core.specs.Place.{RowIn, RowsIn, IsIn, leaf_content, inner_content, count, Distinct, root_of, numbers_of, IsAt, StandsAbove, Stands, PlacedAt}
+use Rattle.bforest_core.specs.Place.{RowIn, RowsIn, IsIn, leaf_content, inner_content, count, Distinct, numbers_of, IsAt, StandsAbove, PlacedAt}
 
 -- the two paths agree below a level
 abbrev pub SameBelow : ℕ → List ℕ → List ℕ → Type 0

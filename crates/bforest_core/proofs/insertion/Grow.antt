@@ -1,36 +1,7 @@
 -- A row with one more entry: where its node has room, and where it is split.
 use Rattle.bforest_core.proofs.Words.{◌≡◌, ◌⊎◌, ◌/◌, ℕ, suc, ◌+◌, ◌-◌, ◌≤◌, ◌<◌, nat_lt, if◌then◌else◌, Bool, true, false, Option, Some, None, List, [], ◌∷◌}
-use Rattle.bforest_core.proofs.Words.{◌++◌, length, refl, sym, ap, ◌∙◌, inl, inr, append_assoc, length-append, arith, Row, append-nil, node, flat, head_of}
-use Rattle.bforest_core.proofs.{Words.{heads, sizes, FitRow, inner_gain, past, leaf_gain, IsAt, le-leb, le-ltb, lt-leb, lt-ltb}, rows.LevelRows.flat-append}
-use Rattle.bforest_core.proofs.rows.LevelRows.{sizes-append, least-le, FitRow-split, FitRow-join, heads-append}
-
--- a list with one more element is not shorter
-pub one_more : {A : Type 0} (a : List A) (x y : A) (b : List A) → length (a ++ x ∷ b) ≤ length (a ++ x ∷ y ∷ b)
-one_more a x y b = omega (arith, length-append a (x ∷ b), length-append a (x ∷ y ∷ b))
-
-module _ {K X : Type 0} where
-  -- a node's head depends on its first entry alone
-  pub head-grown : (n : ℕ) (l : List (K × X)) (x r s : _) → head_of n (l ++ x ∷ r) ≡ head_of n (l ++ x ∷ s)
-  head-grown n [] x r s = refl
-  head-grown n (z ∷ l) x r s = refl
-
-  -- a row fits after an insertion into a node with room
-  pub FitRow-put : (half most : ℕ) (before after : Row K X) (m es fs : _) → length fs ≡ suc (length es) → length es < most → FitRow half most (before ++ node m es ∷ after) → FitRow half most (before ++ node m fs ∷ after)
-  FitRow-put half most before after m es fs more lt f =
-      let s = FitRow-split half most before (node m es) after f in FitRow-join half most before (node m fs) after s.0 (omega arith, omega arith, s.1.2)
-
-  -- splitting a node keeps the entries of the row
-  pub flat-halved : (before after : Row K X) (m n xs ys : _) → flat (before ++ node m xs ∷ node n ys ∷ after) ≡ flat before ++ ((xs ++ ys) ++ flat after)
-  flat-halved before after m n xs ys = flat-append before _ ∙ ap (λ z. flat before ++ z) (sym (append_assoc xs ys (flat after)))
-
-  -- a split node has two heads in the level above
-  pub heads-halved : (before after : Row K X) (m n : ℕ) (x : K × X) (xs : List (K × X)) (y : K × X) (ys : List (K × X)) (key : K) → key ≡ y.0 → heads (before ++ node m (x ∷ xs) ∷ node n (y ∷ ys) ∷ after) ≡ heads before ++ (x.0, m) ∷ (key, n) ∷ heads after
-  heads-halved before after m n x xs y ys key is = rw (heads-append _ _, is) refl
-
-  pub FitRow-halved : (half most : ℕ) (before after : Row K X) (m n es xs ys : _) → 1 ≤ half → FitRow half most (before ++ node m es ∷ after) → half ≤ length xs
-      → length xs ≤ most → half ≤ length ys → length ys ≤ most → FitRow half most (before ++ node m xs ∷ node n ys ∷ after)
-  FitRow-halved half most before after m n es xs ys one f hx mx hy my = let s = FitRow-split half most before (node m es) after f in
-      FitRow-join half most before (node m xs) (node n ys ∷ after) s.0 (hx, mx, (omega (arith, least-le half one after), my, s.1.2))
+use Rattle.bforest_core.proofs.Words.{◌++◌, length, refl, sym, ap, ◌∙◌, inl, inr, append_assoc, length-append, arith, Row, append-nil, node, flat}
+use Rattle.bforest_core.proofs.{Words.{heads, sizes, inner_gain, past, leaf_gain, IsAt, le-leb, le-ltb, lt-leb, lt-ltb}, rows.LevelRows.flat-append}
 
 module _ {K X : Type 0} where
   -- where a path stands in a row of which one node was split: in the left half or in the right one
@@ -77,10 +48,6 @@ module _ {K X : Type 0} where
 
   gain_behind : (before : Row K X) (e rest : _) → inner_gain (length (flat before) + e) (sizes before ++ rest) ≡ behind before (inner_gain e rest)
   gain_behind before e rest = change_behind inner_gain 0 (λ s p after high. (let a = le-ltb p s (omega arith) in rw a refl)) before e rest (inr (omega arith))
-
-  -- the gain of an insertion depends on the nodes before only through their number
-  pub gain_spot : (before : Row K X) (n es l after : _) → inner_gain (length (flat before ++ l)) (sizes (before ++ node n es ∷ after)) ≡ inner_gain (length (flat before) + length l) (sizes before ++ length es ∷ sizes after)
-  gain_spot before n es l after = rw (length-append _ l, sizes-append _ _) refl
 
   -- the sizes of a level after an insertion into a node with room
   pub gain_room : (before : Row K X) (s e after : _) → e < s → s < 8 → inner_gain (length (flat before) + e) (sizes before ++ s ∷ after) ≡ (None, sizes before ++ suc s ∷ after)

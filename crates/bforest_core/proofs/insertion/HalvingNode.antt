@@ -1,12 +1,63 @@
 -- Inserting a child into the path's inner node, or splitting the node and inserting it into one half.
-use Rattle.bforest_core.proofs.Words.{◌≡◌, ◌≢◌, ℕ, suc, ◌+◌, ◌-◌, ◌≤◌, ◌<◌, if◌then◌else◌, Bool, true, false, List, [], ◌∷◌, ◌++◌, length, refl, sym, ap, ◌∙◌}
-use Rattle.bforest_core.proofs.Words.{append_assoc, length-append, arith, Row, node, flat, head_of, heads, sizes, Table, map, get_or, set, get_or-set_same}
-use Rattle.bforest_core.proofs.Words.{get_or-set_other, front_of, IsUsed, IsFullAt, IsSplitAt, Inner, inner_gain, need_above, GrownBy, HalvedBy, OneAbove, PutsChild}
-use Rattle.bforest_core.proofs.{Words.{le-ltb, lt-ltb, add-one}, insertion.Grow.{gain_full, gain_room, gain_spot, head-grown}, rows.Zipper.{Spot, spot}}
-use Rattle.bforest_core.proofs.insertion.Level.{grown, need_some, next_asks, next_takes}
-use Rattle.bforest_core.proofs.insertion.Nodes.{Inserting, Moves, full_is, inner_kind, put_raises}
-use Rattle.bforest_core.proofs.{Words.{Some, gain_above, get_or_default}, removal.Lifted.{heads-put, place_at, rows_above}, rows.LevelRows.Solid-full}
-use Rattle.bforest_nodes.specs.declared.node.SplitOff.{SplitOff}
+use Rattle.bforest_core.proofs.Words.{◌≡◌, ℕ, suc, ◌+◌, ◌-◌, ◌≤◌, ◌<◌, if◌then◌else◌, Bool, true, List, [], ◌∷◌, ◌++◌, length, refl, sym, ap, ◌∙◌}
+use Rattle.bforest_core.proofs.Words.{append_assoc, length-append, arith, Row, node, flat, heads, sizes, Table, map, get_or}
+use Rattle.bforest_core.proofs.Words.{IsFullAt, inner_gain, need_above, GrownBy, HalvedBy, OneAbove, PutsChild}
+use Rattle.bforest_core.proofs.{insertion.Grow.{gain_full, gain_room}, rows.Zipper.{Spot, spot}, table.Tables.{Takes, absent_ne, count-same}}
+use Rattle.bforest_core.proofs.insertion.{Level.{draws-apart, need_some, next_asks, next_takes, step_is, step_most}, Kinds.{Inserting, Moves, inner_kind}}
+use Rattle.bforest_core.proofs.{Words.{Heads, Rows, Above, Grown, Raised, Inner, inner_content, set, get_or-set_same, get_or-set_other}, insertion.Nodes.{full_is, put_raises}}
+use Rattle.bforest_core.proofs.{Words.{Some, gain_above, get_or_default}, Words.count, removal.Lifted.{head-other, heads-put, place_at, rows_above}, rows.LevelRows.{Solid-full, sizes-append}}
+
+-- a split of the root takes a node for the new root too
+pub need_top : {K : Type 0} (p : ℕ) (rows : Rows K) → length rows ≡ 0 → need_above (Some p) (map sizes rows) ≡ 2
+need_top p [] none = refl
+need_top p (row ∷ rows) none = absurd (omega arith)
+
+module _ {K V : Type 0} where
+  -- a level above the leaves with the rows above it
+  pub grown : {t v : Table K V} {ms js ms' js' up size size' rows row rest hs q list p taken : _} (was : ℕ) → Above t ms js up size rows hs q → rows ≡ row ∷ rest →
+      Raised inner_content 4 8 t v ms js ms' js' up size size' row rest list p (gain_above (Some was) (map sizes (row ∷ rest))) taken → Grown t v ms js ms' js' up size size' rows list p (gain_above (Some was) (map sizes rows)) taken
+  grown was ab is g = rw is (record {
+    rows' = g.row' ∷ g.rows';
+    above = record {
+      stacked = (g.flat_is, g.fit, g.above.stacked); inside = (g.inside, g.above.inside); stands = (g.at, g.above.stands);
+      height = omega (arith, g.above.height); apart = draws-apart g.draws (rw is at ab.apart);
+    };
+    topped = λ old le top. (omega (arith, top.0), g.topped top.1); sizes_are = g.sizes_are; draws = g.draws; climbs = g.climbs;
+  })
+
+  -- splitting the root adds a new root
+  pub settle_root : {t u : Table K V} {ms js : List ℕ} {size root : ℕ} (index : ℕ) (rows : Rows K) (a : Heads K) (x : K × ℕ) (b : Heads K) (y : K × ℕ) (moved : Bool) →
+      Above t ms js size size rows (a ++ x ∷ b) (length a) → Takes t u root (Inner (y.0 ∷ []) (x.1 ∷ y.1 ∷ [])) → size < length ms → size < length js → index ≡ (if moved then 1 else 0) →
+      (taken : List ℕ) × ((suc (length taken) ≡ need_above (Some (length a)) (map sizes rows))
+      × Grown t u ms js (set ms size root) (set js size index) size size (size + 1) rows (a ++ x ∷ y ∷ b) (if moved then suc (length a) else length a) (gain_above (Some (length a)) (map sizes rows)) taken)
+  settle_root index (row ∷ rows) a x b y moved p w low_m low_j is = absurd (omega arith)
+  settle_root index [] (z ∷ a) x b y moved p w low_m low_j is = absurd (omega arith)
+  settle_root index [] [] x (z ∷ b) y moved p w low_m low_j is = absurd (omega arith)
+  settle_root {ms = ms} {js} {size} {root} index [] [] x [] y moved p w low_m low_j is =
+      let m_is = get_or-set_same ms size root 0 low_m in let j_is = get_or-set_same js size index 0 low_j in
+      (root ∷ [], (refl, record {
+        rows' = (node root (x ∷ y ∷ []) ∷ []) ∷ [];
+        above = record {
+          stacked = (refl, (omega arith, omega arith, tt), refl);
+          inside = ((w.here, tt), tt);
+          stands = (record { before = []; entries = x ∷ y ∷ []; after = []; row_is = rw m_is refl; within = omega (arith, j_is, is, step_is moved 0, step_most moved); place_is = omega (arith, j_is, is) }, refl);
+          height = omega arith;
+          apart = λ m. omega (arith, p.apart m, ap (λ z. count m z) w.chain_is);
+        };
+        topped = λ old le top. (omega arith, tt);
+        sizes_are = refl;
+        draws = record {
+          numbers_are = λ m. omega arith;
+          others = λ m z. w.same m (absent_ne m root [] (omega arith));
+          chain_is = w.chain_is; slots_are = w.slots_are; limit_is = w.limit_is; memory_is = w.memory_is;
+        };
+        climbs = record {
+          nodes_below = λ i low. get_or-set_other ms size i root 0 (λ e. omega arith);
+          entries_below = λ i low. get_or-set_other js size i index 0 (λ e. omega arith);
+          same_top = λ same. absurd (omega arith);
+          new_top = λ other. (let top : size + 1 - 1 ≡ size = omega arith in rw (top, m_is) (omega (arith, count-same root [])));
+        };
+      }))
 
 module _ {K V : Type 0} {t : Table K V} {ms js up size : _} (w : OneAbove t ms js up size) (within : up < size) (cap : ℕ) where
   open w use {rows, before as a, x, after as b, above as p}
@@ -27,14 +78,14 @@ module _ {K V : Type 0} {t : Table K V} {ms js up size : _} (w : OneAbove t ms j
 
   -- the node where the child is inserted
   pub site : (y : K × ℕ) → Inserting (inner_kind cap) t ms js up size row rest (a ++ x ∷ y ∷ b) (length a) (inner_gain (length a) (sizes row)) y
-  site y = let q = d.q in let es = l ++ x ∷ r in let hs = heads-put before n es (l ++ x ∷ y ∷ r) after (head-grown n l x r (y ∷ r)) in
-      let gain = ap (λ z. inner_gain (length z) (sizes row)) q.a_is ∙ gain_spot before n es l after in
+  site y = let q = d.q in let es = l ++ x ∷ r in let hs = heads-put before n es (l ++ x ∷ y ∷ r) after (head-other n l x.0 x.1 x.1 r (y ∷ r)) in
+      let row_is = sizes-append before (node n es ∷ after) in
       let low : length l < length es = omega (arith, length-append l (x ∷ r)) in
       record {
         before = before; es = es; l = l ++ x ∷ []; r = r; after = after; rest = rest; es_is = sym (append_assoc l (x ∷ []) r);
         index_is = omega (arith, length-append l (x ∷ []), q.entry_is); place_is = place_at d;
-        room_gain = λ room. gain ∙ gain_room before (length es) (length l) (sizes after) low room;
-        full_gain = λ full. rw (← q.entry_is, Solid-full 4 8 (omega arith) before f.solid) (gain ∙ gain_full before (length es) (length l) (sizes after) low full);
+        room_gain = λ room. cc (q.a_is, length-append (flat before) l, row_is, gain_room before (length es) (length l) (sizes after) low room);
+        full_gain = λ full. cc (q.a_is, q.entry_is, length-append (flat before) l, row_is, Solid-full 4 8 (omega arith) before f.solid, gain_full before (length es) (length l) (sizes after) low full);
         grow = rw (append_assoc l (x ∷ []) (y ∷ r)) (record {
           half_some = omega arith; more = omega (arith, length-append l (x ∷ y ∷ r), length-append l (x ∷ r)); row_is = refl;
           list_is = ap (λ z. flat before ++ z) (append_assoc l (x ∷ y ∷ r) (flat after)) ∙ sym (append_assoc (flat before) l _) ∙ sym (cc (q.a_is, q.b_is));

@@ -1,7 +1,7 @@
 -- The effect of an insertion into the tree under a root on the table, where nodes were reserved for it.
-use Rattle.bforest_core.proofs.Words.{drop-append_seam, ◌≡◌, ℕ, suc, ◌-◌, ◌^◌, ◌≤◌, ◌<◌, ◌≢◌, ◌↔◌, IsTrue, Option, Some, None, List, [], ◌∷◌, ◌++◌, drop, map}
+use Rattle.bforest_core.proofs.Words.{drop-append_seam, ◌≡◌, ℕ, ◌-◌, ◌^◌, ◌≤◌, ◌<◌, ◌≢◌, ◌↔◌, IsTrue, Option, Some, None, List, [], ◌∷◌, ◌++◌, drop, map}
 use Rattle.bforest_core.proofs.Words.{length, insert, slice_get, sym, ap, ◌∙◌, subst, inl, inr, length-append, arith, Heads, Row, Rows, flat_map, cases_lt}
-use Rattle.bforest_core.proofs.Words.{eqb_tells, length-map, Table, fresh_nodes, front_of, free_count, slot_count, room, reserved, IsFullAt, node, flat}
+use Rattle.bforest_core.proofs.Words.{eqb_tells, length-map, Table, fresh_nodes, front_of, free_count, slot_count, room, reserved, IsFullAt, node}
 use Rattle.bforest_core.proofs.Words.{IsFit, heads, sizes, numbers, Stacked, Topped, Tree, sizes_of, leaf_gain, gain_above, growth, need, Stands, count, root_of}
 use Rattle.bforest_core.proofs.Words.{numbers_of, top_of, Placed, Inserted, GrowsFor, tree_of, is_root, IsUnion, Changes, TakesNodes, PlacedUnder, StandsUnder}
 use Rattle.bforest_core.proofs.{Words.{InsertsHere, list_under, Ok, Path, Placing, refl, place}, union.Reserved.{reserved-union, reserved-roots, reserved-then}}

@@ -1,5 +1,5 @@
 -- Putting a value in at a key of the leaf in which a search for the key ends: the answers of `put_in_leaf`.
-use Rattle.bforest_core.proofs.Words.{◌≡◌, ℕ, suc, ◌<◌, ◌↔◌, IsTrue, Option, Some, None, List, ◌∷◌, ◌++◌, map, length, insert, slice_get, sym, ap, ◌∙◌, subst}
+use Rattle.bforest_core.proofs.Words.{◌≡◌, ℕ, suc, ◌<◌, ◌↔◌, IsTrue, Option, Some, None, List, map, length, insert, slice_get, sym, ap, ◌∙◌, subst}
 use Rattle.bforest_core.proofs.Words.{Table, IsFullAt, flat, sizes, sizes_of, gain_above, growth, Placed, tree_of, IsUnion, Changes, PlacedUnder, StandsUnder}
 use Rattle.bforest_core.proofs.Words.{Ok, refl, put_answer, with_put, search_of-keys_of, value_for-absent, value_for-present, Bool, Result, Err, get_or, set}
 use Rattle.bforest_core.proofs.Words.{nat_lt, if◌then◌else◌, true, false, length-set, EndsIn, PutsInLeaf, IsUsed, entry_count, entry_keys, is_present}

@@ -1,11 +1,11 @@
 -- A level whose node gained an entry or was split, for leaves and inner nodes alike, and what the levels above do to it.
 use Rattle.bforest_core.proofs.Words.{◌≡◌, ℕ, suc, ◌+◌, ◌-◌, ◌≤◌, ◌<◌, ◌≢◌, if◌then◌else◌, Bool, true, false, Option, Some, None, List, [], ◌∷◌, ◌++◌, length, refl}
-use Rattle.bforest_core.proofs.Words.{sym, ap, ◌∙◌, arith, length-map, length-append, append_assoc, get_or, slice_get, map, flat_map, Heads, Row, Rows, node, flat}
-use Rattle.bforest_core.proofs.Words.{heads, head_of, sizes, numbers, FitRow, Stacked, Topped, Content, Table, Inner, RowIn, IsAt, Distinct, count, top_of, Above}
-use Rattle.bforest_core.proofs.Words.{gain_above, need_above, inner_content, OneAbove, Grown, GrownBy, Halved, Raised, Draws, add-one, set, get_or-set_same, get_or-set_other}
-use Rattle.bforest_core.proofs.{insertion.Grow.{InHalf, FitRow-halved, FitRow-put, flat-halved, heads-halved, one_more}, insertion.Halving.Halves}
-use Rattle.bforest_core.proofs.{table.Tables.{Puts, Takes, count-append, count-row, count-same, counts, ne_from_count, absent_ne, row-changed, row-put, row-same}}
-use Rattle.bforest_core.proofs.{table.Tables.rows-same, rows.LevelRows.{flat-append, sizes-append, heads-append, FitRow-split, Solid-full}}
+use Rattle.bforest_core.proofs.Words.{sym, ap, ◌∙◌, append_assoc, arith, length-append, length-map, get_or, slice_get, map, flat_map, Row, Rows, node, flat}
+use Rattle.bforest_core.proofs.Words.{heads, head_of, sizes, numbers, FitRow, Topped, Content, Table, RowIn, Distinct, count, Above}
+use Rattle.bforest_core.proofs.Words.{gain_above, need_above, OneAbove, Grown, GrownBy, Halved, Raised, Draws, add-one}
+use Rattle.bforest_core.proofs.{insertion.Grow.InHalf, insertion.Halving.Halves}
+use Rattle.bforest_core.proofs.{table.Tables.{Puts, count-append, count-row, count-same, counts, ne_from_count, absent_ne, row-changed, row-put, row-same}}
+use Rattle.bforest_core.proofs.{table.Tables.rows-same, rows.LevelRows.{flat-append, sizes-append, heads-append, least-le, FitRow-join, FitRow-split, Solid-full}}
 use Rattle.bforest_core.proofs.rows.Zipper.{apart_here, stands-same}
 
 -- 1 where the path moved on, else 0
@@ -20,11 +20,6 @@ pub step_most : (moved : Bool) → step moved ≤ 1
 step_most true = omega arith
 step_most false = omega arith
 
--- a split of the root takes a node for the new root too
-pub need_top : {K : Type 0} (p : ℕ) (rows : Rows K) → length rows ≡ 0 → need_above (Some p) (map sizes rows) ≡ 2
-need_top p [] none = refl
-need_top p (row ∷ rows) none = absurd (omega arith)
-
 -- a split takes at least one node, and leaves a level above the split one
 pub need_some : (p levels : _) → 1 ≤ need_above (Some p) levels
 need_some p [] = omega arith
@@ -36,7 +31,7 @@ gain_some p (level ∷ levels) = omega arith
 
 module _ {K V : Type 0} where
   -- the numbers are on the chain or in one node, as before
-  draws-apart : {t u : Table K V} {was are taken : _} → Draws t u was are taken → Distinct (was ++ t.chain) → Distinct (are ++ u.chain)
+  pub draws-apart : {t u : Table K V} {was are taken : _} → Draws t u was are taken → Distinct (was ++ t.chain) → Distinct (are ++ u.chain)
   draws-apart {t} {u} {was} {are} {taken} d apart m =
       omega (arith, apart m, d.numbers_are m, count-append m was t.chain, count-append m are u.chain, ap (λ z. count m z) d.chain_is, count-append m taken u.chain)
 
@@ -94,7 +89,7 @@ module _ {K V X : Type 0} {content : List (K × X) → Content K V} {half most :
       Raised content half most t u ms js ms js' up size size row rows list p (gain.1 ∷ gain_above gain.0 (map sizes rows)) []
   put_level {u} js' gain_is room s far within place = let c = λ (m : ℕ). counts m before n es after rest t.chain in record {
     row' = before ++ node n fs ∷ after; rows' = rest; flat_is = flat-append before _ ∙ w.list_is;
-    fit = FitRow-put half most before after n es fs w.more room w.fit;
+    fit = let f = FitRow-split half most before (node n es) after w.fit in FitRow-join half most before (node n fs) after f.0 (omega (arith, w.more, f.1.0), omega (arith, w.more), f.1.2);
     inside = row-put content t.nodes u.nodes before n es fs after w.inside s.same s.here alone.0;
     at = record { before = before; entries = fs; after = after; row_is = refl; within = within; place_is = place };
     above = rw seen at (above-moved u ms js' (λ m some. s.same m (ne_from_count m n _ some alone.1)) (λ m. omega (arith, w.apart m, c m, ap (λ z. count m z) s.chain_is, count-append m (flat_map numbers rest) u.chain)) (λ i other. refl) far w.above);
@@ -117,13 +112,13 @@ module _ {K V X : Type 0} {content : List (K × X) → Content K V} {half most :
       let here = count-same n (numbers after) in let there = count-same right u.chain in
       let hs : heads (before ++ node n fs ∷ after) ≡ heads before ++ (h.z.0, n) ∷ heads after = heads-append before _ ∙ ap (λ z. heads before ++ (head_of n z ++ heads after)) h.grown_is in
       let c2 = λ (m : ℕ). counts m before n (h.z ∷ h.xs) (node right (h.y ∷ h.ys) ∷ after) rest u.chain in
-      let none = alone in
+      let none = alone in let f = FitRow-split half most before (node n es) after w.fit in
       let none_right : count right (numbers before) + count right (numbers after) ≡ 0 = omega (arith, w.apart right, c right, c4 right) in
       let none_above : count right (flat_map numbers rest) ≡ 0 = omega (arith, w.apart right, c right, c4 right) in
       record {
         before = before; after = after; rest = rest; first = h.z; lefts = h.xs; next = h.y; rights = h.ys; key_is = h.middle_is;
-        flat_is = flat-halved before after n right (h.z ∷ h.xs) (h.y ∷ h.ys) ∙ ap (λ z. flat before ++ (z ++ flat after)) (sym h.grown_is) ∙ w.list_is;
-        fit = FitRow-halved half most before after n right es (h.z ∷ h.xs) (h.y ∷ h.ys) w.half_some w.fit (omega arith) (omega arith) (omega arith) (omega arith);
+        flat_is = cc (flat-append before (node n (h.z ∷ h.xs) ∷ node right (h.y ∷ h.ys) ∷ after), append_assoc (h.z ∷ h.xs) (h.y ∷ h.ys) (flat after), w.list_is);
+        fit = FitRow-join half most before (node n (h.z ∷ h.xs)) (node right (h.y ∷ h.ys) ∷ after) f.0 (omega arith, omega arith, (omega (arith, least-le half w.half_some after), omega arith, f.1.2));
         inside = row-changed content t.nodes u.nodes before (node n es ∷ []) (node n (h.z ∷ h.xs) ∷ node right (h.y ∷ h.ys) ∷ []) after n right w.inside h.two.same (h.two.here, (h.two.there, tt)) none.0 none_right;
         above = rw hs at (above-moved u ms' js' (λ m some. h.two.same m (ne_from_count m n _ some none.1) (ne_from_count m right _ some none_above))
             (λ m. omega (arith, w.apart m, c m, c4 m, count-append m (flat_map numbers rest) u.chain)) far_m far_j w.above);
@@ -154,13 +149,13 @@ module _ {K V X : Type 0} {content : List (K × X) → Content K V} {half most :
       Grown u v ms' js' ms'' js'' (up + 1) size2 size' rest (heads before ++ (first.0, node_was) ∷ (key, right) ∷ heads after) (if moved then suc (length (heads before)) else length (heads before)) (gain_above (Some (length (heads before))) (map sizes rest)) taken →
       Raised content half most t v ms js ms'' js'' up size size' row rows list p (gain.1 ∷ gain_above gain.0 (map sizes rows)) (right ∷ taken)
   rise {v} {ms''} {js''} {size'} {taken} size2 size2_is after_up = let g = rw (add-one, size2_is) at after_up in
-      let hs = heads-halved before after node_was right first lefts next rights key h.key_is in let here_m = g.nodes_below up (omega arith) in let here_j = g.entries_below up (omega arith) in
+      let hs : heads halves ≡ heads before ++ (first.0, node_was) ∷ (key, right) ∷ heads after = rw (heads-append before _, h.key_is) refl in let here_m = g.nodes_below up (omega arith) in let here_j = g.entries_below up (omega arith) in
       let above = rw (← hs, ← h.at_is) at g.above in
       record {
         row' = halves; rows' = g.rows'; flat_is = h.flat_is; fit = h.fit;
         inside = row-same content u.nodes v.nodes halves (λ m some. g.others m (omega (arith, h.apart m, count-append m (numbers halves ++ flat_map numbers rest) u.chain, count-append m (numbers halves) (flat_map numbers rest), ap (λ z. count m z) g.chain_is, count-append m taken v.chain))) h.inside;
         at = record { before = h.at.before; entries = h.at.entries; after = h.at.after; row_is = rw here_m h.at.row_is; within = rw here_j h.at.within; place_is = rw here_j h.at.place_is };
-        above = above; topped = λ top. rw hs (g.topped _ (one_more _ _ _ _) (h.topped top)); sizes_are = cc;
+        above = above; topped = λ top. rw hs (g.topped _ (omega (arith, length-append {A = K × ℕ})) (h.topped top)); sizes_are = cc;
         draws = draws-then (numbers halves) (flat_map numbers rest) h.draws g.draws;
         climbs = record {
           nodes_below = λ i low. g.nodes_below i (omega arith) ∙ h.nodes_below i low;
@@ -188,50 +183,3 @@ module _ {K V X : Type 0} {content : List (K × X) → Content K V} {half most :
     pub next_takes : {v : Table K V} {ms'' js'' : List ℕ} {size' : ℕ} → ((w : OneAbove u ms' js' (up + 1) size2) → w.x.1 ≡ left → (taken : List ℕ) × GrownBy w (key, right) moved v ms'' js'' size' taken) →
         (taken : List ℕ) × (length taken ≡ need_above gain.0 (map sizes rows)) × Raised content half most t v ms js ms'' js'' up size size' row rows list p (gain.1 ∷ gain_above gain.0 (map sizes rows)) taken
     next_takes takes = let g = takes up_next (sym left_is) in (right ∷ g.0, g.1.0 ∙ sym (above_gain need_above), rise size2 size2_is g.1.1)
-
-module _ {K V : Type 0} where
-  -- a level above the leaves with the rows above it
-  pub grown : {t v : Table K V} {ms js ms' js' up size size' rows row rest hs q list p taken : _} (was : ℕ) → Above t ms js up size rows hs q → rows ≡ row ∷ rest →
-      Raised inner_content 4 8 t v ms js ms' js' up size size' row rest list p (gain_above (Some was) (map sizes (row ∷ rest))) taken → Grown t v ms js ms' js' up size size' rows list p (gain_above (Some was) (map sizes rows)) taken
-  grown was ab is g = rw is (record {
-    rows' = g.row' ∷ g.rows';
-    above = record {
-      stacked = (g.flat_is, g.fit, g.above.stacked); inside = (g.inside, g.above.inside); stands = (g.at, g.above.stands);
-      height = omega (arith, g.above.height); apart = draws-apart g.draws (rw is at ab.apart);
-    };
-    topped = λ old le top. (omega (arith, top.0), g.topped top.1); sizes_are = g.sizes_are; draws = g.draws; climbs = g.climbs;
-  })
-
-  -- splitting the root adds a new root
-  pub settle_root : {t u : Table K V} {ms js : List ℕ} {size root : ℕ} (index : ℕ) (rows : Rows K) (a : Heads K) (x : K × ℕ) (b : Heads K) (y : K × ℕ) (moved : Bool) →
-      Above t ms js size size rows (a ++ x ∷ b) (length a) → Takes t u root (Inner (y.0 ∷ []) (x.1 ∷ y.1 ∷ [])) → size < length ms → size < length js → index ≡ (if moved then 1 else 0) →
-      (taken : List ℕ) × ((suc (length taken) ≡ need_above (Some (length a)) (map sizes rows))
-      × Grown t u ms js (set ms size root) (set js size index) size size (size + 1) rows (a ++ x ∷ y ∷ b) (if moved then suc (length a) else length a) (gain_above (Some (length a)) (map sizes rows)) taken)
-  settle_root index (row ∷ rows) a x b y moved p w low_m low_j is = absurd (omega arith)
-  settle_root index [] (z ∷ a) x b y moved p w low_m low_j is = absurd (omega arith)
-  settle_root index [] [] x (z ∷ b) y moved p w low_m low_j is = absurd (omega arith)
-  settle_root {ms = ms} {js} {size} {root} index [] [] x [] y moved p w low_m low_j is =
-      let m_is = get_or-set_same ms size root 0 low_m in let j_is = get_or-set_same js size index 0 low_j in
-      (root ∷ [], (refl, record {
-        rows' = (node root (x ∷ y ∷ []) ∷ []) ∷ [];
-        above = record {
-          stacked = (refl, (omega arith, omega arith, tt), refl);
-          inside = ((w.here, tt), tt);
-          stands = (record { before = []; entries = x ∷ y ∷ []; after = []; row_is = rw m_is refl; within = omega (arith, j_is, is, step_is moved 0, step_most moved); place_is = omega (arith, j_is, is) }, refl);
-          height = omega arith;
-          apart = λ m. omega (arith, p.apart m, ap (λ z. count m z) w.chain_is);
-        };
-        topped = λ old le top. (omega arith, tt);
-        sizes_are = refl;
-        draws = record {
-          numbers_are = λ m. omega arith;
-          others = λ m z. w.same m (absent_ne m root [] (omega arith));
-          chain_is = w.chain_is; slots_are = w.slots_are; limit_is = w.limit_is; memory_is = w.memory_is;
-        };
-        climbs = record {
-          nodes_below = λ i low. get_or-set_other ms size i root 0 (λ e. omega arith);
-          entries_below = λ i low. get_or-set_other js size i index 0 (λ e. omega arith);
-          same_top = λ same. absurd (omega arith);
-          new_top = λ other. (let top : size + 1 - 1 ≡ size = omega arith in rw (top, m_is) (omega (arith, count-same root [])));
-        };
-      }))

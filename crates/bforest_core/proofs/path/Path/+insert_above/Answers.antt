@@ -1,5 +1,5 @@
 use Rattle.bforest_core.proofs.{Words.{rules, ◌<◌, [], map, length, ap, arith, sizes, ◌∙◌, ◌≡◌}, insertion.HalvingNode.{room_then, node_asks, node_takes}}
-use Rattle.bforest_core.proofs.insertion.Level.{gain_some, need_top}
+use Rattle.bforest_core.proofs.insertion.{HalvingNode.need_top, Level.gain_some}
 use Rattle.bforest_core.proofs.path.Path.+insert_above.Goals as goal
 
 pub push_root-requires : goal.push_root-requires

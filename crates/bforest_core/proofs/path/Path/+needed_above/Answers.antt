@@ -1,4 +1,4 @@
-use Rattle.bforest_core.proofs.{Words.{rules, arith, sym}, insertion.{HalvingNode.{needs_one, site}, Level.need_top, Nodes.{full_needs, not_free, over, room_needs, slot_within}}}
+use Rattle.bforest_core.proofs.{Words.{rules, arith, sym}, insertion.{HalvingNode.{need_top, needs_one, site}, Nodes.{full_needs, not_free, over, room_needs, slot_within}}}
 use Rattle.bforest_core.proofs.path.Path.+needed_above.Goals as goal
 
 pub node-requires : goal.node-requires
