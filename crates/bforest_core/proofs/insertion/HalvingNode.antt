@@ -38,23 +38,18 @@ module _ {K V : Type 0} where
       (root ∷ [], (refl, record {
         rows' = (node root (x ∷ y ∷ []) ∷ []) ∷ [];
         above = record {
-          stacked = (refl, (omega arith, omega arith, tt), refl);
-          inside = ((w.here, tt), tt);
+          stacked = (refl, (omega arith, omega arith, tt), refl); inside = ((w.here, tt), tt);
           stands = (record { before = []; entries = x ∷ y ∷ []; after = []; row_is = rw m_is refl; within = omega (arith, j_is, is, step_is moved 0, step_most moved); place_is = omega (arith, j_is, is) }, refl);
-          height = omega arith;
-          apart = λ m. omega (arith, p.apart m, ap (λ z. count m z) w.chain_is);
+          height = omega arith; apart = λ m. omega (arith, p.apart m, ap (λ z. count m z) w.chain_is);
         };
-        topped = λ old le top. (omega arith, tt);
-        sizes_are = refl;
+        topped = λ old le top. (omega arith, tt); sizes_are = refl;
         draws = record {
-          numbers_are = λ m. omega arith;
-          others = λ m z. w.same m (absent_ne m root [] (omega arith));
+          numbers_are = λ m. omega arith; others = λ m z. w.same m (absent_ne m root [] (omega arith));
           chain_is = w.chain_is; slots_are = w.slots_are; limit_is = w.limit_is; memory_is = w.memory_is;
         };
         climbs = record {
           nodes_below = λ i low. get_or-set_other ms size i root 0 (λ e. omega arith);
-          entries_below = λ i low. get_or-set_other js size i index 0 (λ e. omega arith);
-          same_top = λ same. absurd (omega arith);
+          entries_below = λ i low. get_or-set_other js size i index 0 (λ e. omega arith); same_top = λ same. absurd (omega arith);
           new_top = λ other. (let top : size + 1 - 1 ≡ size = omega arith in rw (top, m_is) (omega (arith, count-same root [])));
         };
       }))

@@ -81,18 +81,11 @@ module _ {K V : Type 0} where
       let levels : length (growth most place (sizes_of tree)) ≡ size' = omega (arith, ap length i.sizes_are, length-map i.rows' sizes, i.above.height) in
       let root_is = root-stands fit stands in
       record {
-        some = omega (arith, i.above.height);
-        low = low;
-        enough = enough;
+        some = omega (arith, i.above.height); low = low; enough = enough;
         changes = rw (← root_is) (record {
-          union = e.union;
-          root_is = e.root_is;
-          list_is = simp (e.tree_is, i.flat_is);
-          sizes_are = ap sizes_of e.tree_is ∙ i.sizes_are;
-          others = reserved-then most old n memory new root (root_of tree') union e.others;
-          old_gone = e.old_gone;
-          new_came = λ ne was. e.new_came ne ((reserved-roots most old n memory union (root_of tree')).0 ∙ was);
-          limit_is = i.limit_is;
+          union = e.union; root_is = e.root_is; list_is = simp (e.tree_is, i.flat_is); sizes_are = ap sizes_of e.tree_is ∙ i.sizes_are;
+          others = reserved-then most old n memory new root (root_of tree') union e.others; old_gone = e.old_gone;
+          new_came = λ ne was. e.new_came ne ((reserved-roots most old n memory union (root_of tree')).0 ∙ was); limit_is = i.limit_is;
         });
         takes = record {
           slots = omega (arith, i.slots_are, length-append old.nodes (fresh_nodes (slot_count old) (n - free_count old) (front_of old.chain)), length-fresh_nodes K V (slot_count old) (n - free_count old) (front_of old.chain));

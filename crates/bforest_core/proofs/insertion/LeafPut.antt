@@ -69,10 +69,8 @@ module _ {K V : Type 0} {cmp : K → K → Ordering} (most : ℕ) {table : Table
         let never = λ (is : answer ≡ Ok None). valued _ here (let same = sym said ∙ is in cc) in
         record {
           ok = rw said (sym e.value_is); slots = cc (after, length-set _ _ _); chain = cc (after); memory = cc (after); written = λ old is. changes;
-          inserted = λ is. absurd (never is); takes = λ is. absurd (never is);
-          room = λ is. absurd (never is); levels = λ is. absurd (never is);
-          full = λ index is. absurd cc; placed = λ index is. absurd cc;
-          refused = λ index is. absurd cc;
+          inserted = λ is. absurd (never is); takes = λ is. absurd (never is); room = λ is. absurd (never is); levels = λ is. absurd (never is);
+          full = λ index is. absurd cc; placed = λ index is. absurd cc; refused = λ index is. absurd cc;
         }
 
     module _ (none : is_present cmp es key ≡ false) where
@@ -108,8 +106,7 @@ module _ {K V : Type 0} {cmp : K → K → Ordering} (most : ℕ) {table : Table
             memory = cc; written = λ old is. absurd cc;
             inserted = λ is. subst (λ z. Changes most table new root z (insert list at (key, value)) (growth most at (sizes_of tree))) (put.same_root.1 levels) put.changes;
             takes = λ is. put.takes; room = λ is. ap (λ z. need_above z (map sizes tree.above)) inserts.0; levels = λ is. levels;
-            full = λ index is. absurd cc; placed = λ index is. absurd cc;
-            refused = λ index is. absurd cc;
+            full = λ index is. absurd cc; placed = λ index is. absurd cc; refused = λ index is. absurd cc;
           }
 
       -- where the leaf is full, nothing changes
@@ -117,8 +114,7 @@ module _ {K V : Type 0} {cmp : K → K → Ordering} (most : ℕ) {table : Table
       refuses past = let err = said ∙ ap (λ b. if b then Ok None else Err (place cmp es key)) past in
           let same : new ≡ table = (put_full (site (is_placed none) (key, value)) 0 (omega (arith, e.wide)) put_says past).1 in
           record {
-            ok = rw err tt; slots = cc; chain = cc; memory = cc; written = λ old is. absurd cc;
-            inserted = λ is. absurd cc; takes = λ is. absurd cc;
+            ok = rw err tt; slots = cc; chain = cc; memory = cc; written = λ old is. absurd cc; inserted = λ is. absurd cc; takes = λ is. absurd cc;
             room = λ is. absurd cc; levels = λ is. absurd cc; full = λ index is. gone;
             placed = λ index is. subst (λ z. PlacedUnder table.nodes root path (set indices 0 z) size at) (let eq = sym err ∙ is in cc) (placed none);
             refused = λ index is. same;

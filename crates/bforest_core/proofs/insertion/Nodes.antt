@@ -7,7 +7,7 @@ use Rattle.bforest_core.proofs.Words.{front_of, IsUsed, IsFullAt, IsSplitAt, Put
 use Rattle.bforest_core.proofs.{insertion.Halving.{Split, counted, split_at, into_left, into_right}, insertion.Level.{alone, halved, put_level, seen}}
 use Rattle.bforest_core.proofs.{Words.{IsTrue, OneAbove, need_above, slice_get_within, ◌↔◌, add-one}, removal.Asked.some_first, removal.Lifted.headed}
 use Rattle.bforest_core.proofs.{Words.{IsLeafCapacity, count}, rows.LevelRows.FitRow-split}
-use Rattle.bforest_core.proofs.{insertion.Grow.{in_left, in_right}, table.Tables.{is_used, puts, row-split}, table.Lists.set-kept}
+use Rattle.bforest_core.proofs.{insertion.Grow.in_right, table.Tables.{is_used, puts, row-split}, table.Lists.set-kept}
 use Rattle.bforest_core.proofs.table.Stored.{some_same}
 use Rattle.bforest_core.proofs.insertion.Kinds.{Inserting, Kind, Moves, PutAsks}
 use Rattle.bforest_nodes.specs.declared.node.SplitOff.{SplitOff}
@@ -132,7 +132,7 @@ module _ {K V X : Type 0} {k : Kind K V X} {t : Table K V} {ms js up size row ro
             (put_in k left_cut.zs num_is left_cut.two.here said (omega (arith, left_cut.count_is, early.2, grow.half_some))) in
             halved grow ms js' false (w.full_gain full_is ∙ ap (λ z. (Some (length (heads before)), sizes before ++ z)) (early.3 (sizes after) ∙ ap (λ z. suc q ∷ (z - q) ∷ sizes after) (sym full_is)))
             (omega (arith, early.1), omega (arith, early.2, grow.half_some), omega (arith, early.2, full_is), omega (arith, full_is)) h (λ i other. refl) m.far
-            (in_left _ _ _ _ _ _ _ _ (seen grow) (omega (arith, h.left_is, early.0)) (omega (arith, w.place_is)))
+            (record { before = before; entries = h.z ∷ h.xs; after = node right (h.y ∷ h.ys) ∷ after; row_is = refl; within = omega (arith, h.left_is, early.0); place_is = omega (arith, w.place_is) }, sym (seen grow))
 
       -- the entry goes into the right half
       module _ (more : k.mid ≤ e) where
