@@ -9,6 +9,10 @@ module _ {K X : Type 0} where
   InHalf before n right xs ys after m j p moved =
       (at : IsAt (before ++ node n xs ∷ node right ys ∷ after) m j p) × (length at.before ≡ (if moved then suc (length (heads before)) else length (heads before)))
 
+  pub in_left : (before after n right xs ys : _) {j p : ℕ} → length (heads before) ≡ length before → j < length xs → p ≡ length (flat before) + j →
+      InHalf before n right xs ys after n j p false
+  in_left before after n right xs ys seen low place = (record { before = before; entries = xs; after = node right ys ∷ after; row_is = refl; within = low; place_is = place }, sym seen)
+
   pub in_right : (before after n right xs ys m j p : _) → length (heads before) ≡ length before → m ≡ right → j < length ys → p ≡ length (flat before) + (length xs + j) → InHalf before n right xs ys after m j p true
   in_right before after n right xs ys m j p seen here within place = let front = before ++ node n xs ∷ [] in
       let flat_front : length (flat front) ≡ length (flat before) + length xs = ap length (flat-append before (node n xs ∷ [])) ∙ length-append _ _ ∙ ap (λ z. length (flat before) + length z) (append-nil xs) in (

@@ -11,9 +11,11 @@ between [] q (z ∷ l) r e low = absurd (omega arith)
 between (y ∷ p) q (z ∷ l) r e low = let t : p ++ q ≡ l ++ r = cc in let w = between p q l r t (omega arith) in (w.0, cc, w.2)
 
 -- the first key of the right half, with the new entry
-middle_key : {K X : Type 0} (right : ℕ) (mid : List (K × X)) (entry : K × X) (r : List (K × X)) (y : K × X) (ys : List (K × X)) (first : K) → y ∷ ys ≡ mid ++ r → (length mid ≡ 0 → first ≡ entry.0) → (0 < length mid → first ≡ y.0) → head_of right (mid ++ entry ∷ r) ≡ (first, right) ∷ []
+middle_key : {K X : Type 0} (right : ℕ) (mid : List (K × X)) (entry : K × X) (r : List (K × X)) (y : K × X) (ys : List (K × X)) (first : K) →
+    y ∷ ys ≡ mid ++ r → (length mid ≡ 0 → first ≡ entry.0) → (0 < length mid → first ≡ y.0) → head_of right (mid ++ entry ∷ r) ≡ (first, right) ∷ []
 middle_key right [] entry r y ys first q_is zero more = cc (zero refl)
-middle_key right (m ∷ mid) entry r y ys first q_is zero more = ap (λ v. (v, right) ∷ []) (sym (more (omega arith) ∙ (let same : y ≡ m = cc in ap (λ v. v.0) same)))
+middle_key right (m ∷ mid) entry r y ys first q_is zero more = ap (λ v. (v, right) ∷ [])
+    (sym (more (omega arith) ∙ (let same : y ≡ m = cc in ap (λ v. v.0) same)))
 
 module _ {K V X : Type 0} (content : List (K × X) → Content K V) where
   -- two nodes in slots, the right one in what was the front of the chain
@@ -53,7 +55,8 @@ module _ {K V X : Type 0} (content : List (K × X) → Content K V) where
   abbrev pub Cuts : ℕ → Type 0
   Cuts q = (zs y ys left right key : _) → length zs ≡ q → IsCut (content (zs ++ y ∷ ys)) q left key right → Parts content zs y ys left right key
 
-  module _ {cap : ℕ} {t s : Table K V} {number : ℕ} (n : ℕ) {e : ℕ} (num_is : number ≡ n) (es : List (K × X)) {parts : SplitOff K} (was : slice_get t.nodes n ≡ Some (content es)) (split : IsSplitAt cap t number e parts s) where
+  module _ {cap : ℕ} {t s : Table K V} {number : ℕ} (n : ℕ) {e : ℕ} (num_is : number ≡ n) (es : List (K × X)) {parts : SplitOff K}
+      (was : slice_get t.nodes n ≡ Some (content es)) (split : IsSplitAt cap t number e parts s) where
     sp : IsSplitAt cap t n e parts s
     sp = rw num_is at split
 
@@ -65,26 +68,46 @@ module _ {K V X : Type 0} (content : List (K × X) → Content K V) where
     counted = cc (sp.counted, whole_is)
 
     -- `split_node` leaves the node split over two slots
-    pub split_at : (right : ℕ) → Cuts parts.lhs_entries → parts.lhs_entries < length es → count n t.chain ≡ 0 → front_of t.chain ≡ Some right → right < length s.nodes → Split t s n right parts.lhs_entries es parts.crit_key
+    pub split_at : (right : ℕ) → Cuts parts.lhs_entries → parts.lhs_entries < length es → count n t.chain ≡ 0 → front_of t.chain ≡ Some right →
+        right < length s.nodes → Split t s n right parts.lhs_entries es parts.crit_key
     split_at right cuts less none front low = let c = cut es parts.lhs_entries less in
-        let p = cuts c.l c.x c.r sp.left_half_is sp.right_half_is parts.crit_key c.place_is (subst (λ v. IsCut v parts.lhs_entries sp.left_half_is parts.crit_key sp.right_half_is) (cc (whole_is)) sp.cut) in
+        let p = cuts c.l c.x c.r sp.left_half_is sp.right_half_is parts.crit_key c.place_is
+        (subst (λ v. IsCut v parts.lhs_entries sp.left_half_is parts.crit_key sp.right_half_is) (cc (whole_is)) sp.cut) in
         let mid = with_front t t.chain sp.right_half_is in let size = ap (λ v. length v.nodes) sp.after ∙ length-set _ n _ ∙ length-with_front t _ _ in
         let w = takes t mid right sp.right_half_is front refl (omega arith) in
         let ne : n ≢ right = λ v. let h = ap (λ k. count k t.chain) v in omega (arith, ap (λ k. count right k) w.chain_is, count-same right mid.chain) in
         let put = puts _ s n _ _ (w.same n ne ∙ was) sp.after in
         record {
-          zs = c.l; y = c.x; ys = c.r; es_is = c.es_is; count_is = c.place_is; key_is = p.key_is;
+          zs = c.l;
+          y = c.x;
+          ys = c.r;
+          es_is = c.es_is;
+          count_is = c.place_is;
+          key_is = p.key_is;
           two = record {
-            ne = ne; here = cc; there = cc (put.same right (λ e. ne (sym e))); same = λ m a b. put.same m a ∙ w.same m b; chain_is = cc; slots_are = cc;
-            limit_is = cc; memory_is = cc;
+            ne = ne;
+            here = cc;
+            there = cc (put.same right (λ e. ne (sym e)));
+            same = λ m a b. put.same m a ∙ w.same m b;
+            chain_is = cc;
+            slots_are = cc;
+            limit_is = cc;
+            memory_is = cc;
           };
         }
 
   module _ {t s : _} (u : Table K V) {n right lefts rights : _} (w : Two t s n right lefts rights) where
     -- one of the two nodes was written
-    two_put : {m c : _} (xs ys : _) → Puts s u m c → slice_get u.nodes n ≡ Some (content xs) → slice_get u.nodes right ≡ Some (content ys) → ((k : ℕ) → k ≢ n → k ≢ right → k ≢ m) → Two t u n right xs ys
+    two_put : {m c : _} (xs ys : _) → Puts s u m c → slice_get u.nodes n ≡ Some (content xs) → slice_get u.nodes right ≡ Some (content ys) →
+        ((k : ℕ) → k ≢ n → k ≢ right → k ≢ m) → Two t u n right xs ys
     two_put xs ys put here there apart = record {
-      ne = w.ne; here = here; there = there; same = λ k a b. put.same k (apart k a b) ∙ w.same k a b; chain_is = cc; slots_are = cc; limit_is = cc;
+      ne = w.ne;
+      here = here;
+      there = there;
+      same = λ k a b. put.same k (apart k a b) ∙ w.same k a b;
+      chain_is = cc;
+      slots_are = cc;
+      limit_is = cc;
       memory_is = cc;
     }
 
@@ -97,13 +120,16 @@ module _ {K V X : Type 0} (content : List (K × X) → Content K V) where
   two_halves {right} middle grown (z ∷ xs) (y ∷ ys) left_count right_count is left_is right_is some head w =
       record { z = z; xs = xs; y = y; ys = ys; grown_is = is; left_is = left_is; right_is = right_is; middle_is = (let same : ◌≡◌ {A = K × ℕ} (y.0, right) (middle, right) = cc in ap (λ v. v.0) (sym same)); two = w }
 
-  module _ {t s : _} (u : Table K V) {n right q es : _} {middle : K} (sp : Split t s n right q es middle) (write : Content K V → Content K V) (l : List (K × X)) (new : K × X) (r : List (K × X)) where
+  module _ {t s : _} (u : Table K V) {n right q es : _} {middle : K} (sp : Split t s n right q es middle) (write : Content K V → Content K V) (l : List (K × X))
+      (new : K × X) (r : List (K × X)) where
     -- the entry was inserted into the left half
-    pub into_left : es ≡ l ++ r → length l ≤ q → ((mid : _) → write (content (l ++ mid)) ≡ content (l ++ new ∷ mid)) → u ≡ with_node s n (write (content sp.zs)) →
+    pub into_left : es ≡ l ++ r → length l ≤ q → ((mid : _) → write (content (l ++ mid)) ≡ content (l ++ new ∷ mid)) →
+        u ≡ with_node s n (write (content sp.zs)) →
         Halves t u n right middle (l ++ new ∷ r) (suc q) (length es - q)
     into_left es_is low wrote after =
         let w = between sp.zs (sp.y ∷ sp.ys) l r (sym sp.es_is ∙ es_is) (omega (arith, sp.count_is)) in let put = puts s u n _ _ sp.two.here (cc (wrote w.0)) in
-        two_halves _ _ _ _ _ _ (cc (append_assoc l (new ∷ w.0) (sp.y ∷ sp.ys))) (omega (arith, length-append l (new ∷ w.0), length-append l w.0, ap length w.1, sp.count_is))
+        two_halves _ _ _ _ _ _ (cc (append_assoc l (new ∷ w.0) (sp.y ∷ sp.ys)))
+        (omega (arith, length-append l (new ∷ w.0), length-append l w.0, ap length w.1, sp.count_is))
         (omega (arith, ap length sp.es_is, length-append sp.zs (sp.y ∷ sp.ys), sp.count_is)) (omega arith) (ap (λ v. (v, right) ∷ []) (sym sp.key_is))
         (two_put u sp.two (l ++ new ∷ w.0) (sp.y ∷ sp.ys) put put.here (put.same right (λ v. sp.two.ne (sym v)) ∙ sp.two.there) (λ k a b. a))
 
@@ -117,5 +143,6 @@ module _ {K V X : Type 0} (content : List (K × X) → Content K V) where
         let put = puts s u _ _ _ sp.two.there (cc (wrote w.0 mid_is)) in
         two_halves _ _ _ _ _ _ (cc (append_assoc sp.zs w.0 (new ∷ r))) sp.count_is
         (omega (arith, length-append w.0 (new ∷ r), length-append w.0 r, ap length w.2, ap length sp.es_is, length-append sp.zs (sp.y ∷ sp.ys), sp.count_is))
-        (omega (arith, some)) (middle_key right w.0 new r sp.y sp.ys first w.2 (λ none. zero (omega (arith, none))) (λ few. more (omega (arith, few)) ∙ sp.key_is))
+        (omega (arith, some)) (middle_key right w.0 new r sp.y sp.ys first w.2 (λ none. zero (omega (arith, none)))
+        (λ few. more (omega (arith, few)) ∙ sp.key_is))
         (two_put u sp.two sp.zs (w.0 ++ new ∷ r) put (put.same n sp.two.ne ∙ sp.two.here) put.here (λ k a b. b))

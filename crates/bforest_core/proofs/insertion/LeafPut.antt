@@ -68,9 +68,18 @@ module _ {K V : Type 0} {cmp : K → K → Ordering} (most : ℕ) {table : Table
         let changes = subst (λ z. Changes most table z root root (with_value list at value) (sizes_of (tree_of table.nodes root))) (cc (after)) (value-written union (stands here) value).0 in
         let never = λ (is : answer ≡ Ok None). valued _ here (let same = sym said ∙ is in cc) in
         record {
-          ok = rw said (sym e.value_is); slots = cc (after, length-set _ _ _); chain = cc (after); memory = cc (after); written = λ old is. changes;
-          inserted = λ is. absurd (never is); takes = λ is. absurd (never is); room = λ is. absurd (never is); levels = λ is. absurd (never is);
-          full = λ index is. absurd cc; placed = λ index is. absurd cc; refused = λ index is. absurd cc;
+          ok = rw said (sym e.value_is);
+          slots = cc (after, length-set _ _ _);
+          chain = cc (after);
+          memory = cc (after);
+          written = λ old is. changes;
+          inserted = λ is. absurd (never is);
+          takes = λ is. absurd (never is);
+          room = λ is. absurd (never is);
+          levels = λ is. absurd (never is);
+          full = λ index is. absurd cc;
+          placed = λ index is. absurd cc;
+          refused = λ index is. absurd cc;
         }
 
     module _ (none : is_present cmp es key ≡ false) where
@@ -102,11 +111,18 @@ module _ {K V : Type 0} {cmp : K → K → Ordering} (most : ℕ) {table : Table
           let put = put-here union (placed none) inserts.1 in
           let put_is = after ∙ ap (λ b. with_node table leaf (if b then with_entry (leaf_content es) (place cmp es key) key value else leaf_content es)) fits in
           record {
-            ok = rw ok (sym gone); slots = simp (put_is, length-set table.nodes leaf (with_entry (leaf_content es) (place cmp es key) key value)); chain = cc;
-            memory = cc; written = λ old is. absurd cc;
+            ok = rw ok (sym gone);
+            slots = simp (put_is, length-set table.nodes leaf (with_entry (leaf_content es) (place cmp es key) key value));
+            chain = cc;
+            memory = cc;
+            written = λ old is. absurd cc;
             inserted = λ is. subst (λ z. Changes most table new root z (insert list at (key, value)) (growth most at (sizes_of tree))) (put.same_root.1 levels) put.changes;
-            takes = λ is. put.takes; room = λ is. ap (λ z. need_above z (map sizes tree.above)) inserts.0; levels = λ is. levels;
-            full = λ index is. absurd cc; placed = λ index is. absurd cc; refused = λ index is. absurd cc;
+            takes = λ is. put.takes;
+            room = λ is. ap (λ z. need_above z (map sizes tree.above)) inserts.0;
+            levels = λ is. levels;
+            full = λ index is. absurd cc;
+            placed = λ index is. absurd cc;
+            refused = λ index is. absurd cc;
           }
 
       -- where the leaf is full, nothing changes
@@ -114,8 +130,16 @@ module _ {K V : Type 0} {cmp : K → K → Ordering} (most : ℕ) {table : Table
       refuses past = let err = said ∙ ap (λ b. if b then Ok None else Err (place cmp es key)) past in
           let same : new ≡ table = (put_full (site (is_placed none) (key, value)) 0 (omega (arith, e.wide)) put_says past).1 in
           record {
-            ok = rw err tt; slots = cc; chain = cc; memory = cc; written = λ old is. absurd cc; inserted = λ is. absurd cc; takes = λ is. absurd cc;
-            room = λ is. absurd cc; levels = λ is. absurd cc; full = λ index is. gone;
+            ok = rw err tt;
+            slots = cc;
+            chain = cc;
+            memory = cc;
+            written = λ old is. absurd cc;
+            inserted = λ is. absurd cc;
+            takes = λ is. absurd cc;
+            room = λ is. absurd cc;
+            levels = λ is. absurd cc;
+            full = λ index is. gone;
             placed = λ index is. subst (λ z. PlacedUnder table.nodes root path (set indices 0 z) size at) (let eq = sym err ∙ is in cc) (placed none);
             refused = λ index is. same;
           }

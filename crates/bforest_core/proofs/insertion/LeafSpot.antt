@@ -9,7 +9,8 @@ use Rattle.bforest_core.proofs.removal.{Asked.some_first, Collapse.{heads-flat, 
 
 module _ {K V : Type 0} {t : Table K V} {path indices : List ℕ} {size : ℕ} where
   -- the rows above a level, under another first key of its first node
-  first_rekeyed : (count up : ℕ) (rows : Rows K) (a : Heads K) (x : K × ℕ) (b : Heads K) (key : K) → length rows ≡ count → length a ≡ 0 → Above t path indices up size rows (a ++ x ∷ b) (length a) →
+  first_rekeyed : (count up : ℕ) (rows : Rows K) (a : Heads K) (x : K × ℕ) (b : Heads K) (key : K) → length rows ≡ count → length a ≡ 0 →
+      Above t path indices up size rows (a ++ x ∷ b) (length a) →
       Rekeyed t t path indices up size rows (a ++ (key, x.1) ∷ b) (length a)
   first_rekeyed zero up rows a x b key none front p =
       rebuilt_same (above_top rows (a ++ (key, x.1) ∷ b) (omega (arith, p.height)) (omega (arith, length-append a (x ∷ b), length-append a ((key, x.1) ∷ b))) p)
@@ -20,8 +21,10 @@ module _ {K V : Type 0} {t : Table K V} {path indices : List ℕ} {size : ℕ} w
       (omega (arith, heads-flat q.before, ap length q.a_is, length-append (flat q.before) q.l)) (rw (heads-append q.before _, l_is) at (rows_above d)))
 
   -- the rows over the leaves after an insertion into one, at the front of the first leaf only
-  renewed : (rows : Rows K) (before : Row K V) (n : ℕ) (l : List (K × V)) (entry : K × V) (r : List (K × V)) (after : Row K V) → (before ≡ []) ⊎ (1 ≤ length l) → 1 ≤ length (l ++ r) →
-      Above t path indices 1 size rows (heads (before ++ node n (l ++ r) ∷ after)) (length (heads before)) → Rekeyed t t path indices 1 size rows (heads (before ++ node n (l ++ entry ∷ r) ∷ after)) (length (heads before))
+  renewed : (rows : Rows K) (before : Row K V) (n : ℕ) (l : List (K × V)) (entry : K × V) (r : List (K × V)) (after : Row K V) →
+      (before ≡ []) ⊎ (1 ≤ length l) → 1 ≤ length (l ++ r) →
+      Above t path indices 1 size rows (heads (before ++ node n (l ++ r) ∷ after)) (length (heads before)) →
+      Rekeyed t t path indices 1 size rows (heads (before ++ node n (l ++ entry ∷ r) ∷ after)) (length (heads before))
   renewed rows before n (x ∷ l) entry r after at some p = rebuilt_same (rw (heads-put before n (x ∷ (l ++ r)) (x ∷ (l ++ entry ∷ r)) after refl) at p)
   renewed rows (z ∷ before) n [] entry r after (inl none) some p = absurd cc
   renewed rows [] n [] entry [] after (inl none) some p = absurd (omega arith)
@@ -54,7 +57,8 @@ module _ {K V : Type 0} where
     pub first : (before ≡ []) ⊎ (1 ≤ length l)
 
   pub leaf_spot : {most t ms js size tree place : _} → Placed most t ms js size tree place → LeafSpot most t ms js tree place
-  leaf_spot {js = js} p = let at = p.at.points in let c = cut_leaf at.before at.entries at.after p.fit p.inside p.apart at.leaves_are at.within at.place_is at.above in
+  leaf_spot {js = js} p = let at = p.at.points in let c =
+      cut_leaf at.before at.entries at.after p.fit p.inside p.apart at.leaves_are at.within at.place_is at.above in
       record { l = take (get_or js 0 0) at.entries; r = drop (get_or js 0 0) at.entries; cut = c; first = elim (cases_lt 0 (get_or js 0 0)) [ inl lt ↦ inr (omega (arith, c.index_is)) | inr ge ↦ inl (p.at.first (omega arith)) ] }
 
   module _ {most : ℕ} {t : Table K V} {ms js size tree place : _} (p : Placed most t ms js size tree place) where
@@ -77,14 +81,18 @@ module _ {K V : Type 0} where
 
     -- the sizes of the leaves where the leaf has room, and where it is full
     room_gain : length (l ++ r) < most → leaf_gain most place (sizes tree.leaves) ≡ (None, sizes before ++ suc (length (l ++ r)) ∷ sizes after)
-    room_gain room = cc (d.leaves_are, d.place_is, sizes-append before (node n (l ++ r) ∷ after), leaf_room most before (length (l ++ r)) (length l) (sizes after) (omega (arith, length-append l r)) d.first room)
+    room_gain room =
+        cc (d.leaves_are, d.place_is, sizes-append before (node n (l ++ r) ∷ after), leaf_room most before (length (l ++ r)) (length l) (sizes after) (omega (arith, length-append l r)) d.first room)
 
-    full_gain : length (l ++ r) ≡ most → leaf_gain most place (sizes tree.leaves) ≡ (Some (length (heads before)), sizes before ++ half_of most ∷ half_of most ∷ sizes after)
-    full_gain full = cc (seen, d.leaves_are, d.place_is, sizes-append before (node n (l ++ r) ∷ after), leaf_full most before (length (l ++ r)) (length l) (sizes after) (omega (arith, length-append l r)) d.first full)
+    full_gain : length (l ++ r) ≡ most → leaf_gain most place (sizes tree.leaves) ≡
+        (Some (length (heads before)), sizes before ++ half_of most ∷ half_of most ∷ sizes after)
+    full_gain full =
+        cc (seen, d.leaves_are, d.place_is, sizes-append before (node n (l ++ r) ∷ after), leaf_full most before (length (l ++ r)) (length l) (sizes after) (omega (arith, length-append l r)) d.first full)
 
     -- the rows above the leaf
     above : Above t ms js 1 size tree.above (heads (before ++ node n (l ++ r) ∷ after)) (length (heads before))
-    above = record { stacked = d.fit.stacked; inside = p.inside.rows_in; stands = rw seen d.stands; height = omega (arith, p.at.points.size_is); apart = λ m. omega (arith, d.apart m, count-append) }
+    above = let size_is = p.at.points.size_is in
+        record { stacked = d.fit.stacked; inside = p.inside.rows_in; stands = rw seen d.stands; height = omega arith; apart = λ m. omega (arith, d.apart m, count-append) }
 
     -- the leaf has an entry
     some : 1 ≤ length (l ++ r)
@@ -94,25 +102,42 @@ module _ {K V : Type 0} where
     one_entry = (some_first (l ++ r) some).0
 
     -- the leaf where the entry is inserted
-    pub site : (entry : K × V) → Inserting (leaf_kind most) t ms js 0 size tree.leaves tree.above (insert (flat tree.leaves) place entry) place (leaf_gain most place (sizes tree.leaves)) entry
+    pub site : (entry : K × V) → Inserting (leaf_kind most) t ms js 0 size tree.leaves tree.above (insert (flat tree.leaves) place entry) place
+        (leaf_gain most place (sizes tree.leaves)) entry
     site entry =
         let new : 1 ≤ length (l ++ entry ∷ r) = omega (arith, length-append l (entry ∷ r)) in
         let up = renewed tree.above before n l entry r after d.first some above in
         record {
-          before = before; es = l ++ r; l = l; r = r; after = after; rest = up.rows'; es_is = refl; index_is = omega (arith, d.index_is);
-          place_is = omega (arith, d.place_is, d.index_is); room_gain = room_gain; full_gain = full_gain;
+          before = before;
+          es = l ++ r;
+          l = l;
+          r = r;
+          after = after;
+          rest = up.rows';
+          es_is = refl;
+          index_is = omega (arith, d.index_is);
+          place_is = omega (arith, d.place_is, d.index_is);
+          room_gain = room_gain;
+          full_gain = full_gain;
           grow = record {
-            half_some = half; more = omega (arith, length-append l (entry ∷ r), length-append l r); row_is = d.leaves_are;
-            list_is = sym (insert_flat before n l r after entry) ∙ sym (cc (d.leaves_are, d.place_is)); inside = d.inside; fit = d.fit.leaves_fit;
-            apart = λ m. omega (arith, d.apart m, up.numbers_are m, counts m before n (l ++ r) after up.rows' t.chain, counts m before n (l ++ r) after tree.above t.chain);
+            half_some = half;
+            more = omega (arith, length-append l (entry ∷ r), length-append l r);
+            row_is = d.leaves_are;
+            list_is = sym (insert_flat before n l r after entry) ∙ sym (cc (d.leaves_are, d.place_is));
+            inside = d.inside;
+            fit = d.fit.leaves_fit;
+            apart = λ m. (let c = λ (rows : Rows K). counts m before n (l ++ r) after rows t.chain in omega (arith, d.apart m, up.numbers_are m, c up.rows', c tree.above));
             above = up.above;
-            topped = λ top. topped-sizes _ _ _ _ d.fit.stacked up.above.stacked (as_many_heads before n (l ++ r) (l ++ entry ∷ r) after some new) up.sizes_are d.fit.topped;
-            sizes_above = up.sizes_are; numbers_above = λ m. omega (arith, up.numbers_are m);
+            topped = λ top. topped-sizes _ _ _ _ d.fit.stacked up.above.stacked
+                (as_many_heads before n (l ++ r) (l ++ entry ∷ r) after some new) up.sizes_are d.fit.topped;
+            sizes_above = up.sizes_are;
+            numbers_above = λ m. omega (arith, up.numbers_are m);
           };
         }
 
     -- a successful insertion leaves the tree with the entry inserted
-    pub put_inserts : {u : Table K V} {key : K} {value : V} {put : Bool} (i : ℕ) → 0 < length ms → PutsEntry most t u (get_or ms 0 i) e key value put → put ≡ true →
+    pub put_inserts : {u : Table K V} {key : K} {value : V} {put : Bool} (i : ℕ) → 0 < length ms → PutsEntry most t u (get_or ms 0 i) e key value put →
+        put ≡ true →
         ((leaf_gain most place (sizes tree.leaves)).0 ≡ None) × Inserted most t u ms js ms js size size tree place (key, value)
     put_inserts {key = key} {value} i low said done = let g = put_raises (site (key, value)) i low said done here in
         (g.0, record { taken = []; taken_is = sym (ap (λ z. need_above z (map sizes tree.above)) g.0); raised = g.1 })

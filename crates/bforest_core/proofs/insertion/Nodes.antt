@@ -7,7 +7,7 @@ use Rattle.bforest_core.proofs.Words.{front_of, IsUsed, IsFullAt, IsSplitAt, Put
 use Rattle.bforest_core.proofs.{insertion.Halving.{Split, counted, split_at, into_left, into_right}, insertion.Level.{alone, halved, put_level, seen}}
 use Rattle.bforest_core.proofs.{Words.{IsTrue, OneAbove, need_above, slice_get_within, ◌↔◌, add-one}, removal.Asked.some_first, removal.Lifted.headed}
 use Rattle.bforest_core.proofs.{Words.{IsLeafCapacity, count}, rows.LevelRows.FitRow-split}
-use Rattle.bforest_core.proofs.{insertion.Grow.in_right, table.Tables.{is_used, puts, row-split}, table.Lists.set-kept}
+use Rattle.bforest_core.proofs.{insertion.Grow.{in_left, in_right}, table.Tables.{is_used, puts, row-split}, table.Lists.set-kept}
 use Rattle.bforest_core.proofs.table.Stored.{some_same}
 use Rattle.bforest_core.proofs.insertion.Kinds.{Inserting, Kind, Moves, PutAsks}
 use Rattle.bforest_nodes.specs.declared.node.SplitOff.{SplitOff}
@@ -17,7 +17,8 @@ module _ {K V X : Type 0} (k : Kind K V X) {t : Table K V} {n : ℕ} (es : List 
   asks : {number : ℕ} → number ≡ n → slice_get t.nodes n ≡ Some (k.content es) → IsUsed t n → (e : ℕ) → e + k.behind ≤ length es → PutAsks k.stored t number e
   asks here found used e within = rw here (used, (k.keys es, entry_items es, found ∙ ap Some (k.content_is es), k.low es e within))
 
-  module _ {u : Table K V} {number e : ℕ} {y : K × X} {put : Bool} (here : number ≡ n) (found : slice_get t.nodes n ≡ Some (k.content es)) (said : PutsIn k.stored k.size k.most (k.write e y) t u number put) where
+  module _ {u : Table K V} {number e : ℕ} {y : K × X} {put : Bool} (here : number ≡ n) (found : slice_get t.nodes n ≡ Some (k.content es))
+      (said : PutsIn k.stored k.size k.most (k.write e y) t u number put) where
     slot_is : slice_get t.nodes number ≡ Some (k.stored (k.keys es) (entry_items es))
     slot_is = cc (here, k.content_is es)
 
@@ -29,9 +30,11 @@ module _ {K V X : Type 0} (k : Kind K V X) {t : Table K V} {n : ℕ} (es : List 
 
     -- a failed insertion had no room and changes nothing
     put_past : put ≡ false → (¬ (length es < k.most)) × (u ≡ t)
-    put_past none = (λ fewer. false≢true (sym none ∙ (said.room _ _ slot_is).1 (rw (k.size_is es) fewer)), (rw none at (said.node _ _ slot_is)) ∙ ap (λ z. record t { nodes = z }) (set-kept _ _ _ slot_is))
+    put_past none =
+        (λ fewer. false≢true (sym none ∙ (said.room _ _ slot_is).1 (rw (k.size_is es) fewer)), (rw none at (said.node _ _ slot_is)) ∙ ap (λ z. record t { nodes = z }) (set-kept _ _ _ slot_is))
 
-module _ {K V X : Type 0} {k : Kind K V X} {t : Table K V} {ms js up size row rows list place gain y : _} (w : Inserting k t ms js up size row rows list place gain y) (i : ℕ) (low : up < length ms) where
+module _ {K V X : Type 0} {k : Kind K V X} {t : Table K V} {ms js up size row rows list place gain y : _}
+    (w : Inserting k t ms js up size row rows list place gain y) (i : ℕ) (low : up < length ms) where
   open w use {before, l, r, after, rest, es, grow}
 
   abbrev num : ℕ
@@ -79,7 +82,8 @@ module _ {K V X : Type 0} {k : Kind K V X} {t : Table K V} {ms js up size row ro
       tells : IsTrue full ↔ (length es ≡ k.most)
       tells = rw (content_is, (k.used es).1, (k.used es).2) at says
 
-      pub full_needs : full ≡ true → {more : ℕ} → ((v : OneAbove t ms js (up + 1) size) → more ≡ need_above (Some (length v.before)) (map sizes v.rows)) → more ≡ need_above gain.0 (map sizes rows)
+      pub full_needs : full ≡ true → {more : ℕ} → ((v : OneAbove t ms js (up + 1) size) → more ≡ need_above (Some (length v.before)) (map sizes v.rows)) →
+          more ≡ need_above gain.0 (map sizes rows)
       full_needs so says_more = says_more over ∙ sym (cc (w.full_gain (tells.0 so), grow.sizes_above))
 
       pub room_needs : full ≡ false → need_above gain.0 (map sizes rows) ≡ 0
@@ -91,11 +95,13 @@ module _ {K V X : Type 0} {k : Kind K V X} {t : Table K V} {ms js up size row ro
     pub put_raises : put ≡ true → {js' : List ℕ} {p : ℕ} → Moves js js' up k.behind e place p →
         (gain.0 ≡ None) × Raised k.content k.half k.most t u ms js ms js' up size size row rows list p (gain.1 ∷ gain_above gain.0 (map sizes rows)) []
     put_raises done {js'} m = let fewer = room k es num_is found said done in let gain_is = w.room_gain fewer in
-        (ap (λ z. z.0) gain_is, put_level grow js' gain_is fewer (puts t u num _ _ found (put_in k es num_is found said fewer ∙ cc (k.writes l r e y w.index_is))) m.far (omega (arith, w.index_is, length-append l (y ∷ r))) (omega (arith, w.place_is)))
+        let s = puts t u num _ _ found (put_in k es num_is found said fewer ∙ cc (k.writes l r e y w.index_is)) in
+        (ap (λ z. z.0) gain_is, put_level grow js' gain_is fewer s m.far (omega (arith, w.index_is, length-append l (y ∷ r))) (omega (arith, w.place_is)))
 
     -- a failed insertion means that the node is full, and changes nothing
     pub put_full : put ≡ false → IsFullAt k.cap t.nodes num × (u ≡ t)
-    put_full none = let past = put_past k es num_is found said none in let used = k.used es in let most_is = (FitRow-split k.half k.most before (node num es) after grow.fit).1.1 in
+    put_full none = let past = put_past k es num_is found said none in let used = k.used es in
+        let most_is = (FitRow-split k.half k.most before (node num es) after grow.fit).1.1 in
         (rw found (used.0, omega (arith, used.1, used.2, past.0)), past.1)
 
   module _ (s : Table K V) (full : IsFullAt k.cap t.nodes num) where
@@ -106,7 +112,8 @@ module _ {K V X : Type 0} {k : Kind K V X} {t : Table K V} {ms js up size row ro
     pub full_is : length es ≡ k.most
     full_is = let used = k.used es in let w = rw found at full in omega (arith, used.1, used.2, w.1)
 
-    module _ {right : ℕ} {parts : SplitOff K} (front : front_of t.chain ≡ Some right) (right_used : IsUsed s right) (split : IsSplitAt k.cap t read e parts s) (capacity : IsLeafCapacity k.cap) where
+    module _ {right : ℕ} {parts : SplitOff K} (front : front_of t.chain ≡ Some right) (right_used : IsUsed s right) (split : IsSplitAt k.cap t read e parts s)
+        (capacity : IsLeafCapacity k.cap) where
       abbrev q : ℕ
       q = parts.lhs_entries
 
@@ -115,7 +122,8 @@ module _ {K V X : Type 0} {k : Kind K V X} {t : Table K V} {ms js up size row ro
       left_count = counted k.content num num_is es found split ∙ k.left_is es e
 
       cut : k.behind ≤ k.left e → k.left e < k.most → Split k.content t s num right q es parts.crit_key
-      cut some less = split_at k.content num num_is es found split right (k.cuts q (omega (arith, left_count))) (omega (arith, full_is, left_count)) none_chain front right_used.within
+      cut some less = split_at k.content num num_is es found split right (k.cuts q (omega (arith, left_count)))
+          (omega (arith, full_is, left_count)) none_chain front right_used.within
 
       -- the entry goes into the left half
       module _ (few : e < k.mid) where
@@ -123,16 +131,20 @@ module _ {K V X : Type 0} {k : Kind K V X} {t : Table K V} {ms js up size row ro
         left_cut = let early = k.early capacity e few in cut (omega (arith, early.0)) (omega (arith, early.2, grow.half_some))
 
         pub early_asks : PutAsks k.stored s read e
-        early_asks = asks k left_cut.zs num_is left_cut.two.here (is_used s num _ left_cut.two.here (omega (arith, none_chain, ap (λ z. count num z) left_cut.two.chain_is))) e (omega (arith, (k.early capacity e few).0, left_count, left_cut.count_is))
+        early_asks = asks k left_cut.zs num_is left_cut.two.here
+            (is_used s num _ left_cut.two.here (omega (arith, none_chain, ap (λ z. count num z) left_cut.two.chain_is))) e
+            (omega (arith, (k.early capacity e few).0, left_count, left_cut.count_is))
 
-        pub early_halves : {u : Table K V} {put : Bool} → PutsIn k.stored k.size k.most (k.write e y) s u read put → {js' : List ℕ} {p : ℕ} → Moves js js' up k.behind e place p →
+        pub early_halves : {u : Table K V} {put : Bool} → PutsIn k.stored k.size k.most (k.write e y) s u read put → {js' : List ℕ} {p : ℕ} →
+            Moves js js' up k.behind e place p →
             Halved k.content k.half k.most t u ms js ms js' up size row rows gain list p parts.crit_key right false
         early_halves {u} said {js'} m = let early = rw (← left_count) at (k.early capacity e few) in
             let h = into_left k.content u left_cut (k.write e y) l y r w.es_is (omega (arith, w.index_is, early.0)) (λ mid. k.writes l mid e y w.index_is)
             (put_in k left_cut.zs num_is left_cut.two.here said (omega (arith, left_cut.count_is, early.2, grow.half_some))) in
-            halved grow ms js' false (w.full_gain full_is ∙ ap (λ z. (Some (length (heads before)), sizes before ++ z)) (early.3 (sizes after) ∙ ap (λ z. suc q ∷ (z - q) ∷ sizes after) (sym full_is)))
+            halved grow ms js' false (w.full_gain full_is ∙ ap (λ z. (Some (length (heads before)), sizes before ++ z))
+            (early.3 (sizes after) ∙ ap (λ z. suc q ∷ (z - q) ∷ sizes after) (sym full_is)))
             (omega (arith, early.1), omega (arith, early.2, grow.half_some), omega (arith, early.2, full_is), omega (arith, full_is)) h (λ i other. refl) m.far
-            (record { before = before; entries = h.z ∷ h.xs; after = node right (h.y ∷ h.ys) ∷ after; row_is = refl; within = omega (arith, h.left_is, early.0); place_is = omega (arith, w.place_is) }, sym (seen grow))
+            (in_left before after num right (h.z ∷ h.xs) (h.y ∷ h.ys) (seen grow) (omega (arith, h.left_is, early.0)) (omega (arith, w.place_is)))
 
       -- the entry goes into the right half
       module _ (more : k.mid ≤ e) where
@@ -154,10 +166,15 @@ module _ {K V X : Type 0} {k : Kind K V X} {t : Table K V} {ms js up size row ro
         pub late_halves : {u : Table K V} {put : Bool} {at : ℕ} (first : K) → at ≡ e - k.left e → PutsIn k.stored k.size k.most (k.write at y) s u right put →
             (at + k.behind ≡ 0 → first ≡ y.0) → (0 < at + k.behind → first ≡ parts.crit_key) → {js' : List ℕ} {p : ℕ} → Moves js js' up k.behind at place p →
             Halved k.content k.half k.most t u ms js (set ms up right) js' up size row rows gain list p first right true
-        late_halves {u} {at = at} first at_is said zero some {js'} m = let late = rw (← left_count) at (k.late capacity e more) in let rest_is : length l - q ≡ at + k.behind = omega (arith, w.index_is, late.0, left_count) in
-            let h = into_right k.content u right_cut (k.write at y) l y r first w.es_is (omega (arith, w.index_is, late.0)) (omega (arith, late.1, grow.half_some)) (λ none. zero (omega arith)) (λ few. some (omega arith))
+        late_halves {u} {at = at} first at_is said zero some {js'} m = let late = rw (← left_count) at (k.late capacity e more) in
+            let rest_is : length l - q ≡ at + k.behind = omega (arith, w.index_is, late.0, left_count) in
+            let h = into_right k.content u right_cut (k.write at y) l y r first w.es_is (omega (arith, w.index_is, late.0))
+            (omega (arith, late.1, grow.half_some)) (λ none. zero (omega arith)) (λ few. some (omega arith))
             (λ mid is. k.writes mid r at y (omega arith))
             (put_in k rights refl right_cut.two.there said (omega (arith, rights_are, full_is, late.1, grow.half_some))) in
-            halved grow (set ms up right) js' true (w.full_gain full_is ∙ ap (λ z. (Some (length (heads before)), sizes before ++ z)) (late.5 (sizes after) ∙ ap (λ z. q ∷ suc (z - q) ∷ sizes after) (sym full_is)))
-            (late.1, omega (arith, late.3), omega (arith, late.2, full_is), omega (arith, late.1, grow.half_some, full_is)) h (λ i other. get_or-set_other ms up i right 0 other) m.far
-            (in_right _ _ _ _ _ _ _ _ _ (seen grow) (get_or-set_same ms up right 0 low) (omega (arith, h.right_is, rights_are, within)) (omega (arith, w.place_is, h.left_is, late.0)))
+            halved grow (set ms up right) js' true (w.full_gain full_is
+            ∙ ap (λ z. (Some (length (heads before)), sizes before ++ z)) (late.5 (sizes after) ∙ ap (λ z. q ∷ suc (z - q) ∷ sizes after) (sym full_is)))
+            (late.1, omega (arith, late.3), omega (arith, late.2, full_is), omega (arith, late.1, grow.half_some, full_is)) h
+            (λ i other. get_or-set_other ms up i right 0 other) m.far
+            (in_right _ _ _ _ _ _ _ _ _ (seen grow) (get_or-set_same ms up right 0 low) (omega (arith, h.right_is, rights_are, within))
+            (omega (arith, w.place_is, h.left_is, late.0)))

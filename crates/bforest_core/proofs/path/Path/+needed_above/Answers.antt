@@ -2,7 +2,8 @@ use Rattle.bforest_core.proofs.{Words.{rules, arith, sym}, insertion.{HalvingNod
 use Rattle.bforest_core.proofs.path.Path.+needed_above.Goals as goal
 
 pub node-requires : goal.node-requires
-node-requires g t c = (search rules, omega (arith, slot_within (site c.requires.pending (omega arith) g.row.N c.requires.pending.x) c.index-self-up.result (omega arith)))
+node-requires g t c =
+    (search rules, omega (arith, slot_within (site c.requires.pending (omega arith) g.row.N c.requires.pending.x) c.index-self-up.result (omega arith)))
 
 pub is_full-requires : goal.is_full-requires
 is_full-requires g t c = (search rules, not_free (site c.requires.pending (omega arith) g.row.N c.requires.pending.x) _ (omega arith) c.node.ensures.value)
@@ -13,13 +14,18 @@ needed_above-requires g t c κs within = let above = over (site c.requires.pendi
 
 pub returns-then-is_full : goal.returns-then-is_full
 returns-then-is_full g t c = record {
-  value = λ w. omega (arith, full_needs (site w (omega arith) g.row.N w.x) _ (omega arith) c.node.ensures.value c.is_full.ensures.full c.if-is_full.true c.needed_above.ensures.value, needs_one w (omega arith) g.row.N);
+  value = λ w. omega (
+    arith,
+    full_needs (site w (omega arith) g.row.N w.x) _ (omega arith) c.node.ensures.value c.is_full.ensures.full c.if-is_full.true c.needed_above.ensures.value,
+    needs_one w (omega arith) g.row.N,
+  );
   few = omega arith;
 }
 
 pub returns-else-is_full : goal.returns-else-is_full
 returns-else-is_full g t c = record {
-  value = λ w. omega (arith, room_needs (site w (omega arith) g.row.N w.x) _ (omega arith) c.node.ensures.value c.is_full.ensures.full c.if-is_full.false, needs_one w (omega arith) g.row.N);
+  value = λ w. (let none = room_needs (site w (omega arith) g.row.N w.x) _ (omega arith) c.node.ensures.value c.is_full.ensures.full c.if-is_full.false in
+      omega (arith, none, needs_one w (omega arith) g.row.N));
   few = omega arith;
 }
 

@@ -30,10 +30,15 @@ pub returns-in_err-reserve : goal.returns-in_err-reserve
 returns-in_err-reserve g c = let t0 = c.args.pool.now in let e = err_is _ _ c.from_residual.ensures.1 in let said = c.in_err-reserve.ensures in
     let need_is = λ (at : Placing t0 c.args.self.now). c.needed_here.ensures.value (tree_of t0.nodes at.root) at.place (placed-under _ _ c.requires.union at.placed) in
     record {
-      inserted = λ at. rw e tt; account = λ at. rw e tt; stands = λ at. rw e tt; same_root = λ at. rw e tt;
+      inserted = λ at. rw e tt;
+      account = λ at. rw e tt;
+      stands = λ at. rw e tt;
+      same_root = λ at. rw e tt;
       full = λ at. (λ is. (rw (need_is at) at (said.full.0 ((err_iff _ _ _ e).0 is))), λ short. (err_iff _ _ _ e).1 (said.full.1 (rw (need_is at) short)));
       memory = λ at is. rw (need_is at) at (said.memory ((err_iff _ _ _ e).0 is));
-      enough = λ at enough. (let ok = said.enough (rw (need_is at) enough) in absurd cc); refused_pool = rw e said.err; refused_path = rw e refl;
+      enough = λ at enough. (let ok = said.enough (rw (need_is at) enough) in absurd cc);
+      refused_pool = rw e said.err;
+      refused_path = rw e refl;
     }
 
 pub returns : goal.returns

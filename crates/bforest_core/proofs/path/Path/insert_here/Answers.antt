@@ -13,5 +13,6 @@ returns-then-put_child-clause-grown g c = λ done w. put_grows w c.requires.with
     c.put_child.ensures c.if-put_child.true _ (goes c.args.half.moved (step_most _) (omega arith) c.index_behind.ensures.value)
 
 pub returns-else-put_child : goal.returns-else-put_child
-returns-else-put_child g c = let full = put_full (site c.requires.pending c.requires.within g.row.N (c.args.half.key, c.args.half.node)) _ (omega arith) c.put_child.ensures c.if-put_child.false in
+returns-else-put_child g c = let full = put_full (site c.requires.pending c.requires.within g.row.N (c.args.half.key, c.args.half.node)) _
+    (omega arith) c.put_child.ensures c.if-put_child.false in
     record { grown = search rules; full = λ none. full.0; pool = λ none. full.1; path = search rules; size = search rules }

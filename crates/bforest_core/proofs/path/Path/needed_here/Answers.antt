@@ -12,7 +12,8 @@ needed_above-requires g c = (search rules, (search rules, (c.requires.height, ov
 
 pub returns-then-is_full : goal.returns-then-is_full
 returns-then-is_full g c = record {
-  value = λ tree place p. full_needs (site p (one_entry p)) _ (omega arith) c.node.ensures.value c.is_full.ensures.full c.if-is_full.true c.needed_above.ensures.value;
+  value = λ tree place p. full_needs (site p (one_entry p)) _
+      (omega arith) c.node.ensures.value c.is_full.ensures.full c.if-is_full.true c.needed_above.ensures.value;
 }
 
 pub returns-else-is_full : goal.returns-else-is_full
