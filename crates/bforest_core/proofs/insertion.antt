@@ -1,8 +1,7 @@
 -- Lemmas on insertion.
-pub mod Grow
 pub mod Halving
+pub mod Grow
 pub mod Level
-pub mod Kinds
 pub mod Nodes
 pub mod HalvingNode
 pub mod LeafSpot

@@ -2,10 +2,10 @@
 use Rattle.bforest_core.proofs.Words.{◌≡◌, ℕ, suc, ◌+◌, ◌-◌, ◌≤◌, ◌<◌, if◌then◌else◌, Bool, true, List, [], ◌∷◌, ◌++◌, length, refl, sym, ap, ◌∙◌}
 use Rattle.bforest_core.proofs.Words.{append_assoc, length-append, arith, Row, node, flat, heads, sizes, Table, map, get_or}
 use Rattle.bforest_core.proofs.Words.{IsFullAt, inner_gain, need_above, GrownBy, HalvedBy, OneAbove, PutsChild}
-use Rattle.bforest_core.proofs.{insertion.Grow.{gain_full, gain_room}, rows.Zipper.{Spot, spot}, table.Tables.{Takes, absent_ne, count-same}}
-use Rattle.bforest_core.proofs.insertion.{Level.{draws-apart, need_some, next_asks, next_takes, step_is, step_most}, Kinds.{Inserting, Moves, inner_kind}}
-use Rattle.bforest_core.proofs.{Words.{Heads, Rows, Above, Grown, Raised, Inner, inner_content, set, get_or-set_same, get_or-set_other}, insertion.Nodes.{full_is, put_raises}}
-use Rattle.bforest_core.proofs.{Words.{Some, gain_above, get_or_default}, Words.count, removal.Lifted.{head-other, heads-put, place_at, rows_above}, rows.LevelRows.{Solid-full, sizes-append}}
+use Rattle.bforest_core.proofs.{rows.Zipper.{Spot, spot}, table.Tables.{Takes, absent_ne, count-same}}
+use Rattle.bforest_core.proofs.insertion.{Level.{draws-apart, next_takes}, Grow.{Moves, gain_full, gain_room, inner_kind, need_some, step_is, step_most}}
+use Rattle.bforest_core.proofs.{Words.{Heads, Rows, Above, Grown, Raised, Inner, inner_content, set, get_or-set_same, get_or-set_other}, insertion.Nodes.{Inserting, full_is, put_raises}}
+use Rattle.bforest_core.proofs.{Words.{Some, gain_above}, Words.count, removal.Lifted.{head-other, heads-put, place_at, rows_above}, rows.LevelRows.{Solid-full, sizes-append}}
 
 -- a split of the root takes a node for the new root too
 pub need_top : {K : Type 0} (p : ℕ) (rows : Rows K) → length rows ≡ 0 → need_above (Some p) (map sizes rows) ≡ 2

@@ -2,8 +2,8 @@
 use Rattle.bforest_core.proofs.Words.{◌≡◌, ◌⊎◌, ℕ, zero, suc, ◌+◌, ◌≤◌, ◌<◌, Bool, true, List, [], ◌∷◌, ◌++◌, map, length, take, drop, insert, get_or, Some, None, inl, inr}
 use Rattle.bforest_core.proofs.Words.{refl, sym, ap, ◌∙◌, append_assoc, length-append, arith, cases_lt, nil_from_length, Heads, Row, Rows, LevelNode, node, flat, heads}
 use Rattle.bforest_core.proofs.Words.{sizes, FitRow, Tree, half_of, leaf_gain, need_above, Table, PutsEntry, Above, Rekeyed, Placed, Inserted}
-use Rattle.bforest_core.proofs.{rows.LevelRows.{Solid-full, flat-append, heads-append, least-pos, sizes-append}, insertion.Grow.{leaf_full, leaf_room}}
-use Rattle.bforest_core.proofs.{insertion.Kinds.{Inserting, here, leaf_kind}, insertion.Nodes.put_raises, table.Tables.{count-append, counts}, removal.LeafAt.as_many_heads}
+use Rattle.bforest_core.proofs.{rows.LevelRows.{Solid-full, flat-append, heads-append, least-pos, sizes-append}, insertion.Grow.{here, leaf_full, leaf_kind, leaf_room}}
+use Rattle.bforest_core.proofs.{insertion.Nodes.{Inserting, put_raises}, table.Tables.{count-append, counts}, removal.LeafAt.as_many_heads}
 use Rattle.bforest_core.proofs.{rows.Zipper.{LeafCut, cut_leaf, spot}, removal.Lifted.{above_top, heads-put, rebuilt_same, rekey_first, rows_above}}
 use Rattle.bforest_core.proofs.removal.{Asked.some_first, Collapse.{heads-flat, topped-sizes}}
 

@@ -1,33 +1,12 @@
 -- A level whose node gained an entry or was split, for leaves and inner nodes alike, and what the levels above do to it.
-use Rattle.bforest_core.proofs.Words.{◌≡◌, ℕ, suc, ◌+◌, ◌-◌, ◌≤◌, ◌<◌, ◌≢◌, if◌then◌else◌, Bool, true, false, Option, Some, None, List, [], ◌∷◌, ◌++◌, length, refl}
+use Rattle.bforest_core.proofs.Words.{◌≡◌, ℕ, suc, ◌+◌, ◌-◌, ◌≤◌, ◌<◌, ◌≢◌, if◌then◌else◌, Bool, Option, Some, None, List, [], ◌∷◌, ◌++◌, length, refl}
 use Rattle.bforest_core.proofs.Words.{sym, ap, ◌∙◌, append_assoc, arith, length-append, length-map, get_or, slice_get, map, flat_map, Row, Rows, node, flat}
 use Rattle.bforest_core.proofs.Words.{heads, head_of, sizes, numbers, FitRow, Topped, Content, Table, RowIn, Distinct, count, Above}
 use Rattle.bforest_core.proofs.Words.{gain_above, need_above, OneAbove, Grown, GrownBy, Halved, Raised, Draws, add-one}
-use Rattle.bforest_core.proofs.{insertion.Grow.InHalf, insertion.Halving.Halves}
+use Rattle.bforest_core.proofs.{insertion.Grow.{InHalf, gain_some}, insertion.Halving.Halves}
 use Rattle.bforest_core.proofs.{table.Tables.{Puts, count-append, count-row, count-same, counts, ne_from_count, absent_ne, row-changed, row-put, row-same}}
 use Rattle.bforest_core.proofs.{table.Tables.rows-same, rows.LevelRows.{flat-append, sizes-append, heads-append, least-le, FitRow-join, FitRow-split, Solid-full}}
 use Rattle.bforest_core.proofs.rows.Zipper.{apart_here, stands-same}
-
--- 1 where the path moved on, else 0
-abbrev pub step : Bool → ℕ
-step moved = if moved then 1 else 0
-
-pub step_is : (moved n : _) → (if moved then suc n else n) ≡ n + step moved
-step_is true n = omega arith
-step_is false n = omega arith
-
-pub step_most : (moved : Bool) → step moved ≤ 1
-step_most true = omega arith
-step_most false = omega arith
-
--- a split takes at least one node, and leaves a level above the split one
-pub need_some : (p levels : _) → 1 ≤ need_above (Some p) levels
-need_some p [] = omega arith
-need_some p (level ∷ levels) = omega arith
-
-pub gain_some : (p levels : _) → 1 ≤ length (gain_above (Some p) levels)
-gain_some p [] = omega arith
-gain_some p (level ∷ levels) = omega arith
 
 module _ {K V : Type 0} where
   -- the numbers are on the chain or in one node, as before

@@ -4,13 +4,28 @@ use Rattle.bforest_core.proofs.Words.{◌++◌, length, map, refl, sym, ap, ◌�
 use Rattle.bforest_core.proofs.Words.{get_or, set, slice_get, get_or_default, get_or-set_same, get_or-set_other, false≢true, Content, IsFree, Table}
 use Rattle.bforest_core.proofs.Words.{entry_count, entry_capacity, entry_items, with_node}
 use Rattle.bforest_core.proofs.Words.{front_of, IsUsed, IsFullAt, IsSplitAt, PutsIn, Halved, Raised, gain_above}
-use Rattle.bforest_core.proofs.{insertion.Halving.{Split, counted, split_at, into_left, into_right}, insertion.Level.{alone, halved, put_level, seen}}
+use Rattle.bforest_core.proofs.{insertion.Halving.{Split, counted, split_at, into_left, into_right}, insertion.Level.{Growing, alone, halved, put_level, seen}}
 use Rattle.bforest_core.proofs.{Words.{IsTrue, OneAbove, need_above, slice_get_within, ◌↔◌, add-one}, removal.Asked.some_first, removal.Lifted.headed}
 use Rattle.bforest_core.proofs.{Words.{IsLeafCapacity, count}, rows.LevelRows.FitRow-split}
-use Rattle.bforest_core.proofs.{insertion.Grow.{in_left, in_right}, table.Tables.{is_used, puts, row-split}, table.Lists.set-kept}
+use Rattle.bforest_core.proofs.{Words.{Option, Row, Rows, flat}, insertion.Grow.{Kind, Moves, PutAsks, in_left, in_right}, table.Tables.{is_used, puts, row-split}, table.Lists.set-kept}
 use Rattle.bforest_core.proofs.table.Stored.{some_same}
-use Rattle.bforest_core.proofs.insertion.Kinds.{Inserting, Kind, Moves, PutAsks}
 use Rattle.bforest_nodes.specs.declared.node.SplitOff.{SplitOff}
+
+-- the path's node on a level, which is to hold the entry `y` behind the entries `l`. The path's place on the level is `place`
+pub record Inserting {K V X : Type 0} (k : Kind K V X) (t : Table K V) (ms js : List ℕ) (up size : ℕ) (row : Row K X) (rows : Rows K) (list : List (K × X))
+    (place : ℕ) (gain : Option ℕ × List ℕ) (y : K × X) : Type 0 where
+  pub before : Row K X
+  pub es : List (K × X)
+  pub l : List (K × X)
+  pub r : List (K × X)
+  pub after : Row K X
+  pub rest : Rows K
+  pub es_is : es ≡ l ++ r
+  pub index_is : length l ≡ get_or js up 0 + k.behind
+  pub place_is : place ≡ length (flat before) + get_or js up 0
+  pub room_gain : length es < k.most → gain ≡ (None, sizes before ++ suc (length es) ∷ sizes after)
+  pub full_gain : length es ≡ k.most → gain ≡ (Some (length (heads before)), sizes before ++ k.halves (get_or js up 0) (sizes after))
+  pub grow : Growing k.content k.half k.most t ms js up size row before es (l ++ y ∷ r) after rows rest list
 
 module _ {K V X : Type 0} (k : Kind K V X) {t : Table K V} {n : ℕ} (es : List (K × X)) where
   -- a node meets what inserting an entry requires

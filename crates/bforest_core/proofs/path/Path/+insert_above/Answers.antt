@@ -1,5 +1,5 @@
-use Rattle.bforest_core.proofs.{Words.{rules, ◌<◌, [], map, length, ap, arith, sizes, ◌∙◌, ◌≡◌}, Words.{Some, get_or, get_or_default, need_above, gain_above}}
-use Rattle.bforest_core.proofs.insertion.{HalvingNode.{need_top, node_takes, room_then}, Level.{gain_some, next_asks}}
+use Rattle.bforest_core.proofs.{Words.{rules, ◌<◌, [], map, length, ap, arith, sizes, ◌∙◌, ◌≡◌}, Words.{Some, get_or_default, need_above, gain_above}}
+use Rattle.bforest_core.proofs.insertion.{HalvingNode.{need_top, node_takes, room_then}, Grow.gain_some, Level.next_asks}
 use Rattle.bforest_core.proofs.path.Path.+insert_above.Goals as goal
 
 pub push_root-requires : goal.push_root-requires

@@ -1,5 +1,5 @@
 use Rattle.bforest_core.proofs.Words.{◌-◌, refl, false, rules, arith, ap, get_or}
-use Rattle.bforest_core.proofs.insertion.{Kinds.{goes, here}, LeafSpot.site, Nodes.{early_asks, early_halves, full_asks, late_asks, late_halves, late_within, left_count}}
+use Rattle.bforest_core.proofs.insertion.{Grow.{goes, here}, LeafSpot.site, Nodes.{early_asks, early_halves, full_asks, late_asks, late_halves, late_within, left_count}}
 use Rattle.bforest_core.proofs.path.Path.halve_leaf.Goals as goal
 
 pub split_node-right-requires : goal.split_node-right-requires

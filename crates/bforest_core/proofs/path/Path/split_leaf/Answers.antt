@@ -1,5 +1,5 @@
 use Rattle.bforest_core.proofs.Words.{rules, ◌≤◌, length, map, ap, arith, get_or_default, heads, sizes, need_above}
-use Rattle.bforest_core.proofs.insertion.{LeafSpot.site, Nodes.full_is, Level.{need_some, next_asks, next_takes}}
+use Rattle.bforest_core.proofs.insertion.{LeafSpot.site, Nodes.full_is, Grow.need_some, Level.{next_asks, next_takes}}
 use Rattle.bforest_core.proofs.path.Path.split_leaf.Goals as goal
 
 pub halve_leaf-half-requires : goal.halve_leaf-half-requires
