@@ -17,7 +17,7 @@ insert_above-requires g t c κs within = let w = c.requires.pending in let path_
     let halved = rw (c.insert_here.ensures.pool c.if-not-insert_here.true, path_is) at c.split_here-next.ensures.halved in
     let h = halved w.0 in let place = Some (length w.0.before) in
     let asks = next_asks h.3 _ size_is _ (get_or_default c.args.self.now.node c.args.up c.index-self-up.result 0 (omega arith))
-        (omega (arith, w.2, ap (λ z. need_above place (map sizes z)) h.2)) (omega (arith, w.3, ap (λ z. length (gain_above place (map sizes z))) h.2)) in
+    (omega (arith, w.2, ap (λ z. need_above place (map sizes z)) h.2)) (omega (arith, w.3, ap (λ z. length (gain_above place (map sizes z))) h.2)) in
     (omega (arith, c.decreases, size_is, low), (within.0, (within.1, ((λ a m. search rules), (search rules, (search rules, (omega (arith, size_is, c.requires.height), rw path_is asks)))))))
 
 pub returns-then-not-insert_here : goal.returns-then-not-insert_here
