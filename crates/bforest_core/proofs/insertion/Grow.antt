@@ -1,9 +1,10 @@
 -- A row with one more entry, where its node has room and where it is split, and what leaves and inner nodes differ in there.
-use Rattle.bforest_core.proofs.Words.{◌≡◌, ◌≢◌, ◌⊎◌, ◌/◌, ℕ, suc, ◌+◌, ◌-◌, ◌≤◌, ◌<◌, nat_le, nat_lt, if◌then◌else◌, Bool, true, false, Option, Some, None, List}
+use Rattle.bforest_core.proofs.Words.{◌≡◌, ◌⊎◌, ◌/◌, ℕ, suc, ◌+◌, ◌-◌, ◌≤◌, ◌<◌, nat_le, nat_lt, if◌then◌else◌, Bool, true, false, Option, Some, None, List}
 use Rattle.bforest_core.proofs.Words.{[], ◌∷◌, ◌++◌, length, drop, refl, sym, ap, ◌∙◌, inl, inr, append_assoc, length-append, arith, Row, append-nil, node, flat}
 use Rattle.bforest_core.proofs.Words.{heads, sizes, half_of, inner_gain, past, leaf_gain, gain_above, need_above, IsAt, le-leb, le-ltb, lt-leb, lt-ltb, get_or, set, slice_get, Table}
-use Rattle.bforest_core.proofs.Words.{get_or-set_same, get_or-set_other, Content, Leaf, Inner, IsFree, IsUsed, IsLeafCapacity, entry_count, entry_capacity}
+use Rattle.bforest_core.proofs.Words.{get_or-set_same, Content, Leaf, Inner, IsFree, IsUsed, IsLeafCapacity, entry_count, entry_capacity}
 use Rattle.bforest_core.proofs.Words.{left_half, with_entry, with_child, entry_keys, entry_items, leaf_content, inner_content}
+use Rattle.bforest_core.proofs.walks.TopNode.{SameBut, set_but}
 use Rattle.bforest_core.proofs.table.Stored.{inner_cuts, item_count, key_count, keys_count, leaf_cuts, with_child_is, with_entry_is}
 use Rattle.bforest_core.proofs.{insertion.Halving.Cuts, rows.LevelRows.{flat-append}}
 
@@ -174,7 +175,7 @@ pub record Moves (js js' : List ℕ) (up behind at place p : ℕ) : Type 0 where
   pub few : ahead ≤ behind
   pub index_is : get_or js' up 0 ≡ at + ahead
   pub p_is : p ≡ place + ahead
-  pub far : (i : ℕ) → i ≢ up → get_or js' i 0 ≡ get_or js i 0
+  pub far : SameBut up js js'
 
 pub here : {js : List ℕ} {up place : ℕ} → Moves js js up 0 (get_or js up 0) place place
 here = record { ahead = 0; few = omega arith; index_is = omega arith; p_is = omega arith; far = λ i other. refl }
@@ -186,7 +187,7 @@ goes {js} {up} {at = at} {place} {index} moved few low is = record {
   few = few;
   index_is = get_or-set_same js up index 0 low ∙ is ∙ step_is moved at;
   p_is = step_is moved place;
-  far = λ i other. get_or-set_other js up i index 0 other;
+  far = set_but js up index refl;
 }
 
 -- what a call that inserts into a node requires

@@ -15,10 +15,9 @@ module _ {K V : Type 0} {t : Table K V} {path indices : List ℕ} {size : ℕ} w
   first_rekeyed zero up rows a x b key none front p =
       rebuilt_same (above_top rows (a ++ (key, x.1) ∷ b) (omega (arith, p.height)) (omega (arith, length-append a (x ∷ b), length-append a ((key, x.1) ∷ b))) p)
   first_rekeyed (suc count) up rows a x b key some front p = let d = spot a x b p (omega (arith, p.height)) in let q = d.q in
-      let l_is = nil_from_length q.l (omega (arith, ap length q.a_is, length-append (flat q.before) q.l)) in
-      rekey_first d t key (omega (arith, ap length q.a_is, length-append (flat q.before) q.l, q.entry_is))
-      (first_rekeyed count (suc up) q.rest (heads q.before) (x.0, get_or path up 0) (heads q.after) key (omega (arith, ap length q.rows_are))
-      (omega (arith, heads-flat q.before, ap length q.a_is, length-append (flat q.before) q.l)) (rw (heads-append q.before _, l_is) at (rows_above d)))
+      let few = ap length q.a_is in let parts = length-append (flat q.before) q.l in let l_is = nil_from_length q.l (omega arith) in
+      rekey_first d t key (omega (arith, q.entry_is)) (first_rekeyed count (suc up) q.rest (heads q.before) (x.0, get_or path up 0) (heads q.after) key
+      (omega (arith, ap length q.rows_are)) (omega (arith, heads-flat q.before)) (rw (heads-append q.before _, l_is) at (rows_above d)))
 
   -- the rows over the leaves after an insertion into one, at the front of the first leaf only
   renewed : (rows : Rows K) (before : Row K V) (n : ℕ) (l : List (K × V)) (entry : K × V) (r : List (K × V)) (after : Row K V) →

@@ -1,11 +1,12 @@
 -- A level whose node gained an entry or was split, for leaves and inner nodes alike, and what the levels above do to it.
-use Rattle.bforest_core.proofs.Words.{◌≡◌, ℕ, suc, ◌+◌, ◌-◌, ◌≤◌, ◌<◌, ◌≢◌, if◌then◌else◌, Bool, Option, Some, None, List, [], ◌∷◌, ◌++◌, length, refl}
+use Rattle.bforest_core.proofs.Words.{◌≡◌, ℕ, suc, ◌+◌, ◌-◌, ◌≤◌, ◌<◌, if◌then◌else◌, Bool, Option, Some, None, List, [], ◌∷◌, ◌++◌, length, refl}
 use Rattle.bforest_core.proofs.Words.{sym, ap, ◌∙◌, append_assoc, arith, length-append, length-map, get_or, slice_get, map, flat_map, Row, Rows, node, flat}
 use Rattle.bforest_core.proofs.Words.{heads, head_of, sizes, numbers, FitRow, Topped, Content, Table, RowIn, Distinct, count, Above}
 use Rattle.bforest_core.proofs.Words.{gain_above, need_above, OneAbove, Grown, GrownBy, Halved, Raised, Draws, add-one}
 use Rattle.bforest_core.proofs.{insertion.Grow.{InHalf, gain_some}, insertion.Halving.Halves}
 use Rattle.bforest_core.proofs.{table.Tables.{Puts, count-append, count-row, count-same, counts, ne_from_count, absent_ne, row-changed, row-put, row-same}}
 use Rattle.bforest_core.proofs.{table.Tables.rows-same, rows.LevelRows.{flat-append, sizes-append, heads-append, least-le, FitRow-join, FitRow-split, Solid-full}}
+use Rattle.bforest_core.proofs.walks.TopNode.{SameBut}
 use Rattle.bforest_core.proofs.rows.Zipper.{apart_here, stands-same}
 
 module _ {K V : Type 0} where
@@ -31,7 +32,7 @@ module _ {K V : Type 0} where
   -- the rows above a level, after a change of the table and of the path on that level
   above-moved : {t : Table K V} (u : Table K V) {ms js : List ℕ} (ms' js' : List ℕ) {up size rows list p : _} →
       ((m : ℕ) → 0 < count m (flat_map numbers rows) → slice_get u.nodes m ≡ slice_get t.nodes m) →
-      Distinct (flat_map numbers rows ++ u.chain) → ((i : ℕ) → i ≢ up → get_or ms' i 0 ≡ get_or ms i 0) → ((i : ℕ) → i ≢ up → get_or js' i 0 ≡ get_or js i 0) →
+      Distinct (flat_map numbers rows ++ u.chain) → SameBut up ms ms' → SameBut up js js' →
       Above t ms js (suc up) size rows list p → Above u ms' js' (suc up) size rows list p
   above-moved u ms' js' {rows = rows} same apart far_m far_j a = record {
     stacked = a.stacked;
@@ -76,7 +77,7 @@ module _ {K V X : Type 0} {content : List (K × X) → Content K V} {half most :
   -- where the node has room, it holds the new entry
   pub put_level : {u : Table K V} (js' : List ℕ) {p : ℕ} {gain : Option ℕ × List ℕ} → gain ≡ (None, sizes before ++ suc (length es) ∷ sizes after) →
       length es < most → Puts t u n (content fs) →
-      ((i : ℕ) → i ≢ up → get_or js' i 0 ≡ get_or js i 0) → get_or js' up 0 < length fs → p ≡ length (flat before) + get_or js' up 0 →
+      SameBut up js js' → get_or js' up 0 < length fs → p ≡ length (flat before) + get_or js' up 0 →
       Raised content half most t u ms js ms js' up size size row rows list p (gain.1 ∷ gain_above gain.0 (map sizes rows)) []
   put_level {u} js' gain_is room s far within place = let c = λ (m : ℕ). counts m before n es after rest t.chain in record {
     row' = before ++ node n fs ∷ after;
@@ -105,8 +106,7 @@ module _ {K V X : Type 0} {content : List (K × X) → Content K V} {half most :
   pub halved : {u : Table K V} (ms' js' : List ℕ) {middle : K} {right big small p : ℕ} {gain : Option ℕ × List ℕ} (moved : Bool) →
       gain ≡ (Some (length (heads before)), sizes before ++ big ∷ small ∷ sizes after) →
       (half ≤ big) × (big ≤ most) × (half ≤ small) × (small ≤ most) → (h : Halves content t u n right middle fs big small) →
-      ((i : ℕ) → i ≢ up → get_or ms' i 0 ≡ get_or ms i 0) →
-      ((i : ℕ) → i ≢ up → get_or js' i 0 ≡ get_or js i 0) → InHalf before n right (h.z ∷ h.xs) (h.y ∷ h.ys) after (get_or ms' up 0) (get_or js' up 0) p moved →
+      SameBut up ms ms' → SameBut up js js' → InHalf before n right (h.z ∷ h.xs) (h.y ∷ h.ys) after (get_or ms' up 0) (get_or js' up 0) p moved →
       Halved content half most t u ms js ms' js' up size row rows gain list p middle right moved
   halved {u} ms' js' {right = right} moved gain_is sides h far_m far_j at =
       let c = λ (m : ℕ). counts m before n es after rest t.chain in let c4 = λ (m : ℕ). ap (λ z. count m z) h.two.chain_is in

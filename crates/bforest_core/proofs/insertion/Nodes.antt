@@ -1,7 +1,7 @@
 -- A new entry in the path's node on a level, or in one half of it, for leaves and inner nodes alike.
 use Rattle.bforest_core.proofs.Words.{◌≡◌, ℕ, suc, ◌+◌, ◌-◌, ◌≤◌, ◌<◌, Bool, true, false, Some, None, List, [], ◌∷◌}
 use Rattle.bforest_core.proofs.Words.{◌++◌, length, map, refl, sym, ap, ◌∙◌, length-append, arith, node, heads, sizes}
-use Rattle.bforest_core.proofs.Words.{get_or, set, slice_get, get_or_default, get_or-set_same, get_or-set_other, false≢true, Content, IsFree, Table}
+use Rattle.bforest_core.proofs.Words.{get_or, set, slice_get, get_or_default, get_or-set_same, false≢true, Content, IsFree, Table}
 use Rattle.bforest_core.proofs.Words.{entry_count, entry_capacity, entry_items, with_node}
 use Rattle.bforest_core.proofs.Words.{front_of, IsUsed, IsFullAt, IsSplitAt, PutsIn, Halved, Raised, gain_above}
 use Rattle.bforest_core.proofs.{insertion.Halving.{Split, counted, split_at, into_left, into_right}, insertion.Level.{Growing, alone, halved, put_level, seen}}
@@ -9,6 +9,7 @@ use Rattle.bforest_core.proofs.{Words.{IsTrue, OneAbove, need_above, slice_get_w
 use Rattle.bforest_core.proofs.{Words.{IsLeafCapacity, count}, rows.LevelRows.FitRow-split}
 use Rattle.bforest_core.proofs.{Words.{Option, Row, Rows, flat}, insertion.Grow.{Kind, Moves, PutAsks, in_left, in_right}, table.Tables.{is_used, puts, row-split}, table.Lists.set-kept}
 use Rattle.bforest_core.proofs.table.Stored.{some_same}
+use Rattle.bforest_core.proofs.walks.TopNode.{set_but}
 use Rattle.bforest_nodes.specs.declared.node.SplitOff.{SplitOff}
 
 -- the path's node on a level, which is to hold the entry `y` behind the entries `l`. The path's place on the level is `place`
@@ -190,6 +191,6 @@ module _ {K V X : Type 0} {k : Kind K V X} {t : Table K V} {ms js up size row ro
             halved grow (set ms up right) js' true (w.full_gain full_is
             ∙ ap (λ z. (Some (length (heads before)), sizes before ++ z)) (late.5 (sizes after) ∙ ap (λ z. q ∷ suc (z - q) ∷ sizes after) (sym full_is)))
             (late.1, omega (arith, late.3), omega (arith, late.2, full_is), omega (arith, late.1, grow.half_some, full_is)) h
-            (λ i other. get_or-set_other ms up i right 0 other) m.far
+            (set_but ms up right refl) m.far
             (in_right _ _ _ _ _ _ _ _ _ (seen grow) (get_or-set_same ms up right 0 low) (omega (arith, h.right_is, rights_are, within))
             (omega (arith, w.place_is, h.left_is, late.0)))
