@@ -114,7 +114,6 @@ module _ {K V : Type 0} {t : Table K V} {ms js up size : _} (w : OneAbove t ms j
         full_gain = λ full. cc (q.a_is, q.entry_is, Solid-full 4 8 (omega arith) before f.solid, gain_full before (length es) (length l) (sizes after) low full);
         grow = rw (append_assoc l (x ∷ []) (y ∷ r)) (record {
           half_some = omega arith;
-          more = omega (arith, length-append l (x ∷ y ∷ r), length-append l (x ∷ r));
           row_is = refl;
           list_is = ap (λ z. flat before ++ z) (append_assoc l (x ∷ y ∷ r) (flat after)) ∙ sym (append_assoc (flat before) l _) ∙ sym (cc (q.a_is, q.b_is));
           inside = f.inside;

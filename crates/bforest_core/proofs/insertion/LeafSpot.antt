@@ -120,12 +120,12 @@ module _ {K V : Type 0} where
           full_gain = full_gain;
           grow = record {
             half_some = half;
-            more = omega (arith, length-append l (entry ∷ r), length-append l r);
             row_is = d.leaves_are;
             list_is = sym (insert_flat before n l r after entry) ∙ sym (cc (d.leaves_are, d.place_is));
             inside = d.inside;
             fit = d.fit.leaves_fit;
-            apart = λ m. (let c = λ (rows : Rows K). counts m before n (l ++ r) after rows t.chain in omega (arith, d.apart m, up.numbers_are m, c up.rows', c tree.above));
+            apart = λ m. (let c = λ (rows : Rows K). counts m before n (l ++ r) after rows t.chain in
+                omega (arith, d.apart m, up.numbers_are m, c up.rows', c tree.above));
             above = up.above;
             topped = λ top. topped-sizes _ _ _ _ d.fit.stacked up.above.stacked
                 (as_many_heads before n (l ++ r) (l ++ entry ∷ r) after some new) up.sizes_are d.fit.topped;

@@ -44,10 +44,8 @@ module _ {K V : Type 0} where
 
 -- the path's node on a level and the rows above it: the node's entries `es` become `fs`, and the rows above are given under its new head
 pub record Growing {K V X : Type 0} (content : List (K × X) → Content K V) (half most : ℕ) (t : Table K V) (ms js : List ℕ) (up size : ℕ) (row before : Row K X)
-    (es fs : List (K × X)) (after : Row K X)
-    (rows rest : Rows K) (list : List (K × X)) : Type 0 where
+    (es fs : List (K × X)) (after : Row K X) (rows rest : Rows K) (list : List (K × X)) : Type 0 where
   pub half_some : 1 ≤ half
-  pub more : length fs ≡ suc (length es)
   pub row_is : row ≡ before ++ node (get_or ms up 0) es ∷ after
   pub list_is : flat before ++ (fs ++ flat after) ≡ list
   pub inside : RowIn content t.nodes (before ++ node (get_or ms up 0) es ∷ after)
@@ -76,21 +74,21 @@ module _ {K V X : Type 0} {content : List (K × X) → Content K V} {half most :
 
   -- where the node has room, it holds the new entry
   pub put_level : {u : Table K V} (js' : List ℕ) {p : ℕ} {gain : Option ℕ × List ℕ} → gain ≡ (None, sizes before ++ suc (length es) ∷ sizes after) →
-      length es < most → Puts t u n (content fs) →
+      length es < most → length fs ≡ suc (length es) → Puts t u n (content fs) →
       SameBut up js js' → get_or js' up 0 < length fs → p ≡ length (flat before) + get_or js' up 0 →
       Raised content half most t u ms js ms js' up size size row rows list p (gain.1 ∷ gain_above gain.0 (map sizes rows)) []
-  put_level {u} js' gain_is room s far within place = let c = λ (m : ℕ). counts m before n es after rest t.chain in record {
+  put_level {u} js' gain_is room more s far within place = let c = λ (m : ℕ). counts m before n es after rest t.chain in record {
     row' = before ++ node n fs ∷ after;
     rows' = rest;
     flat_is = flat-append before _ ∙ w.list_is;
     fit = let f = FitRow-split half most before (node n es) after w.fit in
-        FitRow-join half most before (node n fs) after f.0 (omega (arith, w.more, f.1.0), omega (arith, w.more), f.1.2);
+        FitRow-join half most before (node n fs) after f.0 (omega (arith, f.1.0), omega arith, f.1.2);
     inside = row-put content t.nodes u.nodes before n es fs after w.inside s.same s.here alone.0;
     at = record { before = before; entries = fs; after = after; row_is = refl; within = within; place_is = place };
     above = rw seen at (above-moved u ms js' (λ m some. s.same m (ne_from_count m n _ some alone.1))
         (λ m. omega (arith, w.apart m, c m, ap (λ z. count m z) s.chain_is, count-append m (flat_map numbers rest) u.chain)) (λ i other. refl) far w.above);
     topped = w.topped;
-    sizes_are = rw gain_is (cc (sizes-append before (node n fs ∷ after)));
+    sizes_are = rw gain_is (cc (more, w.sizes_above, sizes-append before (node n fs ∷ after)));
     draws = record {
       numbers_are = λ m. omega (arith, was m, counts m before n fs after rest t.chain);
       others = λ m none. s.same m (absent_ne m n (numbers after) (omega (arith, was m)));

@@ -111,8 +111,10 @@ module _ {K V X : Type 0} {k : Kind K V X} {t : Table K V} {ms js up size row ro
     pub put_raises : put ≡ true → {js' : List ℕ} {p : ℕ} → Moves js js' up k.behind e place p →
         (gain.0 ≡ None) × Raised k.content k.half k.most t u ms js ms js' up size size row rows list p (gain.1 ∷ gain_above gain.0 (map sizes rows)) []
     put_raises done {js'} m = let fewer = room k es num_is found said done in let gain_is = w.room_gain fewer in
+        let few = ap length w.es_is in let parts = length-append l r in let all = length-append l (y ∷ r) in
+        let more : length (l ++ y ∷ r) ≡ suc (length es) = omega arith in
         let s = puts t u num _ _ found (put_in k es num_is found said fewer ∙ cc (k.writes l r e y w.index_is)) in
-        (ap (λ z. z.0) gain_is, put_level grow js' gain_is fewer s m.far (omega (arith, w.index_is, length-append l (y ∷ r))) (omega (arith, w.place_is)))
+        (ap (λ z. z.0) gain_is, put_level grow js' gain_is fewer more s m.far (omega (arith, w.index_is)) (omega (arith, w.place_is)))
 
     -- a failed insertion means that the node is full, and changes nothing
     pub put_full : put ≡ false → IsFullAt k.cap t.nodes num × (u ≡ t)

@@ -1,4 +1,4 @@
-use Rattle.bforest_core.proofs.{Words.{rules, tree_of}, insertion.Insertion.{inserts, placed-under, put-here}}
+use Rattle.bforest_core.proofs.{Words.{rules, tree_of}, insertion.Insertion.{inserts, placed-under, put-here, under-low}}
 use Rattle.bforest_core.proofs.path.Path.insert.Goals as goal
 
 pub put_here-requires : goal.put_here-requires
@@ -6,9 +6,7 @@ put_here-requires g c =
     let w = c.requires.placed in (search rules, (search rules, (tree_of c.args.pool.now.nodes w.root, w.place, placed-under _ _ c.requires.union w.placed)))
 
 pub root-requires : goal.root-requires
-root-requires g c = let w = c.requires.placed in
-    let put = put-here c.requires.union w.placed (c.put_here.ensures.inserted c.if-put_here.true _ w.place (placed-under _ _ c.requires.union w.placed)) in
-    (search rules, (put.some, put.low))
+root-requires g c = (search rules, under-low _ _ c.requires.union c.requires.placed.placed)
 
 pub returns-then-put_here : goal.returns-then-put_here
 returns-then-put_here g c = inserts _ c.root.ensures
