@@ -1,7 +1,9 @@
 -- A row with one more entry, where its node has room and where it is split, and what leaves and inner nodes differ in there.
 use Rattle.bforest_core.proofs.Words.{◌≡◌, ◌⊎◌, ◌/◌, ℕ, suc, ◌+◌, ◌-◌, ◌≤◌, ◌<◌, nat_le, nat_lt, if◌then◌else◌, Bool, true, false, Option, Some, None, List}
-use Rattle.bforest_core.proofs.Words.{[], ◌∷◌, ◌++◌, length, drop, refl, sym, ap, ◌∙◌, inl, inr, append_assoc, length-append, arith, Row, append-nil, node, flat}
-use Rattle.bforest_core.proofs.Words.{heads, sizes, half_of, inner_gain, past, leaf_gain, gain_above, need_above, IsAt, le-leb, le-ltb, lt-leb, lt-ltb, get_or, set, slice_get, Table}
+use Rattle.bforest_core.proofs.Words.{[], ◌∷◌, ◌++◌, length, drop, refl, sym, ap, ◌∙◌, inl, inr, append_assoc, length-append, arith, Row, append-nil, node}
+use Rattle.bforest_core.proofs.Words.{flat}
+use Rattle.bforest_core.proofs.Words.{heads, sizes, half_of, inner_gain, past, leaf_gain, gain_above, need_above, IsAt, le-leb, le-ltb, lt-leb, lt-ltb, get_or}
+use Rattle.bforest_core.proofs.Words.{set, slice_get, Table}
 use Rattle.bforest_core.proofs.Words.{get_or-set_same, Content, Leaf, Inner, IsFree, IsUsed, IsLeafCapacity, entry_count, entry_capacity}
 use Rattle.bforest_core.proofs.Words.{left_half, with_entry, with_child, entry_keys, entry_items, leaf_content, inner_content}
 use Rattle.bforest_core.proofs.walks.TopNode.{SameBut, set_but}

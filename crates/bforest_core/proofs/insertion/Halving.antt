@@ -1,6 +1,7 @@
 -- Splitting a full node, with a new entry in one half.
 use Rattle.bforest_core.proofs.Words.{◌≡◌, ℕ, suc, ◌-◌, ◌≤◌, ◌<◌, ◌≢◌, Some, List, [], ◌∷◌, ◌++◌, length, refl, sym, ap, ◌∙◌, append_assoc, length-append}
-use Rattle.bforest_core.proofs.Words.{arith, head_of, slice_get, subst, length-set, Content, IsCut, left_half, Table, with_node, with_front, front_of, IsSplitAt, count}
+use Rattle.bforest_core.proofs.Words.{arith, head_of, slice_get, subst, length-set, Content, IsCut, left_half, Table, with_node, with_front, front_of}
+use Rattle.bforest_core.proofs.Words.{IsSplitAt, count}
 use Rattle.bforest_core.proofs.{table.Tables.{Puts, count-same, puts, takes, length-with_front}, table.Stored.{Parts, some_same}, rows.Zipper.cut}
 use Rattle.bforest_nodes.specs.declared.node.SplitOff.{SplitOff}
 

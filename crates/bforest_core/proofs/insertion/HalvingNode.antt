@@ -4,8 +4,10 @@ use Rattle.bforest_core.proofs.Words.{append_assoc, length-append, arith, Row, n
 use Rattle.bforest_core.proofs.Words.{IsFullAt, inner_gain, need_above, GrownBy, HalvedBy, OneAbove, PutsChild}
 use Rattle.bforest_core.proofs.{rows.Zipper.{Spot, spot}, table.Tables.{Takes, absent_ne, count-same}}
 use Rattle.bforest_core.proofs.insertion.{Level.{draws-apart, next_takes}, Grow.{Moves, gain_full, gain_room, inner_kind, need_some, step_is, step_most}}
-use Rattle.bforest_core.proofs.{Words.{Heads, Rows, Above, Grown, Raised, Inner, inner_content, set, get_or-set_same, get_or-set_other}, insertion.Nodes.{Inserting, full_is, put_raises}}
-use Rattle.bforest_core.proofs.{Words.{Some, gain_above}, Words.count, removal.Lifted.{head-other, heads-put, place_at, rows_above}, rows.LevelRows.{Solid-full, sizes-append}}
+use Rattle.bforest_core.proofs.{Words.{Heads, Rows, Above, Grown, Raised, Inner, inner_content, set, get_or-set_same, get_or-set_other}}
+use Rattle.bforest_core.proofs.{insertion.Nodes.{Inserting, full_is, put_raises}}
+use Rattle.bforest_core.proofs.{Words.{Some, gain_above}, Words.count, removal.Lifted.{head-other, heads-put, place_at, rows_above}}
+use Rattle.bforest_core.proofs.{rows.LevelRows.{Solid-full, sizes-append}}
 
 -- a split of the root takes a node for the new root too
 pub need_top : {K : Type 0} (p : ℕ) (rows : Rows K) → length rows ≡ 0 → need_above (Some p) (map sizes rows) ≡ 2
@@ -111,7 +113,7 @@ module _ {K V : Type 0} {t : Table K V} {ms js up size : _} (w : OneAbove t ms j
         index_is = omega (arith, length-append l (x ∷ []), q.entry_is);
         place_is = place_at d;
         room_gain = λ room. cc (q.a_is, gain_room before (length es) (length l) (sizes after) low room);
-        full_gain = λ full. cc (q.a_is, q.entry_is, Solid-full 4 8 (omega arith) before f.solid, gain_full before (length es) (length l) (sizes after) low full);
+        full_gain = λ all. cc (q.a_is, q.entry_is, Solid-full 4 8 (omega arith) before f.solid, gain_full before (length es) (length l) (sizes after) low all);
         grow = rw (append_assoc l (x ∷ []) (y ∷ r)) (record {
           half_some = omega arith;
           row_is = refl;
@@ -142,7 +144,8 @@ module _ {K V : Type 0} where
   pub room_then : (cap : ℕ) {t : Table K V} {ms js : List ℕ} {up size : ℕ} (w : OneAbove t ms js up size) (within : up < size) → up < length ms →
       IsFullAt cap t.nodes (get_or ms up 0) → need_above (Some (length w.before)) (map sizes w.rows) ≤ suc (length t.chain) → 0 < length t.chain
   room_then cap {t} {ms} {up} w within low full enough = let s = site w within cap w.x in let rest = (d w within cap).q.rest in
-      let gain = ap (λ z. need_above z.0 (map sizes rest)) (s.full_gain (full_is s 0 low t full)) in omega (arith, need_some (length (heads s.before)) (map sizes rest), needs_one w within cap)
+      let gain = ap (λ z. need_above z.0 (map sizes rest)) (s.full_gain (full_is s 0 low t full)) in
+      omega (arith, need_some (length (heads s.before)) (map sizes rest), needs_one w within cap)
 
   -- the node was split: what the call one level up ensures is what this one has to
   pub node_takes : {t t2 t3 : Table K V} {ms js ms2 js2 ms3 js3 : List ℕ} {up size size2 size3 : ℕ} (w : OneAbove t ms js up size) (child : K × ℕ)

@@ -2,12 +2,14 @@
 use Rattle.bforest_core.proofs.Words.{drop-append_seam, ◌≡◌, ℕ, ◌-◌, ◌^◌, ◌≤◌, ◌<◌, ◌≢◌, ◌↔◌, IsTrue, Option, Some, None, List, [], ◌∷◌, ◌++◌, drop, map}
 use Rattle.bforest_core.proofs.Words.{length, insert, slice_get, sym, ap, ◌∙◌, subst, inl, inr, length-append, arith, Heads, Row, Rows, flat_map, cases_lt}
 use Rattle.bforest_core.proofs.Words.{eqb_tells, length-map, Table, fresh_nodes, front_of, free_count, slot_count, room, reserved, IsFullAt, node}
-use Rattle.bforest_core.proofs.Words.{IsFit, heads, sizes, numbers, Stacked, Topped, Tree, sizes_of, leaf_gain, gain_above, growth, need, Stands, count, root_of}
+use Rattle.bforest_core.proofs.Words.{IsFit, heads, sizes, numbers, Stacked, Topped, Tree, sizes_of, leaf_gain, gain_above, growth, need, Stands, count}
+use Rattle.bforest_core.proofs.Words.{root_of}
 use Rattle.bforest_core.proofs.Words.{numbers_of, top_of, Placed, Inserted, GrowsFor, tree_of, is_root, IsUnion, Changes, TakesNodes, PlacedUnder, StandsUnder}
 use Rattle.bforest_core.proofs.{Words.{InsertsHere, list_under, Ok, Path, Placing, refl, place}, union.Reserved.{reserved-union, reserved-roots, reserved-then}}
 use Rattle.bforest_core.proofs.{rows.Counts.{once_below, below-one, few-below}, table.Allocating.{reserved-enough, reserved-free}}
 use Rattle.bforest_core.proofs.{table.Lists.slice_get-append_left, table.Chains.length-fresh_nodes, rows.Bounds.climb-seventeen, union.Unions.Rooted}
-use Rattle.bforest_core.proofs.{union.Unions.rooted, table.Tables.count-append, rows.Tops.{root-points, root-stands}, union.Forests.root-among, union.Exchange.IsPlanted}
+use Rattle.bforest_core.proofs.{union.Unions.rooted, table.Tables.count-append, rows.Tops.{root-points, root-stands}, union.Forests.root-among}
+use Rattle.bforest_core.proofs.{union.Exchange.IsPlanted}
 use Rattle.bforest_core.proofs.{union.Roots.exchanged, removal.Removal.place_low}
 use Rattle.bforest_core.specs.Paths.{sizes_under}
 

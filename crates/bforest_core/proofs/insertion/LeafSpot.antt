@@ -1,8 +1,11 @@
 -- The leaf where an entry may be inserted: the insertion where the leaf has room, or its split.
-use Rattle.bforest_core.proofs.Words.{◌≡◌, ◌⊎◌, ℕ, zero, suc, ◌+◌, ◌≤◌, ◌<◌, Bool, true, List, [], ◌∷◌, ◌++◌, map, length, take, drop, insert, get_or, Some, None, inl, inr}
-use Rattle.bforest_core.proofs.Words.{refl, sym, ap, ◌∙◌, append_assoc, length-append, arith, cases_lt, nil_from_length, Heads, Row, Rows, LevelNode, node, flat, heads}
+use Rattle.bforest_core.proofs.Words.{◌≡◌, ◌⊎◌, ℕ, zero, suc, ◌+◌, ◌≤◌, ◌<◌, Bool, true, List, [], ◌∷◌, ◌++◌, map, length, take, drop, insert, get_or, Some}
+use Rattle.bforest_core.proofs.Words.{None, inl, inr}
+use Rattle.bforest_core.proofs.Words.{refl, sym, ap, ◌∙◌, append_assoc, length-append, arith, cases_lt, nil_from_length, Heads, Row, Rows, LevelNode, node}
+use Rattle.bforest_core.proofs.Words.{flat, heads}
 use Rattle.bforest_core.proofs.Words.{sizes, FitRow, Tree, half_of, leaf_gain, need_above, Table, PutsEntry, Above, Rekeyed, Placed, Inserted}
-use Rattle.bforest_core.proofs.{rows.LevelRows.{Solid-full, flat-append, heads-append, least-pos, sizes-append}, insertion.Grow.{here, leaf_full, leaf_kind, leaf_room}}
+use Rattle.bforest_core.proofs.{rows.LevelRows.{Solid-full, flat-append, heads-append, least-pos, sizes-append}}
+use Rattle.bforest_core.proofs.{insertion.Grow.{here, leaf_full, leaf_kind, leaf_room}}
 use Rattle.bforest_core.proofs.{insertion.Nodes.{Inserting, put_raises}, table.Tables.{count-append, counts}, removal.LeafAt.as_many_heads}
 use Rattle.bforest_core.proofs.{rows.Zipper.{LeafCut, cut_leaf, spot}, removal.Lifted.{above_top, heads-put, rebuilt_same, rekey_first, rows_above}}
 use Rattle.bforest_core.proofs.removal.{Asked.some_first, Collapse.{heads-flat, topped-sizes}}
@@ -90,8 +93,8 @@ module _ {K V : Type 0} where
 
     -- the rows above the leaf
     above : Above t ms js 1 size tree.above (heads (before ++ node n (l ++ r) ∷ after)) (length (heads before))
-    above = let size_is = p.at.points.size_is in
-        record { stacked = d.fit.stacked; inside = p.inside.rows_in; stands = rw seen d.stands; height = omega arith; apart = λ m. omega (arith, d.apart m, count-append) }
+    above = let size_is = p.at.points.size_is in let stacked = d.fit.stacked in let inside = p.inside.rows_in in
+        record { stacked = stacked; inside = inside; stands = rw seen d.stands; height = omega arith; apart = λ m. omega (arith, d.apart m, count-append) }
 
     -- the leaf has an entry
     some : 1 ≤ length (l ++ r)

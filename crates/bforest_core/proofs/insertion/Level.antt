@@ -5,7 +5,8 @@ use Rattle.bforest_core.proofs.Words.{heads, head_of, sizes, numbers, FitRow, To
 use Rattle.bforest_core.proofs.Words.{gain_above, need_above, OneAbove, Grown, GrownBy, Halved, Raised, Draws, add-one}
 use Rattle.bforest_core.proofs.{insertion.Grow.{InHalf, gain_some}, insertion.Halving.Halves}
 use Rattle.bforest_core.proofs.{table.Tables.{Puts, count-append, count-row, count-same, counts, ne_from_count, absent_ne, row-changed, row-put, row-same}}
-use Rattle.bforest_core.proofs.{table.Tables.rows-same, rows.LevelRows.{flat-append, sizes-append, heads-append, least-le, FitRow-join, FitRow-split, Solid-full}}
+use Rattle.bforest_core.proofs.{table.Tables.rows-same}
+use Rattle.bforest_core.proofs.{rows.LevelRows.{flat-append, sizes-append, heads-append, least-le, FitRow-join, FitRow-split, Solid-full}}
 use Rattle.bforest_core.proofs.walks.TopNode.{SameBut}
 use Rattle.bforest_core.proofs.rows.Zipper.{apart_here, stands-same}
 
@@ -97,7 +98,7 @@ module _ {K V X : Type 0} {content : List (K × X) → Content K V} {half most :
       limit_is = s.limit_is;
       memory_is = s.memory_is;
     };
-    climbs = record { nodes_below = λ i low. refl; entries_below = λ i low. far i (λ e. omega arith); same_top = λ same. refl; new_top = λ ne. absurd (ne refl) };
+    climbs = record { nodes_below = λ i low. refl; entries_below = λ i low. far i (λ e. omega arith); same_top = λ e. refl; new_top = λ ne. absurd (ne refl) };
   }
 
   -- the node is split, and one half holds the new entry
@@ -176,7 +177,8 @@ module _ {K V X : Type 0} {content : List (K × X) → Content K V} {half most :
         rows' = g.rows';
         flat_is = h.flat_is;
         fit = h.fit;
-        inside = row-same content u.nodes v.nodes halves (λ m some. (let chain = ap (λ z. count m z) g.chain_is in let above = count-append m (numbers halves) (flat_map numbers rest) in
+        inside = row-same content u.nodes v.nodes halves (λ m some.
+            (let chain = ap (λ z. count m z) g.chain_is in let above = count-append m (numbers halves) (flat_map numbers rest) in
             g.others m (omega (arith, h.apart m, count-append m (numbers halves ++ flat_map numbers rest) u.chain, count-append m taken v.chain)))) h.inside;
         at = let a = h.at in record { before = a.before; entries = a.entries; after = a.after; row_is = rw here_m a.row_is; within = rw here_j a.within; place_is = rw here_j a.place_is };
         above = above;

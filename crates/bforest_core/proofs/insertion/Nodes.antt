@@ -7,7 +7,8 @@ use Rattle.bforest_core.proofs.Words.{front_of, IsUsed, IsFullAt, IsSplitAt, Put
 use Rattle.bforest_core.proofs.{insertion.Halving.{Split, counted, split_at, into_left, into_right}, insertion.Level.{Growing, alone, halved, put_level, seen}}
 use Rattle.bforest_core.proofs.{Words.{IsTrue, OneAbove, need_above, slice_get_within, ◌↔◌, add-one}, removal.Asked.some_first, removal.Lifted.headed}
 use Rattle.bforest_core.proofs.{Words.{IsLeafCapacity, count}, rows.LevelRows.FitRow-split}
-use Rattle.bforest_core.proofs.{Words.{Option, Row, Rows, flat}, insertion.Grow.{Kind, Moves, PutAsks, in_left, in_right}, table.Tables.{is_used, puts, row-split}, table.Lists.set-kept}
+use Rattle.bforest_core.proofs.{Words.{Option, Row, Rows, flat}, insertion.Grow.{Kind, Moves, PutAsks, in_left, in_right}}
+use Rattle.bforest_core.proofs.{table.Tables.{is_used, puts, row-split}, table.Lists.set-kept}
 use Rattle.bforest_core.proofs.table.Stored.{some_same}
 use Rattle.bforest_core.proofs.walks.TopNode.{set_but}
 use Rattle.bforest_nodes.specs.declared.node.SplitOff.{SplitOff}

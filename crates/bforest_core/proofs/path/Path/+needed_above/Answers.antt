@@ -1,4 +1,5 @@
-use Rattle.bforest_core.proofs.{Words.{rules, arith, sym}, insertion.{HalvingNode.{need_top, needs_one, site}, Nodes.{full_needs, not_free, over, room_needs, slot_within}}}
+use Rattle.bforest_core.proofs.{Words.{rules, arith, sym}}
+use Rattle.bforest_core.proofs.{insertion.{HalvingNode.{need_top, needs_one, site}, Nodes.{full_needs, not_free, over, room_needs, slot_within}}}
 use Rattle.bforest_core.proofs.path.Path.+needed_above.Goals as goal
 
 pub node-requires : goal.node-requires

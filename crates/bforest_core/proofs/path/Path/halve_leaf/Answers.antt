@@ -1,5 +1,6 @@
 use Rattle.bforest_core.proofs.Words.{◌-◌, refl, false, rules, arith, ap, get_or}
-use Rattle.bforest_core.proofs.insertion.{Grow.{goes, here}, LeafSpot.site, Nodes.{early_asks, early_halves, full_asks, late_asks, late_halves, late_within, left_count}}
+use Rattle.bforest_core.proofs.insertion.{Grow.{goes, here}, LeafSpot.site}
+use Rattle.bforest_core.proofs.insertion.{Nodes.{early_asks, early_halves, full_asks, late_asks, late_halves, late_within, left_count}}
 use Rattle.bforest_core.proofs.path.Path.halve_leaf.Goals as goal
 
 pub split_node-right-requires : goal.split_node-right-requires
@@ -17,8 +18,11 @@ overflow_sub-behind g c = let said = c.split_node-right.ensures in
 
 pub put_entry-room-requires-else-index : goal.put_entry-room-requires-else-index
 put_entry-room-requires-else-index g c = let said = c.split_node-right.ensures in let at = site c.requires.placed.2 (c.args.key, c.args.value) in
-    let left = left_count at _ (omega arith) _ c.requires.full said.node said.used said.split said.capacity in
-    (search rules, late_asks at _ (omega arith) _ c.requires.full said.node said.used said.split said.capacity c.if-index.false (ap (λ z. get_or c.args.self.now.entry 0 0 - z) left))
+    let left = left_count at _ (omega arith) _ c.requires.full said.node said.used said.split said.capacity in (
+      search rules,
+      late_asks at _ (omega arith) _ c.requires.full said.node said.used said.split said.capacity c.if-index.false
+          (ap (λ z. get_or c.args.self.now.entry 0 0 - z) left),
+    )
 
 pub returns-then-index-clause-halved : goal.returns-then-index-clause-halved
 returns-then-index-clause-halved g c = λ tree place p. let said = c.split_node-right.ensures in

@@ -1,4 +1,5 @@
-use Rattle.bforest_core.proofs.{Words.{rules, arith}, insertion.HalvingNode.{site, put_grows}, insertion.Grow.{goes, step_most}, insertion.Nodes.{put_asks, put_full}, removal.Asked.one_small}
+use Rattle.bforest_core.proofs.{Words.{rules, arith}, insertion.HalvingNode.{site, put_grows}, insertion.Grow.{goes, step_most}}
+use Rattle.bforest_core.proofs.{insertion.Nodes.{put_asks, put_full}, removal.Asked.one_small}
 use Rattle.bforest_core.proofs.path.Path.insert_here.Goals as goal
 
 pub put_child-requires : goal.put_child-requires

@@ -1,5 +1,6 @@
 use Rattle.bforest_core.proofs.{Words.{rules, arith, refl}, insertion.HalvingNode.{d, site}}
-use Rattle.bforest_core.proofs.{insertion.Grow.{goes, step_most}, insertion.Nodes.{early_asks, early_halves, full_asks, late_asks, late_halves}, removal.Asked.one_small}
+use Rattle.bforest_core.proofs.{insertion.Grow.{goes, step_most}, insertion.Nodes.{early_asks, early_halves, full_asks, late_asks, late_halves}}
+use Rattle.bforest_core.proofs.{removal.Asked.one_small}
 use Rattle.bforest_core.proofs.path.Path.split_here.Goals as goal
 
 pub split_node-right-requires : goal.split_node-right-requires
