@@ -51,28 +51,29 @@ module _ {K X : Type 0} where
       let d : length es + (length (flat before) + e) - length es ≡ length (flat before) + e = omega arith in
       rw (len, step (length es) (length es + (length (flat before) + e)) (sizes before ++ rest) (omega arith), d) (ap (λ z. past (length es) z) (change_behind change low step before e rest (inr some)))
 
-  gain_behind : (before : Row K X) (e rest : _) → inner_gain (length (flat before) + e) (sizes before ++ rest) ≡ behind before (inner_gain e rest)
-  gain_behind before e rest = change_behind inner_gain 0 (λ s p after high. (let a = le-ltb p s (omega arith) in rw a refl)) before e rest (inr (omega arith))
+  -- the sizes of a level after an insertion into a node, which has room, or is full and is split
+  module _ (before : Row K X) (s e : ℕ) (after : List ℕ) (low : e < s) where
+    gain_behind : inner_gain (length (flat before) + e) (sizes before ++ s ∷ after) ≡ behind before (inner_gain e (s ∷ after))
+    gain_behind = change_behind inner_gain 0 (λ s p after high. (let a = le-ltb p s (omega arith) in rw a refl)) before e (s ∷ after) (inr (omega arith))
 
-  -- the sizes of a level after an insertion into a node with room
-  pub gain_room : (before : Row K X) (s e after : _) → e < s → s < 8 → inner_gain (length (flat before) + e) (sizes before ++ s ∷ after) ≡ (None, sizes before ++ suc s ∷ after)
-  gain_room before s e after low room = rw (gain_behind _ e _, lt-ltb e s low, lt-ltb s 8 room) (behind_none before (suc s ∷ after))
+    pub gain_room : s < 8 → inner_gain (length (flat before) + e) (sizes before ++ s ∷ after) ≡ (None, sizes before ++ suc s ∷ after)
+    gain_room room = rw (gain_behind, lt-ltb e s low, lt-ltb s 8 room) (behind_none before (suc s ∷ after))
 
-  -- the sizes of a level after an insertion that splits a full node
-  pub gain_full : (before : Row K X) (s e : ℕ) (after : List ℕ) → e < s → s ≡ 8 → inner_gain (length (flat before) + e) (sizes before ++ s ∷ after) ≡ (Some (length before), sizes before ++ (if nat_lt e 4 then 5 ∷ 4 ∷ after else 4 ∷ 5 ∷ after))
-  gain_full before s e after low full = rw (gain_behind _ e _, lt-ltb e s low, le-ltb s 8 (omega arith)) (behind_some _ _)
+    pub gain_full : s ≡ 8 → inner_gain (length (flat before) + e) (sizes before ++ s ∷ after)
+        ≡ (Some (length before), sizes before ++ (if nat_lt e 4 then 5 ∷ 4 ∷ after else 4 ∷ 5 ∷ after))
+    gain_full full = rw (gain_behind, lt-ltb e s low, le-ltb s 8 (omega arith)) (behind_some _ _)
 
-  -- an insertion into a leaf passes over the leaves before it; it is at the front of the first leaf only
-  leaf_behind : (most : ℕ) (before : Row K X) (s e after : _) → (before ≡ []) ⊎ (1 ≤ e) → leaf_gain most (length (flat before) + e) (sizes before ++ s ∷ after) ≡ behind before (leaf_gain most e (s ∷ after))
-  leaf_behind most before s e after at = change_behind (leaf_gain most) 1 (λ size p rest high. (let a = lt-leb p size (omega arith) in rw a refl)) before e (s ∷ after) at
+  -- the sizes of the leaves after an insertion into a leaf, which is at the front of the first leaf only
+  module _ (most : ℕ) (before : Row K X) (s e : ℕ) (after : List ℕ) (low : e ≤ s) (at : (before ≡ []) ⊎ (1 ≤ e)) where
+    leaf_behind : leaf_gain most (length (flat before) + e) (sizes before ++ s ∷ after) ≡ behind before (leaf_gain most e (s ∷ after))
+    leaf_behind = change_behind (leaf_gain most) 1 (λ size p rest high. (let a = lt-leb p size (omega arith) in rw a refl)) before e (s ∷ after) at
 
-  -- the sizes of the leaves after an insertion into a leaf with room
-  pub leaf_room : (most : ℕ) (before : Row K X) (s e after : _) → e ≤ s → (before ≡ []) ⊎ (1 ≤ e) → s < most → leaf_gain most (length (flat before) + e) (sizes before ++ s ∷ after) ≡ (None, sizes before ++ suc s ∷ after)
-  leaf_room most before s e after low at room = rw (leaf_behind _ _ s e _ at, le-leb e s low, lt-ltb s most room) (behind_none before (suc s ∷ after))
+    pub leaf_room : s < most → leaf_gain most (length (flat before) + e) (sizes before ++ s ∷ after) ≡ (None, sizes before ++ suc s ∷ after)
+    leaf_room room = rw (leaf_behind, le-leb e s low, lt-ltb s most room) (behind_none before (suc s ∷ after))
 
-  -- the sizes of the leaves after an insertion that splits a full leaf
-  pub leaf_full : (most : ℕ) (before : Row K X) (s e after : _) → e ≤ s → (before ≡ []) ⊎ (1 ≤ e) → s ≡ most → leaf_gain most (length (flat before) + e) (sizes before ++ s ∷ after) ≡ (Some (length before), sizes before ++ (most + 1) / 2 ∷ (most + 1) / 2 ∷ after)
-  leaf_full most before s e after low at full = rw (leaf_behind _ _ s e _ at, le-leb e s low, le-ltb s most (omega arith)) (behind_some _ _)
+    pub leaf_full : s ≡ most → leaf_gain most (length (flat before) + e) (sizes before ++ s ∷ after)
+        ≡ (Some (length before), sizes before ++ half_of most ∷ half_of most ∷ after)
+    leaf_full full = rw (leaf_behind, le-leb e s low, le-ltb s most (omega arith)) (behind_some _ _)
 
 -- 1 where the path moved on, else 0
 abbrev pub step : Bool → ℕ
