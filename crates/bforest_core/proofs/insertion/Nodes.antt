@@ -160,8 +160,7 @@ module _ {K V X : Type 0} {k : Kind K V X} {t : Table K V} {ms js up size row ro
         early_halves {u} said {js'} m = let early = rw (← left_count) at (k.early capacity e few) in
             let h = into_left k.content u left_cut (k.write e y) l y r w.es_is (omega (arith, w.index_is, early.0)) (λ mid. k.writes l mid e y w.index_is)
             (put_in k left_cut.zs num_is left_cut.two.here said (omega (arith, left_cut.count_is, early.2, grow.half_some))) in
-            halved grow ms js' false (w.full_gain full_is ∙ ap (λ z. (Some (length (heads before)), sizes before ++ z))
-            (early.3 (sizes after) ∙ ap (λ z. suc q ∷ (z - q) ∷ sizes after) (sym full_is)))
+            halved grow ms js' false (cc (w.full_gain full_is, early.3 (sizes after), full_is))
             (omega (arith, early.1), omega (arith, early.2, grow.half_some), omega (arith, early.2, full_is), omega (arith, full_is)) h (λ i other. refl) m.far
             (in_left before after num right (h.z ∷ h.xs) (h.y ∷ h.ys) (seen grow) (omega (arith, h.left_is, early.0)) (omega (arith, w.place_is)))
 
@@ -191,8 +190,7 @@ module _ {K V X : Type 0} {k : Kind K V X} {t : Table K V} {ms js up size row ro
             (omega (arith, late.1, grow.half_some)) (λ none. zero (omega arith)) (λ few. some (omega arith))
             (λ mid is. k.writes mid r at y (omega arith))
             (put_in k rights refl right_cut.two.there said (omega (arith, rights_are, full_is, late.1, grow.half_some))) in
-            halved grow (set ms up right) js' true (w.full_gain full_is
-            ∙ ap (λ z. (Some (length (heads before)), sizes before ++ z)) (late.5 (sizes after) ∙ ap (λ z. q ∷ suc (z - q) ∷ sizes after) (sym full_is)))
+            halved grow (set ms up right) js' true (cc (w.full_gain full_is, late.5 (sizes after), full_is))
             (late.1, omega (arith, late.3), omega (arith, late.2, full_is), omega (arith, late.1, grow.half_some, full_is)) h
             (set_but ms up right refl) m.far
             (in_right _ _ _ _ _ _ _ _ _ (seen grow) (get_or-set_same ms up right 0 low) (omega (arith, h.right_is, rights_are, within))
