@@ -117,7 +117,7 @@ module _ {K V : Type 0} {t : Table K V} {ms js up size : _} (w : OneAbove t ms j
         grow = rw (append_assoc l (x ∷ []) (y ∷ r)) (record {
           half_some = omega arith;
           row_is = refl;
-          list_is = ap (λ z. flat before ++ z) (append_assoc l (x ∷ y ∷ r) (flat after)) ∙ sym (append_assoc (flat before) l _) ∙ sym (cc (q.a_is, q.b_is));
+          list_is = cc (append_assoc l (x ∷ y ∷ r) (flat after), append_assoc (flat before) l (x ∷ y ∷ r ++ flat after), q.a_is, q.b_is);
           inside = f.inside;
           fit = whole.stacked.1;
           apart = whole.apart;

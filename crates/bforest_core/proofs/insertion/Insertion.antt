@@ -108,7 +108,7 @@ module _ {K V : Type 0} where
           slots = omega (arith, i.slots_are, length-append old.nodes (fresh_nodes (slot_count old) (n - free_count old) (front_of old.chain)), length-fresh_nodes K V (slot_count old) (n - free_count old) (front_of old.chain));
           free = omega (arith, i.taken_is, ap length i.chain_is, length-append i.taken new.chain, reserved-free old n memory);
           memory = record { grows = rw i.memory_is held.grows; stays = λ enough. i.memory_is ∙ held.stays enough };
-          chain_is = sym (ap (λ z. drop n z) i.chain_is ∙ ap (λ z. drop z (i.taken ++ new.chain)) (sym i.taken_is) ∙ drop-append_seam i.taken new.chain);
+          chain_is = cc (i.chain_is, i.taken_is, drop-append_seam i.taken new.chain);
         };
         stands = rw (← root_is) (record { root_is = e.root_is; stands = subst (λ z. Stands path' indices' size' z place) (sym e.tree_is) stands });
         same_root = (

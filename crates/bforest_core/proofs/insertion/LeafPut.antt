@@ -112,7 +112,7 @@ module _ {K V : Type 0} {cmp : K → K → Ordering} (most : ℕ) {table : Table
 
       -- where the leaf has room, the entry is inserted
       inserts_there : has_room ≡ true → Both
-      inserts_there fits = let tree = tree_of table.nodes root in let ok = said ∙ ap (λ b. if b then Ok None else Err (place cmp es key)) fits in
+      inserts_there fits = let tree = tree_of table.nodes root in let ok : answer ≡ Ok None = cc (said) in
           let inserts = put_inserts (is_placed none) 0 (omega (arith, e.wide)) put_says fits in let levels = ap (λ z. suc (length (gain_above z (map sizes tree.above)))) inserts.0 in
           let put = put-here union (placed none) inserts.1 in
           let put_is = after ∙ ap (λ b. with_node table leaf (if b then with_entry (leaf_content es) (place cmp es key) key value else leaf_content es)) fits in (
@@ -135,7 +135,7 @@ module _ {K V : Type 0} {cmp : K → K → Ordering} (most : ℕ) {table : Table
 
       -- where the leaf is full, nothing changes
       refuses : has_room ≡ false → Both
-      refuses past = let err = said ∙ ap (λ b. if b then Ok None else Err (place cmp es key)) past in
+      refuses past = let err : answer ≡ Err (place cmp es key) = cc (said) in
           let full = put_full (site (is_placed none) (key, value)) 0 (omega (arith, e.wide)) put_says past in let same = full.1 in (
             record {
               ok = rw err tt;

@@ -124,7 +124,7 @@ module _ {K V : Type 0} where
           grow = record {
             half_some = half;
             row_is = d.leaves_are;
-            list_is = sym (insert_flat before n l r after entry) ∙ sym (cc (d.leaves_are, d.place_is));
+            list_is = cc (insert_flat before n l r after entry, d.leaves_are, d.place_is);
             inside = d.inside;
             fit = d.fit.leaves_fit;
             apart = λ m. (let c = λ (rows : Rows K). counts m before n (l ++ r) after rows t.chain in

@@ -111,8 +111,7 @@ module _ {K V X : Type 0} {content : List (K × X) → Content K V} {half most :
       let c = λ (m : ℕ). counts m before n es after rest t.chain in let c4 = λ (m : ℕ). ap (λ z. count m z) h.two.chain_is in
       let halves = before ++ node n (h.z ∷ h.xs) ∷ node right (h.y ∷ h.ys) ∷ after in
       let here = count-same n (numbers after) in let there = count-same right u.chain in
-      let hs : heads (before ++ node n fs ∷ after) ≡ heads before ++ (h.z.0, n) ∷ heads after = heads-append before _
-      ∙ ap (λ z. heads before ++ (head_of n z ++ heads after)) h.grown_is in
+      let hs : heads (before ++ node n fs ∷ after) ≡ heads before ++ (h.z.0, n) ∷ heads after = rw (h.grown_is, heads-append before _) refl in
       let c2 = λ (m : ℕ). counts m before n (h.z ∷ h.xs) (node right (h.y ∷ h.ys) ∷ after) rest u.chain in
       let none = alone in let f = FitRow-split half most before (node n es) after w.fit in
       let none_right : count right (numbers before) + count right (numbers after) ≡ 0 = omega (arith, w.apart right, c right, c4 right) in
