@@ -22,7 +22,8 @@ module _ {K X : Type 0} where
 
   pub in_right : (before after n right xs ys m j p : _) → length (heads before) ≡ length before → m ≡ right → j < length ys → p ≡ length (flat before) + (length xs + j) → InHalf before n right xs ys after m j p true
   in_right before after n right xs ys m j p seen here within place = let front = before ++ node n xs ∷ [] in
-      let flat_front : length (flat front) ≡ length (flat before) + length xs = ap length (flat-append before (node n xs ∷ [])) ∙ length-append _ _ ∙ ap (λ z. length (flat before) + length z) (append-nil xs) in (
+      let flat_front : length (flat front) ≡ length (flat before) + length xs =
+      cc (flat-append before (node n xs ∷ []), append-nil xs, length-append (flat before) xs) in (
         record { before = front; entries = ys; after = after; row_is = cc (append_assoc _ _ _); within = within; place_is = omega arith },
         length-append before (node n xs ∷ []) ∙ omega arith,
       )

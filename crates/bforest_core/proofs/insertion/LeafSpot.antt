@@ -1,7 +1,7 @@
 -- The leaf where an entry may be inserted: the insertion where the leaf has room, or its split.
 use Rattle.bforest_core.proofs.Words.{◌≡◌, ◌⊎◌, ℕ, zero, suc, ◌+◌, ◌≤◌, ◌<◌, Bool, true, List, [], ◌∷◌, ◌++◌, map, length, take, drop, insert, get_or, Some}
 use Rattle.bforest_core.proofs.Words.{None, inl, inr}
-use Rattle.bforest_core.proofs.Words.{refl, sym, ap, ◌∙◌, append_assoc, length-append, arith, cases_lt, nil_from_length, Heads, Row, Rows, LevelNode, node}
+use Rattle.bforest_core.proofs.Words.{refl, sym, ap, append_assoc, length-append, arith, cases_lt, nil_from_length, Heads, Row, Rows, LevelNode, node}
 use Rattle.bforest_core.proofs.Words.{flat, heads}
 use Rattle.bforest_core.proofs.Words.{sizes, FitRow, Tree, half_of, leaf_gain, need_above, Table, PutsEntry, Above, Rekeyed, Placed, Inserted}
 use Rattle.bforest_core.proofs.{rows.LevelRows.{Solid-full, flat-append, heads-append, least-pos, sizes-append}}

@@ -1,7 +1,7 @@
 -- A level whose node gained an entry or was split, for leaves and inner nodes alike, and what the levels above do to it.
 use Rattle.bforest_core.proofs.Words.{◌≡◌, ℕ, suc, ◌+◌, ◌-◌, ◌≤◌, ◌<◌, if◌then◌else◌, Bool, Option, Some, None, List, [], ◌∷◌, ◌++◌, length, refl}
 use Rattle.bforest_core.proofs.Words.{sym, ap, ◌∙◌, append_assoc, arith, length-append, length-map, get_or, slice_get, map, flat_map, Row, Rows, node, flat}
-use Rattle.bforest_core.proofs.Words.{heads, head_of, sizes, numbers, FitRow, Topped, Content, Table, RowIn, Distinct, count, Above}
+use Rattle.bforest_core.proofs.Words.{heads, sizes, numbers, FitRow, Topped, Content, Table, RowIn, Distinct, count, Above}
 use Rattle.bforest_core.proofs.Words.{gain_above, need_above, OneAbove, Grown, GrownBy, Halved, Raised, Draws, add-one}
 use Rattle.bforest_core.proofs.{insertion.Grow.{InHalf, gain_some}, insertion.Halving.Halves}
 use Rattle.bforest_core.proofs.{table.Tables.{Puts, count-append, count-row, count-same, counts, ne_from_count, absent_ne, row-changed, row-put, row-same}}
