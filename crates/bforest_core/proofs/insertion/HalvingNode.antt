@@ -1,4 +1,4 @@
--- Inserting a child into the path's inner node, or splitting the node and inserting it into one half.
+-- Inserting a child into the path's inner node, or splitting the node and inserting it into one half, and a new root.
 use Rattle.bforest_core.proofs.Words.{◌≡◌, ℕ, suc, ◌+◌, ◌-◌, ◌≤◌, ◌<◌, if◌then◌else◌, Bool, true, List, [], ◌∷◌, ◌++◌, length, refl, sym, ap, ◌∙◌}
 use Rattle.bforest_core.proofs.Words.{append_assoc, length-append, arith, Row, node, flat, heads, sizes, Table, map, get_or}
 use Rattle.bforest_core.proofs.Words.{IsFullAt, inner_gain, need_above, GrownBy, HalvedBy, OneAbove, PutsChild}

@@ -1,9 +1,9 @@
 //! Inserting an entry where a path is.
 ghost use Rattle.std.specs.Prelude.{insert, IfOk, IsOk, OnOk, OnErr, Ok, Err, ◌≡◌, ℕ, suc, ◌+◌, ◌-◌, ◌<◌, ◌≤◌, ◌↔◌, false, true, List, [], ◌∷◌, ◌++◌, map, length, get_or, Some, if◌then◌else◌};
 ghost use Rattle.bforest_core.specs.Table.{IsFullAt, NeedsGrowth, room, free_count};
-ghost use Rattle.bforest_core.specs.Levels.{LevelNode, sizes, Tree, sizes_of, most_levels, top_level};
+ghost use Rattle.bforest_core.specs.Levels.{sizes, Tree, sizes_of, most_levels, top_level};
 ghost use Rattle.bforest_core.specs.Sizes.{gain_above, need_above, growth, need};
-ghost use Rattle.bforest_core.specs.Climb.{top_of, Above, GrownBy, HalvedBy, Inserted, LeafHalved, OneAbove, Placed};
+ghost use Rattle.bforest_core.specs.Climb.{top_of, GrownBy, HalvedBy, Inserted, LeafHalved, OneAbove, Placed};
 ghost use Rattle.bforest_nodes.specs.Entries.{place};
 ghost use Rattle.bforest_core.specs.Trees.{IsUnion};
 ghost use Rattle.bforest_core.specs.Change.{Changes, TakesNodes};
