@@ -3,10 +3,10 @@ use Rattle.std.specs.Prelude.{◌≡◌, ◌≢◌, ℕ, zero, suc, ◌+◌, ◌
 use Rattle.std.specs.List.{flat_map}
 use Rattle.bforest_nodes.specs.Content.{Content}
 use Rattle.bforest_core.specs.Table.{Table}
-use Rattle.bforest_core.specs.Levels.{LevelNode, node, flat, head_of, heads, sizes, numbers, FitRow, Stacked, Topped, Tree, IsFit, half_of, sizes_of}
+use Rattle.bforest_core.specs.Levels.{LevelNode, node, flat, heads, sizes, numbers, FitRow, Stacked, Topped, Tree, IsFit, half_of, sizes_of}
 use Rattle.bforest_core.specs.Sizes.{gain_above, inner_gain, leaf_gain, growth, need, need_above}
 use Rattle.bforest_core.specs.Descent.{SameAbove}
-use Rattle.bforest_core.specs.Place.{RowIn, RowsIn, IsIn, leaf_content, inner_content, count, Distinct, root_of, numbers_of, IsAt, StandsAbove, Stands, PlacedAt}
+use Rattle.bforest_core.specs.Place.{RowIn, RowsIn, IsIn, leaf_content, inner_content, count, Distinct, numbers_of, IsAt, StandsAbove, PlacedAt}
 
 -- the two paths agree below a level
 abbrev pub SameBelow : ℕ → List ℕ → List ℕ → Type 0
@@ -25,6 +25,13 @@ nodes_up path level (suc count) = nodes_up path (suc level) count ++ get_or path
 abbrev pub NextIs : {K : Type 0} → Option (K × ℕ) → List (K × ℕ) → Type 0
 NextIs None rest = rest ≡ []
 NextIs {K} (Some next) rest = (others : List (K × ℕ)) × (rest ≡ next ∷ others)
+
+-- the path is as it was below a level, and its root is the old one or, with a level more, a taken one
+pub record Climbs (path indices path' indices' : List ℕ) (level size size' : ℕ) (taken : List ℕ) : Type 0 where
+  pub nodes_below : SameBelow level path path'
+  pub entries_below : SameBelow level indices indices'
+  pub same_top : size' ≡ size → top_of path' size' ≡ top_of path size
+  pub new_top : size' ≢ size → 0 < count (top_of path' size') taken
 
 module _ {K V : Type 0} where
   -- the rows from a level up stand over these nodes and are in the table, off its chain, and the path leads
@@ -61,24 +68,26 @@ module _ {K V : Type 0} where
     pub x : K × ℕ
     pub above : Above table path indices level size rows (before ++ y ∷ x ∷ []) (suc (length before))
 
-  -- the rows from a level up after the level gained a node: `list` is its nodes, the path leads to the place,
-  -- the new numbers are `taken` from the front of the chain, and the root is the old one or, with a level
-  -- more, a taken one
+  -- the nodes with the numbers `was` became those with the numbers `are`: the new ones are `taken` from the front of the chain, and no other
+  -- slot changed
+  pub record Draws (old new : Table K V) (was are taken : List ℕ) : Type 0 where
+    pub numbers_are : (number : ℕ) → count number are ≡ count number was + count number taken
+    pub others : (number : ℕ) → count number was + count number taken ≡ 0 → slice_get new.nodes number ≡ slice_get old.nodes number
+    pub chain_is : old.chain ≡ taken ++ new.chain
+    pub slots_are : length new.nodes ≡ length old.nodes
+    pub limit_is : new.limit ≡ old.limit
+    pub memory_is : new.memory ≡ old.memory
+
+  -- the rows from a level up after the level gained a node: `list` is its nodes, and the path leads to the place
   pub record Grown (old new : Table K V) (path indices path' indices' : List ℕ) (level size size' : ℕ) (rows : List (List (LevelNode K ℕ))) (list : List (K × ℕ)) (place : ℕ) (sizes_after : List (List ℕ)) (taken : List ℕ) : Type 0 where
     pub rows' : List (List (LevelNode K ℕ))
     pub above : Above new path' indices' level size' rows' list place
     pub topped : (before : List (K × ℕ)) → length before ≤ length list → Topped before rows → Topped list rows'
     pub sizes_are : map sizes rows' ≡ sizes_after
-    pub numbers_are : (number : ℕ) → count number (flat_map numbers rows') ≡ count number (flat_map numbers rows) + count number taken
-    pub others : (number : ℕ) → count number (flat_map numbers rows) + count number taken ≡ 0 → slice_get new.nodes number ≡ slice_get old.nodes number
-    pub chain_is : old.chain ≡ taken ++ new.chain
-    pub slots_are : length new.nodes ≡ length old.nodes
-    pub limit_is : new.limit ≡ old.limit
-    pub memory_is : new.memory ≡ old.memory
-    pub nodes_below : SameBelow level path path'
-    pub entries_below : SameBelow level indices indices'
-    pub same_top : size' ≡ size → top_of path' size' ≡ top_of path size
-    pub new_top : size' ≢ size → 0 < count (top_of path' size') taken
+    pub draws : Draws old new (flat_map numbers rows) (flat_map numbers rows') taken
+    pub open draws use *
+    pub climbs : Climbs path indices path' indices' level size size' taken
+    pub open climbs use *
 
   -- these rows after the level below gained the node `right` behind the path's: they take as many nodes as that
   -- needs, and the path goes on to `right` or stays
@@ -87,46 +96,58 @@ module _ {K V : Type 0} where
       (suc (length taken) ≡ need_above (Some (length w.before)) (map sizes w.rows))
       × Grown old new path indices path' indices' level size size' w.rows (w.before ++ w.x ∷ right ∷ w.after) (if moved then suc (length w.before) else length w.before) (gain_above (Some (length w.before)) (map sizes w.rows)) taken
 
-  -- the path's node on a level is split, with a new entry: the level's entries are `list`, the rows above lack only
-  -- the right half, whose number and first key are given, and the path leads to the half with its place
-  pub record Parted {X : Type 0} (content : List (K × X) → Content K V) (half most : ℕ) (old new : Table K V) (path path' indices' : List ℕ) (level size : ℕ) (list : List (K × X)) (place : ℕ) (key : K) (right : ℕ) (moved : Bool) : Type 0 where
+  -- the path's node on a level is split, with a new entry: `row` was the level and `rows` those above it, which take up a change of the level
+  -- by `gain`. The level's entries are `list` now, the rows above lack only the right half, whose number and first key are given, and the path
+  -- leads to the half with its place
+  pub record Halved {X : Type 0} (content : List (K × X) → Content K V) (half most : ℕ) (old new : Table K V) (path indices path' indices' : List ℕ) (level size : ℕ) (row : List (LevelNode K X)) (rows : List (List (LevelNode K ℕ)))
+      (gain : Option ℕ × List ℕ) (list : List (K × X)) (place : ℕ) (key : K) (right : ℕ) (moved : Bool) : Type 0 where
     pub before : List (LevelNode K X)
-    pub entries : List (K × X)
     pub after : List (LevelNode K X)
     pub rest : List (List (LevelNode K ℕ))
     pub first : K × X
-    pub others : List (K × X)
+    pub lefts : List (K × X)
     pub next : K × X
-    pub more : List (K × X)
+    pub rights : List (K × X)
     pub key_is : key ≡ next.0
-    pub flat_is : flat (before ++ node (get_or path level 0) (first ∷ others) ∷ node right (next ∷ more) ∷ after) ≡ list
-    pub fit : FitRow half most (before ++ node (get_or path level 0) (first ∷ others) ∷ node right (next ∷ more) ∷ after)
-    pub inside : RowIn content new.nodes (before ++ node (get_or path level 0) (first ∷ others) ∷ node right (next ∷ more) ∷ after)
+    pub flat_is : flat (before ++ node (get_or path level 0) (first ∷ lefts) ∷ node right (next ∷ rights) ∷ after) ≡ list
+    pub fit : FitRow half most (before ++ node (get_or path level 0) (first ∷ lefts) ∷ node right (next ∷ rights) ∷ after)
+    pub inside : RowIn content new.nodes (before ++ node (get_or path level 0) (first ∷ lefts) ∷ node right (next ∷ rights) ∷ after)
     pub above : Above new path' indices' (suc level) size rest (heads before ++ (first.0, get_or path level 0) ∷ heads after) (length (heads before))
-    pub at : IsAt (before ++ node (get_or path level 0) (first ∷ others) ∷ node right (next ∷ more) ∷ after) (get_or path' level 0) (get_or indices' level 0) place
+    pub topped : Topped (heads row) rows → Topped (heads before ++ (first.0, get_or path level 0) ∷ heads after) rest
+    pub sizes_above : map sizes rest ≡ map sizes rows
+    pub gain_is : gain ≡ (Some (length (heads before)), sizes (before ++ node (get_or path level 0) (first ∷ lefts) ∷ node right (next ∷ rights) ∷ after))
+    pub at : IsAt (before ++ node (get_or path level 0) (first ∷ lefts) ∷ node right (next ∷ rights) ∷ after) (get_or path' level 0) (get_or indices' level 0) place
     pub at_is : length at.before ≡ (if moved then suc (length (heads before)) else length (heads before))
-    pub apart : Distinct ((numbers (before ++ node (get_or path level 0) entries ∷ after) ++ flat_map numbers rest) ++ old.chain)
-    pub slots_same : (number : ℕ) → number ≢ get_or path level 0 → number ≢ right → slice_get new.nodes number ≡ slice_get old.nodes number
-    pub chain_is : old.chain ≡ right ∷ new.chain
-    pub slots_are : length new.nodes ≡ length old.nodes
-    pub limit_is : new.limit ≡ old.limit
-    pub memory_is : new.memory ≡ old.memory
-    pub nodes_above : SameAbove level path path'
-
-  -- the path's full node on a level is split, with the new child inserted, which changes no first key above
-  pub record Halved (old new : Table K V) (path indices path' indices' : List ℕ) (level size : ℕ) (rows : List (List (LevelNode K ℕ))) (list : List (K × ℕ)) (was place : ℕ) (key : K) (right : ℕ) (moved : Bool) : Type 0 where
-    pub parted : Parted inner_content 4 8 old new path path' indices' level size list place key right moved
-    pub open parted use *
-    pub rows_were : rows ≡ (before ++ node (get_or path level 0) entries ∷ after) ∷ rest
-    pub head_is : head_of (get_or path level 0) entries ≡ (first.0, get_or path level 0) ∷ []
-    pub gain_is : inner_gain was (sizes (before ++ node (get_or path level 0) entries ∷ after)) ≡ (Some (length (heads before)), sizes (before ++ node (get_or path level 0) (first ∷ others) ∷ node right (next ∷ more) ∷ after))
+    pub apart : Distinct ((numbers (before ++ node (get_or path level 0) (first ∷ lefts) ∷ node right (next ∷ rights) ∷ after) ++ flat_map numbers rest) ++ new.chain)
+    pub draws : Draws old new (numbers row ++ flat_map numbers rows) (numbers (before ++ node (get_or path level 0) (first ∷ lefts) ∷ node right (next ∷ rights) ∷ after) ++ flat_map numbers rest) (right ∷ [])
+    pub open draws use *
     pub nodes_below : SameBelow level path path'
     pub entries_below : SameBelow level indices indices'
+    pub nodes_above : SameAbove level path path'
 
   -- the path's full node in these rows is split, with the node `right` inserted behind the path's below
   abbrev pub HalvedBy : {old : Table K V} {path indices : List ℕ} {level size : ℕ} → OneAbove old path indices level size → K × ℕ → Bool → Table K V → List ℕ → List ℕ → K → ℕ → Bool → Type 0
   HalvedBy {old} {path} {indices} {level} {size} w right moved new path' indices' key half there =
-      Halved old new path indices path' indices' level size w.rows (w.before ++ w.x ∷ right ∷ w.after) (length w.before) (if moved then suc (length w.before) else length w.before) key half there
+      (row : List (LevelNode K ℕ)) × (rows : List (List (LevelNode K ℕ))) × (w.rows ≡ row ∷ rows)
+      × Halved inner_content 4 8 old new path indices path' indices' level size row rows (inner_gain (length w.before) (sizes row)) (w.before ++ w.x ∷ right ∷ w.after) (if moved then suc (length w.before) else length w.before) key half there
+
+  -- a level and the rows above it after the level gained an entry: `row` and `rows` became `row'` and `rows'`, the level's entries are `list`,
+  -- and the path leads to the place
+  pub record Raised {X : Type 0} (content : List (K × X) → Content K V) (half most : ℕ) (old new : Table K V) (path indices path' indices' : List ℕ) (level size size' : ℕ) (row : List (LevelNode K X)) (rows : List (List (LevelNode K ℕ)))
+      (list : List (K × X)) (place : ℕ) (sizes_after : List (List ℕ)) (taken : List ℕ) : Type 0 where
+    pub row' : List (LevelNode K X)
+    pub rows' : List (List (LevelNode K ℕ))
+    pub flat_is : flat row' ≡ list
+    pub fit : FitRow half most row'
+    pub inside : RowIn content new.nodes row'
+    pub at : IsAt row' (get_or path' level 0) (get_or indices' level 0) place
+    pub above : Above new path' indices' (suc level) size' rows' (heads row') (length at.before)
+    pub topped : Topped (heads row) rows → Topped (heads row') rows'
+    pub sizes_are : sizes row' ∷ map sizes rows' ≡ sizes_after
+    pub draws : Draws old new (numbers row ++ flat_map numbers rows) (numbers row' ++ flat_map numbers rows') taken
+    pub open draws use *
+    pub climbs : Climbs path indices path' indices' level size size' taken
+    pub open climbs use *
 
   -- the path is where an entry may be inserted in a fit tree, which is in the table, off its chain
   pub record Placed (most : ℕ) (table : Table K V) (path indices : List ℕ) (size : ℕ) (tree : Tree K V) (place : ℕ) : Type 0 where
@@ -135,33 +156,14 @@ module _ {K V : Type 0} where
     pub apart : Distinct (numbers_of tree ++ table.chain)
     pub at : PlacedAt path indices size tree place
 
-  -- the entry is inserted at the place, where the path stands: the sizes are those of `growth`, the new nodes
-  -- are `taken` from the front of the chain, and the root is the old one or, with a level more, a taken one
-  pub record Inserted (most : ℕ) (old new : Table K V) (path' indices' : List ℕ) (size' : ℕ) (tree : Tree K V) (place : ℕ) (entry : K × V) : Type 0 where
-    pub tree' : Tree K V
+  -- the entry is inserted at the place, where the path stands: the sizes are those of `growth`, and the new nodes are `taken`
+  pub record Inserted (most : ℕ) (old new : Table K V) (path indices path' indices' : List ℕ) (size size' : ℕ) (tree : Tree K V) (place : ℕ) (entry : K × V) : Type 0 where
     pub taken : List ℕ
-    pub flat_is : flat tree'.leaves ≡ insert (flat tree.leaves) place entry
-    pub sizes_are : sizes_of tree' ≡ growth most place (sizes_of tree)
-    pub fit : IsFit most tree'
-    pub inside : IsIn new.nodes tree'
-    pub stands : Stands path' indices' size' tree' place
-    pub numbers_are : (number : ℕ) → count number (numbers_of tree') ≡ count number (numbers_of tree) + count number taken
     pub taken_is : length taken ≡ need most place (sizes_of tree)
-    pub others : (number : ℕ) → count number (numbers_of tree) + count number taken ≡ 0 → slice_get new.nodes number ≡ slice_get old.nodes number
-    pub chain_is : old.chain ≡ taken ++ new.chain
-    pub slots_are : length new.nodes ≡ length old.nodes
-    pub limit_is : new.limit ≡ old.limit
-    pub memory_is : new.memory ≡ old.memory
-    pub same_root : length tree'.above ≡ length tree.above → root_of tree' ≡ root_of tree
-    pub new_root : length tree'.above ≢ length tree.above → 0 < count (root_of tree') taken
+    pub raised : Raised leaf_content (half_of most) most old new path indices path' indices' 0 size size' tree.leaves tree.above (insert (flat tree.leaves) place entry) place (growth most place (sizes_of tree)) taken
+    pub open raised use *
 
-  -- the path's full leaf is split, with the entry inserted: the rows above are those of the tree, under the new
-  -- first keys
-  pub record LeafHalved (most : ℕ) (old new : Table K V) (path path' indices' : List ℕ) (size : ℕ) (tree : Tree K V) (place : ℕ) (entry : K × V) (key : K) (right : ℕ) (moved : Bool) : Type 0 where
-    pub parted : Parted leaf_content (half_of most) most old new path path' indices' 0 size (insert (flat tree.leaves) place entry) place key right moved
-    pub open parted use *
-    pub leaves_were : tree.leaves ≡ before ++ node (get_or path 0 0) entries ∷ after
-    pub gain_is : leaf_gain most place (sizes tree.leaves) ≡ (Some (length (heads before)), sizes (before ++ node (get_or path 0 0) (first ∷ others) ∷ node right (next ∷ more) ∷ after))
-    pub topped : Topped (heads before ++ (first.0, get_or path 0 0) ∷ heads after) rest
-    pub sizes_above : map sizes rest ≡ map sizes tree.above
-    pub numbers_above : flat_map numbers rest ≡ flat_map numbers tree.above
+  -- the path's full leaf is split, with the entry inserted
+  abbrev pub LeafHalved : ℕ → Table K V → Table K V → List ℕ → List ℕ → List ℕ → List ℕ → ℕ → Tree K V → ℕ → K × V → K → ℕ → Bool → Type 0
+  LeafHalved most old new path indices path' indices' size tree place entry =
+      Halved leaf_content (half_of most) most old new path indices path' indices' 0 size tree.leaves tree.above (leaf_gain most place (sizes tree.leaves)) (insert (flat tree.leaves) place entry) place

@@ -1,43 +1,22 @@
 -- Splitting a full node, with a new entry in one half.
-use Rattle.bforest_core.proofs.Words.{◌≡◌, ℕ, suc, ◌+◌, ◌-◌, ◌≤◌, ◌<◌, Bool, true, false, Some, List, [], ◌∷◌, ◌++◌, length, refl, sym, ap, ◌∙◌, append_assoc}
-use Rattle.bforest_core.proofs.Words.{length-append, arith, head_of, ◌≢◌, slice_get, subst, length-set, Content, IsCut, left_half, Table, with_node}
-use Rattle.bforest_core.proofs.Words.{with_front, front_of, IsUsed, IsFullAt, IsSplitAt, inner_content, leaf_content, count, false≢true, PutsIn}
-use Rattle.bforest_core.proofs.{table.Tables.{Puts, count-same, is_used, puts, takes, length-with_front}, table.Stored.{Parts, inner_cuts, some_same}}
-use Rattle.bforest_core.proofs.{table.Stored.{item_count, keys_count}, table.Lists.set-kept, rows.Zipper.cut}
+use Rattle.bforest_core.proofs.Words.{◌≡◌, ℕ, suc, ◌-◌, ◌≤◌, ◌<◌, ◌≢◌, Some, List, [], ◌∷◌, ◌++◌, length, refl, sym, ap, ◌∙◌, append_assoc, length-append}
+use Rattle.bforest_core.proofs.Words.{arith, head_of, slice_get, subst, length-set, Content, IsCut, left_half, Table, with_node, with_front, front_of}
+use Rattle.bforest_core.proofs.Words.{IsSplitAt, count}
+use Rattle.bforest_core.proofs.{table.Tables.{Puts, count-same, puts, takes, length-with_front}, table.Stored.{Parts, some_same}, rows.Zipper.cut}
 use Rattle.bforest_nodes.specs.declared.node.SplitOff.{SplitOff}
-
--- nodes of one kind, by their keys and their values or children
-module _ {K V X : Type 0} (kind : List K → List X → Content K V) where
-  -- what a call that inserts into a node requires
-  abbrev pub PutAsks : Table K V → ℕ → ℕ → Type 0
-  PutAsks t number index = IsUsed t number × ((keys : List K) × (items : List X) × (slice_get t.nodes number ≡ Some (kind keys items)) × (index ≤ length keys))
-
-  -- the node meets that, by the number that was read
-  pub asks_put : {t : Table K V} {number n : ℕ} → number ≡ n → (keys : List K) (items : List X) → slice_get t.nodes n ≡ Some (kind keys items) → (index : ℕ) →
-      IsUsed t n → index ≤ length keys → PutAsks t number index
-  asks_put here keys items found index used within = (rw here used, (keys, items, cc (here), within))
-
-module _ {K V X : Type 0} {kind : List K → List X → Content K V} {size : List K → List X → ℕ} {most : ℕ} {write : Content K V → Content K V} {t u : Table K V} {number : ℕ} {put : Bool} (said : PutsIn kind size most write t u number put)
-    {n : ℕ} (here : number ≡ n) (keys : List K) (items : List X) (found : slice_get t.nodes n ≡ Some (kind keys items)) where
-  slot_is : slice_get t.nodes number ≡ Some (kind keys items)
-  slot_is = cc (here)
-
-  -- a successful insertion had room
-  pub put_fewer : put ≡ true → size keys items < most
-  put_fewer done = (said.room keys items slot_is).0 done
-
-  pub put_in : size keys items < most → u ≡ with_node t n (write (kind keys items))
-  put_in fewer = (rw ((said.room keys items slot_is).1 fewer) at (said.node keys items slot_is)) ∙ ap (λ z. with_node t z (write (kind keys items))) here
-
-  -- a failed insertion had no room and changes nothing
-  pub put_past : put ≡ false → (¬ (size keys items < most)) × (u ≡ t)
-  put_past none = (λ fewer. false≢true (sym none ∙ (said.room keys items slot_is).1 fewer), (rw none at (said.node keys items slot_is)) ∙ ap (λ z. record t { nodes = z }) (set-kept _ _ _ slot_is))
 
 -- if a list is cut twice, the later cut is in the second part of the earlier one
 between : {A : Type 0} (p q l r : List A) → p ++ q ≡ l ++ r → length l ≤ length p → (mid : List A) × (p ≡ l ++ mid) × (r ≡ mid ++ q)
 between p q [] r e low = (p, refl, sym e)
 between [] q (z ∷ l) r e low = absurd (omega arith)
 between (y ∷ p) q (z ∷ l) r e low = let t : p ++ q ≡ l ++ r = cc in let w = between p q l r t (omega arith) in (w.0, cc, w.2)
+
+-- the first key of the right half, with the new entry
+middle_key : {K X : Type 0} (right : ℕ) (mid : List (K × X)) (entry : K × X) (r : List (K × X)) (y : K × X) (ys : List (K × X)) (first : K) →
+    y ∷ ys ≡ mid ++ r → (length mid ≡ 0 → first ≡ entry.0) → (0 < length mid → first ≡ y.0) → head_of right (mid ++ entry ∷ r) ≡ (first, right) ∷ []
+middle_key right [] entry r y ys first q_is zero more = cc (zero refl)
+middle_key right (m ∷ mid) entry r y ys first q_is zero more = ap (λ v. (v, right) ∷ [])
+    (sym (more (omega arith) ∙ (let same : y ≡ m = cc in ap (λ v. v.0) same)))
 
 module _ {K V X : Type 0} (content : List (K × X) → Content K V) where
   -- two nodes in slots, the right one in what was the front of the chain
@@ -77,7 +56,8 @@ module _ {K V X : Type 0} (content : List (K × X) → Content K V) where
   abbrev pub Cuts : ℕ → Type 0
   Cuts q = (zs y ys left right key : _) → length zs ≡ q → IsCut (content (zs ++ y ∷ ys)) q left key right → Parts content zs y ys left right key
 
-  module _ {cap : ℕ} {t s : Table K V} {number : ℕ} (n : ℕ) {e : ℕ} (num_is : number ≡ n) (es : List (K × X)) {parts : SplitOff K} (was : slice_get t.nodes n ≡ Some (content es)) (split : IsSplitAt cap t number e parts s) where
+  module _ {cap : ℕ} {t s : Table K V} {number : ℕ} (n : ℕ) {e : ℕ} (num_is : number ≡ n) (es : List (K × X)) {parts : SplitOff K}
+      (was : slice_get t.nodes n ≡ Some (content es)) (split : IsSplitAt cap t number e parts s) where
     sp : IsSplitAt cap t n e parts s
     sp = rw num_is at split
 
@@ -89,9 +69,11 @@ module _ {K V X : Type 0} (content : List (K × X) → Content K V) where
     counted = cc (sp.counted, whole_is)
 
     -- `split_node` leaves the node split over two slots
-    pub split_at : (right : ℕ) → Cuts parts.lhs_entries → parts.lhs_entries < length es → count n t.chain ≡ 0 → front_of t.chain ≡ Some right → right < length s.nodes → Split t s n right parts.lhs_entries es parts.crit_key
+    pub split_at : (right : ℕ) → Cuts parts.lhs_entries → parts.lhs_entries < length es → count n t.chain ≡ 0 → front_of t.chain ≡ Some right →
+        right < length s.nodes → Split t s n right parts.lhs_entries es parts.crit_key
     split_at right cuts less none front low = let c = cut es parts.lhs_entries less in
-        let p = cuts c.l c.x c.r sp.left_half_is sp.right_half_is parts.crit_key c.place_is (subst (λ v. IsCut v parts.lhs_entries sp.left_half_is parts.crit_key sp.right_half_is) (cc (whole_is)) sp.cut) in
+        let p = cuts c.l c.x c.r sp.left_half_is sp.right_half_is parts.crit_key c.place_is
+        (subst (λ v. IsCut v parts.lhs_entries sp.left_half_is parts.crit_key sp.right_half_is) (cc (whole_is)) sp.cut) in
         let mid = with_front t t.chain sp.right_half_is in let size = ap (λ v. length v.nodes) sp.after ∙ length-set _ n _ ∙ length-with_front t _ _ in
         let w = takes t mid right sp.right_half_is front refl (omega arith) in
         let ne : n ≢ right = λ v. let h = ap (λ k. count k t.chain) v in omega (arith, ap (λ k. count right k) w.chain_is, count-same right mid.chain) in
@@ -116,12 +98,9 @@ module _ {K V X : Type 0} (content : List (K × X) → Content K V) where
         }
 
   module _ {t s : _} (u : Table K V) {n right lefts rights : _} (w : Two t s n right lefts rights) where
-    -- the left half is in use
-    pub left_used : count n t.chain ≡ 0 → IsUsed s n
-    left_used none = is_used s n _ w.here (omega (arith, ap (λ k. count n k) w.chain_is))
-
     -- one of the two nodes was written
-    two_put : {m c : _} (xs ys : _) → Puts s u m c → slice_get u.nodes n ≡ Some (content xs) → slice_get u.nodes right ≡ Some (content ys) → ((k : ℕ) → k ≢ n → k ≢ right → k ≢ m) → Two t u n right xs ys
+    two_put : {m c : _} (xs ys : _) → Puts s u m c → slice_get u.nodes n ≡ Some (content xs) → slice_get u.nodes right ≡ Some (content ys) →
+        ((k : ℕ) → k ≢ n → k ≢ right → k ≢ m) → Two t u n right xs ys
     two_put xs ys put here there apart = record {
       ne = w.ne;
       here = here;
@@ -142,48 +121,29 @@ module _ {K V X : Type 0} (content : List (K × X) → Content K V) where
   two_halves {right} middle grown (z ∷ xs) (y ∷ ys) left_count right_count is left_is right_is some head w =
       record { z = z; xs = xs; y = y; ys = ys; grown_is = is; left_is = left_is; right_is = right_is; middle_is = (let same : ◌≡◌ {A = K × ℕ} (y.0, right) (middle, right) = cc in ap (λ v. v.0) (sym same)); two = w }
 
-  module _ {t s : _} (u : Table K V) {n right q es : _} (grown : List (K × X)) {middle : K} (sp : Split t s n right q es middle) (write : Content K V → Content K V) (left_count right_count : ℕ) where
+  module _ {t s : _} (u : Table K V) {n right q es : _} {middle : K} (sp : Split t s n right q es middle) (write : Content K V → Content K V) (l : List (K × X))
+      (new : K × X) (r : List (K × X)) where
     -- the entry was inserted into the left half
-    pub into_left : (l l2 r : _) → es ≡ l ++ r → grown ≡ l2 ++ r → length l2 ≡ suc (length l) → length l ≤ q → suc q ≡ left_count → q + right_count ≡ length es →
-        ((mid : _) → write (content (l ++ mid)) ≡ content (l2 ++ mid)) → u ≡ with_node s n (write (content sp.zs)) → Halves t u n right middle grown left_count right_count
-    into_left l l2 r es_is grown_is more low left_is right_is wrote after =
+    pub into_left : es ≡ l ++ r → length l ≤ q → ((mid : _) → write (content (l ++ mid)) ≡ content (l ++ new ∷ mid)) →
+        u ≡ with_node s n (write (content sp.zs)) →
+        Halves t u n right middle (l ++ new ∷ r) (suc q) (length es - q)
+    into_left es_is low wrote after =
         let w = between sp.zs (sp.y ∷ sp.ys) l r (sym sp.es_is ∙ es_is) (omega (arith, sp.count_is)) in let put = puts s u n _ _ sp.two.here (cc (wrote w.0)) in
-        two_halves _ _ _ _ _ _ (cc (grown_is, append_assoc _ _ _))
-        (omega (arith, length-append l2 w.0, length-append l w.0, ap length w.1, sp.count_is, left_is))
-        (omega (arith, ap length sp.es_is, length-append sp.zs (sp.y ∷ sp.ys), sp.count_is, right_is)) (omega (arith, left_is)) (ap (λ v. (v, right) ∷ []) (sym sp.key_is))
-        (two_put u sp.two (l2 ++ w.0) (sp.y ∷ sp.ys) put put.here (put.same right (λ v. sp.two.ne (sym v)) ∙ sp.two.there) (λ k a b. a))
+        two_halves _ _ _ _ _ _ (cc (append_assoc l (new ∷ w.0) (sp.y ∷ sp.ys)))
+        (omega (arith, length-append l (new ∷ w.0), length-append l w.0, ap length w.1, sp.count_is))
+        (omega (arith, ap length sp.es_is, length-append sp.zs (sp.y ∷ sp.ys), sp.count_is)) (omega arith) (ap (λ v. (v, right) ∷ []) (sym sp.key_is))
+        (two_put u sp.two (l ++ new ∷ w.0) (sp.y ∷ sp.ys) put put.here (put.same right (λ v. sp.two.ne (sym v)) ∙ sp.two.there) (λ k a b. a))
 
-    -- the entry was inserted into the right half
-    pub into_right : (first l r r2 : _) → es ≡ l ++ r → grown ≡ l ++ r2 → length r2 ≡ suc (length r) → q ≤ length l → 1 ≤ q → q ≡ left_count → q + right_count ≡ suc (length es) →
-        ((mid : _) → length mid ≡ length l - q → (write (content (mid ++ r)) ≡ content (mid ++ r2)) × (sp.y ∷ sp.ys ≡ mid ++ r → head_of right (mid ++ r2) ≡ (first, right) ∷ [])) →
-        u ≡ with_node s right (write (content (sp.y ∷ sp.ys))) → Halves t u n right first grown left_count right_count
-    into_right first l r r2 es_is grown_is more high some left_is right_is wrote after =
+    -- the entry was inserted into the right half, whose first key it may be
+    pub into_right : (first : K) → es ≡ l ++ r → q ≤ length l → 1 ≤ q → (length l - q ≡ 0 → first ≡ new.0) → (0 < length l - q → first ≡ middle) →
+        ((mid : _) → length mid ≡ length l - q → write (content (mid ++ r)) ≡ content (mid ++ new ∷ r)) →
+        u ≡ with_node s right (write (content (sp.y ∷ sp.ys))) → Halves t u n right first (l ++ new ∷ r) q (suc (length es - q))
+    into_right first es_is high some zero more wrote after =
         let w = between l r sp.zs (sp.y ∷ sp.ys) (sym es_is ∙ sp.es_is) (omega (arith, sp.count_is)) in
-        let there = wrote w.0 (omega (arith, ap length w.1, length-append sp.zs w.0, sp.count_is)) in let put = puts s u _ _ _ sp.two.there (cc (there.0)) in
-        two_halves _ _ _ _ _ _ (cc (grown_is, append_assoc _ _ _)) (sp.count_is ∙ left_is)
-        (omega (arith, length-append w.0 r2, length-append w.0 r, ap length w.2, ap length sp.es_is, length-append sp.zs (sp.y ∷ sp.ys), sp.count_is, right_is))
-        (omega (arith, left_is)) (there.1 w.2)
-        (two_put u sp.two sp.zs (w.0 ++ r2) put (put.same n sp.two.ne ∙ sp.two.here) put.here (λ k a b. b))
-
-module _ {K V : Type 0} where
-  -- what splitting a node requires
-  abbrev pub FullAt : ℕ → Table K V → ℕ → Type 0
-  FullAt cap t number = IsUsed t number × (IsFullAt cap t.nodes number × (0 < length t.chain))
-
-  -- a full leaf has `cap` entries
-  pub leaf_full_is : (cap : ℕ) (nodes : List (Content K V)) (n es : _) → slice_get nodes n ≡ Some (leaf_content es) → IsFullAt cap nodes n → length es ≡ cap
-  leaf_full_is cap nodes n es was full = let w = rw was at full in sym (keys_count es) ∙ w.1
-
-  -- a full node has 8 children
-  pub full_is : (cap : ℕ) (nodes : List (Content K V)) (n es : _) → slice_get nodes n ≡ Some (inner_content es) → IsFullAt cap nodes n → length es ≡ 8
-  full_is cap nodes n es was full = let w = rw was at full in sym (item_count es) ∙ w.1
-
-  -- how an inner node is cut
-  pub inner_parts : (q : ℕ) → 1 ≤ q → Cuts {K = K} {V = V} inner_content q
-  inner_parts q some [] y ys left right key e c = absurd (omega arith)
-  inner_parts q some (z ∷ zs) y ys left right key e c = inner_cuts V z _ y _ q _ _ key e c
-
-  -- the first key of the right half, with the new entry
-  pub middle_key : (right : ℕ) (mid : List (K × V)) (entry : K × V) (r : List (K × V)) (y : K × V) (ys : List (K × V)) (first : K) → y ∷ ys ≡ mid ++ r → (length mid ≡ 0 → first ≡ entry.0) → (0 < length mid → first ≡ y.0) → head_of right (mid ++ entry ∷ r) ≡ (first, right) ∷ []
-  middle_key right [] entry r y ys first q_is zero more = cc (zero refl)
-  middle_key right (m ∷ mid) entry r y ys first q_is zero more = ap (λ v. (v, right) ∷ []) (sym (more (omega arith) ∙ (let same : y ≡ m = cc in ap (λ v. v.0) same)))
+        let mid_is : length w.0 ≡ length l - q = omega (arith, ap length w.1, length-append sp.zs w.0, sp.count_is) in
+        let put = puts s u _ _ _ sp.two.there (cc (wrote w.0 mid_is)) in
+        two_halves _ _ _ _ _ _ (cc (append_assoc sp.zs w.0 (new ∷ r))) sp.count_is
+        (omega (arith, length-append w.0 (new ∷ r), length-append w.0 r, ap length w.2, ap length sp.es_is, length-append sp.zs (sp.y ∷ sp.ys), sp.count_is))
+        (omega (arith, some)) (middle_key right w.0 new r sp.y sp.ys first w.2 (λ none. zero (omega (arith, none)))
+        (λ few. more (omega (arith, few)) ∙ sp.key_is))
+        (two_put u sp.two sp.zs (w.0 ++ new ∷ r) put (put.same n sp.two.ne ∙ sp.two.here) put.here (λ k a b. b))

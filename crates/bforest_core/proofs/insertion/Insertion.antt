@@ -1,14 +1,17 @@
 -- The effect of an insertion into the tree under a root on the table, where nodes were reserved for it.
-use Rattle.bforest_core.proofs.Words.{drop-append_seam, ◌≡◌, ℕ, suc, ◌-◌, ◌^◌, ◌≤◌, ◌<◌, ◌≢◌, ◌↔◌, IsTrue, Option, Some, None, List, [], ◌∷◌, ◌++◌, drop, map}
+use Rattle.bforest_core.proofs.Words.{drop-append_seam, ◌≡◌, ℕ, ◌-◌, ◌^◌, ◌≤◌, ◌<◌, ◌≢◌, ◌↔◌, IsTrue, Option, Some, None, List, [], ◌∷◌, ◌++◌, map}
 use Rattle.bforest_core.proofs.Words.{length, insert, slice_get, sym, ap, ◌∙◌, subst, inl, inr, length-append, arith, Heads, Row, Rows, flat_map, cases_lt}
-use Rattle.bforest_core.proofs.Words.{eqb_tells, length-map, Table, fresh_nodes, front_of, free_count, slot_count, room, reserved, IsFullAt, node, flat}
-use Rattle.bforest_core.proofs.Words.{heads, sizes, numbers, Stacked, Topped, Tree, sizes_of, leaf_gain, gain_above, growth, need, Stands, count, root_of}
+use Rattle.bforest_core.proofs.Words.{eqb_tells, length-map, Table, fresh_nodes, front_of, free_count, slot_count, room, reserved, IsFullAt, node}
+use Rattle.bforest_core.proofs.Words.{IsFit, heads, sizes, numbers, Stacked, Topped, Tree, sizes_of, leaf_gain, gain_above, growth, need, Stands, count}
+use Rattle.bforest_core.proofs.Words.{root_of}
 use Rattle.bforest_core.proofs.Words.{numbers_of, top_of, Placed, Inserted, GrowsFor, tree_of, is_root, IsUnion, Changes, TakesNodes, PlacedUnder, StandsUnder}
-use Rattle.bforest_core.proofs.{Words.{InsertsHere, Ok, Path, Placing, refl, place}, union.Reserved.{reserved-union, reserved-roots, reserved-then}}
+use Rattle.bforest_core.proofs.{Words.{InsertsHere, list_under, Ok, Path, Placing, refl, place}, union.Reserved.{reserved-union, reserved-roots, reserved-then}}
 use Rattle.bforest_core.proofs.{rows.Counts.{once_below, below-one, few-below}, table.Allocating.{reserved-enough, reserved-free}}
 use Rattle.bforest_core.proofs.{table.Lists.slice_get-append_left, table.Chains.length-fresh_nodes, rows.Bounds.climb-seventeen, union.Unions.Rooted}
-use Rattle.bforest_core.proofs.{union.Unions.rooted, table.Tables.count-append, rows.Tops.root-stands, union.Forests.root-among, union.Exchange.IsPlanted}
+use Rattle.bforest_core.proofs.{union.Unions.rooted, table.Tables.count-append, rows.Tops.{root-points, root-stands}, union.Forests.root-among}
+use Rattle.bforest_core.proofs.{union.Exchange.IsPlanted}
 use Rattle.bforest_core.proofs.{union.Roots.exchanged, removal.Removal.place_low}
+use Rattle.bforest_core.specs.Paths.{sizes_under}
 
 -- a row has no more heads than nodes
 heads-few : {K X : Type 0} (row : Row K X) → length (heads row) ≤ length (numbers row)
@@ -17,7 +20,8 @@ heads-few (node n [] ∷ row) = omega (arith, heads-few row)
 heads-few (node n (e ∷ es) ∷ row) = omega (arith, heads-few row)
 
 -- an insertion leaves at most 16 rows above the leaves
-gain-low : {K : Type 0} (k : Option ℕ) (hs : Heads K) (rows : Rows K) → Stacked hs rows → Topped hs rows → length hs < 2 ^ 32 → length rows ≤ 16 → length (gain_above k (map sizes rows)) ≤ 16
+gain-low : {K : Type 0} (k : Option ℕ) (hs : Heads K) (rows : Rows K) → Stacked hs rows → Topped hs rows → length hs < 2 ^ 32 → length rows ≤ 16 →
+    length (gain_above k (map sizes rows)) ≤ 16
 gain-low None hs rows s t few low = omega (arith, low, length-map rows sizes)
 gain-low (Some p) hs rows s t few low = climb-seventeen p hs rows s t few low
 
@@ -35,107 +39,118 @@ module _ {K V : Type 0} where
       omega (arith, heads-few tree.leaves, few-below _ _ once)
 
   -- an insertion leaves at most 17 levels, where the slots have numbers
-  pub growth-low : (most : ℕ) (table : Table K V) (root place : ℕ) → IsUnion most table → IsTrue (is_root table.nodes root) → slot_count table ≤ 4294967295 → length (growth most place (sizes_of (tree_of table.nodes root))) ≤ 17
+  pub growth-low : (most : ℕ) (table : Table K V) (root place : ℕ) → IsUnion most table → IsTrue (is_root table.nodes root) → slot_count table ≤ 4294967295 →
+      length (growth most place (sizes_of (tree_of table.nodes root))) ≤ 17
   growth-low most table root place union is slots = let r = rooted _ _ _ union is in let tree = tree_of table.nodes root in
       omega (arith, gain-low (leaf_gain most place (sizes tree.leaves)).0 (heads tree.leaves) tree.above r.fit.stacked r.fit.topped (omega (arith, leaves_within r)) r.low)
 
   -- a path under a root is where an entry may be inserted in its tree, which is in the table
-  pub placed-under : (most : ℕ) (table : Table K V) {root place path indices size : _} → IsUnion most table → PlacedUnder table.nodes root path indices size place → Placed most table path indices size (tree_of table.nodes root) place
+  pub placed-under : (most : ℕ) (table : Table K V) {root place path indices size : _} → IsUnion most table →
+      PlacedUnder table.nodes root path indices size place → Placed most table path indices size (tree_of table.nodes root) place
   placed-under most table union p = let r = rooted _ _ _ union p.root_is in record { fit = r.fit; inside = r.inside; apart = r.apart; at = p.at }
 
   -- a path under a root has at least one level and at most 17
-  pub under-low : (most : ℕ) (table : Table K V) {root place path indices size : _} → IsUnion most table → PlacedUnder table.nodes root path indices size place → (0 < size) × (size ≤ 17)
+  pub under-low : (most : ℕ) (table : Table K V) {root place path indices size : _} → IsUnion most table →
+      PlacedUnder table.nodes root path indices size place → (0 < size) × (size ≤ 17)
   under-low most table union p = (omega arith, omega (arith, (rooted _ _ _ union p.root_is).low))
 
   -- what an insertion states of the table and of the path
-  pub record Insertion (most : ℕ) (old new : Table K V) (root root' place : ℕ) (entry : K × V) (path' indices' : List ℕ) (size' : ℕ) : Type 0 where
-    pub changes : Changes most old new root root' (insert (flat (tree_of old.nodes root).leaves) place entry) (growth most place (sizes_of (tree_of old.nodes root)))
-    pub takes : TakesNodes (need most place (sizes_of (tree_of old.nodes root))) old new
-    pub stands : StandsUnder new.nodes root' path' indices' size' place
-    pub same_root : (root' ≡ root) ↔ (length (growth most place (sizes_of (tree_of old.nodes root))) ≡ length (sizes_of (tree_of old.nodes root)))
+  pub record Put (most : ℕ) (old new : Table K V) (root place : ℕ) (entry : K × V) (path' indices' : List ℕ) (size' : ℕ) : Type 0 where
+    pub some : 0 < size'
+    pub low : size' ≤ 17
+    pub enough : need most place (sizes_under old root) ≤ room old
+    pub changes : Changes most old new root (top_of path' size') (insert (list_under old root) place entry) (growth most place (sizes_under old root))
+    pub takes : TakesNodes (need most place (sizes_under old root)) old new
+    pub stands : StandsUnder new.nodes (top_of path' size') path' indices' size' place
+    pub same_root : (top_of path' size' ≡ root) ↔ (length (growth most place (sizes_under old root)) ≡ length (sizes_under old root))
 
   -- a root that was on the chain differs from the old root
-  new_ne : {most : ℕ} {table : Table K V} (new : Table K V) {root : ℕ} {tree : Tree K V} (root' taken : _) → Rooted most table root tree → table.chain ≡ taken ++ new.chain → 0 < count root' taken → root' ≢ root
+  new_ne : {most : ℕ} {table : Table K V} (new : Table K V) {root : ℕ} {tree : Tree K V} (root' taken : _) → Rooted most table root tree →
+      table.chain ≡ taken ++ new.chain → 0 < count root' taken → root' ≢ root
   new_ne new root' taken r chain_is some same = let among = rw (r.root_is ∙ sym same) at (root-among _ _ _ r.fit r.inside r.some) in
       omega (arith, some, r.apart root', ap (λ z. count root' z) chain_is, count-append)
 
   -- inserting an entry into the tree under a root, after the nodes that it needs were reserved
-  pub insertion : {most : ℕ} (old : _) {new : _} (root memory : ℕ) {place path' indices' size' entry : _} → IsUnion most old →
-      IsTrue (is_root old.nodes root) → size' ≤ 17 →
-      GrowsFor (need most place (sizes_of (tree_of old.nodes root))) old (reserved old (need most place (sizes_of (tree_of old.nodes root))) memory) →
-      Inserted most (reserved old (need most place (sizes_of (tree_of old.nodes root))) memory) new path' indices' size' (tree_of old.nodes root) place entry →
-      Insertion most old new root (top_of path' size') place entry path' indices' size'
-  insertion {most} old {new} root memory {place} {path'} {indices'} {size'} union is low held i =
-      let tree = tree_of old.nodes root in let n = need most place (sizes_of tree) in let mid = reserved old n memory in let root' = root_of i.tree' in
-      let roots = reserved-roots most old n memory union root in let same = roots.1 is in let union_mid = reserved-union most old n memory union in
-      let r = rw same at (rooted most mid root union_mid (roots.0 ∙ is)) in let nums = λ (m : ℕ). ap (λ z. count m (numbers_of z)) same in
-      let planted : IsPlanted most new.nodes i.tree' = record { fit = i.fit; inside = i.inside; some = omega (arith, place_low path' indices' size' i.tree' place i.stands); low = omega (arith, low) } in
-      let e = exchanged root i.taken union_mid (roots.0 ∙ is) planted i.chain_is i.slots_are (λ m. omega (arith, i.numbers_are m, nums m)) (λ m none. i.others m (omega (arith, nums m))) in
-      let levels : length (growth most place (sizes_of tree)) ≡ suc (length i.tree'.above) = omega (arith, ap length i.sizes_are, length-map i.tree'.above sizes) in
-      let levels_were : length (sizes_of tree) ≡ suc (length tree.above) = omega (arith, length-map tree.above sizes) in
-      rw (← root-stands i.fit i.stands) (record {
-        changes = record {
+  pub insertion : {most : ℕ} (old : _) {new : _} (root memory : ℕ) {place path indices size path' indices' size' entry : _} → IsUnion most old →
+      PlacedUnder old.nodes root path indices size place → size' ≤ 17 → need most place (sizes_under old root) ≤ room old →
+      GrowsFor (need most place (sizes_under old root)) old (reserved old (need most place (sizes_under old root)) memory) →
+      Inserted most (reserved old (need most place (sizes_under old root)) memory) new path indices path' indices' size size'
+      (tree_of old.nodes root) place entry →
+      Put most old new root place entry path' indices' size'
+  insertion {most} old {new} root memory {place} {size = size} {path'} {indices'} {size'} union p low enough held i =
+      let tree = tree_of old.nodes root in let n = need most place (sizes_of tree) in let mid = reserved old n memory in
+      let roots = reserved-roots most old n memory union root in let same = roots.1 p.root_is in let union_mid = reserved-union most old n memory union in
+      let r = rw same at (rooted most mid root union_mid (roots.0 ∙ p.root_is)) in let nums = λ (m : ℕ). ap (λ z. count m (numbers_of z)) same in
+      let tree' : Tree K V = record { leaves = i.row'; above = i.rows' } in
+      let fit : IsFit most tree' = record { leaves_fit = i.fit; stacked = i.above.stacked; topped = i.topped r.fit.topped } in
+      let stands : Stands path' indices' size' tree' place = record { leaf = i.at; above = i.above.stands; size_is = omega (arith, i.above.height) } in
+      let planted : IsPlanted most new.nodes tree' =
+      record { fit = fit; inside = record { leaves_in = i.inside; rows_in = i.above.inside }; some = omega (arith, place_low path' indices' size' tree' place stands); low = omega (arith, low, i.above.height) } in
+      let e = exchanged root i.taken union_mid (roots.0 ∙ p.root_is) planted i.chain_is i.slots_are (λ m. omega (arith, i.numbers_are m, nums m))
+      (λ m none. i.others m (omega (arith, nums m))) in
+      let levels : length (growth most place (sizes_of tree)) ≡ size' = omega (arith, ap length i.sizes_are, length-map i.rows' sizes, i.above.height) in
+      let root_is = root-stands fit stands in
+      record {
+        some = omega (arith, i.above.height);
+        low = low;
+        enough = enough;
+        changes = rw (← root_is) (record {
           union = e.union;
           root_is = e.root_is;
           list_is = simp (e.tree_is, i.flat_is);
           sizes_are = ap sizes_of e.tree_is ∙ i.sizes_are;
-          others = reserved-then most old n memory new root root' union e.others;
+          others = reserved-then most old n memory new root (root_of tree') union e.others;
           old_gone = e.old_gone;
-          new_came = λ ne was. e.new_came ne ((reserved-roots most old n memory union root').0 ∙ was);
+          new_came = λ ne was. e.new_came ne ((reserved-roots most old n memory union (root_of tree')).0 ∙ was);
           limit_is = i.limit_is;
-        };
+        });
         takes = record {
-          slots = omega (arith, length-append old.nodes (fresh_nodes (slot_count old) (n - free_count old) (front_of old.chain)), length-fresh_nodes K V (slot_count old) (n - free_count old) (front_of old.chain));
-          free = omega (arith, ap length i.chain_is, length-append i.taken new.chain, reserved-free old n memory);
+          slots = omega (arith, i.slots_are, length-append old.nodes (fresh_nodes (slot_count old) (n - free_count old) (front_of old.chain)), length-fresh_nodes K V (slot_count old) (n - free_count old) (front_of old.chain));
+          free = omega (arith, i.taken_is, ap length i.chain_is, length-append i.taken new.chain, reserved-free old n memory);
           memory = record { grows = rw i.memory_is held.grows; stays = λ enough. i.memory_is ∙ held.stays enough };
-          chain_is = sym (ap (λ z. drop n z) i.chain_is ∙ ap (λ z. drop z (i.taken ++ new.chain)) (sym i.taken_is) ∙ drop-append_seam i.taken new.chain);
+          chain_is = cc (i.chain_is, i.taken_is, drop-append_seam i.taken new.chain);
         };
-        stands = record { root_is = e.root_is; stands = subst (λ z. Stands path' indices' size' z place) (sym e.tree_is) i.stands };
+        stands = rw (← root_is) (record { root_is = e.root_is; stands = subst (λ z. Stands path' indices' size' z place) (sym e.tree_is) stands });
         same_root = (
-          λ same_number. elim (eqb_tells (length i.tree'.above) (length tree.above)) [
-            | inl w ↦ omega arith
-            | inr w ↦ absurd (new_ne new root' i.taken r i.chain_is (i.new_root w.1) same_number)
+          λ same. elim (eqb_tells size' size) [
+            | inl w ↦ omega (arith, length-map tree.above sizes, levels)
+            | inr w ↦ absurd (new_ne new (top_of path' size') i.taken r i.chain_is (i.new_top w.1) same)
           ],
-          λ same_levels. i.same_root (omega arith) ∙ r.root_is,
+          λ same. i.same_top (omega (arith, length-map tree.above sizes, levels)) ∙ sym (root-points _ _ _ _ _ _ (omega arith) r.fit p.at.points) ∙ r.root_is,
         );
-      })
-
-  -- an entry was inserted, with or without new nodes, and the path has at least one level and at most 17
-  pub record Put (most : ℕ) (old new : Table K V) (root place : ℕ) (entry : K × V) (path' indices' : List ℕ) (size' : ℕ) : Type 0 where
-    pub some : 0 < size'
-    pub low : size' ≤ 17
-    pub is : Insertion most old new root (top_of path' size') place entry path' indices' size'
-    pub enough : need most place (sizes_of (tree_of old.nodes root)) ≤ room old
+      }
 
   -- inserting an entry into a leaf with room
-  pub put-here : {most : ℕ} {old new : Table K V} {root place path indices size entry : _} → IsUnion most old → PlacedUnder old.nodes root path indices size place →
-      Inserted most old new path indices size (tree_of old.nodes root) place entry → Put most old new root place entry path indices size
-  put-here {most} {old} {new} {root} {place} {path} {indices} {size} {entry} union p i = let n = need most place (sizes_of (tree_of old.nodes root)) in
-      let enough : n ≤ free_count old = omega (arith, ap length i.chain_is, length-append i.taken new.chain) in let levels = under-low most old union p in
-      record {
-        some = levels.0;
-        low = levels.1;
-        is = insertion old root old.memory union p.root_is levels.1 (record { grows = omega arith; stays = λ more. refl }) (rw (reserved-enough old n enough) i);
-        enough = omega (arith, enough);
-      }
+  pub put-here : {most : ℕ} {old new : Table K V} {root place path indices size entry : _} → IsUnion most old →
+      PlacedUnder old.nodes root path indices size place →
+      Inserted most old new path indices path indices size size (tree_of old.nodes root) place entry → Put most old new root place entry path indices size
+  put-here {most} {old} {new} {root} {place} {path} {indices} {size} {entry} union p i = let n = need most place (sizes_under old root) in
+      let enough : n ≤ free_count old = omega (arith, i.taken_is, ap length i.chain_is, length-append i.taken new.chain) in
+      insertion old root old.memory union p (under-low most old union p).1 (omega (arith, enough)) (record { grows = omega arith; stays = λ more. refl })
+      (rw (reserved-enough old n enough) i)
 
   -- reserving nodes leaves the path at its place
   pub placed-mid : (most : ℕ) (old mid : Table K V) {root place path indices size : _} (n : ℕ) {memory : ℕ} → IsUnion most old →
       PlacedUnder old.nodes root path indices size place → mid ≡ reserved old n memory → Placed most mid path indices size (tree_of old.nodes root) place
   placed-mid most old mid {root} n {memory} union p mid_is =
-      let same = reserved-roots most old n memory union root in let r = rooted most (reserved old n memory) root (reserved-union most old n memory union) (cc) in
+      let same = reserved-roots most old n memory union root in
+      let r = rooted most (reserved old n memory) root (reserved-union most old n memory union) (cc) in
       let s = rw (same.1 p.root_is) at r in rw mid_is (record { fit = s.fit; inside = s.inside; apart = s.apart; at = p.at })
 
   -- inserting an entry by a split of the leaf, after the nodes were reserved
-  pub put-split : (most : ℕ) (old mid new : Table K V) {root place path indices size : _} (n path' indices' size' : _) (entry : K × V) → IsUnion most old → PlacedUnder old.nodes root path indices size place → slot_count old ≤ 4294967295 →
+  pub put-split : (most : ℕ) (old mid new : Table K V) {root place path indices size : _} (n path' indices' size' : _) (entry : K × V) → IsUnion most old →
+      PlacedUnder old.nodes root path indices size place → slot_count old ≤ 4294967295 →
       ((tree place : _) → Placed most old path indices size tree place → n ≡ need most place (sizes_of tree)) → ¬ (room old < n) →
       mid ≡ reserved old n mid.memory → GrowsFor n old mid →
-      ((tree place : _) → Placed most mid path indices size tree place → Inserted most mid new path' indices' size' tree place entry) → Put most old new root place entry path' indices' size'
+      ((tree place : _) → Placed most mid path indices size tree place → Inserted most mid new path indices path' indices' size size' tree place entry) →
+      Put most old new root place entry path' indices' size'
   put-split most old mid new {root} {place} n path' indices' size' entry union p slots needs enough mid_is held inserts =
       let tree = tree_of old.nodes root in let n_is = needs tree place (placed-under most old union p) in
       let mid_old = mid_is ∙ ap (λ z. reserved old z mid.memory) n_is in let i = inserts tree place (placed-mid _ _ _ _ union p mid_old) in
-      let low : size' ≤ 17 = omega (arith, ap length i.sizes_are, length-map i.tree'.above sizes, growth-low most old root place union p.root_is slots) in
-      record { some = omega arith; low = low; is = insertion old root mid.memory union p.root_is low (subst (λ z. GrowsFor z old (reserved old z mid.memory)) n_is (rw mid_is at held)) (rw mid_old at i); enough = omega (arith, enough) }
+      let low : size' ≤ 17 =
+      omega (arith, i.above.height, ap length i.sizes_are, length-map i.rows' sizes, growth-low most old root place union p.root_is slots) in
+      insertion old root mid.memory union p low (omega (arith, enough)) (subst (λ z. GrowsFor z old (reserved old z mid.memory)) n_is (rw mid_is at held))
+      (rw mid_old at i)
 
   -- a full leaf is full after nodes were reserved
   pub full-reserved : (most : ℕ) (table : Table K V) (n memory m content : _) → slice_get table.nodes m ≡ Some content → IsFullAt most table.nodes m →
@@ -147,10 +162,10 @@ module _ {K V : Type 0} where
       → ((at : Placing old path) → Put most old new at.root at.place (key, value) path'.node path'.entry path'.size) →
       InsertsHere old new path path' key value (Ok root')
   inserts root' is put = record {
-    inserted = λ at. rw is (put at).is.changes;
-    account = λ at. (put at).is.takes;
-    stands = λ at. rw is (put at).is.stands;
-    same_root = λ at. rw is (put at).is.same_root;
+    inserted = λ at. rw is (put at).changes;
+    account = λ at. (put at).takes;
+    stands = λ at. rw is (put at).stands;
+    same_root = λ at. rw is (put at).same_root;
     full = λ at. (λ is. absurd cc, λ short. absurd (omega (arith, (put at).enough)));
     memory = λ at is. absurd cc;
     enough = λ at enough. refl;

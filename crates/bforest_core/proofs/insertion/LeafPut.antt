@@ -1,12 +1,12 @@
 -- Putting a value in at a key of the leaf in which a search for the key ends: the answers of `put_in_leaf`.
-use Rattle.bforest_core.proofs.Words.{◌≡◌, ℕ, ◌<◌, ◌↔◌, IsTrue, Option, Some, None, List, ◌∷◌, ◌++◌, map, length, insert, slice_get, sym, ap, ◌∙◌, subst}
+use Rattle.bforest_core.proofs.Words.{◌≡◌, ℕ, suc, ◌<◌, ◌↔◌, IsTrue, Option, Some, None, List, map, length, insert, slice_get, sym, ap, ◌∙◌, subst}
 use Rattle.bforest_core.proofs.Words.{Table, IsFullAt, flat, sizes, sizes_of, gain_above, growth, Placed, tree_of, IsUnion, Changes, PlacedUnder, StandsUnder}
 use Rattle.bforest_core.proofs.Words.{Ok, refl, put_answer, with_put, search_of-keys_of, value_for-absent, value_for-present, Bool, Result, Err, get_or, set}
 use Rattle.bforest_core.proofs.Words.{nat_lt, if◌then◌else◌, true, false, length-set, EndsIn, PutsInLeaf, IsUsed, entry_count, entry_keys, is_present}
 use Rattle.bforest_core.proofs.Words.{leaf_content, place, value_for, search_of, with_entry, with_node, with_value_at, need_above, is_some, option_map}
-use Rattle.bforest_core.proofs.{Words.{get_or-set_same, lt-ltb, ltb-true, PutsEntry}, union.Written.{entry-used, value-written}}
-use Rattle.bforest_core.proofs.{insertion.Insertion.{placed-under, put-here}, table.Stored.{keys_count, read_same}, insertion.HalvingLeaf.put_full}
-use Rattle.bforest_core.proofs.{insertion.HalvingLeaf.put_inserts, insertion.LeafSpot.{leaf_spot, room_gain}, walks.LeafSearch.items-read}
+use Rattle.bforest_core.proofs.{Words.{arith, get_or-set_same, lt-ltb, ltb-true, PutsEntry}, union.Written.{entry-used, value-written}}
+use Rattle.bforest_core.proofs.{insertion.Insertion.{placed-under, put-here}, table.Stored.read_same, insertion.Nodes.put_full}
+use Rattle.bforest_core.proofs.{insertion.LeafSpot.{leaf_spot, put_inserts, site}, walks.LeafSearch.items-read}
 use Rattle.bforest_core.proofs.{table.Tables.is_used, table.Read.slot-is}
 use Rattle.bforest_nodes.specs.Content.{with_value as content_with}
 use Rattle.bforest_nodes.specs.Entries.{with_value}
@@ -58,28 +58,35 @@ module _ {K V : Type 0} {cmp : K → K → Ordering} (most : ℕ) {table : Table
   leaf-used = used_by _ refl
 
   module _ (value : V) (answer : Result (Option V) ℕ) (new : Table K V) (answer_is : answer ≡ put_answer most (leaf_content es) (search_of cmp (entry_keys es) key)) (new_is : new ≡ with_node table leaf (with_put most (leaf_content es) (search_of cmp (entry_keys es) key) key value)) where
+    -- the answer and the table are as is promised, and the leaf is full where the key's place is answered
+    abbrev Both : Type 0
+    Both = PutsInLeaf cmp table root key most value path indices size answer new × ((index : ℕ) → answer ≡ Err index → IsFullAt most table.nodes leaf)
+
     -- where the key is present, its value is written
-    overwrites : is_present cmp es key ≡ true → PutsInLeaf cmp table root key most value path indices size answer new
+    overwrites : is_present cmp es key ≡ true → Both
     overwrites here = let p = place cmp es key in let found = search_of-keys_of cmp es key ∙ ap (λ b. if b then Ok p else Err p) here in
         let said = answer_is ∙ ap (λ z. put_answer most (leaf_content es) z) found ∙ ap Ok (items-read es p ∙ sym (value_for-present cmp es key here)) in
         let after = new_is ∙ ap (λ z. with_node table leaf (with_put most (leaf_content es) z key value)) found in
         let at_index : with_value_at table (get_or path 0 0) (get_or js 0 0) value ≡ with_node table leaf (content_with (leaf_content es) p value) =
         cc (index_is, slot-is table.nodes leaf e.slot_is) in
         let changes = subst (λ z. Changes most table z root root (with_value list at value) (sizes_of (tree_of table.nodes root))) (cc (after)) (value-written union (stands here) value).0 in
-        record {
-          ok = rw said (sym e.value_is);
-          slots = cc (after, length-set _ _ _);
-          chain = cc (after);
-          memory = cc (after);
-          written = λ old is. changes;
-          inserted = λ is. absurd (valued _ here (let same = sym said ∙ is in cc));
-          takes = λ is. absurd (valued _ here (let same = sym said ∙ is in cc));
-          room = λ is. absurd (valued _ here (let same = sym said ∙ is in cc));
-          levels = λ is. absurd (valued _ here (let same = sym said ∙ is in cc));
-          full = λ index is. absurd (let bad = sym said ∙ is in cc);
-          placed = λ index is. absurd (let bad = sym said ∙ is in cc);
-          refused = λ index is. absurd (let bad = sym said ∙ is in cc);
-        }
+        let never = λ (is : answer ≡ Ok None). valued _ here (let same = sym said ∙ is in cc) in (
+          record {
+            ok = rw said (sym e.value_is);
+            slots = cc (after, length-set _ _ _);
+            chain = cc (after);
+            memory = cc (after);
+            written = λ old is. changes;
+            inserted = λ is. absurd (never is);
+            takes = λ is. absurd (never is);
+            room = λ is. absurd (never is);
+            levels = λ is. absurd (never is);
+            full = λ index is. absurd cc;
+            placed = λ index is. absurd cc;
+            refused = λ index is. absurd cc;
+          },
+          λ index is. absurd cc,
+        )
 
     module _ (none : is_present cmp es key ≡ false) where
       abbrev has_room : Bool
@@ -104,64 +111,62 @@ module _ {K V : Type 0} {cmp : K → K → Ordering} (most : ℕ) {table : Table
       gone = cc (value_for-absent cmp es key none)
 
       -- where the leaf has room, the entry is inserted
-      inserts_there : has_room ≡ true → PutsInLeaf cmp table root key most value path indices size answer new
-      inserts_there fits = let tree = tree_of table.nodes root in let ok = said ∙ ap (λ b. if b then Ok None else Err (place cmp es key)) fits in
-          let d = leaf_spot (is_placed none) in let gain = room_gain (is_placed none) (rw (← keys_count (d.l ++ d.r)) ((put_says.room _ _ d.slot_is).0 fits)) in
-          let levels = ap (λ z. length (z.1 ∷ gain_above z.0 (map sizes tree.above))) gain in
-          let put = put-here union (placed none) (put_inserts (is_placed none) 0 e.wide put_says fits) in
-          let put_is = after ∙ ap (λ b. with_node table leaf (if b then with_entry (leaf_content es) (place cmp es key) key value else leaf_content es)) fits in
-          record {
-            ok = rw ok (sym gone);
-            slots = simp (put_is, length-set table.nodes leaf (with_entry (leaf_content es) (place cmp es key) key value));
-            chain = cc;
-            memory = cc;
-            written = λ old is. absurd (let bad = sym ok ∙ is in cc);
-            inserted = λ is. subst (λ z. Changes most table new root z (insert list at (key, value)) (growth most at (sizes_of tree))) (put.is.same_root.1 levels) put.is.changes;
-            takes = λ is. put.is.takes;
-            room = λ is. ap (λ z. need_above z.0 (map sizes tree.above)) gain;
-            levels = λ is. levels;
-            full = λ index is. absurd (let bad = sym ok ∙ is in cc);
-            placed = λ index is. absurd (let bad = sym ok ∙ is in cc);
-            refused = λ index is. absurd (let bad = sym ok ∙ is in cc);
-          }
+      inserts_there : has_room ≡ true → Both
+      inserts_there fits = let tree = tree_of table.nodes root in let ok : answer ≡ Ok None = cc (said) in
+          let inserts = put_inserts (is_placed none) 0 (omega (arith, e.wide)) put_says fits in let levels = ap (λ z. suc (length (gain_above z (map sizes tree.above)))) inserts.0 in
+          let put = put-here union (placed none) inserts.1 in
+          let put_is = after ∙ ap (λ b. with_node table leaf (if b then with_entry (leaf_content es) (place cmp es key) key value else leaf_content es)) fits in (
+            record {
+              ok = rw ok (sym gone);
+              slots = simp (put_is, length-set table.nodes leaf (with_entry (leaf_content es) (place cmp es key) key value));
+              chain = cc;
+              memory = cc;
+              written = λ old is. absurd cc;
+              inserted = λ is. subst (λ z. Changes most table new root z (insert list at (key, value)) (growth most at (sizes_of tree))) (put.same_root.1 levels) put.changes;
+              takes = λ is. put.takes;
+              room = λ is. ap (λ z. need_above z (map sizes tree.above)) inserts.0;
+              levels = λ is. levels;
+              full = λ index is. absurd cc;
+              placed = λ index is. absurd cc;
+              refused = λ index is. absurd cc;
+            },
+            λ index is. absurd cc,
+          )
 
       -- where the leaf is full, nothing changes
-      refuses : has_room ≡ false → PutsInLeaf cmp table root key most value path indices size answer new
-      refuses past = let err = said ∙ ap (λ b. if b then Ok None else Err (place cmp es key)) past in
-          let same : new ≡ table = (put_full (is_placed none) 0 e.wide put_says past).1 in
-          record {
-            ok = rw err tt;
-            slots = cc;
-            chain = cc;
-            memory = cc;
-            written = λ old is. absurd (let bad = sym err ∙ is in cc);
-            inserted = λ is. absurd (let bad = sym err ∙ is in cc);
-            takes = λ is. absurd (let bad = sym err ∙ is in cc);
-            room = λ is. absurd (let bad = sym err ∙ is in cc);
-            levels = λ is. absurd (let bad = sym err ∙ is in cc);
-            full = λ index is. gone;
-            placed = λ index is. subst (λ z. PlacedUnder table.nodes root path (set indices 0 z) size at) (let eq = sym err ∙ is in cc) (placed none);
-            refused = λ index is. same;
-          }
+      refuses : has_room ≡ false → Both
+      refuses past = let err : answer ≡ Err (place cmp es key) = cc (said) in
+          let full = put_full (site (is_placed none) (key, value)) 0 (omega (arith, e.wide)) put_says past in let same = full.1 in (
+            record {
+              ok = rw err tt;
+              slots = cc;
+              chain = cc;
+              memory = cc;
+              written = λ old is. absurd cc;
+              inserted = λ is. absurd cc;
+              takes = λ is. absurd cc;
+              room = λ is. absurd cc;
+              levels = λ is. absurd cc;
+              full = λ index is. gone;
+              placed = λ index is. subst (λ z. PlacedUnder table.nodes root path (set indices 0 z) size at) (let eq = sym err ∙ is in cc) (placed none);
+              refused = λ index is. same;
+            },
+            λ index is. rw (← e.leaf_is) full.0,
+          )
 
-      by_room : (b : Bool) → has_room ≡ b → PutsInLeaf cmp table root key most value path indices size answer new
+      by_room : (b : Bool) → has_room ≡ b → Both
       by_room true fits = inserts_there fits
       by_room false past = refuses past
 
-    by_presence : (b : Bool) → is_present cmp es key ≡ b → PutsInLeaf cmp table root key most value path indices size answer new
+    by_presence : (b : Bool) → is_present cmp es key ≡ b → Both
     by_presence true here = overwrites here
     by_presence false none = by_room none (nat_lt (entry_count (leaf_content es)) most) refl
 
+    both : Both
+    both = by_presence _ refl
+
     pub puts-in-leaf : PutsInLeaf cmp table root key most value path indices size answer new
-    puts-in-leaf = by_presence _ refl
+    puts-in-leaf = both.0
 
-    full_by : (b : Bool) → is_present cmp es key ≡ b → (r : Bool) → nat_lt (entry_count (leaf_content es)) most ≡ r → (index : ℕ) → answer ≡ Err index → IsFullAt most table.nodes leaf
-    full_by true here r is index err =
-        absurd (let bad : Ok (value_for cmp es key) ≡ Err index = cc (search_of-keys_of cmp es key, items-read _ _, value_for-present cmp es key here) in cc)
-    full_by false none true fits index err = absurd (let bad = sym (said none ∙ ap (λ b. if b then Ok None else Err (place cmp es key)) fits) ∙ err in cc)
-    full_by false none false past index err =
-        rw (← e.leaf_is) (put_full (is_placed none) 0 e.wide (put_says none) past).0
-
-    -- the leaf is full where the key's place is answered
     pub is-full : (index : ℕ) → answer ≡ Err index → IsFullAt most table.nodes leaf
-    is-full = full_by _ refl _ refl
+    is-full = both.1

@@ -24,15 +24,6 @@ slice_get_at (z ∷ p) y ys (suc n) e = slice_get_at p y ys n (omega arith)
 drop-behind : {A : Type 0} (p : List A) (y : A) (ys : List A) (n : ℕ) → suc (length p) ≡ n → drop n (p ++ y ∷ ys) ≡ ys
 drop-behind p y ys n e = cc (append_assoc p _ _, drop_at (p ++ y ∷ []) ys n (length-append p _ ∙ omega arith))
 
--- inserting after an element of a mapped list
-insert_after : {X Y : Type 0} (f : X → Y) (l : List X) (x : X) (r : List X) (y : X) → insert (map f (l ++ x ∷ r)) (suc (length l)) (f y) ≡ map f (l ++ x ∷ y ∷ r)
-insert_after f [] x r y = refl
-insert_after f (z ∷ l) x r y = cc (insert_after f l x r y)
-
-insert_key : {K : Type 0} (l : Heads K) (x : K × ℕ) (r : Heads K) (y : K × ℕ) → insert (drop 1 (entry_keys (l ++ x ∷ r))) (length l) y.0 ≡ drop 1 (entry_keys (l ++ x ∷ y ∷ r))
-insert_key [] x r y = refl
-insert_key (z ∷ l) x r y = insert_after _ l x r y
-
 -- inserting between two parts of a mapped list
 insert_at : {X Y : Type 0} (f : X → Y) (l r : List X) (y : X) → insert (map f (l ++ r)) (length l) (f y) ≡ map f (l ++ y ∷ r)
 insert_at f [] r y = refl
@@ -73,10 +64,11 @@ childless (Leaf keys vals) other = refl
 childless (Free next) other = refl
 
 module _ {K : Type 0} (V : Type 0) where
-  -- inserting a child after another
-  pub with_child_is : (l : Heads K) (x : K × ℕ) (r : Heads K) (key : K) (child e : ℕ) → length l ≡ e → with_child {V = V} (inner_content (l ++ x ∷ r)) e key child ≡ inner_content (l ++ x ∷ (key, child) ∷ r)
-  with_child_is l x r key child e is =
-      let next : e + 1 ≡ suc (length l) = omega arith in rw (next, ← is, insert_key l x r (key, child), insert_after (λ w. w.1) l x r (key, child)) refl
+  -- inserting a child behind others
+  pub with_child_is : (l r : Heads K) (e : ℕ) (y : K × ℕ) → length l ≡ e + 1 → with_child {V = V} (inner_content (l ++ r)) e y.0 y.1 ≡ inner_content (l ++ y ∷ r)
+  with_child_is [] r e y is = absurd (omega arith)
+  with_child_is (z ∷ l) r e y is = let next : e + 1 ≡ suc (length l) = omega arith in let here : e ≡ length l = omega arith in
+      rw (next, here, insert_at (λ w. w.0) l r y, insert_at (λ w. w.1) (z ∷ l) r y) refl
 
   -- the parts of an inner node after its first `q` children
   pub inner_cuts : (x xs y ys q : _) (left right : Content K V) (key : K) → length (x ∷ xs) ≡ q → IsCut (inner_content ((x ∷ xs) ++ y ∷ ys)) q left key right → Parts inner_content (x ∷ xs) y ys left right key

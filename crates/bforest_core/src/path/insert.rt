@@ -1,9 +1,9 @@
 //! Inserting an entry where a path is.
 ghost use Rattle.std.specs.Prelude.{insert, IfOk, IsOk, OnOk, OnErr, Ok, Err, ◌≡◌, ℕ, suc, ◌+◌, ◌-◌, ◌<◌, ◌≤◌, ◌↔◌, false, true, List, [], ◌∷◌, ◌++◌, map, length, get_or, Some, if◌then◌else◌};
 ghost use Rattle.bforest_core.specs.Table.{IsFullAt, NeedsGrowth, room, free_count};
-ghost use Rattle.bforest_core.specs.Levels.{LevelNode, sizes, Tree, sizes_of, most_levels, top_level};
+ghost use Rattle.bforest_core.specs.Levels.{sizes, Tree, sizes_of, most_levels, top_level};
 ghost use Rattle.bforest_core.specs.Sizes.{gain_above, need_above, growth, need};
-ghost use Rattle.bforest_core.specs.Climb.{top_of, Above, GrownBy, HalvedBy, Inserted, LeafHalved, OneAbove, Placed};
+ghost use Rattle.bforest_core.specs.Climb.{top_of, GrownBy, HalvedBy, Inserted, LeafHalved, OneAbove, Placed};
 ghost use Rattle.bforest_nodes.specs.Entries.{place};
 ghost use Rattle.bforest_core.specs.Trees.{IsUnion};
 ghost use Rattle.bforest_core.specs.Change.{Changes, TakesNodes};
@@ -108,14 +108,12 @@ impl<K: Copy, V: Copy, const N: usize> Path<K, V, N> {
     }
 
     // How many nodes a split of the path's node below level `up` takes.
-    #[tactic(auto, using(crate::proofs::removal::Asked::above_low))]
+    #[tactic(auto, using(crate::proofs::removal::Asked::one_low))]
     fn needed_above(&self, up: usize, pool: &NodePool<K, V, N>) -> u32
         requires height { self.now.size ≤ most_levels }
-        requires pending { (rows : List (List (LevelNode K ℕ))) × (list : List (K × ℕ)) × (place : ℕ)
-            × Above pool.now self.now.node self.now.entry up self.now.size rows list place }
-        ensures value { (rows : List (List (LevelNode K ℕ))) (list : List (K × ℕ)) (place : ℕ)
-            → Above pool.now self.now.node self.now.entry up self.now.size rows list place → result
-            ≡ need_above (Some place) (map sizes rows) }
+        requires pending { OneAbove pool.now self.now.node self.now.entry up self.now.size }
+        ensures value { (w : OneAbove pool.now self.now.node self.now.entry up self.now.size)
+            → result ≡ need_above (Some (length w.before)) (map sizes w.rows) }
         ensures few { result + up ≤ 2 + self.now.size }
     {
         if up == self.size {
@@ -133,7 +131,8 @@ impl<K: Copy, V: Copy, const N: usize> Path<K, V, N> {
             self.now.size tree place }
         ensures inserted { result ≡ true → (tree : Tree K V) (place : ℕ)
             → Placed N pool.old self.now.node self.now.entry self.now.size tree place
-            → Inserted N pool.old pool.new self.now.node self.now.entry self.now.size tree place (key, value) }
+            → Inserted N pool.old pool.new self.now.node self.now.entry self.now.node self.now.entry
+            self.now.size self.now.size tree place (key, value) }
         ensures full { result ≡ false → IsFullAt N pool.old.nodes (get_or self.now.node 0 0) }
         ensures pool { result ≡ false → pool.new ≡ pool.old }
     {
@@ -148,8 +147,8 @@ impl<K: Copy, V: Copy, const N: usize> Path<K, V, N> {
             self.old.size tree place × (need N place (sizes_of tree) ≤ length pool.old.chain)
             × (length (growth N place (sizes_of tree)) ≤ most_levels) }
         ensures inserted { (tree : Tree K V) (place : ℕ) → Placed N pool.old self.old.node self.old.entry
-            self.old.size tree place → Inserted N pool.old pool.new self.new.node self.new.entry self.new.size
-            tree place (key, value) }
+            self.old.size tree place → Inserted N pool.old pool.new self.old.node self.old.entry self.new.node
+            self.new.entry self.old.size self.new.size tree place (key, value) }
     {
         let leaf = self.node[0];
         let half = self.halve_leaf(key, value, pool);
@@ -163,8 +162,8 @@ impl<K: Copy, V: Copy, const N: usize> Path<K, V, N> {
         requires placed { (tree : Tree K V) × (place : ℕ) × Placed N pool.old self.old.node self.old.entry
             self.old.size tree place }
         ensures halved { (tree : Tree K V) (place : ℕ) → Placed N pool.old self.old.node self.old.entry
-            self.old.size tree place → LeafHalved N pool.old pool.new self.old.node self.new.node
-            self.new.entry self.old.size tree place (key, value) result.key result.node result.moved }
+            self.old.size tree place → LeafHalved N pool.old pool.new self.old.node self.old.entry
+            self.new.node self.new.entry self.old.size tree place (key, value) result.key result.node result.moved }
         ensures size { self.new.size ≡ self.old.size }
     {
         let leaf = self.node[0];

@@ -1,23 +1,16 @@
-use Rattle.bforest_core.proofs.{Words.{rules, ℕ, PlacedUnder, tree_of}, insertion.Insertion.{inserts, placed-under, Put, put-here}}
-use Rattle.bforest_core.proofs.path.Path.insert.Given.{Over}
+use Rattle.bforest_core.proofs.{Words.{rules, tree_of}, insertion.Insertion.{inserts, placed-under, put-here, under-low}}
 use Rattle.bforest_core.proofs.path.Path.insert.Goals as goal
 
 pub put_here-requires : goal.put_here-requires
 put_here-requires g c =
     let w = c.requires.placed in (search rules, (search rules, (tree_of c.args.pool.now.nodes w.root, w.place, placed-under _ _ c.requires.union w.placed)))
 
--- where the leaf has room, the insertion under any root in whose tree the path stands
-put_at : (g : Over) (c : goal.After-root g) {root place : ℕ} → PlacedUnder c.args.pool.now.nodes root c.args.self.now.node c.args.self.now.entry c.args.self.now.size place →
-    Put g.row.N c.args.pool.now c.put_here.new.pool root place (c.args.key, c.args.value) c.args.self.now.node c.args.self.now.entry c.args.self.now.size
-put_at g c {root} {place} p = put-here c.requires.union p (c.put_here.ensures.inserted c.if-put_here.true _ place (placed-under _ _ c.requires.union p))
-
 pub root-requires : goal.root-requires
-root-requires g c = let w = c.requires.placed in
-    let put = put-here c.requires.union w.placed (c.put_here.ensures.inserted c.if-put_here.true _ w.place (placed-under _ _ c.requires.union w.placed)) in
-    (search rules, (put.some, put.low))
+root-requires g c = (search rules, under-low _ _ c.requires.union c.requires.placed.placed)
 
 pub returns-then-put_here : goal.returns-then-put_here
-returns-then-put_here g c = inserts _ c.root.ensures (λ at. put_at g c at.placed)
+returns-then-put_here g c = inserts _ c.root.ensures
+    (λ at. put-here c.requires.union at.placed (c.put_here.ensures.inserted c.if-put_here.true _ at.place (placed-under _ _ c.requires.union at.placed)))
 
 pub insert_full-requires : goal.insert_full-requires
 insert_full-requires g c =

@@ -1,6 +1,6 @@
-use Rattle.bforest_core.proofs.Words.{Placing, rules, ◌≡◌, ℕ, ◌++◌, length, get_or, refl, ap, ◌∙◌, arith, sizes_of, need, leaf_content, PlacedUnder, tree_of}
-use Rattle.bforest_core.proofs.{Words.reserved, insertion.Insertion.{inserts, placed-under, under-low, growth-low, placed-mid, full-reserved, Put, put-split}}
-use Rattle.bforest_core.proofs.{table.Allocating.{err_iff, err_is, reserved-free}, insertion.LeafSpot.leaf_spot, path.Path.insert_full.Given.Over}
+use Rattle.bforest_core.proofs.Words.{Placing, rules, ◌≡◌, ◌++◌, length, get_or, refl, ap, ◌∙◌, arith, sizes_of, need, leaf_content, tree_of}
+use Rattle.bforest_core.proofs.{Words.reserved, insertion.Insertion.{inserts, placed-under, under-low, growth-low, placed-mid, full-reserved, put-split}}
+use Rattle.bforest_core.proofs.{table.Allocating.{err_iff, err_is, reserved-free}, insertion.LeafSpot.leaf_spot}
 use Rattle.bforest_core.proofs.path.Path.insert_full.Goals as goal
 
 pub needed_here-requires : goal.needed_here-requires
@@ -14,12 +14,6 @@ split_leaf-requires g c = let w = c.requires.placed in let t0 = c.args.pool.now 
     let d = leaf_spot here in let full = full-reserved g.row.N t0 n 0 (get_or c.args.self.now.node 0 0) (leaf_content (d.l ++ d.r)) d.slot_is c.requires.full in
     let placed = placed-mid _ t0 c.reserve.new.self n union w.placed mid_is in
     (search rules, (search rules, ((under-low _ _ union w.placed).1, (rw mid_is full, (tree, w.place, placed, omega (arith, ap (λ z. length z.chain) mid_is, reserved-free t0 n 0), growth-low _ t0 w.root w.place union w.placed.root_is c.in_ok-reserve.ensures.numbers)))))
-
--- the insertion, under any root in whose tree the path stands
-put_at : (g : Over) (c : goal.After-root g) {root place : ℕ} → PlacedUnder c.args.pool.now.nodes root c.args.self.now.node c.args.self.now.entry c.args.self.now.size place →
-    Put g.row.N c.args.pool.now c.split_leaf.new.pool root place (c.args.key, c.args.value) c.split_leaf.new.self.node c.split_leaf.new.self.entry c.split_leaf.new.self.size
-put_at g c {root} {place} p = put-split _ _ _ _ _ _ _ _ _ c.requires.union p c.in_ok-reserve.ensures.numbers c.needed_here.ensures.value
-    (λ short. (let e = c.in_ok-reserve.ensures.full.1 short in absurd cc)) c.in_ok-reserve.ensures.ok c.in_ok-reserve.ensures.growth c.split_leaf.ensures.inserted
 
 pub root-requires : goal.root-requires
 root-requires g c = let put = put-split _ _ _ _ _ _ _ _ _ c.requires.union c.requires.placed.placed c.in_ok-reserve.ensures.numbers c.needed_here.ensures.value
@@ -42,4 +36,5 @@ returns-in_err-reserve g c = let t0 = c.args.pool.now in let e = err_is _ _ c.fr
     }
 
 pub returns : goal.returns
-returns g c = inserts _ c.root.ensures (λ at. put_at g c at.placed)
+returns g c = inserts _ c.root.ensures (λ at. put-split _ _ _ _ _ _ _ _ _ c.requires.union at.placed c.in_ok-reserve.ensures.numbers c.needed_here.ensures.value
+    (λ short. (let e = c.in_ok-reserve.ensures.full.1 short in absurd cc)) c.in_ok-reserve.ensures.ok c.in_ok-reserve.ensures.growth c.split_leaf.ensures.inserted)

@@ -1,13 +1,9 @@
-use Rattle.bforest_core.proofs.{Words.{rules, arith}, insertion.HalvingLeaf.{put_asks, put_inserts, put_full}}
+use Rattle.bforest_core.proofs.{Words.{rules, arith}, insertion.LeafSpot.{put_inserts, site}, insertion.Nodes.{put_asks, put_full}}
 use Rattle.bforest_core.proofs.path.Path.put_here.Goals as goal
 
 pub put_entry-requires : goal.put_entry-requires
-put_entry-requires g c = let w = c.requires.placed in (search rules, put_asks w.2 c.index-self-0.result (omega arith))
+put_entry-requires g c = (search rules, put_asks (site c.requires.placed.2 (c.args.key, c.args.value)) _ (omega arith))
 
 pub returns : goal.returns
-returns g c = let w = c.requires.placed in
-    record {
-      inserted = λ done tree place p. put_inserts p c.index-self-0.result (omega arith) c.put_entry.ensures done;
-      full = λ full. (put_full w.2 c.index-self-0.result (omega arith) c.put_entry.ensures full).0;
-      pool = λ full. (put_full w.2 c.index-self-0.result (omega arith) c.put_entry.ensures full).1;
-    }
+returns g c = let full = put_full (site c.requires.placed.2 (c.args.key, c.args.value)) _ (omega arith) c.put_entry.ensures in
+    record { inserted = λ done tree place p. (put_inserts p _ (omega arith) c.put_entry.ensures done).1; full = λ none. (full none).0; pool = λ none. (full none).1 }
