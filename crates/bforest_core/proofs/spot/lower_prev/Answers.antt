@@ -6,7 +6,7 @@ pub below-requires-clause-code : goal.below-requires-clause-code
 below-requires-clause-code g c = let w = c.requires.way in code-low-here c.requires.index w.2 w.1 c.requires.low
 
 pub child-requires : goal.child-requires
-child-requires g c = let w = c.requires.way in (search rules, branch-asks (prev-at c.requires.index w.2 c.if-index-gt0.true w.1.4).branch)
+child-requires g c = let w = c.requires.way in (search rules, branch-asks (prev-at c.requires.index w.2 c.if-index-gt0.true w.1).branch)
 
 pub returns-then-index-gt0 : goal.returns-then-index-gt0
 returns-then-index-gt0 g c = record {
