@@ -2,13 +2,13 @@
 pub use Rattle.bforest_core.proofs.rows.Shapes.{Heads, Row, Rows}
 pub use Rattle.bforest_core.specs.Change.{AtUnder, Changes, EntryTaken, KeepsTrees, PlacedUnder, Plants, Shrinks}
 pub use Rattle.bforest_core.specs.Climb.{Above, Grown, GrownBy, Halved, HalvedBy, Inserted, LastAbove, LeafHalved, NextIs, OneAbove, Parted, Placed, SameBelow}
-pub use Rattle.bforest_core.specs.Descent.{Descended, GoesThrough, HasBelow, IsFirst, IsFrom, IsLast, IsRooted, IsUpTo, Led, OnBelow, Reached}
+pub use Rattle.bforest_core.specs.Descent.{Descended, GoesThrough, HasBelow, IsFirst, IsFrom, IsLast, IsRooted, IsUpTo, Led, NodeOver, OnBelow, Reached}
 pub use Rattle.bforest_core.specs.Levels.{FitRow, IsFit, LevelNode, Solid, Stacked, Topped, Tree, flat, half_of, head_of, heads, least, node, numbers, sizes}
 pub use Rattle.bforest_core.specs.Paths.{InsertsHere, OnEntry, OnLeaf, Placing, PointsTo, Standing, StandsAt, StandsOn, index_of, leaf_of, list_under, path_root, place_in}
 pub use Rattle.bforest_core.specs.Place.{Distinct, IsAt, IsIn, IsPathAt, PointsAt, RowIn, RowsIn, Stands, StandsAbove, count, entry_before, entry_items}
 pub use Rattle.bforest_core.specs.Removal.{Dropped, Emptied, Frees, GivesAll, HasOthers, Healed, Heals, IsSingle, Item, Joined, Joins, Keeps, LeafLoss, Loosened, LoosenedRows}
 pub use Rattle.bforest_core.specs.Spots.{Coded, CodedOver, Direction, EndsAt, Followed, HasNext, HasPrev, HasUnder, IsBesideOf, IsLeafAt, IsLower, IsSpotAt, IsTurn}
-pub use Rattle.bforest_core.specs.Spots.{IsWay, Leads, NumberAt, Way, backwards, onwards}
+pub use Rattle.bforest_core.specs.Spots.{IsWay, Leads, NumberAt, SearchAt, Sided, Way, backwards, onwards}
 pub use Rattle.bforest_core.specs.Steps.{Advances, AreFirst, AreLast, HasOver, LastAt, MoreAt, Moved, OnLevels, OnOver, Over, Retreats, Turned, TurnedBack}
 pub use Rattle.bforest_core.specs.Table.{IsBalancedAt, IsEntryAt, IsFreeAt, IsFullAt, IsSplitAt, IsUnderflowedAt, IsUsed}
 pub use Rattle.bforest_core.specs.Table.{GrowsFor, NeedsGrowth, PutsChild, PutsEntry, PutsIn, Table, down_from}

@@ -2,7 +2,8 @@
 use Rattle.std.proofs.Math.Logic.{◌⊎◌}
 use Rattle.std.specs.Prelude.{◌≡◌, ℕ, suc, ◌+◌, ◌-◌, ◌<◌, ◌/◌, ◌%◌, IfSome, IsTrue, List, [], ◌∷◌, ◌++◌, drop, length, get_or, slice_get, take, Option, Some, None, ◌≤◌, ◌*◌, ◌^◌}
 use Rattle.bforest_nodes.specs.Content.{Content, entry_count}
-use Rattle.bforest_core.specs.Descent.{Under}
+use Rattle.bforest_core.specs.Descent.{NodeOver, SearchThrough}
+use Rattle.std.specs.declared.cmp.Ordering.{Ordering}
 use Rattle.bforest_core.specs.Levels.{LevelNode, flat, node, Stacked}
 use Rattle.bforest_core.specs.Place.{IsAt, RowsIn, inner_content, leaf_content, root_above}
 use Rattle.bforest_core.specs.Table.{Table}
@@ -163,13 +164,32 @@ module _ {K V : Type 0} (slots : List (Content K V)) (root code height : ℕ) wh
       pub beside : IsBesideOf slots root (code / 2 ^ (3 * level)) (height - level) d (Some (spot, number))
       pub ends : (j : ℕ) → left < j → j ≤ level → EndsAt j
 
+-- a spot's way goes to a node on one side of its level; the rows below the node and those above it are these rows
+pub record Sided {K V : Type 0} (most : ℕ) (slots : List (Content K V)) (Side : List (K × ℕ) → List (K × ℕ) → Type 0) (leaves : List (LevelNode K V))
+    (rows : List (List (LevelNode K ℕ))) (spot : Spot) (number : ℕ) : Type 0 where
+  pub on : NodeOver most slots leaves number
+  pub open on use *
+  pub upper : List (List (LevelNode K ℕ))
+  pub numbers : List ℕ
+  pub side : Side before after
+  pub way : IsWay numbers spot upper (length before)
+  pub join : lower ++ upper ≡ rows
+
 module _ {K V : Type 0} (most : ℕ) (slots : List (Content K V)) (Side : List (K × ℕ) → List (K × ℕ) → Type 0) (spot : Spot) (number : ℕ) where
   -- a spot's way goes to a node on one side of its level, under which lie some leaves and rows
   abbrev pub HasUnder : Type 0
-  HasUnder =
-      (leaves : List (LevelNode K V)) × (lower : List (List (LevelNode K ℕ))) × (upper : List (List (LevelNode K ℕ))) × (numbers : List ℕ) × (before : List (K × ℕ)) × (first : K) × (after : List (K × ℕ)) × Side before after × Under most slots leaves lower (before ++ (first, number) ∷ after) × IsWay numbers spot upper (length before) × (length lower + spot.height ≤ 16)
+  HasUnder = (leaves : List (LevelNode K V)) × (rows : List (List (LevelNode K ℕ))) × (d : Sided most slots Side leaves rows spot number)
+      × (length d.lower + spot.height ≤ 16)
 
   -- what is said of the leaves under that node and of all rows above them, whichever they are
   abbrev pub OnUnder : (List (LevelNode K V) → List (List (LevelNode K ℕ)) → Type 0) → Type 0
-  OnUnder Said =
-      (leaves : List (LevelNode K V)) (lower upper : List (List (LevelNode K ℕ))) (numbers : List ℕ) (before : List (K × ℕ)) (first : K) (after : List (K × ℕ)) → Side before after → Under most slots leaves lower (before ++ (first, number) ∷ after) → IsWay numbers spot upper (length before) → Said leaves (lower ++ upper)
+  OnUnder Said = (leaves : List (LevelNode K V)) (rows : List (List (LevelNode K ℕ))) → Sided most slots Side leaves rows spot number → Said leaves rows
+
+-- a search for the key goes through the node to which a spot's way goes; the rows below the node and those above it are these rows
+pub record SearchAt {K V : Type 0} (cmp : K → K → Ordering) (most : ℕ) (slots : List (Content K V)) (leaves : List (LevelNode K V))
+    (rows : List (List (LevelNode K ℕ))) (key : K) (spot : Spot) (number : ℕ) : Type 0 where
+  pub on : SearchThrough cmp most slots leaves key number spot.height
+  pub upper : List (List (LevelNode K ℕ))
+  pub numbers : List ℕ
+  pub way : IsWay numbers spot upper (length on.before)
+  pub join : on.lower ++ upper ≡ rows

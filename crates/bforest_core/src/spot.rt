@@ -8,8 +8,8 @@ ghost use Rattle.bforest_core.specs.Paths.{list_under};
 ghost use Rattle.bforest_core.specs.Trees.{IsUnion, is_root, tree_of};
 ghost use Rattle.bforest_nodes.specs.Content.{Inner, IsLeafCapacity};
 ghost use Rattle.bforest_nodes.specs.Entries.{IsIncreasing};
-ghost use Rattle.bforest_core.specs.Descent.{IsFirst, IsLast, SearchThrough, child_index};
-ghost use Rattle.bforest_core.specs.Spots.{IsBesideOf, IsLower, Leads, HasNext, HasNoParent, HasPrev, HasUnder, IsLeafAt, IsSpotAt, IsTurn, IsWay, NumberAt, OnUnder, SpotOn, Way, backwards, leaf_count, leaf_place, onwards};
+ghost use Rattle.bforest_core.specs.Descent.{IsFirst, IsLast, child_index};
+ghost use Rattle.bforest_core.specs.Spots.{IsBesideOf, IsLower, Leads, HasNext, HasNoParent, HasPrev, HasUnder, IsLeafAt, IsSpotAt, IsTurn, IsWay, NumberAt, OnUnder, SearchAt, SpotOn, Way, backwards, leaf_count, leaf_place, onwards};
 
 use crate::access::{child, child_count, follow, last_index, separator};
 use crate::pool::NodePool;
@@ -566,14 +566,11 @@ fn find_below<K: Copy, V: Copy, const N: usize, C: Comparator<K>>(
     comp: &C,
 ) -> (Spot, Node)
     requires capacity { IsLeafCapacity N }
-    requires under { (leaves : List (LevelNode K V)) × (upper : List (List (LevelNode K ℕ)))
-        × (numbers : List ℕ)
-        × (on : SearchThrough (C.order comp.now) N pool.now.nodes leaves key node spot.now.height)
-        × IsWay numbers spot.now upper (length on.before) }
-    ensures found { (leaves : List (LevelNode K V)) (upper : List (List (LevelNode K ℕ))) (numbers : List ℕ)
-        (on : SearchThrough (C.order comp.now) N pool.now.nodes leaves key node spot.now.height)
-        → IsWay numbers spot.now upper (length on.before)
-        → EndsOn (C.order comp.now) pool.now.nodes leaves (on.lower ++ upper) key result.0 result.1 }
+    requires under { (leaves : List (LevelNode K V)) × (rows : List (List (LevelNode K ℕ)))
+        × SearchAt (C.order comp.now) N pool.now.nodes leaves rows key spot.now node }
+    ensures found { (leaves : List (LevelNode K V)) (rows : List (List (LevelNode K ℕ)))
+        → SearchAt (C.order comp.now) N pool.now.nodes leaves rows key spot.now node
+        → EndsOn (C.order comp.now) pool.now.nodes leaves rows key result.0 result.1 }
 {
     let (mut here, mut lower) = (*spot, node);
     while pool.node(lower).is_inner() {

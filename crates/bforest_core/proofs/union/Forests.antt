@@ -3,7 +3,7 @@ use Rattle.bforest_core.proofs.Words.{◌≡◌, ℕ, ◌+◌, ◌≤◌, ◌<�
 use Rattle.bforest_core.proofs.Words.{inr, arith, IsLeafCapacity, nil_from_length, flat_map, map-append, get_or_past, flat_map-append, and_parts, cases_lt}
 use Rattle.bforest_core.proofs.Words.{eqb_tells, Content, Inner, Leaf, Free, IsFree, children_of, Table, flat, heads, numbers, Stacked, Tree, IsFit, half_of}
 use Rattle.bforest_core.proofs.Words.{IsRooted, RowsIn, IsIn, entry_items, count, root_above, root_of, numbers_of, slot, is_used, tree_of, is_root, Every}
-use Rattle.bforest_core.proofs.{Words.IsForest, union.FreeSlots.free-at, walks.TopNode.node_under, walks.Whole.whole_under}
+use Rattle.bforest_core.proofs.{Words.IsForest, union.FreeSlots.free-at, walks.TopNode.node_under, walks.Whole.root-node}
 use Rattle.bforest_core.proofs.{rows.Counts.{below-one, past-none, at-most-one, named_by, all-named}, table.Tables.{count-append, count-same, count-other}}
 use Rattle.bforest_core.proofs.{table.Read.{items-heads, half-some, slot-is, children-row, children-leaves, read-back}, table.Stored.{childless, inner_used}}
 
@@ -67,8 +67,7 @@ module _ {K V : Type 0} where
 
   -- the root of a tree is a node
   root_used : {most : ℕ} → IsLeafCapacity most → (slots : List (Content K V)) (tree : _) → IsRooted most slots (root_of tree) tree → is_used (slot slots (root_of tree)) ≡ true
-  root_used capacity slots tree r = let u = whole_under r in
-      elim (node_under capacity tree.above [] u.0 (root_of tree) [] u.1) [ inl w ↦ ap is_used (slot-is slots (root_of tree) w.slot_is) | inr w ↦ ap is_used (slot-is slots (root_of tree) w.slot_is) ]
+  root_used capacity slots tree r = elim (node_under capacity (root-node r)) [ inl w ↦ ap is_used (slot-is slots (root_of tree) w.slot_is) | inr w ↦ ap is_used (slot-is slots (root_of tree) w.slot_is) ]
 
   -- the slots of a table name each number of its trees except the roots
   named_all : {most : _} {table : Table K V} {trees : _} → IsForest most table trees → (m : ℕ) → count m (flat_map children_of table.nodes) + count m (map root_of trees) ≡ count m (flat_map numbers_of trees)

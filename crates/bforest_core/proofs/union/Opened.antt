@@ -3,7 +3,7 @@ use Rattle.bforest_core.proofs.Words.{◌≡◌, ℕ, suc, ◌+◌, ◌≤◌, �
 use Rattle.bforest_core.proofs.Words.{arith, Heads, Row, Rows, flat_map, flat_map-append, Content, Inner, Leaf, Free, IsInner, children_of, entry_count, node}
 use Rattle.bforest_core.proofs.Words.{numbers, leaf_content, inner_content, entry_items, count, Under, numbers_down, numbers_under, nil_from_length}
 use Rattle.bforest_core.proofs.{Words.IsLeafCapacity, walks.Downward.Seen, table.Read.slot-is}
-use Rattle.bforest_core.proofs.{walks.TopNode.{LeafUnder, InnerUnder, node_under}, walks.RowNodes.no_heads, table.Tables.count-append, rows.LevelRows.some_leaf}
+use Rattle.bforest_core.proofs.{walks.TopNode.{LeafUnder, InnerUnder, node_over, node_under}, walks.RowNodes.no_heads, table.Tables.count-append, rows.LevelRows.some_leaf}
 
 -- a row with one head has one node
 one_node : {K X : Type 0} {half : ℕ} (most : ℕ) → 1 ≤ half → {row : Row K X} {first number : _} (at : Seen half most row [] first number []) → row ≡ node number (at.e ∷ at.es) ∷ []
@@ -30,8 +30,8 @@ module _ {K V : Type 0} where
     pub down : numbers_down slots (length lower) number ≡ number ∷ flat_map (numbers_down slots (length rows)) (reverse (entry_items top))
 
   module _ {most : ℕ} (capacity : IsLeafCapacity most) {slots leaves : _} where
-    open_leaf : (lower : _) {first : _} (number : _) → LeafUnder most slots leaves lower [] first number [] → Opened most slots leaves lower number
-    open_leaf lower number s = let row = one_node most (some_leaf capacity) s.at in
+    open_leaf : {lower : _} {first number : _} {u : Under most slots leaves lower ((first, number) ∷ [])} → LeafUnder (node_over lower [] first number [] u) → Opened most slots leaves lower number
+    open_leaf {lower} s = let row = one_node most (some_leaf capacity) s.at in
         record {
           low = [];
           rows = [];
@@ -45,8 +45,8 @@ module _ {K V : Type 0} where
           down = cc;
         }
 
-    open_inner : (lower : _) {first : _} (number : _) → InnerUnder most slots leaves lower [] first number [] → Opened most slots leaves lower number
-    open_inner lower number s = let row = one_node 8 (omega arith) s.at in let es = s.at.e ∷ s.at.es in
+    open_inner : {lower : _} {first number : _} {u : Under most slots leaves lower ((first, number) ∷ [])} → InnerUnder (node_over lower [] first number [] u) → Opened most slots leaves lower number
+    open_inner {lower} s = let row = one_node 8 (omega arith) s.at in let es = s.at.e ∷ s.at.es in
         record {
           low = leaves;
           rows = s.rows;
@@ -61,4 +61,4 @@ module _ {K V : Type 0} where
         }
 
     pub under-open : {lower : _} {first number : _} → Under most slots leaves lower ((first, number) ∷ []) → Opened most slots leaves lower number
-    under-open {lower = lower} {number = number} u = elim (node_under capacity _ _ _ _ _ u) [ inl s ↦ open_leaf _ _ s | inr s ↦ open_inner lower number s ]
+    under-open u = elim (node_under capacity (node_over _ [] _ _ [] u)) [ inl s ↦ open_leaf s | inr s ↦ open_inner s ]

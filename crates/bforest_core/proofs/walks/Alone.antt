@@ -2,7 +2,7 @@
 use Rattle.bforest_core.proofs.Words.{◌≡◌, ℕ, suc, ◌+◌, ◌≤◌, IsTrue, List, [], ◌∷◌, ◌++◌, get_or, length, inl, inr, refl, sym, subst, ap, ◌∙◌, arith, EndsIn}
 use Rattle.bforest_core.proofs.Words.{IsTotalOrder, IsIncreasing, IsLeaf, IsUnion, Content, LevelNode, node, PlacedUnder, StandsAbove, Table, flat, is_root}
 use Rattle.bforest_core.proofs.{Words.{slot, tree_of}, table.Read.slot-is}
-use Rattle.bforest_core.proofs.{walks.Descent.{leaf_step, reached}, walks.Standing.under-root, walks.TopNode.node_under, walks.Whole.{all_through, ends-in}}
+use Rattle.bforest_core.proofs.{walks.Descent.{leaf_step, reached}, walks.Searches.search-root, walks.TopNode.node_under, walks.Whole.ends-in}
 use Rattle.std.specs.declared.cmp.Ordering.{Ordering}
 
 -- a path's list of numbers whose lowest is this one
@@ -13,11 +13,9 @@ lone n = n ∷ 0 ∷ 0 ∷ 0 ∷ 0 ∷ 0 ∷ 0 ∷ 0 ∷ 0 ∷ 0 ∷ 0 ∷ 0 ∷
 pub ends-alone : {K V : Type 0} (cmp : K → K → Ordering) → IsTotalOrder cmp → {most : ℕ} (table : Table K V) (root : ℕ) (key : K) → IsUnion most table → IsTrue (is_root table.nodes root) → IsLeaf (slot table.nodes root) → IsIncreasing cmp (flat (tree_of table.nodes root).leaves) →
     EndsIn cmp table root key root (lone root) (lone 0) 1
 ends-alone cmp o table root key union is leaf inc =
-    let u = under-root root union is in let leaves = (tree_of table.nodes root).leaves in let lower = (tree_of table.nodes root).above in
-    let one = union.1.capacity in
-    elim (node_under one lower [] u.first root [] u.under) [
-      | inl s ↦ (let step = leaf_step o one inc (all_through cmp u.first key) s in
-          ends-in table root is (reached o one step (lone 0) (lone 0)
+    let t = search-root union is inc 0 refl in elim (node_under union.1.capacity t.on) [
+      | inl s ↦ (let step = leaf_step o union.1.capacity t s in
+          ends-in table root is (reached o union.1.capacity step (lone 0) (lone 0)
           (lone root) (lone 0) (omega arith) (omega arith) refl refl) (sym (ap (λ z. suc (length z)) s.lower_is)) refl refl)
       | inr s ↦ absurd (subst IsLeaf (slot-is table.nodes root s.slot_is) leaf)
     ]

@@ -1,10 +1,10 @@
 -- The descent of a search: one level of it, and its end in a leaf.
-use Rattle.bforest_core.proofs.Words.{place-present, ◌≡◌, ◌≢◌, ℕ, ◌+◌, ◌≤◌, ◌<◌, ◌⊎◌, inl, inr, List, [], ◌∷◌, ◌++◌, length, get_or, set, slice_get, Option}
+use Rattle.bforest_core.proofs.Words.{place-present, ◌≡◌, ◌≢◌, ℕ, suc, ◌+◌, ◌≤◌, ◌<◌, ◌⊎◌, inl, inr, List, [], ◌∷◌, ◌++◌, length, get_or, set, slice_get, Option}
 use Rattle.bforest_core.proofs.Words.{Some, refl, sym, ap, subst, ◌∙◌, arith, append_assoc, length-append, length-set, Heads, Row, get_or-set_same}
 use Rattle.bforest_core.proofs.Words.{nil_from_length, slice_get_within, IsTotalOrder, IsStrictlySortedBy, AllByRecursion, is_some, Content, Inner}
 use Rattle.bforest_core.proofs.Words.{IsLeafCapacity, IsIncreasing, place, is_present, value_for, node, flat, entry_keys, entry_items, StandsTo, child_index}
 use Rattle.bforest_core.proofs.walks.Rising.{all_split, all_less, increasing_split, increasing_rest, all_before, all_greater, place_between, entry_between}
-use Rattle.bforest_core.proofs.{Words.{IsFrom, IsUpTo, GoesThrough, Under, Descended, Reached}, rows.LevelRows.{flat-append, some_leaf}}
+use Rattle.bforest_core.proofs.{Words.{IsFrom, IsUpTo, Descended, Reached, SearchThrough}, rows.LevelRows.{flat-append, some_leaf}}
 use Rattle.bforest_core.proofs.{walks.Rising.{place-le, first_passed, sides}, walks.TopNode.{InnerUnder, LeafUnder, flat_parted, seen_at, set_but}}
 use Rattle.bforest_core.proofs.{walks.LeafSearch.items-read, walks.Downward.{Seen, last_of, stands_more, heads_increasing, upto_flat, stacked_increasing}}
 use Rattle.bforest_core.proofs.{table.Stored.{some_same, slice_get_at}, walks.Reading.ChildRead}
@@ -40,17 +40,17 @@ module _ {K : Type 0} (cmp : K → K → Ordering) where
   from_last front (x ∷ init) last l key f is h =
       let rest : l ≡ init ++ last ∷ [] = cc in is_from _ _ _ (all_split (λ p. cmp p key ≢ Greater) init (last ∷ []) (rw (← rest) h)).1.0
 
-module _ {K V : Type 0} (cmp : K → K → Ordering) (most : ℕ) (slots : List (Content K V)) (leaves lower a first number b key : _) where
+module _ {K V : Type 0} {cmp : K → K → Ordering} {most : ℕ} {slots : List (Content K V)} {leaves key number depth : _} (t : SearchThrough cmp most slots leaves key number depth) where
   -- a search in an inner node, whose row is the highest of those below
   pub record InnerStep : Type 0 where
-    pub here : InnerUnder most slots leaves lower a first number b
+    pub here : InnerUnder t.on
     pub increasing : IsIncreasing cmp (here.at.e ∷ here.at.es)
     pub from : (here.at.before ≡ []) ⊎ (cmp here.at.e.0 key ≢ Greater)
     pub upto : IsUpTo cmp (flat here.at.after) key
 
   -- a search at its end, in a leaf
   pub record LeafStep : Type 0 where
-    pub here : LeafUnder most slots leaves lower a first number b
+    pub here : LeafUnder t.on
     pub increasing : IsIncreasing cmp (here.at.e ∷ here.at.es)
     pub increasing_after : IsIncreasing cmp (flat here.at.after)
     pub from : (here.at.before ≡ []) ⊎ (cmp here.at.e.0 key ≢ Greater)
@@ -64,50 +64,49 @@ increasing_about cmp o {number = number} at inc =
     let parts = subst (IsIncreasing cmp) (cc (flat-append at.before (node number (at.e ∷ at.es) ∷ at.after))) inc in
     let two = increasing_split o (at.e ∷ at.es) (flat at.after) (increasing_split o _ ((at.e ∷ at.es) ++ flat at.after) parts).1 in (parts, two.0, two.1)
 
-module _ {K V : Type 0} {cmp : K → K → Ordering} (o : IsTotalOrder cmp) {most : ℕ} (capacity : IsLeafCapacity most) {slots : List (Content K V)} {leaves lower a first number b key : _} where
-  module _ (inc : IsIncreasing cmp (flat leaves)) (g : GoesThrough cmp a first b key) where
-    -- the search in an inner node, from what is under it
-    pub inner_step : InnerUnder most slots leaves lower a first number b → InnerStep cmp most slots leaves lower a first number b key
-    inner_step s = record {
-      here = s;
-      increasing = (increasing_about cmp o s.at (stacked_increasing _ o _ _ _ s.under.stacked (heads_increasing o leaves inc))).1;
-      from = from_at cmp a s.at g.from;
-      upto = upto_flat _ 4 8 (omega arith) _ _ s.at.after_fit (rw s.at.after_is g.upto);
-    }
+module _ {K V : Type 0} {cmp : K → K → Ordering} (o : IsTotalOrder cmp) {most : ℕ} (capacity : IsLeafCapacity most) {slots : List (Content K V)} {leaves key number depth : _}
+    (t : SearchThrough cmp most slots leaves key number depth) where
+  -- the search in an inner node, from what is under it
+  pub inner_step : InnerUnder t.on → InnerStep t
+  inner_step s = record {
+    here = s;
+    increasing = (increasing_about cmp o s.at (stacked_increasing _ o _ _ _ s.under.stacked (heads_increasing o leaves t.increasing))).1;
+    from = from_at cmp t.before s.at t.through.from;
+    upto = upto_flat _ 4 8 (omega arith) _ _ s.at.after_fit (rw s.at.after_is t.through.upto);
+  }
 
-    pub leaf_step : LeafUnder most slots leaves lower a first number b → LeafStep cmp most slots leaves lower a first number b key
-    leaf_step s =
-        let at = s.at in let parts = increasing_about cmp o at inc in
-        let upto = upto_flat _ _ _ (some_leaf capacity) _ _ at.after_fit (rw at.after_is g.upto) in
-        let from = from_at cmp a at g.from in
-        record {
-          here = s;
-          increasing = parts.1;
-          increasing_after = parts.2;
-          from = from;
-          low = elim from [ inl none ↦ subst (λ z. AllByRecursion (λ p. cmp p key ≡ Less) (keys_of (flat z))) (sym none) tt | inr ng ↦ all_less o _ _ _ (all_before o _ _ (at.es ++ flat at.after) parts.0) ng ];
-          high = all_greater o _ key parts.2 (λ y c is. subst (λ z. IsUpTo cmp z key) is upto);
-        }
+  pub leaf_step : LeafUnder t.on → LeafStep t
+  leaf_step s =
+      let at = s.at in let parts = increasing_about cmp o at t.increasing in
+      let upto = upto_flat _ _ _ (some_leaf capacity) _ _ at.after_fit (rw at.after_is t.through.upto) in
+      let from = from_at cmp t.before at t.through.from in
+      record {
+        here = s;
+        increasing = parts.1;
+        increasing_after = parts.2;
+        from = from;
+        low = elim from [ inl none ↦ subst (λ z. AllByRecursion (λ p. cmp p key ≡ Less) (keys_of (flat z))) (sym none) tt | inr ng ↦ all_less o _ _ _ (all_before o _ _ (at.es ++ flat at.after) parts.0) ng ];
+        high = all_greater o _ key parts.2 (λ y c is. subst (λ z. IsUpTo cmp z key) is upto);
+      }
 
-  -- the search capacity level down: at the child of this index, with everything below it
-  pub record Below (s : InnerStep cmp most slots leaves lower a first number b key) (index child : ℕ) : Type 0 where
-    pub front : Heads K
-    pub head : K
-    pub back : Heads K
-    pub under : Under most slots leaves s.here.rows (front ++ (head, child) ∷ back)
-    pub through : GoesThrough cmp front head back key
-    pub place_is : length front ≡ length (flat s.here.at.before) + index
+module _ {K V : Type 0} {cmp : K → K → Ordering} (o : IsTotalOrder cmp) {most : ℕ} (capacity : IsLeafCapacity most) {slots : List (Content K V)} {leaves key number depth : _}
+    {t : SearchThrough cmp most slots leaves key number depth} where
+  -- the search one level down: at the child of this index, with everything below it
+  pub record Below (s : InnerStep t) (index child deeper : ℕ) : Type 0 where
+    pub on : SearchThrough cmp most slots leaves key child deeper
+    pub rows_are : on.lower ≡ s.here.rows
+    pub place_is : length on.before ≡ length (flat s.here.at.before) + index
     pub within : index ≤ length s.here.at.es
 
-  module _ (s : InnerStep cmp most slots leaves lower a first number b key) where
+  module _ (s : InnerStep t) where
     -- the node meets what following a child requires
     pub follow_asks : (keys : List K) × (children : _) × (slice_get slots number ≡ Some (Inner keys children)) × IsStrictlySortedBy cmp keys
     follow_asks = (entry_keys s.here.at.es, entry_items (s.here.at.e ∷ s.here.at.es), s.here.slot_is, increasing_rest o s.here.at.e s.here.at.es s.increasing)
 
-    -- following a child gives the search capacity level down
+    -- following a child gives the search one level down
     pub below : {index child : ℕ} → ((keys : List K) (children : _) → slice_get slots number ≡ Some (Inner keys children) → index ≡ child_index cmp keys key)
-        → ChildRead slots number index child → Below s index child
-    below {index = index} {child = child} says reads =
+        → ChildRead slots number index child → (deeper : ℕ) → deeper ≤ suc depth → Below s index child deeper
+    below {index = index} {child = child} says reads deeper low =
         let index_is = says (entry_keys s.here.at.es) (entry_items (s.here.at.e ∷ s.here.at.es)) s.here.slot_is in
         let child_at = reads (entry_keys s.here.at.es) (entry_items (s.here.at.e ∷ s.here.at.es)) s.here.slot_is in let at = s.here.at in
         let d = sides o at.es key (increasing_rest o at.e at.es s.increasing) in let w = last_of at.e d.l in
@@ -116,23 +115,31 @@ module _ {K V : Type 0} {cmp : K → K → Ordering} (o : IsTotalOrder cmp) {mos
         let here = ap (λ z. slice_get z index) es_is ∙ slice_get_at _ _ _ _ count_is in
         let child_is = some_same {x = child} {y = w.last.1} (cc (items-read (at.e ∷ at.es) index, here)) in
         record {
-          front = flat at.before ++ w.init;
-          head = w.last.0;
-          back = d.r ++ flat at.after;
-          under = rw (← (ap flat at.row_is ∙ flat_parted at.before number w.init w.last d.r at.after es_is ∙ ap (λ z. (flat at.before ++ w.init) ++ (w.last.0, z) ∷ (d.r ++ flat at.after)) (sym child_is))) s.here.under;
-          through = record {
-            from = from_last _ _ _ _ _ key (elim s.from [ inl none ↦ inl (ap flat none) | inr ng ↦ inr ng ]) w.is d.low;
-            upto = upto_parts _ _ _ key d.high s.upto;
+          on = record {
+            on = record {
+              lower = s.here.rows;
+              before = flat at.before ++ w.init;
+              first = w.last.0;
+              after = d.r ++ flat at.after;
+              under = rw (← (ap flat at.row_is ∙ flat_parted at.before number w.init w.last d.r at.after es_is ∙ ap (λ z. (flat at.before ++ w.init) ++ (w.last.0, z) ∷ (d.r ++ flat at.after)) (sym child_is))) s.here.under;
+            };
+            increasing = t.increasing;
+            through = record {
+              from = from_last _ _ _ _ _ key (elim s.from [ inl none ↦ inl (ap flat none) | inr ng ↦ inr ng ]) w.is d.low;
+              upto = upto_parts _ _ _ key d.high s.upto;
+            };
+            low = omega (arith, s.here.count_is, t.low, low);
           };
+          rows_are = refl;
           place_is = cc (length-append (flat at.before) w.init);
           within = omega (arith, slice_get_within (at.e ∷ at.es) index w.last here);
         }
 
-    -- capacity level of the descent, whose place was written into the path
-    pub passed : (index : _) {child : _} (w : Below s index child) (path indices : _) {path' indices' : _} (path'' indices'' : _) {high : ℕ} → high ≡ length lower → Descended cmp leaves s.here.rows key (length w.front) path' indices' path'' indices'' →
-        get_or path' high 0 ≡ number → get_or indices' high 0 ≡ index → path' ≡ set path high number → indices' ≡ set indices high index → Descended cmp leaves lower key (length a) path indices path'' indices''
-    passed index w path indices path'' indices'' {high = high} high_is d m_is j_is nodes entries =
-        let m_at = d.nodes_above high (omega arith) ∙ m_is in let j_at = d.entries_above high (omega arith) ∙ j_is in
+    -- a level of the descent, whose place was written into the path
+    pub passed : (index : _) {child deeper : _} (w : Below s index child deeper) (path indices : _) {path' indices' : _} (path'' indices'' : _) {high : ℕ} → high ≡ length t.lower → Descended cmp leaves w.on.lower key (length w.on.before) path' indices' path'' indices'' →
+        get_or path' high 0 ≡ number → get_or indices' high 0 ≡ index → path' ≡ set path high number → indices' ≡ set indices high index → Descended cmp leaves t.lower key (length t.before) path indices path'' indices''
+    passed index w path indices path'' indices'' {high = high} high_is descended m_is j_is nodes entries =
+        let d = rw w.rows_are at descended in let m_at = d.nodes_above high (omega arith) ∙ m_is in let j_at = d.entries_above high (omega arith) ∙ j_is in
         let more = stands_more path'' indices'' 1 s.here.rows (length d.leaf.before) high d.stands (omega arith) (seen_at s.here.at m_at j_at w.within w.place_is) in
         record {
           leaf = d.leaf;
@@ -141,7 +148,7 @@ module _ {K V : Type 0} {cmp : K → K → Ordering} (o : IsTotalOrder cmp) {mos
           entries_above = λ i low. d.entries_above i (omega arith) ∙ set_but _ _ _ entries i (λ z. omega arith);
         }
 
-  module _ (s : LeafStep cmp most slots leaves lower a first number b key) where
+  module _ (s : LeafStep t) where
     abbrev entries : List (K × V)
     entries = s.here.at.e ∷ s.here.at.es
 
@@ -173,7 +180,7 @@ module _ {K V : Type 0} {cmp : K → K → Ordering} (o : IsTotalOrder cmp) {mos
     -- the end of the descent
     pub landed : (path indices path' : _) {indices' : _} (answer : Option V) → 0 < length path → 0 < length indices
         → path' ≡ set path 0 number → indices' ≡ set indices 0 (place cmp entries key) → answer ≡ value_for cmp entries key
-        → (answer ≡ value_for cmp (flat leaves) key) × Descended cmp leaves lower key (length a) path indices path' indices'
+        → (answer ≡ value_for cmp (flat leaves) key) × Descended cmp leaves t.lower key (length t.before) path indices path' indices'
     landed path indices path' answer wide wide' nodes indices_are answer_is = (
       cc (leaf_value),
       rw s.here.lower_is (record {
@@ -185,7 +192,7 @@ module _ {K V : Type 0} {cmp : K → K → Ordering} (o : IsTotalOrder cmp) {mos
     )
 
     -- the end of the descent, before the search in the leaf
-    pub reached : (path indices path' indices' : List ℕ) → 0 < length path → 0 < length indices → path' ≡ set path 0 number → indices' ≡ set indices 0 0 → Reached cmp slots leaves lower key (length a) path indices path' indices' number
+    pub reached : (path indices path' indices' : List ℕ) → 0 < length path → 0 < length indices → path' ≡ set path 0 number → indices' ≡ set indices 0 0 → Reached cmp slots leaves t.lower key (length t.before) path indices path' indices' number
     reached path indices path' indices' wide wide' nodes indices_are = record {
       leaf_is = cc (get_or-set_same path 0 number 0 wide);
       entries = entries;

@@ -2,7 +2,7 @@
 use Rattle.bforest_core.proofs.Words.{◌≡◌, ℕ, ◌+◌, IsTrue, List, [], ◌∷◌, ◌++◌, drop, length, get_or, slice_get, Some, refl, sym, ap, subst, ◌∙◌, arith}
 use Rattle.bforest_core.proofs.Words.{append_assoc, length-append, drop_at, Content, IsInner, IsLeaf, Path, Tree, flat, node, OnLeaf, StandsOn, index_of}
 use Rattle.bforest_core.proofs.{Words.{Stands, Table, IsUnion, is_root, slot}, rows.LevelRows.flat-append, walks.Standing.on-leaf-in, walks.TopNode.leaf_under}
-use Rattle.bforest_core.proofs.{union.Unions.is-rooted, walks.Whole.whole_under, table.Read.slot-is}
+use Rattle.bforest_core.proofs.{union.Unions.is-rooted, walks.Whole.root-node, table.Read.slot-is}
 
 -- the list from the first entry of the path's leaf on is the leaf's entries and the rest
 leaf-rest : {K V : Type 0} {path indices size : _} {tree : Tree K V} {place : _} (s : Stands path indices size tree place) → drop (length (flat s.leaf.before)) (flat tree.leaves) ≡ s.leaf.entries ++ drop (length (flat s.leaf.before) + length s.leaf.entries) (flat tree.leaves)
@@ -13,8 +13,7 @@ leaf-rest {path = path} s = let front = flat s.leaf.before in let entries = s.le
 
 -- a root that is no inner node is a leaf
 pub root-leaf : {K V : Type 0} {most : ℕ} {table : Table K V} (union : IsUnion most table) (root : ℕ) (content : Content K V) → IsTrue (is_root table.nodes root) → slice_get table.nodes root ≡ Some content → (IsInner content → ⊥) → IsLeaf (slot table.nodes root)
-root-leaf {table = table} union root content is found other = let u = whole_under (is-rooted root union is) in
-    subst IsLeaf (sym (slot-is table.nodes root (leaf_under union.1.capacity [] u.0 root [] u.1 found other).slot_is)) tt
+root-leaf {table = table} union root content is found other = subst IsLeaf (sym (slot-is table.nodes root (leaf_under union.1.capacity (root-node (is-rooted root union is)) found other).slot_is)) tt
 
 module _ {K V : Type 0} {n : ℕ} {table : Table K V} (union : IsUnion n table) {root : ℕ} where
   -- a path on a leaf's first entry, with all entries of the leaf

@@ -2,10 +2,10 @@
 use Rattle.bforest_core.proofs.Words.{◌≡◌, ◌≢◌, ℕ, zero, suc, ◌+◌, ◌-◌, ◌==◌, ◌≤◌, ◌<◌, ◌↔◌, Bool, IsTrue, true, false, Some, slice_get, if◌then◌else◌, List}
 use Rattle.bforest_core.proofs.Words.{[], ◌∷◌, ◌++◌, get_or, length, length-append, inl, inr, refl, sym, subst, ap, ◌∙◌, arith, Heads, Row, flat_map}
 use Rattle.bforest_core.proofs.Words.{false≢true, eqb_tells, Path, PointsTo, StandsAt, StandsOn, index_of, leaf_of, list_under, path_root, place_in, spot}
-use Rattle.bforest_core.proofs.Words.{IsLeaf, AtUnder, StandsUnder, IsRooted, Under, Tree, flat, HasBelow, Led, OnBelow, heads, length-map, node, numbers}
+use Rattle.bforest_core.proofs.Words.{IsLeaf, AtUnder, StandsUnder, IsRooted, NodeOver, Tree, flat, HasBelow, Led, OnBelow, heads, length-map, node, numbers}
 use Rattle.bforest_core.proofs.Words.{sizes, sizes_of, IsFit, IsIn, IsPathAt, PointsAt, Stands, count, leaf_content, numbers_of, Moved, Over, Table, IsUnion}
 use Rattle.bforest_core.proofs.{Words.{is_root, slot, tree_of}, walks.Backward.{at_end, at_entry}, rows.LevelRows.flat-append, union.Unions.{is-rooted, rooted}}
-use Rattle.bforest_core.proofs.{walks.Whole.{led_stands, stands-pointed, whole_under}, walks.Entered.{InLeaf, first_behind, in_leaf, leaf_here, leaf_last}}
+use Rattle.bforest_core.proofs.{walks.Whole.{led_stands, stands-pointed, root-node}, walks.Entered.{InLeaf, first_behind, in_leaf, leaf_here, leaf_last}}
 use Rattle.bforest_core.proofs.{walks.Leading.leaf_led, table.Read.slot-is, rows.Tops.root-points, walks.Steps.not_less}
 use Rattle.bforest_core.proofs.{walks.TopNode.{SameBut, node_under, none_flat}, table.Tables.{absent_ne, count-append, count-row, count-same}}
 use Rattle.bforest_core.specs.Paths.{IsPlaced}
@@ -34,14 +34,10 @@ module _ {K V : Type 0} (path indices : _) (tree : Tree K V) (place : ℕ) where
   path-ended zero none e = e
   path-ended (suc size) none e = absurd (omega arith)
 
--- the leaves and rows under a root
-pub record UnderRoot {K V : Type 0} (most : ℕ) (table : Table K V) (root : ℕ) : Type 0 where
-  pub first : K
-  pub under : Under most table.nodes (tree_of table.nodes root).leaves (tree_of table.nodes root).above ((first, root) ∷ [])
-  pub low : length (tree_of table.nodes root).above ≤ 16
-
-pub under-root : {K V : Type 0} {most : ℕ} {table : Table K V} (root : ℕ) → IsUnion most table → IsTrue (is_root table.nodes root) → UnderRoot most table root
-under-root root union is = let w = is-rooted root union is in let u = whole_under w in record { first = u.0; under = u.1; low = w.low }
+-- a root, as a node over the leaves of its tree
+abbrev pub under-root : {K V : Type 0} {most : ℕ} {table : Table K V} (root : ℕ) → IsUnion most table → IsTrue (is_root table.nodes root)
+    → NodeOver most table.nodes (tree_of table.nodes root).leaves root
+under-root root union is = root-node (is-rooted root union is)
 
 -- the level of a root, and the number of levels of a path in its tree
 pub root-level : {K V : Type 0} (tree : Tree K V) {levels : ℕ} → levels ≡ length (sizes_of tree) → levels - 1 ≡ length tree.above
@@ -51,22 +47,20 @@ pub path-levels : {K V : Type 0} (tree : Tree K V) {levels size : ℕ} → level
 path-levels tree is same = omega (arith, length-map tree.above sizes)
 
 -- a path that descended on one side from a root stands there
-module _ {K V : Type 0} {most : ℕ} {table : Table K V} (root : ℕ) (union : IsUnion most table) (is : IsTrue (is_root table.nodes root)) {levels : ℕ} (levels_is : levels ≡ length (sizes_of (tree_of table.nodes root))) {Side : Heads K → Heads K → Type 0} (side : Side [] []) where
+module _ {K V : Type 0} {most : ℕ} {table : Table K V} (root : ℕ) (union : IsUnion most table) (is : IsTrue (is_root table.nodes root)) {levels : ℕ} (levels_is : levels ≡ length (sizes_of (tree_of table.nodes root))) (Side : Heads K → Heads K → Type 0) (side : Side [] []) where
   -- what the descent requires
   pub root-below : HasBelow most table.nodes Side root (levels - 1)
-  root-below = let u = under-root root union is in
-      ((tree_of table.nodes root).leaves, (tree_of table.nodes root).above, [], u.first, [], side, u.under, root-level (tree_of table.nodes root) levels_is)
+  root-below = ((tree_of table.nodes root).leaves, under-root root union is, side, root-level (tree_of table.nodes root) levels_is)
 
   pub led-root : (place : Row K V → ℕ) {size path indices path' indices' : _} → size ≡ levels → OnBelow most table.nodes Side root (levels - 1) (λ leaves lower top. Led leaves lower (place leaves) top path indices path' indices') → StandsUnder table.nodes root path' indices' size (place (tree_of table.nodes root).leaves)
-  led-root place size_is leads = let tree = tree_of table.nodes root in let u = under-root root union is in
-      let d = leads tree.leaves tree.above [] u.first [] side u.under (root-level tree levels_is) in
+  led-root place size_is leads = let tree = tree_of table.nodes root in let d = leads tree.leaves (under-root root union is) side (root-level tree levels_is) in
       record { root_is = is; stands = led_stands _ _ d (path-levels tree levels_is size_is) }
 
 -- a path of one level at the front of a root that is a leaf is on the first entry
 pub on-leaf : {K V : Type 0} {most : ℕ} (table : Table K V) (root : ℕ) (path indices : List ℕ) → IsUnion most table → IsTrue (is_root table.nodes root) → IsLeaf (slot table.nodes root) → get_or path 0 0 ≡ root → get_or indices 0 0 ≡ 0 → StandsUnder table.nodes root path indices 1 0
-on-leaf table root path indices union is leaf node_is index_is = let u = under-root root union is in
-    elim (node_under union.1.capacity _ [] u.first root [] u.under) [
-      | inl s ↦ (let d = leaf_led _ _ s _ indices 0 (omega arith) (omega (arith, none_flat _ s.at.before_is)) node_is index_is (λ i ne. refl) (λ i ne. refl) in record { root_is = is; stands = led_stands _ 1 d (sym (ap (λ z. suc (length z)) s.lower_is)) })
+on-leaf table root path indices union is leaf node_is index_is = 
+    elim (node_under union.1.capacity (under-root root union is)) [
+      | inl s ↦ (let d = leaf_led s _ indices 0 (omega arith) (omega (arith, none_flat _ s.at.before_is)) node_is index_is (λ i ne. refl) (λ i ne. refl) in record { root_is = is; stands = led_stands _ 1 d (sym (ap (λ z. suc (length z)) s.lower_is)) })
       | inr s ↦ absurd (subst IsLeaf (slot-is table.nodes root s.slot_is) leaf)
     ]
 

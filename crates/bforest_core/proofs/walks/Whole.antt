@@ -1,6 +1,6 @@
 -- A whole tree as the leaves and rows under its root, and a path that descended from there.
 use Rattle.bforest_core.proofs.Words.{◌≡◌, ℕ, suc, true, false, IsTrue, ◌<◌, List, [], ◌∷◌, length, get_or, ap, arith, Rows, Content, EndsIn, Reached, Table}
-use Rattle.bforest_core.proofs.Words.{place, is_present, flat, heads, Stacked, Tree, StandsAbove, Stands, root_above, StackedTo, StandsTo, Under, GoesThrough}
+use Rattle.bforest_core.proofs.Words.{place, is_present, flat, heads, Stacked, Tree, StandsAbove, Stands, root_above, NodeOver, StackedTo, StandsTo, Under, GoesThrough}
 use Rattle.bforest_core.proofs.Words.{Descended, Led, IsRooted, PlacedUnder, PointsAt, StandsUnder, is_root, tree_of}
 use Rattle.std.specs.declared.cmp.Ordering.{Ordering}
 
@@ -24,6 +24,10 @@ module _ {K V : Type 0} {most : ℕ} {slots : List (Content K V)} {root tree : _
   -- the leaves and rows under the root are the whole tree
   pub whole_under : (first : K) × Under most slots tree.leaves tree.above ((first, root) ∷ [])
   whole_under = let t = top _ _ r.fit.stacked r.root_is in (t.0, record { leaves_fit = r.fit.leaves_fit; leaves_in = r.inside.leaves_in; stacked = t.1; rows_in = r.inside.rows_in })
+
+  -- the root, as a node over them
+  abbrev pub root-node : NodeOver most slots tree.leaves root
+  root-node = record { lower = tree.above; before = []; first = whole_under.0; after = []; under = whole_under.1 }
 
 pub all_through : {K : Type 0} (cmp : K → K → Ordering) (first key : K) → GoesThrough cmp [] first [] key
 all_through cmp first key = record { from = tt; upto = tt }

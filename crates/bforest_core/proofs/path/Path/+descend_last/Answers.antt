@@ -2,7 +2,7 @@ use Rattle.bforest_core.proofs.{Words.{rules, arith}, walks.Leading.{last-turns,
 use Rattle.bforest_core.proofs.path.Path.+descend_last.Goals as goal
 
 pub last_index-last-requires : goal.last_index-last-requires
-last_index-last-requires g t c = let w = c.requires.under in (search rules, node_held c.requires.capacity w.2 w.3 _ w.4 w.6)
+last_index-last-requires g t c = (search rules, node_held c.requires.capacity c.requires.under.1)
 
 pub returns-then-level-eq0-clause-led : goal.returns-then-level-eq0-clause-led
 returns-then-level-eq0-clause-led g t c = let set = c.set_level.ensures in

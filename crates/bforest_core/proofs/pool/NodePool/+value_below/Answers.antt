@@ -1,5 +1,5 @@
 use Rattle.bforest_core.proofs.Words.{rules, ◌∷◌, ◌+◌, sym, ◌∙◌, arith}
-use Rattle.bforest_core.proofs.walks.Searches.{asks, deeper-low, leaf-asks, narrowed, one-down, step-leaf, within}
+use Rattle.bforest_core.proofs.walks.Searches.{asks, deeper-low, down, leaf-asks, narrowed, step-leaf, within}
 use Rattle.bforest_core.proofs.walks.Reading.{not_so}
 use Rattle.bforest_core.proofs.pool.NodePool.+value_below.Goals as goal
 
@@ -28,10 +28,9 @@ follow-child-requires g t c = (search rules, asks (g.met.C.Comparator.total c.ar
 pub value_below-requires : goal.value_below-requires
 value_below-requires g t c κs within = let o = g.met.C.Comparator.total c.args.comp.now in let inner = c.is_inner.ensures.inner.0 c.if-not-is_inner.false in
     let on = c.requires.through.1 in let f = c.follow-child.ensures in let low = deeper-low o c.requires.capacity on c.node.ensures.value inner in
-    let down = one-down o c.requires.capacity on c.node.ensures.value inner _ f.index f.child (c.args.depth + 1) (omega arith) in
-    (omega (arith, c.decreases, low), (within.0, (within.1.0, ((λ a m. search rules), (within.1.1, (search rules, (c.requires.capacity, (_, down))))))))
+    let next = down o c.requires.capacity on c.node.ensures.value inner f.index f.child (c.args.depth + 1) (omega arith) in
+    (omega (arith, c.decreases, low), (within.0, (within.1.0, ((λ a m. search rules), (within.1.1, (search rules, (c.requires.capacity, (_, next.on))))))))
 
 pub returns : goal.returns
-returns g t c = λ leaves on. c.value_below.ensures leaves (one-down (g.met.C.Comparator.total c.args.comp.now) c.requires.capacity on c.node.ensures.value
-    (c.is_inner.ensures.inner.0 c.if-not-is_inner.false) c.follow-child.result.0 c.follow-child.ensures.index
-    c.follow-child.ensures.child (c.args.depth + 1) (omega arith))
+returns g t c = λ leaves on. c.value_below.ensures leaves (down (g.met.C.Comparator.total c.args.comp.now) c.requires.capacity on c.node.ensures.value
+    (c.is_inner.ensures.inner.0 c.if-not-is_inner.false) c.follow-child.ensures.index c.follow-child.ensures.child (c.args.depth + 1) (omega arith)).on

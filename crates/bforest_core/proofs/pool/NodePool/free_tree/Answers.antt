@@ -4,7 +4,7 @@ use Rattle.bforest_core.proofs.pool.NodePool.free_tree.Goals as goal
 
 pub free_below-requires : goal.free_below-requires
 free_below-requires g c = let tree = tree_of c.args.self.now.nodes c.args.root in let u = under-root c.args.root c.requires.union c.requires.root in
-    (search rules, (c.requires.union.1.capacity, (tree.leaves, tree.above, u.first, u.under, (rooted g.row.N c.args.self.now c.args.root c.requires.union c.requires.root).apart, omega (arith, u.low))))
+    (search rules, (c.requires.union.1.capacity, (tree.leaves, tree.above, u.first, u.under, (rooted g.row.N c.args.self.now c.args.root c.requires.union c.requires.root).apart, omega (arith, (rooted g.row.N c.args.self.now c.args.root c.requires.union c.requires.root).low))))
 
 pub returns : goal.returns
 returns g c = let tree = tree_of c.args.self.now.nodes c.args.root in let u = under-root c.args.root c.requires.union c.requires.root in
