@@ -73,8 +73,7 @@ module _ {K V : Type 0} {n : ℕ} (table : Table K V) (root : ℕ) (path : Path 
   module _ (union : IsUnion n table) where
     -- an entry may be inserted after the one on which the path stands
     pub placed-behind : (path' : Path K V n) (p : ℕ) → StandsOn table root path p → path'.node ≡ path.node → index_of path' ≡ index_of path + 1 → ((i : ℕ) → i ≢ 0 → get_or path'.entry i 0 ≡ get_or path.entry i 0) → path'.size ≡ path.size → IsPlaced table root path' (suc p)
-    placed-behind path' p on same index_is above size_is = let w = on-tree union path on in
-        let points = points_in union.1.capacity w.fit w.inside (on-leaf-in union path on) (cc) path'.entry (suc p) same above (omega arith) (omega arith) in
+    placed-behind path' p on same index_is above size_is = let points = points_in (on-leaf-in union path on) (cc) path'.entry (suc p) same above (omega arith) (omega arith) in
         record { root_is = on.root_is; at = record { points = points; first = λ none. absurd (omega arith) } }
 
     -- an entry may be inserted before the first of the list
@@ -144,7 +143,7 @@ module _ {K V : Type 0} {n : ℕ} {table : Table K V} {root : ℕ} {path : Path 
   module _ {e : K × V} (read_is : (entries : List (K × V)) → slice_get table.nodes (leaf_of path) ≡ Some (leaf_content entries) → slice_get entries (index_of path) ≡ Some e) where
     -- the entry read in the leaf is the entry of the list
     pub here-entry : slice_get (list_under table root) p ≡ Some e
-    here-entry = let w = on-tree union path on in entry_read union.1.capacity w.fit w.inside on.stands read_is
+    here-entry = entry_read union.1.capacity (on-tree union path on) read_is
 
     module _ {cmp : K → K → Ordering} (o : IsTotalOrder cmp) (key : K) where
       -- the entry has an equal key

@@ -2,8 +2,8 @@
 use Rattle.bforest_core.proofs.Words.{◌≡◌, ◌≢◌, ℕ, zero, suc, ◌+◌, ◌-◌, ◌==◌, ◌≤◌, ◌<◌, ◌↔◌, Bool, IsTrue, true, false, Some, slice_get, if◌then◌else◌, List}
 use Rattle.bforest_core.proofs.Words.{[], ◌∷◌, ◌++◌, get_or, length, length-append, inl, inr, refl, sym, subst, ap, ◌∙◌, arith, Heads, Row, flat_map}
 use Rattle.bforest_core.proofs.Words.{false≢true, eqb_tells, Path, PointsTo, StandsAt, StandsOn, index_of, leaf_of, list_under, path_root, place_in, spot}
-use Rattle.bforest_core.proofs.Words.{IsLeaf, AtUnder, StandsUnder, IsRooted, NodeOver, Tree, flat, HasBelow, Led, OnBelow, heads, length-map, node, numbers}
-use Rattle.bforest_core.proofs.Words.{sizes, sizes_of, IsFit, IsIn, IsPathAt, PointsAt, Stands, count, leaf_content, numbers_of, Moved, Over, Table, IsUnion}
+use Rattle.bforest_core.proofs.Words.{IsLeaf, AtUnder, StandsUnder, IsRooted, NodeOver, OnTree, Tree, flat, HasBelow, Led, OnBelow, heads, length-map, node, numbers}
+use Rattle.bforest_core.proofs.Words.{sizes, sizes_of, IsFit, IsIn, IsPathAt, PointsAt, Stands, count, leaf_content, numbers_of, Advances, HasOver, OnOver, Table, IsUnion}
 use Rattle.bforest_core.proofs.{Words.{is_root, slot, tree_of}, walks.Backward.{at_end, at_entry}, rows.LevelRows.flat-append, union.Unions.{is-rooted, rooted}}
 use Rattle.bforest_core.proofs.{walks.Whole.{led_stands, stands-pointed, root-node}, walks.Entered.{InLeaf, first_behind, in_leaf, leaf_here, leaf_last}}
 use Rattle.bforest_core.proofs.{walks.Leading.leaf_led, table.Read.slot-is, rows.Tops.root-points, walks.Steps.not_less}
@@ -99,38 +99,41 @@ module _ {K V : Type 0} {n : ℕ} (table : Table K V) {root : ℕ} (path : Path 
 
 -- a path on an entry, in a union of trees
 module _ {K V : Type 0} {n : ℕ} {table : Table K V} (union : IsUnion n table) {root place : ℕ} (path : Path K V n) (on : StandsOn table root path place) where
-  abbrev pub on-tree : IsRooted n table.nodes root (tree_of table.nodes root)
-  on-tree = is-rooted root union on.root_is
+  -- the path stands on the tree under the root
+  abbrev pub on-tree : OnTree n table.nodes path.node path.entry path.size
+  on-tree = let r = is-rooted root union on.root_is in record { tree = tree_of table.nodes root; place = place; fit = r.fit; inside = r.inside; stands = on.stands }
 
   -- the path's leaf, and the rows above it
-  abbrev pub on-leaf-in : InLeaf union.1.capacity on-tree.fit on-tree.inside path.node path.entry (length on.stands.leaf.before)
-  on-leaf-in = leaf_here union.1.capacity on-tree.fit on-tree.inside on.stands
+  abbrev pub on-leaf-in : InLeaf n table.nodes (tree_of table.nodes root) path.node path.entry (length on.stands.leaf.before)
+  on-leaf-in = leaf_here union.1.capacity on-tree
 
   -- the path meets what a step requires
-  pub on-asks : (path.size ≤ 17) × ((tree : Tree K V) × (place : ℕ) × IsFit n tree × IsIn table.nodes tree × Stands path.node path.entry path.size tree place)
-  on-asks = (omega (arith, on-tree.low), (tree_of table.nodes root, place, on-tree.fit, on-tree.inside, on.stands))
-
-  pub said : {Says : Tree K V → ℕ → Type 0} → ((tree : Tree K V) (place : ℕ) → IsFit n tree → IsIn table.nodes tree → Stands path.node path.entry path.size tree place → Says tree place) → Says (tree_of table.nodes root) place
-  said says = says (tree_of table.nodes root) place on-tree.fit on-tree.inside on.stands
+  pub on-asks : (path.size ≤ 17) × OnTree n table.nodes path.node path.entry path.size
+  on-asks = (omega (arith, (is-rooted root union on.root_is).low), on-tree)
 
 -- a path at an entry of a leaf, or past a leaf's last one
 module _ {K V : Type 0} {n : ℕ} {table : Table K V} (union : IsUnion n table) {root place : ℕ} (path : Path K V n) (to : PointsTo table root path place) where
   abbrev tree_is : IsRooted n table.nodes root (tree_of table.nodes root)
   tree_is = is-rooted root union to.root_is
 
-  abbrev pointed : InLeaf union.1.capacity tree_is.fit tree_is.inside path.node path.entry (length to.points.before)
+  abbrev pointed : InLeaf n table.nodes (tree_of table.nodes root) path.node path.entry (length to.points.before)
   pointed = in_leaf union.1.capacity tree_is.fit tree_is.inside path.node path.entry to.points.before to.points.entries to.points.after to.points.leaves_are to.points.above
 
   -- the content of the leaf's slot
   pub pointed-leaf : (entries : List (K × V)) × (slice_get table.nodes (leaf_of path) ≡ Some (leaf_content entries))
   pointed-leaf = (to.points.entries, pointed.node.slot_is)
 
-  pointed-over : Over table.nodes path.node path.entry 1 path.size (tree_of table.nodes root).above (heads (tree_of table.nodes root).leaves) (length to.points.before)
-  pointed-over = record { stacked = tree_is.fit.stacked; inside = tree_is.inside.rows_in; stands = to.points.above; height = omega arith }
+  abbrev pointed-over : HasOver table.nodes path.node path.entry 1 path.size
+  pointed-over = (
+    (tree_of table.nodes root).above,
+    heads (tree_of table.nodes root).leaves,
+    length to.points.before,
+    record { stacked = tree_is.fit.stacked; inside = tree_is.inside.rows_in; stands = to.points.above; height = omega arith },
+  )
 
   -- the rows above the leaf
-  pub pointed-above : (path.size ≤ 17) × ((rows : _) × (list : _) × (at : ℕ) × Over table.nodes path.node path.entry 1 path.size rows list at)
-  pointed-above = (omega (arith, tree_is.low), ((tree_of table.nodes root).above, heads (tree_of table.nodes root).leaves, length to.points.before, pointed-over))
+  pub pointed-above : (path.size ≤ 17) × HasOver table.nodes path.node path.entry 1 path.size
+  pointed-above = (omega (arith, tree_is.low), pointed-over)
 
   module _ {has : Bool} (test : (entries : List (K × V)) → slice_get table.nodes (leaf_of path) ≡ Some (leaf_content entries) → IsTrue has ↔ (index_of path < length entries)) where
     -- the path is at an entry of the leaf
@@ -141,10 +144,10 @@ module _ {K V : Type 0} {n : ℕ} {table : Table K V} (union : IsUnion n table) 
     behind none = omega (arith, not_less (index_of path) (length to.points.entries) (λ low. false≢true (sym none ∙ (test to.points.entries pointed.node.slot_is).1 low)))
 
     -- past a leaf's last entry, the first of the next leaf is at the same place
-    pub pointed-next : has ≡ false → (moved new : Path K V n) → ((rows list at : _) → Over table.nodes path.node path.entry 1 path.size rows list at → Moved path.node path.entry moved.node moved.entry 0 rows list (suc at)) →
+    pub pointed-next : has ≡ false → (moved new : Path K V n) → Advances table.nodes path.node path.entry moved.node moved.entry 0 path.size →
         new.node ≡ moved.node → get_or new.entry 0 0 ≡ 0 → SameBut 0 moved.entry new.entry → new.size ≡ path.size → StandsAt table root new place
     pointed-next none moved new goes nodes here above size =
-        let m = goes (tree_of table.nodes root).above (heads (tree_of table.nodes root).leaves) (length to.points.before) pointed-over in
+        let m = goes _ _ _ pointed-over.3 in
         let s = first_behind union.1.capacity tree_is.fit tree_is.inside pointed (cc) new.entry m nodes here above in
         on-at table new (record {
           root_is = to.root_is;
@@ -153,9 +156,9 @@ module _ {K V : Type 0} {n : ℕ} {table : Table K V} (union : IsUnion n table) 
         })
 
     -- past the last entry of all, the path is at the end
-    pub pointed-last : has ≡ false → ((rows list at : _) → Over table.nodes path.node path.entry 1 path.size rows list at → suc at ≡ length list) → (nodes entries : _) → AtUnder table.nodes root nodes entries 0 place
+    pub pointed-last : has ≡ false → OnOver table.nodes path.node path.entry 1 path.size (λ rows list at. suc at ≡ length list) → (nodes entries : _) → AtUnder table.nodes root nodes entries 0 place
     pointed-last none last nodes entries =
-        record { root_is = to.root_is; at = behind none ∙ leaf_last union.1.capacity tree_is.fit tree_is.inside pointed (last (tree_of table.nodes root).above (heads (tree_of table.nodes root).leaves) (length to.points.before) pointed-over) }
+        record { root_is = to.root_is; at = behind none ∙ leaf_last union.1.capacity tree_is.fit tree_is.inside pointed (last _ _ _ pointed-over.3) }
 
 -- a path in a union of trees
 module _ {K V : Type 0} {n : ℕ} {most : ℕ} {table : Table K V} {root : ℕ} (path : Path K V n) {place : ℕ} (union : IsUnion most table) where
