@@ -53,6 +53,12 @@ pub record Under {K V : Type 0} (most : ℕ) (slots : List (Content K V)) (leave
   pub stacked : StackedTo (heads leaves) lower top
   pub rows_in : RowsIn slots lower
 
+-- the path stands on these rows, from a place on the lowest level up to this node of the top; above that it is unchanged
+pub record LedUp {K : Type 0} (lower : List (List (LevelNode K ℕ))) (place top : ℕ) (path indices path' indices' : List ℕ) : Type 0 where
+  pub stands : StandsTo path' indices' 1 lower place top
+  pub nodes_above : SameAbove (length lower) path path'
+  pub entries_above : SameAbove (length lower) indices indices'
+
 -- a node over these leaves, with the inner rows between and the other nodes of its level
 pub record NodeOver {K V : Type 0} (most : ℕ) (slots : List (Content K V)) (leaves : List (LevelNode K V)) (number : ℕ) : Type 0 where
   pub lower : List (List (LevelNode K ℕ))
@@ -79,9 +85,8 @@ module _ {K V : Type 0} (cmp : K → K → Ordering) where
   -- above that it is unchanged
   pub record Descended (leaves : List (LevelNode K V)) (lower : List (List (LevelNode K ℕ))) (key : K) (top : ℕ) (path indices path' indices' : List ℕ) : Type 0 where
     pub leaf : IsPlaced leaves key (get_or path' 0 0) (get_or indices' 0 0)
-    pub stands : StandsTo path' indices' 1 lower (length leaf.before) top
-    pub nodes_above : SameAbove (length lower) path path'
-    pub entries_above : SameAbove (length lower) indices indices'
+    pub up : LedUp lower (length leaf.before) top path indices path' indices'
+    pub open up use *
 
   -- the path is in the leaf in which a search for the key ends, which has these entries: it descended there,
   -- once its index in the leaf is the key's place among these entries
@@ -99,9 +104,8 @@ module _ {K V : Type 0} (cmp : K → K → Ordering) where
 -- the path stands at a place of the leaves, and on the rows from there up to this node of the top; above that it is unchanged
 pub record Led {K V : Type 0} (leaves : List (LevelNode K V)) (lower : List (List (LevelNode K ℕ))) (place top : ℕ) (path indices path' indices' : List ℕ) : Type 0 where
   pub leaf : IsAt leaves (get_or path' 0 0) (get_or indices' 0 0) place
-  pub stands : StandsTo path' indices' 1 lower (length leaf.before) top
-  pub nodes_above : SameAbove (length lower) path path'
-  pub entries_above : SameAbove (length lower) indices indices'
+  pub up : LedUp lower (length leaf.before) top path indices path' indices'
+  pub open up use *
 
 module _ {K : Type 0} where
   -- no node of a level is before a node, or none is after it

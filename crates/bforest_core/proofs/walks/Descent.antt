@@ -5,9 +5,9 @@ use Rattle.bforest_core.proofs.Words.{nil_from_length, slice_get_within, IsTotal
 use Rattle.bforest_core.proofs.Words.{IsLeafCapacity, IsIncreasing, place, is_present, value_for, node, flat, entry_keys, entry_items, StandsTo, child_index}
 use Rattle.bforest_core.proofs.walks.Rising.{all_split, all_less, increasing_split, increasing_rest, all_before, all_greater, place_between, entry_between}
 use Rattle.bforest_core.proofs.{Words.{IsFrom, IsUpTo, Descended, Reached, SearchThrough}, rows.LevelRows.{flat-append, some_leaf}}
-use Rattle.bforest_core.proofs.{walks.Rising.{place-le, first_passed, sides}, walks.TopNode.{InnerUnder, LeafUnder, flat_parted, seen_at, set_but}}
-use Rattle.bforest_core.proofs.{walks.LeafSearch.items-read, walks.Downward.{Seen, last_of, stands_more, heads_increasing, upto_flat, stacked_increasing}}
-use Rattle.bforest_core.proofs.{table.Stored.{some_same, slice_get_at}, walks.Reading.ChildRead}
+use Rattle.bforest_core.proofs.{walks.Rising.{place-le, first_passed, sides}, walks.TopNode.{InnerUnder, LeafUnder, flat_parted, set_but}}
+use Rattle.bforest_core.proofs.{walks.LeafSearch.items-read, walks.Downward.{Seen, last_of, heads_increasing, upto_flat, stacked_increasing}}
+use Rattle.bforest_core.proofs.{table.Stored.{some_same, slice_get_at}, walks.Reading.ChildRead, walks.Leading.{inner_up, leaf_up}}
 use Rattle.std.specs.Map.{keys_of}
 use Rattle.std.specs.declared.cmp.Ordering.{Ordering}
 use Rattle.std.specs.declared.cmp.Ordering.TheVariants.{Less, Greater}
@@ -136,17 +136,13 @@ module _ {K V : Type 0} {cmp : K → K → Ordering} (o : IsTotalOrder cmp) {mos
         }
 
     -- a level of the descent, whose place was written into the path
-    pub passed : (index : _) {child deeper : _} (w : Below s index child deeper) (path indices : _) {path' indices' : _} (path'' indices'' : _) {high : ℕ} → high ≡ length t.lower → Descended cmp leaves w.on.lower key (length w.on.before) path' indices' path'' indices'' →
-        get_or path' high 0 ≡ number → get_or indices' high 0 ≡ index → path' ≡ set path high number → indices' ≡ set indices high index → Descended cmp leaves t.lower key (length t.before) path indices path'' indices''
-    passed index w path indices path'' indices'' {high = high} high_is descended m_is j_is nodes entries =
-        let d = rw w.rows_are at descended in let m_at = d.nodes_above high (omega arith) ∙ m_is in let j_at = d.entries_above high (omega arith) ∙ j_is in
-        let more = stands_more path'' indices'' 1 s.here.rows (length d.leaf.before) high d.stands (omega arith) (seen_at s.here.at m_at j_at w.within w.place_is) in
-        record {
-          leaf = d.leaf;
-          stands = rw s.here.lower_is (subst (λ z. StandsTo path'' indices'' 1 (s.here.rows ++ s.here.row ∷ []) (length d.leaf.before) z) s.here.at.before_is more);
-          nodes_above = λ i low. d.nodes_above i (omega arith) ∙ set_but _ _ _ nodes i (λ z. omega arith);
-          entries_above = λ i low. d.entries_above i (omega arith) ∙ set_but _ _ _ entries i (λ z. omega arith);
-        }
+    pub passed : (index : _) {child deeper : _} (w : Below s index child deeper) (path indices : _) {path' indices' path'' indices'' : _} {high : ℕ} → high ≡ length t.lower
+        → Descended cmp leaves w.on.lower key (length w.on.before) path' indices' path'' indices'' → get_or path' high 0 ≡ number → get_or indices' high 0 ≡ index
+        → path' ≡ set path high number → indices' ≡ set indices high index → Descended cmp leaves t.lower key (length t.before) path indices path'' indices''
+    passed index w path indices {high = high} high_is d m_is j_is nodes entries = record {
+      leaf = d.leaf;
+      up = inner_up s.here w.rows_are w.place_is w.within high high_is d.up m_is j_is (set_but _ _ _ nodes) (set_but _ _ _ entries);
+    }
 
   module _ (s : LeafStep t) where
     abbrev entries : List (K × V)
@@ -178,20 +174,6 @@ module _ {K V : Type 0} {cmp : K → K → Ordering} (o : IsTotalOrder cmp) {mos
         }
 
     -- the end of the descent
-    pub landed : (path indices path' : _) {indices' : _} (answer : Option V) → 0 < length path → 0 < length indices
-        → path' ≡ set path 0 number → indices' ≡ set indices 0 (place cmp entries key) → answer ≡ value_for cmp entries key
-        → (answer ≡ value_for cmp (flat leaves) key) × Descended cmp leaves t.lower key (length t.before) path indices path' indices'
-    landed path indices path' answer wide wide' nodes indices_are answer_is = (
-      cc (leaf_value),
-      rw s.here.lower_is (record {
-        leaf = placed _ _ (cc (get_or-set_same path 0 number 0 wide)) (cc (get_or-set_same indices 0 (place cmp entries key) 0 wide'));
-        stands = s.here.at.before_is;
-        nodes_above = λ i low. set_but _ 0 _ nodes i (λ z. omega arith);
-        entries_above = λ i low. set_but _ 0 _ indices_are i (λ z. omega arith);
-      }),
-    )
-
-    -- the end of the descent, before the search in the leaf
     pub reached : (path indices path' indices' : List ℕ) → 0 < length path → 0 < length indices → path' ≡ set path 0 number → indices' ≡ set indices 0 0 → Reached cmp slots leaves t.lower key (length t.before) path indices path' indices' number
     reached path indices path' indices' wide wide' nodes indices_are = record {
       leaf_is = cc (get_or-set_same path 0 number 0 wide);
@@ -202,5 +184,8 @@ module _ {K V : Type 0} {cmp : K → K → Ordering} (o : IsTotalOrder cmp) {mos
       found_is = leaf_found;
       nodes_wide = cc (length-set path 0 number);
       indices_wide = cc (length-set indices 0 0);
-      descended = (landed _ _ _ _ wide wide' nodes (cc (set_twice _ 0 _)) refl).1;
+      descended = record {
+        leaf = placed _ _ (cc (get_or-set_same path 0 number 0 wide)) (cc (set_twice indices 0 (place cmp entries key), get_or-set_same indices 0 (place cmp entries key) 0 wide'));
+        up = leaf_up s.here (set_but _ 0 _ nodes) (set_but indices 0 (place cmp entries key) (cc (set_twice indices 0 (place cmp entries key))));
+      };
     }

@@ -1,7 +1,7 @@
 -- The descent to the first entry and to the last, as one on a side: the answers of `descend_first` and `descend_last`.
 use Rattle.bforest_core.proofs.Words.{◌≡◌, ◌≢◌, ℕ, zero, suc, ◌+◌, ◌-◌, ◌≤◌, ◌<◌, List, [], ◌∷◌, ◌++◌, length, get_or, set, slice_get, Some, refl, sym, ap}
-use Rattle.bforest_core.proofs.Words.{subst, ◌∙◌, arith, length-append, Heads, Row, length-map, nil_from_length, Content, IsInner, entry_count}
-use Rattle.bforest_core.proofs.Words.{node, flat, leaf_content, inner_content, entry_items, StandsTo, HasBelow, IsFirst, IsLast, Led, NodeOver, OnBelow}
+use Rattle.bforest_core.proofs.Words.{subst, ◌∙◌, arith, length-append, Heads, Row, Rows, length-map, nil_from_length, Content, IsInner, entry_count}
+use Rattle.bforest_core.proofs.Words.{node, flat, leaf_content, inner_content, entry_items, StandsTo, HasBelow, IsFirst, IsLast, Led, LedUp, NodeOver, OnBelow}
 use Rattle.bforest_core.proofs.{Words.IsLeafCapacity, walks.Downward.{Seen, stands_more}, walks.RowNodes.no_heads}
 use Rattle.bforest_core.proofs.{table.Stored.{some_same, item_count}, rows.LevelRows.{flat-append, some_leaf}, walks.Reading.{ChildAsked, ChildRead, LastRead}}
 use Rattle.bforest_core.proofs.walks.TopNode.{SameBut, none_flat, flat_parted, seen_at, set_but, LeafUnder, InnerUnder, inner_at, leaf_at}
@@ -45,28 +45,25 @@ module _ {K V : Type 0} {most : ℕ} {slots : List (Content K V)} {leaves : Row 
       }
 
 module _ {K V : Type 0} {most : ℕ} {slots : List (Content K V)} {leaves : Row K V} {number : ℕ} {n : NodeOver most slots leaves number} {path indices : List ℕ} where
-  -- the path leads to an entry of a leaf
-  pub leaf_led : (s : LeafUnder n) (path' indices' : _) {index : ℕ} (place : ℕ) → index ≤ length s.at.es
-      → place ≡ length (flat s.at.before) + index → get_or path' 0 0 ≡ number → get_or indices' 0 0 ≡ index → SameBut 0 path path'
-      → SameBut 0 indices indices' → Led leaves n.lower place (length n.before) path indices path' indices'
-  leaf_led s path' indices' place within place_is m_is j_is nodes entries = rw s.lower_is (record {
-    leaf = seen_at s.at m_is j_is within place_is;
+  -- the path is in a leaf, above which it was not written
+  pub leaf_up : (s : LeafUnder n) {path' indices' : _} → SameBut 0 path path' → SameBut 0 indices indices'
+      → LedUp n.lower (length s.at.before) (length n.before) path indices path' indices'
+  leaf_up s nodes entries = rw s.lower_is (record {
     stands = s.at.before_is;
     nodes_above = λ i low. nodes i (λ z. omega arith);
     entries_above = λ i low. entries i (λ z. omega arith);
   })
 
   -- the path, once it was written at an inner node, leads on from a child
-  inner_led : (s : InnerUnder n) {index child : ℕ} (c : ChildUnder s index child) {path1 indices1 : _} (path2 indices2 : _) (high : ℕ) {place : _}
-      → high ≡ suc (length s.rows) → index ≤ length s.at.es → Led leaves c.on.lower place (length c.on.before) path1 indices1 path2 indices2
+  pub inner_up : (s : InnerUnder n) {lower1 : Rows K} {index top : ℕ} → lower1 ≡ s.rows → top ≡ length (flat s.at.before) + index → index ≤ length s.at.es
+      → {path1 indices1 path2 indices2 : _} {place : ℕ} (high : ℕ) → high ≡ length n.lower → LedUp lower1 place top path1 indices1 path2 indices2
       → get_or path1 high 0 ≡ number → get_or indices1 high 0 ≡ index → SameBut high path path1 → SameBut high indices indices1
-      → Led leaves n.lower place (length n.before) path indices path2 indices2
-  inner_led s c path2 indices2 high high_is within led m_is j_is nodes entries = let d = rw c.rows_are at led in
-      let more = stands_more path2 indices2 1 s.rows (length d.leaf.before) high d.stands (omega arith)
-      (seen_at s.at (d.nodes_above high (omega arith) ∙ m_is) (d.entries_above high (omega arith) ∙ j_is) within c.place_is) in
+      → LedUp n.lower place (length n.before) path indices path2 indices2
+  inner_up s rows_are top_is within {path2 = path2} {indices2 = indices2} {place = place} high high_is led m_is j_is nodes entries =
+      let d = rw rows_are at led in let at = seen_at s.at (d.nodes_above high (omega arith) ∙ m_is) (d.entries_above high (omega arith) ∙ j_is) within top_is in
+      let more = stands_more path2 indices2 1 s.rows place high d.stands (omega arith) at in
       record {
-        leaf = d.leaf;
-        stands = rw s.lower_is (subst (λ z. StandsTo path2 indices2 1 (s.rows ++ s.row ∷ []) (length d.leaf.before) z) s.at.before_is more);
+        stands = rw s.lower_is (subst (λ z. StandsTo path2 indices2 1 (s.rows ++ s.row ∷ []) place z) s.at.before_is more);
         nodes_above = λ i low. d.nodes_above i (omega arith) ∙ nodes i (λ z. omega arith);
         entries_above = λ i low. d.entries_above i (omega arith) ∙ entries i (λ z. omega arith);
       }
@@ -112,11 +109,11 @@ module _ {K V : Type 0} {most : ℕ} (capacity : IsLeafCapacity most) {slots : L
   pub led-ends : level ≡ 0 → {path indices path1 indices1 : _} → (get_or path1 level 0 ≡ number) × (get_or indices1 level 0 ≡ index)
       → path1 ≡ set path level number → indices1 ≡ set indices level index → OnBelow most slots Side number level
       (λ leaves lower top. Led leaves lower (place leaves) top path indices path1 indices1)
-  led-ends none {indices1} here path_is indices_are leaves n side level_is = let s = leaf_at capacity n (omega arith) in
-      leaf_led s _ indices1 (place leaves) (turns.low s side) (turns.ends s side)
-      (cc) (cc)
-      (λ i ne. set_but _ _ _ path_is i (λ e. ne (e ∙ none)))
-      (λ i ne. set_but _ _ _ indices_are i (λ e. ne (e ∙ none)))
+  led-ends none here path_is indices_are leaves n side level_is = let s = leaf_at capacity n (omega arith) in
+      record {
+        leaf = seen_at s.at (cc) (cc) (turns.low s side) (turns.ends s side);
+        up = leaf_up s (λ i ne. set_but _ _ _ path_is i (λ e. ne (e ∙ none))) (λ i ne. set_but _ _ _ indices_are i (λ e. ne (e ∙ none)));
+      }
 
   module _ (some : level ≢ 0) where
     abbrev inner : {leaves : _} (n : NodeOver most slots leaves number) → level ≡ length n.lower → InnerUnder n
@@ -136,7 +133,9 @@ module _ {K V : Type 0} {most : ℕ} (capacity : IsLeafCapacity most) {slots : L
           → path1 ≡ set path level number → indices1 ≡ set indices level index → OnBelow most slots Side child (level - 1)
           (λ leaves lower top. Led leaves lower (place leaves) top path1 indices1 path2 indices2)
           → OnBelow most slots Side number level (λ leaves lower top. Led leaves lower (place leaves) top path indices path2 indices2)
-      led-on {indices2 = indices2} here path_is indices_are leads leaves n side level_is = let s = inner n level_is in let c = child_under s index says in
-          inner_led s c _ indices2 level (omega (arith, s.count_is, level_is)) (turns.within s side)
-          (leads leaves c.on (turns.keeps s side c) (omega (arith, s.count_is, level_is, ap length c.rows_are))) here.0 here.1
-          (set_but _ _ _ path_is) (set_but _ _ _ indices_are)
+      led-on here path_is indices_are leads leaves n side level_is = let s = inner n level_is in let c = child_under s index says in
+          let d = leads leaves c.on (turns.keeps s side c) (omega (arith, s.count_is, level_is, ap length c.rows_are)) in
+          record {
+            leaf = d.leaf;
+            up = inner_up s c.rows_are c.place_is (turns.within s side) level level_is d.up here.0 here.1 (set_but _ _ _ path_is) (set_but _ _ _ indices_are);
+          }

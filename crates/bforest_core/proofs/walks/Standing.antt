@@ -6,8 +6,8 @@ use Rattle.bforest_core.proofs.Words.{IsLeaf, AtUnder, StandsUnder, IsRooted, No
 use Rattle.bforest_core.proofs.Words.{sizes, sizes_of, IsFit, IsIn, IsPathAt, PointsAt, Stands, count, leaf_content, numbers_of, Advances, HasOver, OnOver, Table, IsUnion}
 use Rattle.bforest_core.proofs.{Words.{is_root, slot, tree_of}, walks.Backward.{at_end, at_entry}, rows.LevelRows.flat-append, union.Unions.{is-rooted, rooted}}
 use Rattle.bforest_core.proofs.{walks.Whole.{led_stands, stands-pointed, root-node}, walks.Entered.{InLeaf, first_behind, in_leaf, leaf_here, leaf_last}}
-use Rattle.bforest_core.proofs.{walks.Leading.leaf_led, table.Read.slot-is, rows.Tops.root-points, walks.Steps.not_less}
-use Rattle.bforest_core.proofs.{walks.TopNode.{SameBut, node_under, none_flat}, table.Tables.{absent_ne, count-append, count-row, count-same}}
+use Rattle.bforest_core.proofs.{walks.Leading.leaf_up, table.Read.slot-is, rows.Tops.root-points, walks.Steps.not_less}
+use Rattle.bforest_core.proofs.{walks.TopNode.{SameBut, node_under, none_flat, seen_at}, table.Tables.{absent_ne, count-append, count-row, count-same}}
 use Rattle.bforest_core.specs.Paths.{IsPlaced}
 
 module _ {K V : Type 0} (path indices : _) (tree : Tree K V) (place : ℕ) where
@@ -60,7 +60,13 @@ module _ {K V : Type 0} {most : ℕ} {table : Table K V} (root : ℕ) (union : I
 pub on-leaf : {K V : Type 0} {most : ℕ} (table : Table K V) (root : ℕ) (path indices : List ℕ) → IsUnion most table → IsTrue (is_root table.nodes root) → IsLeaf (slot table.nodes root) → get_or path 0 0 ≡ root → get_or indices 0 0 ≡ 0 → StandsUnder table.nodes root path indices 1 0
 on-leaf table root path indices union is leaf node_is index_is = 
     elim (node_under union.1.capacity (under-root root union is)) [
-      | inl s ↦ (let d = leaf_led s _ indices 0 (omega arith) (omega (arith, none_flat _ s.at.before_is)) node_is index_is (λ i ne. refl) (λ i ne. refl) in record { root_is = is; stands = led_stands _ 1 d (sym (ap (λ z. suc (length z)) s.lower_is)) })
+      | inl s ↦ (
+          let d : Led (tree_of table.nodes root).leaves (tree_of table.nodes root).above 0 0 path indices path indices = record {
+            leaf = seen_at s.at node_is index_is (omega arith) (omega (arith, none_flat _ s.at.before_is));
+            up = leaf_up s (λ i ne. refl) (λ i ne. refl);
+          } in
+          record { root_is = is; stands = led_stands _ 1 d (sym (ap (λ z. suc (length z)) s.lower_is)) }
+          )
       | inr s ↦ absurd (subst IsLeaf (slot-is table.nodes root s.slot_is) leaf)
     ]
 

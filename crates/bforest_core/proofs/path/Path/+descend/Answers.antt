@@ -32,5 +32,5 @@ returns-clause-descended g t c = λ leaves on level_is. let o = g.met.C.Comparat
       found_is = r.found_is;
       nodes_wide = r.nodes_wide ∙ ap length set.node ∙ length-set c.args.self.now.node c.args.level c.args.node;
       indices_wide = r.indices_wide ∙ ap length set.entry ∙ length-set c.args.self.now.entry c.args.level c.follow-index.result.0;
-      descended = passed o c.requires.capacity s _ d _ _ _ _ level_is r.descended set.here.0 set.here.1 set.node set.entry;
+      descended = passed o c.requires.capacity s _ d _ _ level_is r.descended set.here.0 set.here.1 set.node set.entry;
     }
