@@ -4,7 +4,7 @@ use Rattle.bforest_core.proofs.Words.{sym, ap, subst, ◌∙◌, inl, inr, arith
 use Rattle.bforest_core.proofs.Words.{with_freed, heads, numbers, entry_items, count, Distinct, StackedTo, Under, numbers_down, slot, Frees, GivesAll}
 use Rattle.bforest_core.proofs.{Words.{numbers_under, drop_all, length-map, reverse-append, take_all, slice_get_within, IsLeafCapacity}, table.Lists.drop-read}
 use Rattle.bforest_core.proofs.{removal.Frees.{frees-one, frees-refl, frees-then, frees-wider, only_here}, table.Tables.{count-append, count-same}}
-use Rattle.bforest_core.proofs.{walks.LeafSearch.items-read, walks.RowNodes.no_heads, table.Stored.{childless, some_same}, union.Sections.{UnderCut, under-cut}}
+use Rattle.bforest_core.proofs.{walks.LeafSearch.items-read, walks.RowNodes.no_heads, table.Stored.{childless, some_same}, union.Opened.{UnderCut, under-cut}}
 use Rattle.bforest_core.proofs.{walks.Steps.read, rows.LevelRows.some_leaf, union.Exchange.tree-same, union.Opened.Opened, union.FreeSlots.slot_same}
 
 -- rows below no nodes have no nodes
