@@ -2,7 +2,7 @@
 use Rattle.bforest_core.proofs.Words.{◌≡◌, ℕ, zero, suc, ◌+◌, ◌-◌, ◌≤◌, List, [], ◌∷◌, ◌++◌, map, length, drop, insert, slice_get, Some, refl, sym, ap, ◌∙◌}
 use Rattle.bforest_core.proofs.Words.{subst, append_assoc, length-append, arith, Heads, length-map, map-append, take_at, drop_at, length-drop, Content, Inner}
 use Rattle.bforest_core.proofs.Words.{Leaf, Free, IsFree, IsInner, IsCut, children_of, entry_count, with_child, with_entry, inner_content, leaf_content}
-use Rattle.bforest_core.proofs.Words.{entry_keys, entry_items}
+use Rattle.bforest_core.proofs.Words.{Option, entry_keys, entry_items}
 
 pub some_same : {A : Type 0} → {x y : A} → Some x ≡ Some y → x ≡ y
 some_same e = cc
@@ -12,8 +12,8 @@ pub read_same : {A : Type 0} → (list : List A) (n : ℕ) {x y : A} → slice_g
 read_same list n first second = some_same (cc)
 
 -- what holds of one read of a slot holds of another
-pub read_as : {A : Type 0} {x y : A} (list : List A) (n : ℕ) → slice_get list n ≡ Some x → slice_get list n ≡ Some y → (P : A → Type 0) → P x → P y
-read_as list n first second P said = subst P (sym (some_same cc)) said
+pub read_as : {A : Type 0} {x y : A} {read : Option A} → read ≡ Some x → read ≡ Some y → (P : A → Type 0) → P x → P y
+read_as first second P said = subst P (some_same (sym first ∙ second)) said
 
 pub slice_get_at : {A : Type 0} → (p : List A) (y : A) (ys : List A) (n : ℕ) → length p ≡ n → slice_get (p ++ y ∷ ys) n ≡ Some y
 slice_get_at [] y ys zero e = refl
