@@ -2,7 +2,7 @@
 use Rattle.bforest_core.proofs.Words.{Coded, HasNext, HasPrev, IsBesideOf, IsLeafAt, IsSpotAt, IsWay, NumberAt, Way, backwards, leaf_count, leaf_place, onwards, place_by, ◌≡◌}
 use Rattle.bforest_core.proofs.Words.{ℕ, suc, ◌+◌, ◌-◌, ◌*◌, ◌/◌, ◌%◌, ◌≤◌, ◌<◌, List, [], ◌∷◌, drop, get_or, length, take, Some, inl, inr, refl, sym, ap, subst}
 use Rattle.bforest_core.proofs.walks.Branches.{Branch, branch-asks, branch-child, branch-way, first-of, last-asks, last-of, last-some, next-own}
-use Rattle.bforest_core.proofs.{Words.{◌∙◌, arith, Rows, cases_lt, eqb_tells, take_at, IsUnion, Table, heads, tree_of}, table.Stored.item_count}
+use Rattle.bforest_core.proofs.{Words.{◌∙◌, arith, Rows, cases_lt, take_at, IsUnion, Table, tree_of}, table.Stored.item_count}
 use Rattle.bforest_core.proofs.walks.Branches.{none-next, none-prev, prev-own, prev-some}
 use Rattle.bforest_core.proofs.walks.Codes.{Parent, above, count-asks, deeper, here, last-leaf, leaf-at, leaf-parent, leaf-way, node-here, spot-over, way-none}
 use Rattle.bforest_core.proofs.{table.Stored.some_same, walks.Reading.{ChildAsked, ChildRead, CountAsked, CountRead, LastAsked, LastRead}}
@@ -179,11 +179,13 @@ far-spot {others = others} s w = record {
 module _ {K V : Type 0} {n : ℕ} {table : Table K V} (union : IsUnion n table) {root : ℕ} {spot far : Spot} {leaf : ℕ} where
   pub far-behind : IsBesideOf table.nodes root spot.code spot.height onwards (Some (far, leaf)) → (place : ℕ) → IsSpotAt table root spot place
       → IsSpotAt table root (record far { height = spot.height }) (suc place) × IsLeafAt table root (suc place) leaf
-  far-behind says place s = let r = says.some (spot-over union s) in 
+  far-behind says place s = let r = says.some (spot-over union s) in
       (subst (IsSpotAt table root (record far { height = spot.height })) r.1 (far-spot s r.3), rw (← r.1) (leaf-at union root s.root_is r.4))
 
   pub far-before : IsBesideOf table.nodes root spot.code spot.height backwards (Some (far, leaf)) → (place : ℕ) → IsSpotAt table root spot place
       → (0 < place) × IsSpotAt table root (record far { height = spot.height }) (place - 1) × IsLeafAt table root (place - 1) leaf
-  far-before says place s = let r = says.some (spot-over union s) in let to : r.0 ≡ place - 1 = omega arith in
-      (omega arith, 
-        subst (IsSpotAt table root (record far { height = spot.height })) to (far-spot s r.3), rw (← to) (leaf-at union root s.root_is r.4))
+  far-before says place s = let r = says.some (spot-over union s) in let to : r.0 ≡ place - 1 = omega arith in (
+    omega arith,
+    subst (IsSpotAt table root (record far { height = spot.height })) to (far-spot s r.3),
+    rw (← to) (leaf-at union root s.root_is r.4),
+  )

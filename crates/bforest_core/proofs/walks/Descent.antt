@@ -1,8 +1,8 @@
 -- The descent of a search: one level of it, and its end in a leaf.
-use Rattle.bforest_core.proofs.Words.{place-present, ◌≡◌, ◌≢◌, ℕ, suc, ◌+◌, ◌≤◌, ◌<◌, ◌⊎◌, inl, inr, List, [], ◌∷◌, ◌++◌, length, get_or, set, slice_get, Option}
+use Rattle.bforest_core.proofs.Words.{place-present, ◌≡◌, ◌≢◌, ℕ, suc, ◌+◌, ◌≤◌, ◌<◌, ◌⊎◌, inl, inr, List, [], ◌∷◌, ◌++◌, length, get_or, set, slice_get}
 use Rattle.bforest_core.proofs.Words.{Some, refl, sym, ap, subst, ◌∙◌, arith, append_assoc, length-append, length-set, Heads, Row, get_or-set_same}
 use Rattle.bforest_core.proofs.Words.{nil_from_length, slice_get_within, IsTotalOrder, IsStrictlySortedBy, AllByRecursion, is_some, Content, Inner}
-use Rattle.bforest_core.proofs.Words.{IsLeafCapacity, IsIncreasing, place, is_present, value_for, node, flat, entry_keys, entry_items, StandsTo, child_index}
+use Rattle.bforest_core.proofs.Words.{IsLeafCapacity, IsIncreasing, place, is_present, value_for, node, flat, entry_keys, entry_items, child_index}
 use Rattle.bforest_core.proofs.walks.Rising.{all_split, all_less, increasing_split, increasing_rest, all_before, all_greater, place_between, entry_between}
 use Rattle.bforest_core.proofs.{Words.{IsFrom, IsUpTo, Descended, Reached, SearchThrough}, rows.LevelRows.{flat-append, some_leaf}}
 use Rattle.bforest_core.proofs.{walks.Rising.{place-le, first_passed, sides}, walks.TopNode.{InnerUnder, LeafUnder, flat_parted, set_but}}

@@ -119,7 +119,7 @@ module _ {K V : Type 0} {slots : List (Content K V)} {root code height : ℕ} {d
       pub turning-on : {above found : Option (Spot × ℕ)} {next : Spot} → IsLower slots root here node d (digit f some) above found
           → Turning slots root code height d left here above
           → ((content : Content K V) → slice_get slots node ≡ Some content → ¬ d.HasChild content (digit f some)
-            → IsBesideOf slots root here.code here.height d None → IsBesideOf slots root (here.code * 8 + digit f some) (suc here.height) d None)
+          → IsBesideOf slots root here.code here.height d None → IsBesideOf slots root (here.code * 8 + digit f some) (suc here.height) d None)
           → IsBelow here node (digit f some) next → Turning slots root code height d (left - 1) next found
       turning-on lower t ends b = elim lower [
         | inl w ↦ record { some = λ turn is. rw (← some_same {x = w.0} {y = turn} (cc)) (turn-here w.2 w.3); none = λ none. absurd (let no = sym w.1 ∙ none in cc) }

@@ -3,7 +3,7 @@ use Rattle.bforest_core.proofs.Words.{◌≡◌, ◌≢◌, ℕ, zero, suc, ◌+
 use Rattle.bforest_core.proofs.Words.{[], ◌∷◌, ◌++◌, get_or, length, length-append, inl, inr, refl, sym, subst, ap, ◌∙◌, arith, Heads, Row, flat_map}
 use Rattle.bforest_core.proofs.Words.{false≢true, eqb_tells, Path, PointsTo, StandsAt, StandsOn, index_of, leaf_of, list_under, path_root, place_in, spot}
 use Rattle.bforest_core.proofs.Words.{IsLeaf, AtUnder, StandsUnder, IsRooted, NodeOver, OnTree, Tree, flat, HasBelow, Led, OnBelow, heads, length-map, node, numbers}
-use Rattle.bforest_core.proofs.Words.{sizes, sizes_of, IsFit, IsIn, IsPathAt, PointsAt, Stands, count, leaf_content, numbers_of, Advances, HasOver, OnOver, Table, IsUnion}
+use Rattle.bforest_core.proofs.Words.{sizes, sizes_of, IsPathAt, PointsAt, Stands, count, leaf_content, numbers_of, Advances, HasOver, OnOver, Table, IsUnion}
 use Rattle.bforest_core.proofs.{Words.{is_root, slot, tree_of}, walks.Backward.{at_end, at_entry}, rows.LevelRows.flat-append, union.Unions.{is-rooted, rooted}}
 use Rattle.bforest_core.proofs.{walks.Whole.{led_stands, stands-pointed, root-node}, walks.Entered.{InLeaf, first_behind, in_leaf, leaf_here, leaf_last}}
 use Rattle.bforest_core.proofs.{walks.Leading.leaf_up, table.Read.slot-is, rows.Tops.root-points, walks.Steps.not_less}
@@ -58,7 +58,7 @@ module _ {K V : Type 0} {most : ℕ} {table : Table K V} (root : ℕ) (union : I
 
 -- a path of one level at the front of a root that is a leaf is on the first entry
 pub on-leaf : {K V : Type 0} {most : ℕ} (table : Table K V) (root : ℕ) (path indices : List ℕ) → IsUnion most table → IsTrue (is_root table.nodes root) → IsLeaf (slot table.nodes root) → get_or path 0 0 ≡ root → get_or indices 0 0 ≡ 0 → StandsUnder table.nodes root path indices 1 0
-on-leaf table root path indices union is leaf node_is index_is = 
+on-leaf table root path indices union is leaf node_is index_is =
     elim (node_under union.1.capacity (under-root root union is)) [
       | inl s ↦ (
           let d : Led (tree_of table.nodes root).leaves (tree_of table.nodes root).above 0 0 path indices path indices = record {

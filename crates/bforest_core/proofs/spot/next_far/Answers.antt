@@ -1,4 +1,4 @@
-use Rattle.bforest_core.proofs.{Words.{rules, arith, refl, sym, ap, ◌∙◌, entry_count}, table.Stored.some_same, walks.OnLevel.{stands-low, turn-at, turn-said}}
+use Rattle.bforest_core.proofs.{Words.{rules, arith, sym, ap, ◌∙◌, entry_count}, table.Stored.some_same, walks.OnLevel.{stands-low, turn-at, turn-said}}
 use Rattle.bforest_core.proofs.{walks.Branches.branch-asks, walks.Following.{turn-beside, turn-done, turn-down, turn-end, turn-high, turn-more, turn-way}}
 use Rattle.bforest_core.proofs.spot.next_far.Goals as goal
 

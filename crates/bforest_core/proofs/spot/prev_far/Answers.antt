@@ -1,4 +1,4 @@
-use Rattle.bforest_core.proofs.{Words.{rules, arith, refl}, walks.Following.{turn-beside, turn-done, turn-down, turn-end, turn-high, turn-more, turn-way}}
+use Rattle.bforest_core.proofs.{Words.{rules, arith}, walks.Following.{turn-beside, turn-done, turn-down, turn-end, turn-high, turn-more, turn-way}}
 use Rattle.bforest_core.proofs.{walks.OnLevel.{back-at, back-count, back-said, stands-low}, walks.Branches.{branch-asks, branch-low}}
 use Rattle.bforest_core.proofs.spot.prev_far.Goals as goal
 

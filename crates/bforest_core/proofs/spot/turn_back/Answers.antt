@@ -1,4 +1,4 @@
-use Rattle.bforest_core.proofs.{Words.{rules, arith, refl}, walks.Following.{begun, turn-high, turn-way, turned, turning-ends, turning-none, turning-on}}
+use Rattle.bforest_core.proofs.{Words.{rules, arith}, walks.Following.{begun, turn-high, turn-way, turned, turning-ends, turning-none, turning-on}}
 use Rattle.bforest_core.proofs.{walks.OnLevel.{code-low-here, first-said, index-asked}, walks.Codes.{root-first}}
 use Rattle.bforest_core.proofs.spot.turn_back.Goals as goal
 

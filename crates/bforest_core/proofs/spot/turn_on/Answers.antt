@@ -1,4 +1,4 @@
-use Rattle.bforest_core.proofs.{Words.{rules, arith, refl, sym, ap, ◌∙◌, entry_count}, walks.OnLevel.{code-low-here, index-asked, last-said}}
+use Rattle.bforest_core.proofs.{Words.{rules, arith, sym, ap, ◌∙◌, entry_count}, walks.OnLevel.{code-low-here, index-asked, last-said}}
 use Rattle.bforest_core.proofs.{walks.Following.{begun, turn-high, turn-way, turned, turning-ends, turning-none, turning-on}, walks.Codes.{root-last}}
 use Rattle.bforest_core.proofs.table.Stored.{some_same}
 use Rattle.bforest_core.proofs.spot.turn_on.Goals as goal

@@ -1,4 +1,4 @@
-use Rattle.bforest_core.proofs.Words.{rules, suc, length, sym, arith, slice_get_past, flat}
+use Rattle.bforest_core.proofs.Words.{rules, suc, sym, arith, slice_get_past, flat}
 use Rattle.bforest_core.proofs.walks.Entered.{entry_read, leaf_here, next_last, next_over, next_read, next_within, over_leaves}
 use Rattle.bforest_core.proofs.path.Path.next_entry.Goals as goal
 

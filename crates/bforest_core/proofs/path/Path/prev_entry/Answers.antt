@@ -1,4 +1,4 @@
-use Rattle.bforest_core.proofs.{Words.{rules, length, refl, ◌∙◌, arith}, walks.Entered.{back_within, back_asks, back_over, back_first, over_leaves}}
+use Rattle.bforest_core.proofs.{Words.{rules, refl, ◌∙◌, arith}, walks.Entered.{back_within, back_asks, back_over, back_first, over_leaves}}
 use Rattle.bforest_core.proofs.walks.Steps.{never}
 use Rattle.bforest_core.proofs.path.Path.prev_entry.Goals as goal
 

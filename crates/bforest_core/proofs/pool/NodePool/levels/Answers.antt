@@ -1,4 +1,4 @@
-use Rattle.bforest_core.proofs.{Words.{le-div_iff_mul-le, mul_comm, rules, ◌≡◌, ◌-◌, [], length, arith, length-map, sizes, tree_of}, walks.Standing.under-root}
+use Rattle.bforest_core.proofs.{Words.{le-div_iff_mul-le, mul_comm, rules, ◌≡◌, ◌-◌, length, arith, length-map, sizes, tree_of}, walks.Standing.under-root}
 use Rattle.bforest_core.proofs.{rows.Bounds.{leaves-few, depth}, union.Unions.is-rooted, rows.LevelRows.some_leaf}
 use Rattle.bforest_core.proofs.pool.NodePool.levels.Goals as goal
 
