@@ -26,7 +26,7 @@ depth half most one leaves [] f s t two = absurd (omega arith)
 depth half most one [] (row ∷ rows) f s t two = absurd (omega arith)
 depth half most one (node m es ∷ ns) (row ∷ rows) f s t two = let e : length (row ∷ rows) - 1 ≡ length rows = omega arith in
     let p : half * 4 ^ length rows ≤ half * length ns = mul-le-mul_left half (omega (arith, levels-few (heads (node m es ∷ ns)) row rows s t, fit_full half most one (node m es ∷ ns) f)) in
-    rw e (omega (arith, p, entries-many _ _ one m _ _ f))
+    rw e (omega (arith, entries-many _ _ one m _ _ f))
 
 -- an insertion adds at most one level
 pub gain-most : (k levels : _) → length (gain_above k levels) ≤ suc (length levels)

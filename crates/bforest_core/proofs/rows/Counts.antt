@@ -47,7 +47,7 @@ sum-same f (x ∷ xs) ys same = let s = standing x ys (omega (arith, same x, cou
 -- how often a number is named by the numbers of a list
 count-named : (f : ℕ → List ℕ) (m xs : _) → count m (flat_map f xs) ≡ sum_by (λ x. count m (f x)) xs
 count-named f m [] = refl
-count-named f m (x ∷ xs) = omega (arith, count-append m (f x) (flat_map f xs), count-named f m xs, sum_by-cons (λ x. count m (f x)) x xs)
+count-named f m (x ∷ xs) = omega (arith, count-append, count-named f m xs, sum_by-cons (λ x. count m (f x)) x xs)
 
 pub named-same : (f : ℕ → List ℕ) (xs ys : _) → ((n : ℕ) → count n xs ≡ count n ys) → (m : ℕ) → count m (flat_map f xs) ≡ count m (flat_map f ys)
 named-same f xs ys same m = omega (arith, count-named f m xs, count-named f m ys, sum-same (λ x. count m (f x)) xs ys same)

@@ -88,8 +88,8 @@ module _ {K V : Type 0} where
   pub rows-same : (t u : List (Content K V)) (rows : _) → ((m : ℕ) → 0 < count m (flat_map numbers rows) → slice_get u m ≡ slice_get t m) → RowsIn t rows → RowsIn u rows
   rows-same t u [] same i = tt
   rows-same t u (row ∷ rows) same i = (
-    row-same _ t u row (λ m some. same m (omega (arith, count-append m (numbers row) (flat_map numbers rows)))) i.0,
-    rows-same t u rows (λ m some. same m (omega (arith, count-append m (numbers row) (flat_map numbers rows)))) i.1,
+    row-same _ t u row (λ m some. same m (omega (arith, count-append))) i.0,
+    rows-same t u rows (λ m some. same m (omega (arith, count-append))) i.1,
   )
 
   -- one slot was written

@@ -20,16 +20,16 @@ module _ {K V : Type 0} where
   -- a tree is in any slots that agree on its numbers
   pub tree-same : {old : List (Content K V)} (new : List (Content K V)) {tree : Tree K V} → ((m : ℕ) → 0 < count m (numbers_of tree) → slice_get new m ≡ slice_get old m) → IsIn old tree → IsIn new tree
   tree-same new {tree} same i = record {
-    leaves_in = row-same _ _ _ _ (λ m some. same m (omega (arith, some, count-append m (numbers tree.leaves) (flat_map numbers tree.above)))) i.leaves_in;
-    rows_in = rows-same _ _ _ (λ m some. same m (omega (arith, some, count-append m (numbers tree.leaves) (flat_map numbers tree.above)))) i.rows_in;
+    leaves_in = row-same _ _ _ _ (λ m some. same m (omega (arith, some, count-append))) i.leaves_in;
+    rows_in = rows-same _ _ _ (λ m some. same m (omega (arith, some, count-append))) i.rows_in;
   }
 
   -- trees are in any slots that agree on their numbers
   pub trees-same : (old new : List (Content K V)) (trees : List (Tree K V)) → ((m : ℕ) → 0 < count m (flat_map numbers_of trees) → slice_get new m ≡ slice_get old m) → Every (IsIn old) trees → Every (IsIn new) trees
   trees-same old new [] same i = tt
   trees-same old new (tree ∷ trees) same i = (
-    tree-same new (λ m some. same m (omega (arith, some, count-append m (numbers_of tree) (flat_map numbers_of trees)))) i.0,
-    trees-same old new trees (λ m some. same m (omega (arith, some, count-append m (numbers_of tree) (flat_map numbers_of trees)))) i.1,
+    tree-same new (λ m some. same m (omega (arith, some, count-append))) i.0,
+    trees-same old new trees (λ m some. same m (omega (arith, some, count-append))) i.1,
   )
 
   -- how often a number occurs in three parts of the trees and on the chain
@@ -56,11 +56,11 @@ module _ {K V : Type 0} where
   traded old new gone come taken freed rest free apart old_is new_is freed_are slots nums others =
       let c = λ (m : ℕ). ap (λ z. count m z) old_is ∙ count-append m taken rest in
       let left = (every-append (λ number. IsFree (slot old.nodes number)) taken rest (rw (← old_is) free)).1 in
-      let still = free-same old.nodes new.nodes rest (λ m here. others m (omega (arith, c m, apart m, count-append m gone old.chain))) left in
+      let still = free-same old.nodes new.nodes rest (λ m here. others m (omega (arith, c m, apart m, count-append))) left in
       record {
         free = rw new_is (every-join _ _ _ freed_are still);
         slots_are = slots;
-        nums = λ m. omega (arith, nums m, c m, ap (λ z. count m z) new_is, count-append m freed rest);
+        nums = λ m. omega (arith, nums m, c m, ap (λ z. count m z) new_is, count-append);
         others = λ m none. others m (omega (arith, c m));
       }
 
@@ -103,7 +103,7 @@ module _ {K V : Type 0} where
     | inl here ↦ (let r = tree-with _ _ here in (r.1, λ table some f. (tree-back r.0 r.1 (r.2 ++ (some ++ after)) other f (cc (append_assoc r.0 (r.1 ∷ r.2) (some ++ after))) r.4).0))
     | inr none ↦ (let r = tree-with after other (omega arith) in (
       r.1,
-      λ table some f. (tree-back ((before ++ some) ++ r.0) r.1 r.2 other f (cc (append_assoc _ _ _, append_assoc _ _ _)) r.4).0,
+      λ table some f. (tree-back ((before ++ some) ++ r.0) r.1 r.2 other f (cc (append_assoc _ _ _)) r.4).0,
     ))
   ]
 

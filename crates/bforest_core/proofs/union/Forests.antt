@@ -27,7 +27,7 @@ module _ {K V : Type 0} where
   named_rows slots hs (row ∷ rows) s i m = let ih = named_rows slots (heads row) rows s.2 i.1 m in
       let a = ap (λ z. count m z) (flat_map-append (λ k. children_of (slot slots k)) _ _) ∙ count-append m (named_by slots (numbers row)) (named_by slots (flat_map numbers rows)) in
       let b = ap (λ z. count m z) (children-row slots row i.0 ∙ ap entry_items s.0) in let c = ap (λ z. count m z) (items-heads 4 8 (omega arith) row s.1) in
-      omega (arith, count-append m (numbers row) (flat_map numbers rows))
+      omega (arith, count-append)
 
   -- each number of a tree but its root is named by one node of the tree, and no other number is
   named_tree : {most slots : _} {tree : Tree K V} → IsFit most tree → IsIn slots tree → 1 ≤ length (flat tree.leaves) → (m : ℕ) →
@@ -36,7 +36,7 @@ module _ {K V : Type 0} where
       let a = ap (λ z. count m z) (flat_map-append (λ k. children_of (slot slots k)) _ _) ∙ count-append m (named_by slots (numbers tree.leaves)) (named_by slots (flat_map numbers tree.above)) in
       let b = ap (λ z. count m z) (children-leaves slots tree.leaves i.leaves_in) in
       let c = ap (λ z. count m z) (items-heads (half_of most) most (half-some most tree.leaves f.leaves_fit some) tree.leaves f.leaves_fit) in
-      omega (arith, count-append m (numbers tree.leaves) (flat_map numbers tree.above))
+      omega (arith, count-append)
 
   -- the root of a tree is one of its numbers
   pub root-among : (most slots : _) (tree : Tree K V) → IsFit most tree → IsIn slots tree → 1 ≤ length (flat tree.leaves) → 0 < count (root_of tree) (numbers_of tree)
@@ -48,7 +48,7 @@ module _ {K V : Type 0} where
   named_trees most slots [] f i some m = omega arith
   named_trees most slots (tree ∷ trees) f i some m = let one = named_tree f.0 i.0 some.0 m in let ih = named_trees most slots trees f.1 i.1 some.1 m in
       let a = ap (λ z. count m z) (flat_map-append (λ k. children_of (slot slots k)) _ _) ∙ count-append m (named_by slots (numbers_of tree)) (named_by slots (flat_map numbers_of trees)) in
-      omega (arith, count-append m (numbers_of tree) (flat_map numbers_of trees))
+      omega (arith, count-append)
 
   -- a free slot names no node
   no_children : (content : Content K V) → IsFree content → children_of content ≡ []
@@ -77,12 +77,12 @@ module _ {K V : Type 0} where
 
   -- a number occurs in the trees or on the chain at most once
   pub once : {most : _} {table : Table K V} {trees : _} → IsForest most table trees → (m : ℕ) → count m (flat_map numbers_of trees) + count m table.chain ≤ 1
-  once {table = table} {trees = trees} f m = omega (arith, f.account m, at-most-one m (length table.nodes), count-append m (flat_map numbers_of trees) table.chain)
+  once {table = table} {trees = trees} f m = omega (arith, f.account m, at-most-one m (length table.nodes), count-append)
 
   -- a number in the trees or on the chain is that of a slot
   pub within-slots : {most : _} {table : Table K V} {trees : _} → IsForest most table trees → (m : ℕ) → 0 < count m (flat_map numbers_of trees) + count m table.chain → m < length table.nodes
   within-slots {table = table} {trees = trees} f m some =
-      elim (cases_lt m (length table.nodes)) [ inl low ↦ low | inr past ↦ absurd (omega (arith, f.account m, past-none m _ past, count-append m (flat_map numbers_of trees) table.chain)) ]
+      elim (cases_lt m (length table.nodes)) [ inl low ↦ low | inr past ↦ absurd (omega (arith, f.account m, past-none m _ past, count-append)) ]
 
   -- no two trees have the same root
   pub roots-once : {most : _} (table : Table K V) {trees : _} → IsForest most table trees → (m : ℕ) → count m (map root_of trees) ≤ 1
@@ -124,7 +124,7 @@ module _ {K V : Type 0} where
         let none : count m (flat_map children_of table.nodes) ≡ 0 = elim (eqb_tells (count m (flat_map children_of table.nodes)) 0) [ inl w ↦ w.1 | inr w ↦ absurd (let e = w.0 in let d = parts.1 in cc) ] in
         let low = used_within _ m parts.0 in
         let off : count m table.chain ≡ 0 = elim (cases_lt 0 (count m table.chain)) [ inl on ↦ absurd (let e = free-unused _ (free-at _ _ f.free m on) in let d = parts.0 in cc) | inr off ↦ omega arith ] in
-        omega (arith, f.account m, below-one m _ low, count-append m (flat_map numbers_of trees) table.chain, named_all f m)
+        omega (arith, f.account m, below-one m _ low, count-append, named_all f m)
         ),
     λ some. (let r = tree-with trees m some in (tree-back r.0 r.1 r.2 m f r.3 r.4).1),
   )

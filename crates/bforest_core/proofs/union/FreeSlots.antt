@@ -12,7 +12,7 @@ module _ {K V : Type 0} where
 
   -- two tables with the same entry for a slot have the same content there
   pub slot_same : (old new : List (Content K V)) (m : ℕ) → slice_get new m ≡ slice_get old m → slot new m ≡ slot old m
-  slot_same old new m same = cc (unwrap_or-slice_get _ m _, unwrap_or-slice_get _ m _)
+  slot_same old new m same = cc (unwrap_or-slice_get _ m _)
 
   -- free slots that are not written stay free
   pub free-same : (old new : List (Content K V)) (ms : _) → ((m : ℕ) → 0 < count m ms → slice_get new m ≡ slice_get old m) → Every (λ m. IsFree (slot old m)) ms → Every (λ m. IsFree (slot new m)) ms

@@ -129,7 +129,7 @@ module _ {K V : Type 0} where
           slot_is = s.slot_is;
           children_are = refl;
           under = record { leaves_fit = tt; leaves_in = tt; stacked = refl; rows_in = tt };
-          counted = λ m. omega (arith, count-append m (numbers leaves) (flat_map numbers lower), ap (λ z. count m (numbers z)) row, ap (λ z. count m (flat_map numbers z)) s.lower_is);
+          counted = λ m. omega (arith, count-append, ap (λ z. count m (numbers z)) row, ap (λ z. count m (flat_map numbers z)) s.lower_is);
           height = λ some. absurd (omega arith);
           down = cc;
         }

@@ -15,7 +15,7 @@ every-down P first f (suc n) = (f (first + n) (omega arith), every-down P first 
 count-down : (m first n : ℕ) → count m (down_from first n) + once_below m first ≡ once_below m (first + n)
 count-down m first zero = let e : first + 0 ≡ first = omega arith in rw e (omega arith)
 count-down m first (suc n) = let e : first + suc n ≡ suc (first + n) = omega arith in let a = ap (λ z. once_below m z) e in
-    omega (arith, count-upto m (suc (first + n)), count-upto m (first + n), count-append m (upto (first + n)) ((first + n) ∷ []), count-down m first n)
+    omega (arith, count-upto m (suc (first + n)), count-upto m (first + n), count-append, count-down m first n)
 
 module _ {K V : Type 0} where
   -- free slots followed by one more free slot

@@ -11,7 +11,7 @@ use Rattle.bforest_core.proofs.{walks.Steps.read, rows.LevelRows.some_leaf, unio
 rows_none : {K : Type 0} (list : Heads K) (rows : Rows K) → StackedTo list rows [] → (list ≡ []) × ((m : ℕ) → count m (flat_map numbers rows) ≡ 0)
 rows_none list [] s = (s, λ m. refl)
 rows_none list (row ∷ rows) s = let r = rows_none (heads row) rows s.2 in let none = no_heads 4 8 (omega arith) row s.1 r.0 in
-    (cc, λ m. omega (arith, count-append m (numbers row) (flat_map numbers rows), ap (λ z. count m (numbers z)) none, r.1 m))
+    (cc, λ m. omega (arith, count-append, ap (λ z. count m (numbers z)) none, r.1 m))
 
 module _ {K V : Type 0} where
   -- the rows under some nodes are in any slots that agree on their numbers
@@ -24,21 +24,21 @@ module _ {K V : Type 0} where
   under_none : (most : ℕ) → IsLeafCapacity most → {slots : List (Content K V)} {leaves lower : _} → Under most slots leaves lower [] → (m : ℕ) → count m (numbers_under leaves lower) ≡ 0
   under_none most capacity {leaves = leaves} {lower = lower} u m =
       let r = rows_none _ _ u.stacked in let none = no_heads _ _ (some_leaf capacity) _ u.leaves_fit r.0 in
-      omega (arith, count-append m (numbers leaves) (flat_map numbers lower), ap (λ z. count m (numbers z)) none, r.1 m)
+      omega (arith, count-append, ap (λ z. count m (numbers z)) none, r.1 m)
 
   -- the numbers below a node are the same in any slots that agree on them
   down-same : (old new : List (Content K V)) (levels number : ℕ) → ((m : ℕ) → 0 < count m (numbers_down old levels number) → slice_get new m ≡ slice_get old m) → numbers_down new levels number ≡ numbers_down old levels number
   down-same old new zero number same = refl
   down-same old new (suc levels) number same =
       let kids = reverse (children_of (slot old number)) in let here = slot_same old new number (same number (omega (arith, count-same number []))) in
-      cc (all (down-same old new levels) kids (λ m some. same m (omega (arith, count-append m (number ∷ []) (flat_map (numbers_down old levels) kids)))))
+      cc (all (down-same old new levels) kids (λ m some. same m (omega (arith, count-append))))
     where
       all : ((kid : ℕ) → ((m : ℕ) → 0 < count m (numbers_down old levels kid) → slice_get new m ≡ slice_get old m) → numbers_down new levels kid ≡ numbers_down
           old levels kid) → (kids : _) → ((m : ℕ) → 0 < count m (flat_map (numbers_down old levels) kids) → slice_get new m ≡ slice_get old m) → flat_map
           (numbers_down new levels) kids ≡ flat_map (numbers_down old levels) kids
       all again [] same = refl
       all again (kid ∷ kids) same =
-          cc (again kid (λ m some. same m (omega (arith, count-append m (numbers_down old levels kid) (flat_map (numbers_down old levels) kids)))), all again kids (λ m some. same m (omega (arith, count-append m (numbers_down old levels kid) (flat_map (numbers_down old levels) kids)))))
+          cc (again kid (λ m some. same m (omega (arith, count-append))), all again kids (λ m some. same m (omega (arith, count-append))))
 
   -- everything below the first `index` nodes of the top is freed, and everything below the others unchanged
   pub record Swept (most : ℕ) (old now : Table K V) (leaves : Row K V) (rows : Rows K) (top : Heads K) (index : ℕ) : Type 0 where
@@ -75,7 +75,7 @@ module _ {K V : Type 0} where
           swept = s;
           found = found;
           cut = cut;
-          under = under-same _ (λ m some. s.frees.others m (omega (arith, apart m, count-append m (numbers_under leaves rows) old.chain, s.split m, cut.counted m))) cut.left;
+          under = under-same _ (λ m some. s.frees.others m (omega (arith, apart m, count-append, s.split m, cut.counted m))) cut.left;
           apart = λ m. omega (arith, apart m, s.split m, cut.counted m, s.counted m, ap (λ z. count m z) s.frees.chain_is, count-append);
         }
 
@@ -101,8 +101,8 @@ module _ {K V : Type 0} where
             t.cut.counted m,
           )) (frees-wider _ (λ m z. omega (arith, n m)) t.swept.frees) g.frees;
           order =
-              cc (down-same now.nodes old.nodes (length t.cut.lower_left) x.1 (λ m some. sym (t.swept.frees.others m (omega (arith, g.counted m, apart m, count-append m (numbers_under leaves rows) old.chain, t.swept.split m, t.cut.counted m)))), last_taken (entry_items top) index x.1 (simp (items-read top index, t.found)), reverse-append (take index (entry_items top)) (x.1 ∷ []));
-          counted = λ m. omega (arith, count-append m (numbers_down now.nodes (length t.cut.lower_left) x.1) t.swept.given, n m, g.counted m, t.swept.counted m);
+              cc (down-same now.nodes old.nodes (length t.cut.lower_left) x.1 (λ m some. sym (t.swept.frees.others m (omega (arith, g.counted m, apart m, count-append, t.swept.split m, t.cut.counted m)))), last_taken (entry_items top) index x.1 (simp (items-read top index, t.found)), reverse-append (take index (entry_items top)) (x.1 ∷ []));
+          counted = λ m. omega (arith, count-append, n m, g.counted m, t.swept.counted m);
           split = λ m. omega (arith, n m, t.swept.split m, t.cut.counted m);
         }
 
@@ -137,9 +137,9 @@ module _ {K V : Type 0} where
       record {
         opened = o;
         swept = s;
-        alone = omega (arith, o.counted number, count-append number (numbers_under leaves lower) old.chain);
+        alone = omega (arith, o.counted number, count-append);
         apart = λ m. omega (arith, apart m, o.counted m, count-append);
-        slot_is = s.frees.others number (omega (arith, o.counted number, s.split number, count-append number (numbers_under leaves lower) old.chain)) ∙ o.slot_is;
+        slot_is = s.frees.others number (omega (arith, o.counted number, s.split number, count-append)) ∙ o.slot_is;
         off_chain = omega (arith, o.counted number, s.split number, s.counted number, ap (λ z. count number z) s.frees.chain_is, count-append);
       }
 

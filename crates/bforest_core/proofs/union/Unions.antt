@@ -34,7 +34,7 @@ module _ {K V : Type 0} where
     low = (every-append (λ tree. length tree.above ≤ 16) before (tree ∷ after) f.low).1.0;
     root_is = is;
     tree_is = (tree-back before tree after root f refl is).0;
-    apart = λ m. omega (arith, once f m, numbers_parts m before tree after, count-append m (numbers_of tree) table.chain);
+    apart = λ m. omega (arith, once f m, numbers_parts m before tree after, count-append);
     within = λ m some. within-slots f m (omega (arith, some, numbers_parts m before tree after));
   }
 

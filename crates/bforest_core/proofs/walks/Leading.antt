@@ -134,7 +134,7 @@ module _ {K V : Type 0} {most : ℕ} (capacity : IsLeafCapacity most) {slots : L
           (λ leaves lower top. Led leaves lower (place leaves) top path1 indices1 path2 indices2)
           → OnBelow most slots Side number level (λ leaves lower top. Led leaves lower (place leaves) top path indices path2 indices2)
       led-on here path_is indices_are leads leaves n side level_is = let s = inner n level_is in let c = child_under s index says in
-          let d = leads leaves c.on (turns.keeps s side c) (omega (arith, s.count_is, level_is, ap length c.rows_are)) in
+          let d = leads leaves c.on (turns.keeps s side c) (omega (arith, s.count_is, ap length c.rows_are)) in
           record {
             leaf = d.leaf;
             up = inner_up s c.rows_are c.place_is (turns.within s side) level level_is d.up here.0 here.1 (set_but _ _ _ path_is) (set_but _ _ _ indices_are);
