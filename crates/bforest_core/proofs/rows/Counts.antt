@@ -92,13 +92,13 @@ module _ {K V : Type 0} where
 
   -- the first `k + 1` slots name what the first `k` name, and the children of the next
   pub named-more : (slots : List (Content K V)) (k : ℕ) {content : Content K V} (m : ℕ) → slice_get slots k ≡ Some content → count m (flat_map children_of (take (suc k) slots)) ≡ count m (flat_map children_of (take k slots)) + count m (children_of content)
-  named-more slots k {content = content} m found =
+  named-more slots k {content} m found =
       let a = ap (λ z. count m (flat_map children_of z)) (last_taken slots k content found) ∙ ap (λ z. count m z) (flat_map-append children_of (take k slots) (content ∷ [])) in
       omega (arith, count-append)
 
   -- whatever a slot names, the slots name
   pub named-slot : (slots : List (Content K V)) (k : ℕ) {content : Content K V} (m : ℕ) → slice_get slots k ≡ Some content → count m (children_of content) ≤ count m (flat_map children_of slots)
-  named-slot slots k {content = content} m found = let rest = drop (suc k) slots in
+  named-slot slots k {content} m found = let rest = drop (suc k) slots in
       let a = ap (λ z. count m (flat_map children_of z)) (sym (around slots k content found)) ∙ ap (λ z. count m z) (flat_map-append children_of (take k slots) (content ∷ rest)) in
       omega (arith, count-append)
 

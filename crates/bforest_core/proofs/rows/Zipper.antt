@@ -148,7 +148,7 @@ module _ {K V : Type 0} where
       tree.leaves ≡ before ++ node (get_or ms 0 0) entries ∷ after →
       get_or js 0 0 ≤ length entries → place ≡ length (flat before) + get_or js 0 0 → StandsAbove ms js 1 tree.above (length before) →
       LeafCut most t ms js tree place (take (get_or js 0 0) entries) (drop (get_or js 0 0) entries)
-  cut_leaf {most} {ms = ms} {js} before entries after fit inside apart is within place_is stands =
+  cut_leaf {most} {ms} {js} before entries after fit inside apart is within place_is stands =
       let n = get_or ms 0 0 in let l = take (get_or js 0 0) entries in let r = drop (get_or js 0 0) entries in
       let l_is = length-take-le (get_or js 0 0) entries within in
       let row_is = is ∙ ap (λ z. before ++ node n z ∷ after) (sym (take-append-drop _ _)) in let fit_row = rw row_is at fit in

@@ -16,7 +16,7 @@ err_iff r e f is = (λ same. (let s : e ≡ f = cc in ap Err s), λ same. (let s
 module _ {K V : Type 0} where
   -- writing the node taken from the front of the chain
   pub taken_is : (t : Table K V) {u : Table K V} {node c d : _} → front_of t.chain ≡ Some node → u ≡ without_front t t.chain → c ≡ d → with_node u node c ≡ with_front t t.chain d
-  taken_is t {d = d} front u_is c_is = cc (with_front-is t _ d front)
+  taken_is t {d} front u_is c_is = cc (with_front-is t _ d front)
 
   memory-without_front : (t : Table K V) (chain : _) → (without_front t chain).memory ≡ t.memory
   memory-without_front t [] = refl

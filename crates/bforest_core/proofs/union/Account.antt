@@ -56,7 +56,7 @@ module _ {K V : Type 0} where
 
   trees-sum : {most table : _} (before trees : List (Tree K V)) → IsForest most table (before ++ trees) → length (flat_map numbers_of trees) ≡ sum_by (λ n. nodes_under table.nodes n) (map root_of trees)
   trees-sum before [] f = refl
-  trees-sum {most = most} {table = table} before (tree ∷ trees) f =
+  trees-sum {most} {table} before (tree ∷ trees) f =
       let ih = trees-sum (before ++ tree ∷ []) trees (subst (λ z. IsForest most table z) (sym (append_assoc before (tree ∷ []) trees)) f) in
       let back = ap (λ z. length (numbers_of z)) (tree-back before tree trees (root_of tree) f refl refl).0 in
       omega (arith, length-append (numbers_of tree) (flat_map numbers_of trees), sum_by-cons (λ n. nodes_under table.nodes n) (root_of tree) (map root_of trees))

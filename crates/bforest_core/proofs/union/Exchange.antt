@@ -74,7 +74,7 @@ module _ {K V : Type 0} where
   -- replacing trees of a forest by others that are in the new table
   pub exchange-trees : {most : ℕ} {old new : Table K V} (before gone come after : List (Tree K V)) → IsForest most old (before ++ (gone ++ after)) → Every
       (IsPlanted most new.nodes) come → Traded old new (flat_map numbers_of gone) (flat_map numbers_of come) → IsForest most new (before ++ (come ++ after))
-  exchange-trees {old = old} {new = new} before gone come after f p t =
+  exchange-trees {old} {new} before gone come after f p t =
       let one : (m : ℕ) → count m (flat_map numbers_of before) + (count m (flat_map numbers_of gone) + count m (flat_map numbers_of after)) + count m old.chain ≤ 1 =
       λ m. omega (arith, f.account m, at-most-one m (length old.nodes), count_parts m before gone after old.chain) in
       let ins = every_outer _ _ _ _ f.inside in
@@ -110,7 +110,7 @@ module _ {K V : Type 0} where
   -- every number that is no root of the replaced trees is a root as before, and keeps its tree
   pub others-keep : {most old new : _} (before gone come after : List (Tree K V)) → IsForest most old (before ++ (gone ++ after)) → IsForest most new (before ++ (come ++ after)) →
       (other : ℕ) → count other (map root_of gone) ≡ 0 → count other (map root_of come) ≡ 0 → (IsTrue (is_root new.nodes other) ↔ IsTrue (is_root old.nodes other)) × (IsTrue (is_root old.nodes other) → tree_of new.nodes other ≡ tree_of old.nodes other)
-  others-keep {most = most} {old = old} {new = new} before gone come after f g other none none' =
+  others-keep {most} {old} {new} before gone come after f g other none none' =
       let cf = root-counts f other in let cg = root-counts g other in let a = count_roots other before gone after in
       let b = count_roots other before come after in (
         (λ root. cf.1 (omega arith), λ root. cg.1 (omega arith)),
@@ -120,5 +120,5 @@ module _ {K V : Type 0} where
   -- a root of the replaced trees that none of the new ones has is not a root
   pub roots-gone : {most old new : _} (before gone come after : List (Tree K V)) → IsForest most old (before ++ (gone ++ after)) → IsForest most new (before ++ (come ++ after)) →
       (m : ℕ) → 0 < count m (map root_of gone) → count m (map root_of come) ≡ 0 → ¬ IsTrue (is_root new.nodes m)
-  roots-gone {old = old} before gone come after f g m some none root =
+  roots-gone {old} before gone come after f g m some none root =
       omega (arith, (root-counts g m).0 root, count_roots m before gone after, count_roots m before come after, some, roots-once old f m)

@@ -32,7 +32,7 @@ module _ {K V : Type 0} where
   -- each number of a tree but its root is named by one node of the tree, and no other number is
   named_tree : {most slots : _} {tree : Tree K V} → IsFit most tree → IsIn slots tree → 1 ≤ length (flat tree.leaves) → (m : ℕ) →
       count m (named_by slots (numbers_of tree)) + count m (root_of tree ∷ []) ≡ count m (numbers_of tree)
-  named_tree {most = most} {slots = slots} {tree = tree} f i some m = let r = named_rows _ _ _ f.stacked i.rows_in m in
+  named_tree {most} {slots} {tree} f i some m = let r = named_rows _ _ _ f.stacked i.rows_in m in
       let a = ap (λ z. count m z) (flat_map-append (λ k. children_of (slot slots k)) _ _) ∙ count-append m (named_by slots (numbers tree.leaves)) (named_by slots (flat_map numbers tree.above)) in
       let b = ap (λ z. count m z) (children-leaves slots tree.leaves i.leaves_in) in
       let c = ap (λ z. count m z) (items-heads (half_of most) most (half-some most tree.leaves f.leaves_fit some) tree.leaves f.leaves_fit) in
@@ -71,17 +71,17 @@ module _ {K V : Type 0} where
 
   -- the slots of a table name each number of its trees except the roots
   named_all : {most : _} {table : Table K V} {trees : _} → IsForest most table trees → (m : ℕ) → count m (flat_map children_of table.nodes) + count m (map root_of trees) ≡ count m (flat_map numbers_of trees)
-  named_all {table = table} {trees = trees} f m = let a = all-named _ _ f.account m in
+  named_all {table} {trees} f m = let a = all-named _ _ f.account m in
       let b = ap (λ z. count m z) (flat_map-append (λ k. children_of (slot table.nodes k)) _ _) ∙ count-append m (named_by table.nodes (flat_map numbers_of trees)) (named_by table.nodes table.chain) in
       let c = ap (λ z. count m z) (named_free table.nodes table.chain f.free) in omega (arith, named_trees _ _ _ f.fit f.inside f.some m)
 
   -- a number occurs in the trees or on the chain at most once
   pub once : {most : _} {table : Table K V} {trees : _} → IsForest most table trees → (m : ℕ) → count m (flat_map numbers_of trees) + count m table.chain ≤ 1
-  once {table = table} {trees = trees} f m = omega (arith, f.account m, at-most-one m (length table.nodes), count-append)
+  once {table} {trees} f m = omega (arith, f.account m, at-most-one m (length table.nodes), count-append)
 
   -- a number in the trees or on the chain is that of a slot
   pub within-slots : {most : _} {table : Table K V} {trees : _} → IsForest most table trees → (m : ℕ) → 0 < count m (flat_map numbers_of trees) + count m table.chain → m < length table.nodes
-  within-slots {table = table} {trees = trees} f m some =
+  within-slots {table} {trees} f m some =
       elim (cases_lt m (length table.nodes)) [ inl low ↦ low | inr past ↦ absurd (omega (arith, f.account m, past-none m _ past, count-append)) ]
 
   -- no two trees have the same root
@@ -105,7 +105,7 @@ module _ {K V : Type 0} where
   pub tree-back : {most : _} {table : Table K V} {trees : _} (before : List (Tree K V)) (tree : Tree K V) (after : List (Tree K V)) (root : ℕ) → IsForest most table trees → trees ≡ before ++ tree ∷ after → root_of tree ≡ root →
       (tree_of table.nodes root ≡ tree) × IsTrue (is_root table.nodes root)
   unfolding is_root
-  tree-back {most = most} {table = table} before tree after root given split is =
+  tree-back {most} {table} before tree after root given split is =
       let f = rw split at given in let fit = (every-append (IsFit most) before (tree ∷ after) f.fit).1.0 in
       let inside = (every-append (IsIn table.nodes) before (tree ∷ after) f.inside).1.0 in
       let some = (every-append (λ tree. 1 ≤ length (flat tree.leaves)) before (tree ∷ after) f.some).1.0 in
@@ -118,7 +118,7 @@ module _ {K V : Type 0} where
   -- a number is a root exactly if it is the root of one of the trees
   pub root-counts : {most : _} {table : Table K V} {trees : _} → IsForest most table trees → (m : ℕ) → IsTrue (is_root table.nodes m) ↔ (0 < count m (map root_of trees))
   unfolding is_root
-  root-counts {table = table} {trees = trees} f m = (
+  root-counts {table} {trees} f m = (
     λ root. (
         let parts = and_parts (is_used _) (nat_eq (count m (flat_map children_of table.nodes)) 0) root in
         let none : count m (flat_map children_of table.nodes) ≡ 0 = elim (eqb_tells (count m (flat_map children_of table.nodes)) 0) [ inl w ↦ w.1 | inr w ↦ absurd (let e = w.0 in let d = parts.1 in cc) ] in

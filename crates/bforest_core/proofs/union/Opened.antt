@@ -79,7 +79,7 @@ module _ {K V : Type 0} (most : ℕ) (slots : List (Content K V)) where
     pub counted : (m : ℕ) → count m (numbers_under leaves lower) ≡ count m (numbers_under leaves_left lower_left) + count m (numbers_under leaves_right lower_right)
 
   pub under-cut : 1 ≤ half_of most → {leaves lower : _} (a b : _) → Under most slots leaves lower (a ++ b) → UnderCut leaves lower a b
-  under-cut one {leaves = leaves} {lower = lower} a b u = let r = rows-cut slots (heads leaves) lower a b u.stacked u.rows_in in
+  under-cut one {leaves} {lower} a b u = let r = rows-cut slots (heads leaves) lower a b u.stacked u.rows_in in
       let c = row-cut (half_of most) most one leaves r.list_left r.list_right u.leaves_fit r.list_is in
       let fits = fit_cut _ _ one _ _ (rw (← c.row_is) u.leaves_fit) in let ins = row-split leaf_content slots c.left c.right (rw (← c.row_is) u.leaves_in) in
       record {

@@ -41,7 +41,7 @@ module _ {K V : Type 0} where
 
   -- a table with `n` new slots has the same trees
   with-slots-forest : {most : _} {table : Table K V} (n memory : _) {trees : _} → IsForest most table trees → IsForest most (with_slots table n memory) trees
-  with-slots-forest {table = table} n memory {trees = trees} f =
+  with-slots-forest {table} n memory {trees} f =
       let more = fresh_nodes (slot_count table) n (front_of table.chain) in let c = λ (m : ℕ). count-append m (flat_map numbers_of trees) table.chain in
       let low = within-slots f in
       let slots : length (table.nodes ++ more) ≡ length table.nodes + n = omega (arith, length-append table.nodes more, length-fresh_nodes K V (slot_count table) n (front_of table.chain)) in
@@ -79,7 +79,7 @@ module _ {K V : Type 0} where
 
   pub reserved-keeps : (most : ℕ) {old : Table K V} (new : Table K V) (n memory : ℕ) → new ≡ reserved old n memory → IsUnion most old →
       IsUnion most new × KeepsTrees old.nodes new.nodes
-  reserved-keeps most {old = old} new n memory is union = rw is (reserved-union most old n memory union, reserved-roots most old n memory union)
+  reserved-keeps most {old} new n memory is union = rw is (reserved-union most old n memory union, reserved-roots most old n memory union)
 
   -- at least `n` nodes are free after a reservation of `n`
   pub reserved-frees : (old : Table K V) (n : ℕ) {chain : List ℕ} → chain ≡ (reserved old n old.memory).chain → n ≤ length chain

@@ -17,12 +17,12 @@ module _ {K V : Type 0} where
   -- the rows under some nodes are in any slots that agree on their numbers
   under-same : {most : _} {old : List (Content K V)} (new : List (Content K V)) {leaves : Row K V} {lower : _} {top : _} → ((m : ℕ) → 0 < count m (numbers_under leaves lower) → slice_get new m ≡ slice_get old m)
       → Under most old leaves lower top → Under most new leaves lower top
-  under-same new {leaves = leaves} {lower = lower} same u =
+  under-same new {leaves} {lower} same u =
       let i = tree-same new {tree = record { leaves = leaves; above = lower }} same (record { leaves_in = u.leaves_in; rows_in = u.rows_in }) in
       record { leaves_fit = u.leaves_fit; leaves_in = i.leaves_in; stacked = u.stacked; rows_in = i.rows_in }
 
   under_none : (most : ℕ) → IsLeafCapacity most → {slots : List (Content K V)} {leaves lower : _} → Under most slots leaves lower [] → (m : ℕ) → count m (numbers_under leaves lower) ≡ 0
-  under_none most capacity {leaves = leaves} {lower = lower} u m =
+  under_none most capacity {leaves} {lower} u m =
       let r = rows_none _ _ u.stacked in let none = no_heads _ _ (some_leaf capacity) _ u.leaves_fit r.0 in
       omega (arith, count-append, ap (λ z. count m (numbers z)) none, r.1 m)
 
@@ -82,7 +82,7 @@ module _ {K V : Type 0} where
     -- the next child is freed with everything below it
     pub sweep-next : {now new index : _} (x : _) → Distinct (numbers_under leaves rows ++ old.chain) → (t : Turn now index x) → GivesAll now new (numbers_under
         t.cut.leaves_left t.cut.lower_left) (numbers_down now.nodes (length t.cut.lower_left) x.1) → Swept most old new leaves rows top (suc index)
-    sweep-next {now = now} {index = index} x apart t g =
+    sweep-next {now} {index} x apart t g =
         let own = numbers_under t.cut.leaves_left t.cut.lower_left in let n = λ (m : ℕ). count-append m t.swept.own own in
         record {
           left_leaves = t.cut.leaves_right;
@@ -108,7 +108,7 @@ module _ {K V : Type 0} where
 
     -- at last everything below the top is freed
     pub sweep-last : {now : Table K V} {index : ℕ} → length top ≤ index → Swept most old now leaves rows top index → GivesAll old now (numbers_under leaves rows) (flat_map (numbers_down old.nodes (length rows)) (reverse (entry_items top)))
-    sweep-last {index = index} past s =
+    sweep-last {index} past s =
         let left = under_none most capacity (subst (λ z. Under most old.nodes s.left_leaves s.left_rows z) (drop_all _ _ past) s.under) in
         let whole = s.order ∙ ap (λ z. flat_map (numbers_down old.nodes (length rows)) (reverse z)) (take_all index _ (omega (arith, length-map top (λ e. e.1)))) in
         rw (← whole) (record {
@@ -133,7 +133,7 @@ module _ {K V : Type 0} where
 
   pub sweeping : {most : ℕ} {old now : Table K V} {leaves lower number index : _} → Distinct (numbers_under leaves lower ++ old.chain) → (o : Opened most
       old.nodes leaves lower number) → Swept most old now o.low o.rows o.top index → Sweeping most old now leaves lower number index
-  sweeping {old = old} {leaves = leaves} {lower = lower} {number = number} apart o s = let one = count-same number [] in let a = apart number in
+  sweeping {old} {leaves} {lower} {number} apart o s = let one = count-same number [] in let a = apart number in
       record {
         opened = o;
         swept = s;
@@ -146,7 +146,7 @@ module _ {K V : Type 0} where
   -- the node is freed after its children
   pub gives-down : {most : _} {old now : _} {leaves lower number index : _} → (s : Sweeping most old now leaves lower number index) →
       GivesAll old now (numbers_under s.opened.low s.opened.rows) (flat_map (numbers_down old.nodes (length s.opened.rows)) (reverse (entry_items s.opened.top))) → GivesAll old (with_freed now number) (numbers_under leaves lower) (numbers_down old.nodes (length lower) number)
-  gives-down {old = old} {now = now} {number = number} s all = let own = numbers_under s.opened.low s.opened.rows in
+  gives-down {old} {now} {number} s all = let own = numbers_under s.opened.low s.opened.rows in
       let below = flat_map (numbers_down old.nodes (length s.opened.rows)) (reverse (entry_items s.opened.top)) in
       let apart : (m : ℕ) → 0 < count m below → count m (number ∷ []) ≡ 0 =
       λ m some. elim (cases_lt 0 (count m (number ∷ []))) [ inl here ↦ absurd (omega (arith, all.counted m, only_here m _ _ here s.alone)) | inr past ↦ omega arith ] in
@@ -169,5 +169,5 @@ module _ {K V : Type 0} where
   pub child_turn : {most : ℕ} (capacity : IsLeafCapacity most) {old now : _} {leaves lower number index : _} {child : ℕ} → (s : Sweeping most old now leaves lower number index)
       → slice_get (children_of s.opened.content) index ≡ Some child → (x : K × ℕ) × (x.1 ≡ child) × (index < length s.opened.top)
       × Turn capacity old s.opened.low s.opened.rows s.opened.top now index x
-  child_turn capacity {now = now} {index = index} {child = child} s found = let i = item_at s.opened.top index child (cc) in
+  child_turn capacity {now} {index} {child} s found = let i = item_at s.opened.top index child (cc) in
       (i.0, i.2, slice_get_within _ _ _ i.1, sweep-turn _ _ _ s.opened.rows s.opened.top now index i.0 s.apart s.swept i.1)

@@ -40,7 +40,7 @@ pub record Lowest {K V : Type 0} (slots : List (Content K V)) (root code depth :
 
 module _ {K V : Type 0} {slots : List (Content K V)} {root code depth : ℕ} where
   pub lowest : {numbers rows list place : _} → CodedOver slots root code (suc depth) numbers rows list place → Lowest slots root code depth numbers rows list place
-  lowest {rows = []} p = absurd (omega (arith, p.depth_is))
+  lowest {rows = []} p = absurd (omega arith)
   lowest {rows = row ∷ rest} p = let at = p.coded.0 in
       record {
         row = row;
@@ -105,9 +105,9 @@ module _ {K V : Type 0} {slots : List (Content K V)} {root code depth : ℕ} {p 
     before = a.before;
     entries = a.entries;
     after = a.after;
-    row_is = cc (a.row_is, d.same);
+    row_is = cc (d.same);
     at = a.at;
-    slot_is = cc (a.slot_is, d.same);
+    slot_is = cc (d.same);
     some = a.some;
     room = a.room;
   }

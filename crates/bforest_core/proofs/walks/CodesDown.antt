@@ -109,7 +109,7 @@ module _ {K V : Type 0} {most : ℕ} {slots : List (Content K V)} {Side : Heads 
       GoesDown most slots Side Said start node next child
   down-on reads b = record {
     capacity = w.capacity;
-    under = (let r = side-on w.capacity read inner turns w.under.2 reads b in (w.under.0, w.under.1, r.0, omega (arith, w.under.3, r.1, b.height)));
+    under = (let r = side-on w.capacity read inner turns w.under.2 reads b in (w.under.0, w.under.1, r.0, omega (arith, w.under.3, r.1)));
     ends = λ end leaf says. w.ends end leaf (λ leaves rows d. says leaves rows (side-on w.capacity read inner turns d reads b).0);
   }
 
@@ -120,7 +120,7 @@ way-root spot code height = record { coded = (code, refl); parent_is = λ low. a
 -- the way from the root down, at its end
 pub way-spot : {K V : Type 0} (table : Table K V) (root : ℕ) {spot : Spot} {place numbers : _} → IsTrue (is_root table.nodes root)
     → IsWay numbers spot (tree_of table.nodes root).above place → IsSpotAt table root spot place
-way-spot table root {numbers = numbers} is v =
+way-spot table root {numbers} is v =
     record { root_is = is; numbers = numbers; coded = v.coded; parent_is = v.parent_is; grand_is = v.grand_is; height_is = v.height_is }
 
 -- a root has entries

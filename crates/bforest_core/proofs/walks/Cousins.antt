@@ -166,7 +166,7 @@ module _ {K V : Type 0} {n : ℕ} {table : Table K V} (union : IsUnion n table) 
 -- the spot at the end of a way from the root of another spot's tree
 far-spot : {K V : Type 0} {table : Table K V} {root : ℕ} {spot next : Spot} {place to : ℕ} {others : _} → IsSpotAt table root spot place
     → IsWay others next (tree_of table.nodes root).above to → IsSpotAt table root (record next { height = spot.height }) to
-far-spot {others = others} s w = record {
+far-spot {others} s w = record {
   root_is = s.root_is;
   numbers = others;
   coded = w.coded;

@@ -35,7 +35,7 @@ module _ {K : Type 0} (cmp : K → K → Ordering) where
 
   -- the last entry that is not greater than the key is the first of its level, or not greater
   from_last : (front init : Heads K) (last : K × ℕ) {e : K × ℕ} (l : Heads K) (key : K) → (front ≡ []) ⊎ (cmp e.0 key ≢ Greater) → e ∷ l ≡ init ++ last ∷ [] → AllByRecursion (λ p. cmp p key ≢ Greater) (keys_of l) → IsFrom cmp (front ++ init) last.0 key
-  from_last front [] last {e = e} l key f is h =
+  from_last front [] last {e} l key f is h =
       let same : e ≡ last = cc in elim f [ inl none ↦ subst (λ z. IsFrom cmp (z ++ []) last.0 key) (sym none) tt | inr ng ↦ is_from _ _ _ (rw (← same) ng) ]
   from_last front (x ∷ init) last l key f is h =
       let rest : l ≡ init ++ last ∷ [] = cc in is_from _ _ _ (all_split (λ p. cmp p key ≢ Greater) init (last ∷ []) (rw (← rest) h)).1.0
@@ -60,7 +60,7 @@ module _ {K V : Type 0} {cmp : K → K → Ordering} {most : ℕ} {slots : List 
 -- the entries of a row around a node increase
 increasing_about : {K X : Type 0} (cmp : K → K → Ordering) (o : IsTotalOrder cmp) {half most : _} {row : Row K X} {a first number b : _} (at : Seen half most row a first number b) → IsIncreasing cmp (flat row) →
     IsIncreasing cmp (flat at.before ++ (at.e ∷ (at.es ++ flat at.after))) × IsIncreasing cmp (at.e ∷ at.es) × IsIncreasing cmp (flat at.after)
-increasing_about cmp o {number = number} at inc =
+increasing_about cmp o {number} at inc =
     let parts = subst (IsIncreasing cmp) (cc (flat-append at.before (node number (at.e ∷ at.es) ∷ at.after))) inc in
     let two = increasing_split o (at.e ∷ at.es) (flat at.after) (increasing_split o _ ((at.e ∷ at.es) ++ flat at.after) parts).1 in (parts, two.0, two.1)
 
@@ -106,7 +106,7 @@ module _ {K V : Type 0} {cmp : K → K → Ordering} (o : IsTotalOrder cmp) {mos
     -- following a child gives the search one level down
     pub below : {index child : ℕ} → ((keys : List K) (children : _) → slice_get slots number ≡ Some (Inner keys children) → index ≡ child_index cmp keys key)
         → ChildRead slots number index child → (deeper : ℕ) → deeper ≤ suc depth → Below s index child deeper
-    below {index = index} {child = child} says reads deeper low =
+    below {index} {child} says reads deeper low =
         let index_is = says (entry_keys s.here.at.es) (entry_items (s.here.at.e ∷ s.here.at.es)) s.here.slot_is in
         let child_at = reads (entry_keys s.here.at.es) (entry_items (s.here.at.e ∷ s.here.at.es)) s.here.slot_is in let at = s.here.at in
         let d = sides o at.es key (increasing_rest o at.e at.es s.increasing) in let w = last_of at.e d.l in
@@ -128,7 +128,7 @@ module _ {K V : Type 0} {cmp : K → K → Ordering} (o : IsTotalOrder cmp) {mos
               from = from_last _ _ _ _ _ key (elim s.from [ inl none ↦ inl (ap flat none) | inr ng ↦ inr ng ]) w.is d.low;
               upto = upto_parts _ _ _ key d.high s.upto;
             };
-            low = omega (arith, s.here.count_is, t.low, low);
+            low = omega (arith, s.here.count_is, low);
           };
           rows_are = refl;
           place_is = cc (length-append (flat at.before) w.init);
@@ -139,7 +139,7 @@ module _ {K V : Type 0} {cmp : K → K → Ordering} (o : IsTotalOrder cmp) {mos
     pub passed : (index : _) {child deeper : _} (w : Below s index child deeper) (path indices : _) {path' indices' path'' indices'' : _} {high : ℕ} → high ≡ length t.lower
         → Descended cmp leaves w.on.lower key (length w.on.before) path' indices' path'' indices'' → get_or path' high 0 ≡ number → get_or indices' high 0 ≡ index
         → path' ≡ set path high number → indices' ≡ set indices high index → Descended cmp leaves t.lower key (length t.before) path indices path'' indices''
-    passed index w path indices {high = high} high_is d m_is j_is nodes entries = record {
+    passed index w path indices {high} high_is d m_is j_is nodes entries = record {
       leaf = d.leaf;
       up = inner_up s.here w.rows_are w.place_is w.within high high_is d.up m_is j_is (set_but _ _ _ nodes) (set_but _ _ _ entries);
     }

@@ -71,7 +71,7 @@ module _ {K X : Type 0} where
   unfolding IsStrictlySortedBy
   heads_increasing o [] h = tt
   heads_increasing o (node m [] ∷ ns) h = heads_increasing o ns h
-  heads_increasing {cmp = cmp} o (node m (e ∷ es) ∷ ns) h = (heads_all (λ k. cmp e.0 k ≡ Less) ns (all_split _ _ _ h.0).1, heads_increasing o ns (increasing_split o es (flat ns) h.1).1)
+  heads_increasing {cmp} o (node m (e ∷ es) ∷ ns) h = (heads_all (λ k. cmp e.0 k ≡ Less) ns (all_split _ _ _ h.0).1, heads_increasing o ns (increasing_split o es (flat ns) h.1).1)
 
   -- a key that is less than the first head of a row is less than its first entry
   pub upto_flat : (cmp : K → K → Ordering) (half most : ℕ) → 1 ≤ half → (row : Row K X) (key : K) → FitRow half most row → IsUpTo cmp (heads row) key → IsUpTo cmp (flat row) key

@@ -91,7 +91,7 @@ module _ {K V : Type 0} {most : ℕ} (capacity : IsLeafCapacity most) {slots : L
   -- the entry at the place, as it was read in the leaf
   pub entry_read : {e : K × V} → ((es : List (K × V)) → slice_get slots (get_or path 0 0) ≡ Some (leaf_content es) → slice_get es (get_or indices 0 0) ≡ Some e)
       → slice_get (flat s.tree.leaves) s.place ≡ Some e
-  entry_read {e = e} read_is = entry_is _ e _ s.leaf.place_is read_is
+  entry_read {e} read_is = entry_is _ e _ s.leaf.place_is read_is
 
   module _ {e : K × V} (read_is : (es : List (K × V)) → slice_get slots (get_or path 0 0) ≡ Some (leaf_content es) → Some e ≡ slice_get es (get_or indices 0 0 + 1)) where
     -- the next entry is in the same leaf

@@ -83,7 +83,7 @@ module _ {K V : Type 0} {slots : List (Content K V)} {root code height : ℕ} {d
     -- at the end of the way
     pub turning-ends : {found : Option (Spot × ℕ)} → Turning slots root code height d left here found → left ≤ 0
         → IfSome found (λ turn. IsTurn slots root code height d 0 turn.0 turn.1) × (found ≡ None → IsBesideOf slots root code height d None)
-    turning-ends {found = found} t low = let nought : left ≡ 0 = omega arith in
+    turning-ends {found} t low = let nought : left ≡ 0 = omega arith in
         (if-found found (λ turn is. rw (← nought) (t.some turn is)), λ none. ended f (λ c l. IsBesideOf slots root c l d None) low (t.none none))
 
     module _ (some : 0 < left) where

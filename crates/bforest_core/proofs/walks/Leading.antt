@@ -16,7 +16,7 @@ child_cut (y ∷ es) (suc index) child found = let r = child_cut _ _ _ found in 
 -- the entries of a row end with those of its last node
 last-end : {K X : Type 0} {half most : _} → 1 ≤ half → {row : Row K X} {a : _} {first number : _} {b : _}
     (at : Seen half most row a first number b) → b ≡ [] → length (flat row) ≡ length (flat at.before) + suc (length at.es)
-last-end one {number = number} at last = let none = ap (λ z. length (flat z)) (no_heads _ _ one _ at.after_fit (at.after_is ∙ last)) in
+last-end one {number} at last = let none = ap (λ z. length (flat z)) (no_heads _ _ one _ at.after_fit (at.after_is ∙ last)) in
     let parts = ap length (ap flat at.row_is ∙ flat-append at.before (node number (at.e ∷ at.es) ∷ at.after)) in
     omega (arith, length-append (flat at.before) ((at.e ∷ at.es) ++ flat at.after), length-append (at.e ∷ at.es) (flat at.after))
 
@@ -59,7 +59,7 @@ module _ {K V : Type 0} {most : ℕ} {slots : List (Content K V)} {leaves : Row 
       → {path1 indices1 path2 indices2 : _} {place : ℕ} (high : ℕ) → high ≡ length n.lower → LedUp lower1 place top path1 indices1 path2 indices2
       → get_or path1 high 0 ≡ number → get_or indices1 high 0 ≡ index → SameBut high path path1 → SameBut high indices indices1
       → LedUp n.lower place (length n.before) path indices path2 indices2
-  inner_up s rows_are top_is within {path2 = path2} {indices2 = indices2} {place = place} high high_is led m_is j_is nodes entries =
+  inner_up s rows_are top_is within {path2} {indices2} {place} high high_is led m_is j_is nodes entries =
       let d = rw rows_are at led in let at = seen_at s.at (d.nodes_above high (omega arith) ∙ m_is) (d.entries_above high (omega arith) ∙ j_is) within top_is in
       let more = stands_more path2 indices2 1 s.rows place high d.stands (omega arith) at in
       record {

@@ -14,9 +14,9 @@ module _ {K V : Type 0} where
   -- the answer of a lookup among a leaf's keys
   pub looked : (cmp : K → K → Ordering) (es : List (K × V)) (key : K) → IsIncreasing cmp es → (o : Option V) {i : ℕ} → IfSome o (λ v. search_of cmp (entry_keys es) key ≡ Ok i) → IfSome o (λ v. slice_get (entry_items es) i ≡ Some v) → (o ≡ None → search_of cmp (entry_keys es) key ≡ Err i) →
       (i ≡ place cmp es key) × (o ≡ value_for cmp es key)
-  looked cmp es key increasing (Some v) {i = i} found read absent =
+  looked cmp es key increasing (Some v) {i} found read absent =
       let p = present_at cmp es key i (sym found ∙ search_of-keys_of cmp es key) in (p.0, cc (items-read es i, value_for-present cmp es key p.1))
-  looked cmp es key increasing None {i = i} found read absent =
+  looked cmp es key increasing None {i} found read absent =
       let p = absent_at cmp es key i (sym (absent refl) ∙ search_of-keys_of cmp es key) in (p.0, sym (value_for-absent cmp es key p.1))
 
 -- a mapped answer is there exactly if the answer is

@@ -31,7 +31,7 @@ upto_at cmp key (x ∷ es) (suc p) e here t = upto_at cmp key es p e here t
 module _ {K X : Type 0} {cmp : K → K → Ordering} (o : IsTotalOrder cmp) (key : K) where
   -- a search that passes a lesser first entry
   later : (e : K × X) {es : List (K × X)} → cmp e.0 key ≡ Less → {p found : _} → Finds cmp es key p found → Finds cmp (e ∷ es) key (suc p) found
-  later e {es = es} t f = let z = place-later cmp o e es key t in record { place_is = cc; entry_is = cc }
+  later e {es} t f = let z = place-later cmp o e es key t in record { place_is = cc; entry_is = cc }
 
   -- a search in a list whose first entry is greater
   pub finds_first : (es : List (K × X)) → IsIncreasing cmp es → IsUpTo cmp es key → Finds cmp es key 0 None
@@ -110,7 +110,7 @@ module _ {K V : Type 0} {n : ℕ} {cmp : K → K → Ordering} (o : IsTotalOrder
   -- the entry before the place has an equal key
   pub before-equal : (p : ℕ) → answer ≡ entry_before (list_under table root) p → StandsOn table root path (p - 1) → {e : K × V} → answer ≡ Some e → cmp key e.0 ≡ Equal → Ended table root path cmp key (Some e.1)
   before-equal zero value on is t = let bad = sym is ∙ value in absurd (cc)
-  before-equal (suc p) value on {e = e} is t =
+  before-equal (suc p) value on {e} is t =
       ended table root path cmp key (finds_here o _ _ p e (sym value ∙ is) increasing t) (λ some. subst (λ z. StandsOn table root path z) (omega arith) on) (never refl)
 
   -- the entry before the place is less, and the path moved just past it
@@ -118,7 +118,7 @@ module _ {K V : Type 0} {n : ℕ} {cmp : K → K → Ordering} (o : IsTotalOrder
       (path' : Path K V n) → IsUnion n table → path'.node ≡ path.node → index_of path' ≡ index_of path + 1 → ((i : ℕ) → i ≢ 0 → get_or path'.entry i 0 ≡ get_or path.entry i 0) → path'.size ≡ path.size →
       IsUpTo cmp (drop p (list_under table root)) key → cmp key e.0 ≡ Greater → Ended table root path' cmp key None
   before-greater zero value on is path' union same index_is above size_is up t = let bad = sym is ∙ value in absurd (cc)
-  before-greater (suc p) value on {e = e} is path' union same index_is above size_is up t =
+  before-greater (suc p) value on {e} is path' union same index_is above size_is up t =
       ended table root path' cmp key (finds_behind o _ _ p e (sym value ∙ is) increasing t up)
       (λ some. never some refl) (λ none. placed-behind _ _ path union path' p
       (subst (λ z. StandsOn table root path z) (omega arith) on) same index_is above size_is)

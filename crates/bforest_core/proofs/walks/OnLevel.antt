@@ -45,7 +45,7 @@ module _ {K V : Type 0} {slots : List (Content K V)} {root : ℕ} {spot : Spot} 
     module _ {Beside : ℕ → Type 0} {above : Spot} {number index1 : ℕ} (b : Stands Beside above number index1) where
       pub stands-low : spot.height < 16 → (above.code < 35184372088832) × (above.height < 16)
       stands-low low =
-          (code-low 15 (here p).rest b.others above.code b.branch.top b.way.coded (omega (arith, up.depth_is)), omega (arith, up.depth_is, b.way.height_is))
+          (code-low 15 (here p).rest b.others above.code b.branch.top b.way.coded (omega (arith, up.depth_is)), omega (arith, up.depth_is))
 
       -- the spot of that child
       stands-spot : {next : Spot} → IsBelow above number index1 next → IsWay (number ∷ b.others) next p.rows b.to
@@ -81,7 +81,7 @@ module _ {K V : Type 0} {slots : List (Content K V)} {root : ℕ} {spot : Spot} 
   said-some : {d : Direction K V} {above : Spot} {number index1 : ℕ} → ((p : There) → Stands p (d.Beside p.place) above number index1)
       → {next : Spot} {child : ℕ} → IsBelow above number index1 next → ChildRead slots number index1 child
       → IsBesideOf slots root code (suc spot.height) d (Some (next, child))
-  said-some {number = number} stands b reads = record {
+  said-some {number} stands b reads = record {
     some = λ p. let w = stands p in (w.to, w.is, number ∷ w.others, stands-spot p w b, branch-child w.branch reads);
     none = λ bad. absurd (let no = bad in cc);
   }

@@ -17,7 +17,7 @@ no_heads half most one row f none = nil_from_length row (cc (fit_full _ _ one _ 
 -- an entry of a node is an entry of the row
 pub entry_at : {K X : Type 0} {row : Row K X} (before : Row K X) (n es after i : _)
     {x : K × X} → row ≡ before ++ node n es ∷ after → slice_get es i ≡ Some x → slice_get (flat row) (length (flat before) + i) ≡ Some x
-entry_at before n es after i {x = x} row_is found =
+entry_at before n es after i {x} row_is found =
     cc (row_is, flat-append before (node n es ∷ after), slice_get-append-add (flat before) (es ++ flat after) i, slice_get-append_left es (flat after) i x found)
 
 -- a list cut at one place is cut into the same parts

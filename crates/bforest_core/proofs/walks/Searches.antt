@@ -42,7 +42,7 @@ module _ {K V : Type 0} {cmp : K → K → Ordering} (o : IsTotalOrder cmp) {mos
 
       -- a level more is not too many
       pub deeper-low : depth < 16
-      deeper-low = omega (arith, step.here.count_is, t.low)
+      deeper-low = omega (arith, step.here.count_is)
 
       -- the search one level down
       pub down : {index child : ℕ} → ((keys : List K) (children : _) → slice_get slots number ≡ Some (Inner keys children) → index ≡ child_index cmp keys key)
@@ -122,7 +122,7 @@ module _ {K V : Type 0} {cmp : K → K → Ordering} {most : ℕ} {slots : List 
 abbrev pub search-root : {K V : Type 0} {cmp : K → K → Ordering} {most : ℕ} {table : Table K V} {root key : _}
     (union : IsUnion most table) (is : IsTrue (is_root table.nodes root)) → IsIncreasing cmp (flat (tree_of table.nodes root).leaves)
     → (depth : ℕ) → depth ≡ 0 → SearchThrough cmp most table.nodes (tree_of table.nodes root).leaves key root depth
-search-root {root = root} union is increasing depth none =
+search-root {root} union is increasing depth none =
     record { on = under-root root union is; increasing = increasing; through = all_through _ _ _; low = omega (arith, (is-rooted root union is).low) }
 
 -- whatever lies about a node, a search through it goes on through this node below it, with the way there
@@ -137,7 +137,7 @@ CameTo cmp most table root key spot number = Search cmp most table.nodes (tree_o
 abbrev pub search-first : {K V : Type 0} {cmp : K → K → Ordering} {most : ℕ} {table : Table K V} {root key : _}
     (union : IsUnion most table) (is : IsTrue (is_root table.nodes root)) → IsIncreasing cmp (flat (tree_of table.nodes root).leaves)
     → {spot : Spot} → spot.code ≡ 0 → spot.height ≡ 0 → SearchAt cmp most table.nodes (tree_of table.nodes root).leaves (tree_of table.nodes root).above key spot root
-search-first {table = table} {root = root} union is increasing {spot} code height = record {
+search-first {table} {root} union is increasing {spot} code height = record {
   on = search-root union is increasing _ height;
   upper = [];
   numbers = [];

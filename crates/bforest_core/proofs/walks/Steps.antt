@@ -58,7 +58,7 @@ module _ {K V : Type 0} where
 
   pub spot : {slots : List (Content K V)} {path indices up size rows list place : _} → Over slots path indices up size rows list place → up ≢ size → Spot slots path indices up size rows list place
   spot {rows = []} p other = absurd (other (omega arith))
-  spot {slots} {path} {up = up} {rows = row ∷ rest} p other = let at = p.stands.0 in
+  spot {slots} {path} {up} {rows = row ∷ rest} p other = let at = p.stands.0 in
       record {
         row = row;
         rest = rest;

@@ -18,7 +18,7 @@ none_flat row e = cc (nil_from_length row e)
 
 -- the entries of a row, cut within a node
 pub flat_parted : {K X : Type 0} (before : Row K X) (n : ℕ) {es : List (K × X)} (l : List (K × X)) (x r after : _) → es ≡ l ++ x ∷ r → flat (before ++ node n es ∷ after) ≡ (flat before ++ l) ++ x ∷ (r ++ flat after)
-flat_parted before n {es = es} l x r after is =
+flat_parted before n {es} l x r after is =
     cc (flat-append before (node n es ∷ after), append_assoc l (x ∷ r) (flat after), append_assoc (flat before) l (x ∷ (r ++ flat after)))
 
 -- a path's place at the node
@@ -49,7 +49,7 @@ abbrev pub node_over : {K V : Type 0} {most : ℕ} {slots : List (Content K V)} 
 node_over lower a first number b u = record { lower = lower; before = a; first = first; after = b; under = u }
 
 seen_slot : {K V X : Type 0} (content : List (K × X) → Content K V) (slots : List (Content K V)) {half most : _} {row : Row K X} {a first number b : _} (at : Seen half most row a first number b) → RowIn content slots row → slice_get slots number ≡ Some (content (at.e ∷ at.es))
-seen_slot content slots {number = number} at i = (row-split content slots at.before (node number (at.e ∷ at.es) ∷ at.after) (rw (← at.row_is) i)).1.0
+seen_slot content slots {number} at i = (row-split content slots at.before (node number (at.e ∷ at.es) ∷ at.after) (rw (← at.row_is) i)).1.0
 
 module _ {K V : Type 0} {most : ℕ} (capacity : IsLeafCapacity most) {slots : List (Content K V)} {leaves : _} where
   parted : (lower : _) (a first number b : _) (u : Under most slots leaves lower (a ++ (first, number) ∷ b)) → LeafUnder (node_over lower a first number b u) ⊎ InnerUnder (node_over lower a first number b u)
@@ -81,7 +81,7 @@ module _ {K V : Type 0} {most : ℕ} (capacity : IsLeafCapacity most) {slots : L
     node_within = slice_get_within _ _ _ node_held.1
 
     same_inner : {c d : Content K V} → slice_get slots number ≡ Some c → slice_get slots number ≡ Some d → IsInner d → IsInner c
-    same_inner {c = c} {d = d} e f i = subst IsInner (some_same (sym f ∙ e)) i
+    same_inner {c} {d} e f i = subst IsInner (some_same (sym f ∙ e)) i
 
     -- the node is a leaf if its content is not an inner node
     pub leaf_under : {content : Content K V} → slice_get slots number ≡ Some content → (IsInner content → ⊥) → LeafUnder n

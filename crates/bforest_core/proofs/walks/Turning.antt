@@ -12,7 +12,7 @@ both low between high below above i from to = elim (cases_lt i between) [ inl le
 -- a level lower
 down : {AtEnd Moves Moves' : ℕ → Type 0} {level from size : ℕ} → TurnedBy AtEnd Moves level from size → level < from → (AtEnd from → Moves' (from - 1))
     → TurnedBy AtEnd Moves' level (from - 1) size
-down {from = from} t low goes = record {
+down {from} t low goes = record {
   height = t.height;
   within = omega arith;
   ends = λ i above below. t.ends i above (omega arith);
@@ -30,9 +30,9 @@ module _ {K V : Type 0} {slots : List (Content K V)} {path indices : _} where
   -- the rows from a higher level on
   pub over-up : (steps : ℕ) {level size rows list place : _} (to : ℕ)
       → Over slots path indices level size rows list place → to ≡ level + steps → to ≤ size → HasOver slots path indices to size
-  over-up zero {size = size} {rows = rows} {list = list} {place = place} to p is low =
+  over-up zero {size} {rows} {list} {place} to p is low =
       (rows, list, place, subst (λ z. Over slots path indices z size rows list place) (omega arith) p)
-  over-up (suc steps) {level = level} {size = size} to p is low =
+  over-up (suc steps) {level} {size} to p is low =
       over-up steps to (spot p (λ e. omega arith)).over (omega arith) low
 
   -- the node on a level meets what the test for a child requires

@@ -21,5 +21,5 @@ returns-then-index-gt0 g c = record {
 pub returns : goal.returns
 returns g c = record {
   lower = λ root leads. let w = c.requires.way in let n = count-asked c.requires.index w.2 w.1 in
-      inr (n.0, n.1, (λ more. absurd (omega (arith, more, c.if-index-gt0.false))), refl);
+      inr (n.0, n.1, (λ more. absurd (omega (arith, more))), refl);
 }

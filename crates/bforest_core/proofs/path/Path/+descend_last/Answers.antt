@@ -14,7 +14,7 @@ child-child-requires g t c = (search rules, led-asks c.requires.capacity (last-t
 pub descend_last-requires : goal.descend_last-requires
 descend_last-requires g t c κs within = let turns = last-turns c.requires.capacity c.last_index-last.ensures.last in
     let goes = led-goes c.requires.capacity turns c.if-level-eq0.false c.child-child.ensures c.requires.under in
-    (omega (arith, c.decreases, c.if-level-eq0.false), (within.0, (within.1, ((λ a m. search rules), (search rules, (search rules, (c.requires.capacity, (omega (arith, c.requires.height), goes))))))))
+    (omega arith, (within.0, (within.1, ((λ a m. search rules), (search rules, (search rules, (c.requires.capacity, (omega arith, goes))))))))
 
 pub returns-clause-led : goal.returns-clause-led
 returns-clause-led g t c = let set = c.set_level.ensures in

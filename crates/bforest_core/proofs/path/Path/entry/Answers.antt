@@ -3,7 +3,7 @@ use Rattle.bforest_core.proofs.walks.Backward.{at_end}
 use Rattle.bforest_core.proofs.path.Path.entry.Goals as goal
 
 pub entry_here-requires : goal.entry_here-requires
-entry_here-requires g c = (search rules, (search rules, here-leaf c.requires.union (c.requires.stands (λ e. omega (arith, e, c.if-self-gt0.true))).on))
+entry_here-requires g c = (search rules, (search rules, here-leaf c.requires.union (c.requires.stands (λ e. omega (arith, e))).on))
 
 pub returns-else-self-gt0 : goal.returns-else-self-gt0
 returns-else-self-gt0 g c = let past = λ (at : Standing c.args.pool.now c.args.self.now). at_end _ _ _ _ _ (omega arith) at.at.at in

@@ -2,7 +2,7 @@ use Rattle.bforest_core.proofs.{Words.{rules, arith, refl, tree_of}, walks.Whole
 use Rattle.bforest_core.proofs.path.Path.find_leaf.Goals as goal
 
 pub overflow_sub-levels : goal.overflow_sub-levels
-overflow_sub-levels g c = omega (arith, c.levels-levels.ensures.value)
+overflow_sub-levels g c = omega arith
 
 pub descend-requires : goal.descend-requires
 descend-requires g c = let on = search-root c.requires.union c.requires.root c.requires.increasing 0 refl in

@@ -6,5 +6,5 @@ entry_here-requires g c = let leaf = c.first_leaf.ensures.stands in (search rule
 
 pub returns : goal.returns
 returns g c =
-    let on = subst (λ z. StandsOn c.args.pool.now c.args.root c.first_leaf.new.self z) (omega (arith, c.first_leaf.ensures.index)) c.first_leaf.ensures.stands.1.on in
+    let on = subst (λ z. StandsOn c.args.pool.now c.args.root c.first_leaf.new.self z) (omega arith) c.first_leaf.ensures.stands.1.on in
     record { value = here-entry c.requires.union on c.entry_here.ensures; stands = on }

@@ -10,4 +10,4 @@ returns-clause-within g c = λ entries slot.
     (λ yes. omega (arith, count, ltb-true c.args.index c.entries.result yes), λ low. lt-ltb c.args.index c.entries.result (omega (arith, count, low)))
 
 pub returns-clause-most : goal.returns-clause-most
-returns-clause-most g c = λ yes. omega (arith, ltb-true c.args.index c.entries.result yes, c.entries.ensures.most)
+returns-clause-most g c = λ yes. omega (arith, ltb-true c.args.index c.entries.result yes)

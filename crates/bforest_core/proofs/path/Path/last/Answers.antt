@@ -3,7 +3,7 @@ use Rattle.bforest_core.proofs.{union.Unions.is-rooted, walks.Nearby.{here-entry
 use Rattle.bforest_core.proofs.path.Path.last.Goals as goal
 
 pub overflow_sub-height : goal.overflow_sub-height
-overflow_sub-height g c = omega (arith, c.levels-height.ensures.value)
+overflow_sub-height g c = omega arith
 
 pub descend_last-requires : goal.descend_last-requires
 descend_last-requires g c = let w = root-below c.args.root c.requires.union c.requires.root c.levels-height.ensures.value IsLast refl in

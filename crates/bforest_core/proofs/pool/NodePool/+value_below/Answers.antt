@@ -29,7 +29,7 @@ pub value_below-requires : goal.value_below-requires
 value_below-requires g t c κs within = let o = g.met.C.Comparator.total c.args.comp.now in let inner = c.is_inner.ensures.inner.0 c.if-not-is_inner.false in
     let on = c.requires.through.1 in let f = c.follow-child.ensures in let low = deeper-low o c.requires.capacity on c.node.ensures.value inner in
     let next = down o c.requires.capacity on c.node.ensures.value inner f.index f.child (c.args.depth + 1) (omega arith) in
-    (omega (arith, c.decreases, low), (within.0, (within.1.0, ((λ a m. search rules), (within.1.1, (search rules, (c.requires.capacity, (_, next.on))))))))
+    (omega (arith, low), (within.0, (within.1.0, ((λ a m. search rules), (within.1.1, (search rules, (c.requires.capacity, (_, next.on))))))))
 
 pub returns : goal.returns
 returns g t c = λ leaves on. c.value_below.ensures leaves (down (g.met.C.Comparator.total c.args.comp.now) c.requires.capacity on c.node.ensures.value

@@ -3,7 +3,7 @@ use Rattle.bforest_core.proofs.pool.NodePool.free_node.Goals as goal
 
 pub overflow_add-self : goal.overflow_add-self
 overflow_add-self g c = let used = used_inside c.self.view_is c.number.ensures.value c.requires.used in
-    omega (arith, free_below _ _ _ _ c.number.result used.within used.off_chain c.self.invariant, c.self.invariant.slots_within, c.self.invariant.limit_within)
+    omega (arith, free_below _ _ _ _ c.number.result used.within used.off_chain c.self.invariant)
 
 pub invariant_of-self : goal.invariant_of-self
 invariant_of-self g c = let used = used_inside c.self.view_is c.number.ensures.value c.requires.used in

@@ -36,7 +36,7 @@ returns-then-index-gt0 g c = record {
 }
 
 pub overflow_add-spot : goal.overflow_add-spot
-overflow_add-spot g c = omega (arith, spot-low c.requires.union c.requires.spot.1, c.last_index-last.ensures.most)
+overflow_add-spot g c = omega (arith, spot-low c.requires.union c.requires.spot.1)
 
 pub overflow_sub-index : goal.overflow_sub-index
 overflow_sub-index g c = omega arith
