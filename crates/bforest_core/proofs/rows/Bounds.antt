@@ -5,7 +5,7 @@ use Rattle.bforest_core.proofs.{Words.{node, flat, heads, sizes, FitRow, Stacked
 
 -- a row has more entries than half full nodes, one fewer than its nodes, would have
 pub entries-many : {K X : Type 0} (half most : ℕ) → 1 ≤ half → (m : ℕ) (es : List (K × X)) (ns : _) → FitRow half most (node m es ∷ ns) → half * length ns < length (flat (node m es ∷ ns))
-entries-many {K} {X} half most one m es [] f = let z : half * 0 ≡ 0 = omega arith in omega (arith, length-append es (flat []))
+entries-many half most one m es [] f = let z : half * 0 ≡ 0 = omega arith in omega (arith, length-append es (flat []))
 entries-many half most one m es (node n fs ∷ ns) f = omega (arith, entries-many half most one n fs ns f.2, length-append es (fs ++ flat ns))
 
 -- a row has at most as many nodes as half full ones would be, rounded up

@@ -18,7 +18,7 @@ past-none m n past = let e : nat_lt m n ≡ false = grind arith in rw e refl
 
 -- no number occurs twice
 pub at-most-one : (m n : ℕ) → once_below m n ≤ 1
-at-most-one m n = elim (cases_lt m n) [ inl low ↦ omega (arith, below-one m n low) | inr past ↦ omega (arith, past-none m n past) ]
+at-most-one m n = elim (cases_lt m n) [ inl low ↦ omega (arith, below-one) | inr past ↦ omega (arith, past-none m n past) ]
 
 -- a list is cut at a number that occurs in it
 pub standing : (n ms : _) → 0 < count n ms → (p : _) × (q : _) × (ms ≡ p ++ n ∷ q)
@@ -62,9 +62,9 @@ pub count-upto : (m n : ℕ) → count m (upto n) ≡ once_below m n
 count-upto m zero = sym (past-none m zero (omega arith))
 count-upto m (suc n) = let a = count-append m (upto n) (n ∷ []) in let ih = count-upto m n in
     elim (eqb_tells n m) [
-      | inl w ↦ (let e = ap (λ z. count z (n ∷ [])) w.1 in omega (arith, count-same n [], past-none m n (omega (arith, w.1)), below-one m (suc n) (omega (arith, w.1))))
+      | inl w ↦ (let e = ap (λ z. count z (n ∷ [])) w.1 in omega (arith, count-same n [], past-none m n (omega (arith, w.1)), below-one))
       | inr w ↦ elim (cases_lt m n) [
-        | inl low ↦ omega (arith, count-other m n [] w.1, below-one m n low, below-one m (suc n) (omega (arith, low)))
+        | inl low ↦ omega (arith, count-other m n [] w.1, below-one)
         | inr past ↦ omega (arith, count-other m n [] w.1, past-none m n past, past-none m (suc n) (elim (eqb_tells n m) [ inl v ↦ absurd (w.1 v.1) | inr v ↦ (let f = w.1 in grind (arith, f)) ]))
       ]
     ]
@@ -83,7 +83,7 @@ no-longer (x ∷ xs) ys le = let s = standing x ys (omega (arith, le x, count-sa
 
 -- a list of numbers below n, none of which occurs twice, has at most n elements
 pub few-below : (n xs : _) → ((m : ℕ) → count m xs ≤ once_below m n) → length xs ≤ n
-few-below n xs once = omega (arith, no-longer xs (upto n) (λ m. omega (arith, once m, count-upto m n)), length-upto n)
+few-below n xs once = omega (arith, no-longer xs (upto n) (λ m. omega (arith, once m, count-upto)), length-upto n)
 
 module _ {K V : Type 0} where
   -- the numbers that the slots of these numbers name

@@ -32,7 +32,7 @@ module _ {K V : Type 0} where
 
   -- the number of free nodes after a reservation
   pub reserved-free : (table : Table K V) (n memory : ℕ) → length (reserved table n memory).chain ≡ (n - free_count table) + free_count table
-  reserved-free table n memory = omega (arith, length-append (down_from (slot_count table) (n - free_count table)) table.chain, length-down_from (slot_count table) (n - free_count table))
+  reserved-free table n memory = omega (arith, length-append (down_from (slot_count table) (n - free_count table)) table.chain, length-down_from)
 
   -- a reservation changes nothing where enough nodes are free
   pub reserved-enough : (table : Table K V) (n : ℕ) → n ≤ free_count table → reserved table n table.memory ≡ table

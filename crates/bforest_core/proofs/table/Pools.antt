@@ -62,7 +62,7 @@ module _ {K V : Type 0} where
       first)
   IsPool-grown nodes first free limit count total total_is within pool =
       IsPool-made (nodes ++ fresh_nodes (length nodes) count first) (down_from (length nodes) count ++ chain_from nodes free first) (front_of_new (length nodes) count first) total limit pool.capacity (IsChain-fresh nodes (chain_from nodes free first) first count pool.linked)
-      (omega (arith, length-append (down_from (length nodes) count) (chain_from nodes free first), length-down_from (length nodes) count))
+      (omega (arith, length-append (down_from (length nodes) count) (chain_from nodes free first), length-down_from))
       (IsDistinct-fresh nodes _ first count pool.linked pool.distinct) (omega (arith, length-append nodes (fresh_nodes (length nodes) count first), length-fresh_nodes K V (length nodes) count first)) pool.limit_within
 
   -- where nodes are free, the chain has a first node

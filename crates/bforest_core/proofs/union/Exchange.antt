@@ -19,7 +19,7 @@ every-map P Q f (x ∷ xs) e = (f x e.0, every-map P Q f xs e.1)
 module _ {K V : Type 0} where
   -- a tree is in any slots that agree on its numbers
   pub tree-same : {old : List (Content K V)} (new : List (Content K V)) {tree : Tree K V} → ((m : ℕ) → 0 < count m (numbers_of tree) → slice_get new m ≡ slice_get old m) → IsIn old tree → IsIn new tree
-  tree-same new {tree} same i = record {
+  tree-same new same i = record {
     leaves_in = row-same _ _ _ _ (λ m some. same m (omega (arith, some, count-append))) i.leaves_in;
     rows_in = rows-same _ _ _ (λ m some. same m (omega (arith, some, count-append))) i.rows_in;
   }
@@ -76,7 +76,7 @@ module _ {K V : Type 0} where
       (IsPlanted most new.nodes) come → Traded old new (flat_map numbers_of gone) (flat_map numbers_of come) → IsForest most new (before ++ (come ++ after))
   exchange-trees {old} {new} before gone come after f p t =
       let one : (m : ℕ) → count m (flat_map numbers_of before) + (count m (flat_map numbers_of gone) + count m (flat_map numbers_of after)) + count m old.chain ≤ 1 =
-      λ m. omega (arith, f.account m, at-most-one m (length old.nodes), count_parts m before gone after old.chain) in
+      λ m. omega (arith, f.account m, at-most-one, count_parts m before gone after old.chain) in
       let ins = every_outer _ _ _ _ f.inside in
       record {
         capacity = f.capacity;

@@ -77,11 +77,11 @@ module _ {K V : Type 0} where
 
   -- a number occurs in the trees or on the chain at most once
   pub once : {most : _} {table : Table K V} {trees : _} → IsForest most table trees → (m : ℕ) → count m (flat_map numbers_of trees) + count m table.chain ≤ 1
-  once {table} {trees} f m = omega (arith, f.account m, at-most-one m (length table.nodes), count-append)
+  once {table} f m = omega (arith, f.account m, at-most-one, count-append)
 
   -- a number in the trees or on the chain is that of a slot
   pub within-slots : {most : _} {table : Table K V} {trees : _} → IsForest most table trees → (m : ℕ) → 0 < count m (flat_map numbers_of trees) + count m table.chain → m < length table.nodes
-  within-slots {table} {trees} f m some =
+  within-slots {table} f m some =
       elim (cases_lt m (length table.nodes)) [ inl low ↦ low | inr past ↦ absurd (omega (arith, f.account m, past-none m _ past, count-append)) ]
 
   -- no two trees have the same root
@@ -124,7 +124,7 @@ module _ {K V : Type 0} where
         let none : count m (flat_map children_of table.nodes) ≡ 0 = elim (eqb_tells (count m (flat_map children_of table.nodes)) 0) [ inl w ↦ w.1 | inr w ↦ absurd (let e = w.0 in let d = parts.1 in cc) ] in
         let low = used_within _ m parts.0 in
         let off : count m table.chain ≡ 0 = elim (cases_lt 0 (count m table.chain)) [ inl on ↦ absurd (let e = free-unused _ (free-at _ _ f.free m on) in let d = parts.0 in cc) | inr off ↦ omega arith ] in
-        omega (arith, f.account m, below-one m _ low, count-append, named_all f m)
+        omega (arith, f.account m, below-one, count-append, named_all f m)
         ),
     λ some. (let r = tree-with trees m some in (tree-back r.0 r.1 r.2 m f r.3 r.4).1),
   )

@@ -120,7 +120,7 @@ module _ {K V : Type 0} where
 
   module _ {most : ℕ} (capacity : IsLeafCapacity most) {slots leaves : _} where
     open_leaf : {lower : _} {first number : _} {u : Under most slots leaves lower ((first, number) ∷ [])} → LeafUnder (node_over lower [] first number [] u) → Opened most slots leaves lower number
-    open_leaf {lower} s = let row = one_node most (some_leaf capacity) s.at in
+    open_leaf s = let row = one_node most (some_leaf capacity) s.at in
         record {
           low = [];
           rows = [];
@@ -135,7 +135,7 @@ module _ {K V : Type 0} where
         }
 
     open_inner : {lower : _} {first number : _} {u : Under most slots leaves lower ((first, number) ∷ [])} → InnerUnder (node_over lower [] first number [] u) → Opened most slots leaves lower number
-    open_inner {lower} s = let row = one_node 8 (omega arith) s.at in let es = s.at.e ∷ s.at.es in
+    open_inner s = let row = one_node 8 (omega arith) s.at in let es = s.at.e ∷ s.at.es in
         record {
           low = leaves;
           rows = s.rows;

@@ -22,7 +22,7 @@ module _ {K V : Type 0} where
       record { leaves_fit = u.leaves_fit; leaves_in = i.leaves_in; stacked = u.stacked; rows_in = i.rows_in }
 
   under_none : (most : ℕ) → IsLeafCapacity most → {slots : List (Content K V)} {leaves lower : _} → Under most slots leaves lower [] → (m : ℕ) → count m (numbers_under leaves lower) ≡ 0
-  under_none most capacity {leaves} {lower} u m =
+  under_none most capacity u m =
       let r = rows_none _ _ u.stacked in let none = no_heads _ _ (some_leaf capacity) _ u.leaves_fit r.0 in
       omega (arith, count-append, ap (λ z. count m (numbers z)) none, r.1 m)
 
@@ -133,7 +133,7 @@ module _ {K V : Type 0} where
 
   pub sweeping : {most : ℕ} {old now : Table K V} {leaves lower number index : _} → Distinct (numbers_under leaves lower ++ old.chain) → (o : Opened most
       old.nodes leaves lower number) → Swept most old now o.low o.rows o.top index → Sweeping most old now leaves lower number index
-  sweeping {old} {leaves} {lower} {number} apart o s = let one = count-same number [] in let a = apart number in
+  sweeping {number} apart o s = let one = count-same number [] in let a = apart number in
       record {
         opened = o;
         swept = s;

@@ -19,7 +19,7 @@ module _ {K X : Type 0} (cmp : K → K → Ordering) (es : List (K × X)) (key :
 
 -- a key without a value is not present
 pub no-value : {K X : Type 0} (cmp : K → K → Ordering) (key : K) (es : List (K × X)) → None ≡ value_for cmp es key → is_present cmp es key ≡ true → ⊥
-no-value {K} {X} cmp key es none here =
+no-value cmp key es none here =
     (elim (entry_for cmp es key) as (λ o. None ≡ option_map (λ e. e.1) o → is_some o ≡ true → ⊥) [ None ↦ λ n h. never h refl | Some e ↦ λ n h. absurd (cc) ]) none here
 
 -- where the entry at a place is greater than the key, the key is less than the list from there on

@@ -81,7 +81,7 @@ module _ {K V : Type 0} {most : ℕ} (capacity : IsLeafCapacity most) {slots : L
     node_within = slice_get_within _ _ _ node_held.1
 
     same_inner : {c d : Content K V} → slice_get slots number ≡ Some c → slice_get slots number ≡ Some d → IsInner d → IsInner c
-    same_inner {c} {d} e f i = subst IsInner (some_same (sym f ∙ e)) i
+    same_inner e f i = subst IsInner (some_same (sym f ∙ e)) i
 
     -- the node is a leaf if its content is not an inner node
     pub leaf_under : {content : Content K V} → slice_get slots number ≡ Some content → (IsInner content → ⊥) → LeafUnder n

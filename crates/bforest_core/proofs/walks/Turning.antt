@@ -32,18 +32,18 @@ module _ {K V : Type 0} {slots : List (Content K V)} {path indices : _} where
       → Over slots path indices level size rows list place → to ≡ level + steps → to ≤ size → HasOver slots path indices to size
   over-up zero {size} {rows} {list} {place} to p is low =
       (rows, list, place, subst (λ z. Over slots path indices z size rows list place) (omega arith) p)
-  over-up (suc steps) {level} {size} to p is low =
+  over-up (suc steps) to p is low =
       over-up steps to (spot p (λ e. omega arith)).over (omega arith) low
 
   -- the node on a level meets what the test for a child requires
   pub turn-asks : {level size rows list place : _} → Over slots path indices level size rows list place → level ≢ size → size ≤ 17 → (level ≤ 16)
       × ((entries : _) × (slice_get slots (get_or path level 0) ≡ Some (inner_content entries)))
-  turn-asks {level} {size} p other height = let s = spot p other in (omega arith, (s.entries, s.slot_is))
+  turn-asks p other height = let s = spot p other in (omega arith, (s.entries, s.slot_is))
 
   -- the rows above the node meet what a search for the turn from there requires
   pub turn-above : {level size rows list place : _} (to : ℕ)
       → Over slots path indices level size rows list place → level ≢ size → to ≡ suc level → HasOver slots path indices to size
-  turn-above {level} {size} to p other is = let s = spot p other in (s.rest, heads s.row, length s.before, rw is s.over)
+  turn-above to p other is = let s = spot p other in (s.rest, heads s.row, length s.before, rw is s.over)
 
   -- where each child up to the root is the last, the node is the last of its level
   pub all-last : (steps : ℕ) {level : ℕ} {size rows list place : _} → Over slots path indices (suc level) size rows list place → size ≡ suc level + steps
