@@ -6,7 +6,7 @@ use Rattle.bforest_core.proofs.table.Stored.{some_same}
 use Rattle.bforest_core.specs.declared.spot.Spot.{Spot}
 
 -- a code without its last digits
-pub up-code : (code n : ℕ) → code / 2 ^ (3 * n) / 8 ≡ code / 2 ^ (3 * suc n)
+up-code : (code n : ℕ) → code / 2 ^ (3 * n) / 8 ≡ code / 2 ^ (3 * suc n)
 up-code code n = shr-shr code (3 * n) 3 ∙ ap (λ z. code / 2 ^ z) (omega arith)
 
 up-none : (code : ℕ) → code / 2 ^ (3 * 0) ≡ code

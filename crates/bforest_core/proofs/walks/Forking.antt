@@ -20,7 +20,7 @@ module _ {K : Type 0} {cmp : K → K → Ordering} (o : IsTotalOrder cmp) where
 
   module _ (from to : K) (ordered : is_gt (cmp from to) ≡ false) where
     -- where the separator behind the first key's child is greater than the second key, or there is none, both go there
-    pub same-child : (ks : List K) → IsStrictlySortedBy cmp ks
+    same-child : (ks : List K) → IsStrictlySortedBy cmp ks
         → ((s : K) → slice_get ks (count_up_to cmp ks from) ≡ Some s → cmp s to ≡ Greater) → count_up_to cmp ks from ≡ count_up_to cmp ks to
     unfolding IsStrictlySortedBy
     same-child [] sorted says = refl
@@ -40,7 +40,7 @@ module _ {K : Type 0} {cmp : K → K → Ordering} (o : IsTotalOrder cmp) where
             cc (count_up_to-no cmp x ks to (ap is_gt above), count_up_to-none cmp to ks (all_greater_behind cmp to o x ks sorted.0 (ap is_lt above)))
 
   -- the separator behind the child to which a search goes is greater than the key
-  pub greater-behind : (from s : K) (ks : List K) → IsStrictlySortedBy cmp ks → slice_get ks (count_up_to cmp ks from) ≡ Some s → cmp s from ≡ Greater
+  greater-behind : (from s : K) (ks : List K) → IsStrictlySortedBy cmp ks → slice_get ks (count_up_to cmp ks from) ≡ Some s → cmp s from ≡ Greater
   unfolding IsStrictlySortedBy
   greater-behind from s [] sorted read = absurd (cc)
   greater-behind from s (x ∷ ks) sorted read = go (λ more. greater-behind from s ks sorted.1 cc) (cmp x from) refl

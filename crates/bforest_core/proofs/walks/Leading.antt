@@ -31,7 +31,7 @@ module _ {K V : Type 0} {most : ℕ} {slots : List (Content K V)} {leaves : Row 
     pub on : NodeOver most slots leaves child
     pub rows_are : on.lower ≡ s.rows
     pub place_is : length on.before ≡ length (flat s.at.before) + index
-    pub rest_is : length on.before + suc (length on.after) ≡ length (flat s.row)
+    rest_is : length on.before + suc (length on.after) ≡ length (flat s.row)
 
   pub child_under : (index : ℕ) {child : ℕ} → ChildRead slots number index child → ChildUnder index child
   child_under index {child} reads = let c = child_cut (s.at.e ∷ s.at.es) index child (reads _ _ s.slot_is) in let front = flat s.at.before ++ c.0 in

@@ -34,7 +34,7 @@ module _ {K X : Type 0} {cmp : K → K → Ordering} (o : IsTotalOrder cmp) (key
   later e {es} t f = let z = place-later cmp o e es key t in record { place_is = cc; entry_is = cc }
 
   -- a search in a list whose first entry is greater
-  pub finds_first : (es : List (K × X)) → IsIncreasing cmp es → IsUpTo cmp es key → Finds cmp es key 0 None
+  finds_first : (es : List (K × X)) → IsIncreasing cmp es → IsUpTo cmp es key → Finds cmp es key 0 None
   finds_first es h up = let high = all_greater o es key h (λ y c is. subst (λ z. IsUpTo cmp z key) is up) in
       record { place_is = place_between o [] [] es key h tt high; entry_is = entry_between o [] [] es key h tt high }
 
@@ -53,14 +53,14 @@ module _ {K X : Type 0} {cmp : K → K → Ordering} (o : IsTotalOrder cmp) (key
       subst (λ z. Finds cmp (x ∷ es) key z found) (omega arith) (later x (less_from o _ _ _ (all_at _ _ p e h.0 here) ng) (behind es p e here h.1 ng n found f))
 
   -- a search that ends at an entry whose key compares equal
-  pub finds_here : (es : List (K × X)) (p e : _) → slice_get es p ≡ Some e → IsIncreasing cmp es → cmp key e.0 ≡ Equal → Finds cmp es key p (Some e)
+  finds_here : (es : List (K × X)) (p e : _) → slice_get es p ≡ Some e → IsIncreasing cmp es → cmp key e.0 ≡ Equal → Finds cmp es key p (Some e)
   finds_here es p e here h t = let same = o.antisymm e.0 key ∙ ap ordering_reverse t in
       subst (λ z. Finds cmp es key z (Some e)) (omega arith) (behind es p e here h (λ g. let bad = sym same ∙ g in absurd cc) 0 (Some e) (λ i.
       let z = place-here cmp o e (drop (suc p) es) key i (ap is_lt same) in
       record { place_is = z; entry_is = cc }))
 
   -- a search that ends after a lesser entry, where the next is greater
-  pub finds_behind : (es : List (K × X)) (p e : _) → slice_get es p ≡ Some e → IsIncreasing cmp es → cmp key e.0 ≡ Greater → IsUpTo cmp (drop (suc p) es) key → Finds cmp es key (suc p) None
+  finds_behind : (es : List (K × X)) (p e : _) → slice_get es p ≡ Some e → IsIncreasing cmp es → cmp key e.0 ≡ Greater → IsUpTo cmp (drop (suc p) es) key → Finds cmp es key (suc p) None
   finds_behind es p e here h t up = let less = o.antisymm e.0 key ∙ ap ordering_reverse t in
       subst (λ z. Finds cmp es key z None) (omega arith) (behind es p e here h (λ g. let bad = sym less ∙ g in absurd cc) 1 None (λ i. later e less (finds_first _ (increasing_rest o e (drop (suc p) es) i) up)))
 
@@ -72,12 +72,12 @@ no_nodes half most one (node m es ∷ row) solid none = absurd (omega (arith, le
 module _ {K V : Type 0} {n : ℕ} (table : Table K V) (root : ℕ) (path : Path K V n) where
   module _ (union : IsUnion n table) where
     -- an entry may be inserted after the one on which the path stands
-    pub placed-behind : (path' : Path K V n) (p : ℕ) → StandsOn table root path p → path'.node ≡ path.node → index_of path' ≡ index_of path + 1 → ((i : ℕ) → i ≢ 0 → get_or path'.entry i 0 ≡ get_or path.entry i 0) → path'.size ≡ path.size → IsPlaced table root path' (suc p)
+    placed-behind : (path' : Path K V n) (p : ℕ) → StandsOn table root path p → path'.node ≡ path.node → index_of path' ≡ index_of path + 1 → ((i : ℕ) → i ≢ 0 → get_or path'.entry i 0 ≡ get_or path.entry i 0) → path'.size ≡ path.size → IsPlaced table root path' (suc p)
     placed-behind path' p on same index_is above size_is = let points = points_in (on-leaf-in union path on) (cc) path'.entry (suc p) same above (omega arith) (omega arith) in
         record { root_is = on.root_is; at = record { points = points; first = λ none. absurd (omega arith) } }
 
     -- an entry may be inserted before the first of the list
-    pub placed-first : StandsOn table root path 0 → IsPlaced table root path 0
+    placed-first : StandsOn table root path 0 → IsPlaced table root path 0
     placed-first on = let s = on.stands in
         let solid = (FitRow-split (half_of n) n s.leaf.before (node (leaf_of path) s.leaf.entries) s.leaf.after (rw (← s.leaf.row_is) (on-tree union path on).fit.leaves_fit)).0 in
         let points = points-stands _ _ _ 0 s in

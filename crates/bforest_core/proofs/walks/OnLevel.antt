@@ -52,7 +52,7 @@ module _ {K V : Type 0} {slots : List (Content K V)} {root : ℕ} {spot : Spot} 
       stands-spot below = rw (here p).rows_are (way-below (branch-at b.branch) (branch-low b.branch)
           (subst (IsWay b.others above (here p).rest) (sym b.branch.at.at) b.way) below)
 
-    pub own-at : Stands (λ to. to ≡ p.place) spot node index
+    own-at : Stands (λ to. to ≡ p.place) spot node index
     own-at = record { to = p.place; is = refl; branch = own parent; others = drop 1 p.numbers; way = its }
 
     pub index-asked : ChildAsked slots node index

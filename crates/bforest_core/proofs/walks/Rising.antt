@@ -45,16 +45,16 @@ module _ {K : Type 0} {cmp : K → K → Ordering} (o : IsTotalOrder cmp) where
     increasing_rest x xs h = h.1
 
     -- the place of a key in two parts is the sum of its places
-    pub place-append : (xs ys : List (K × X)) (k : K) → place cmp (xs ++ ys) k ≡ place cmp xs k + place cmp ys k
+    place-append : (xs ys : List (K × X)) (k : K) → place cmp (xs ++ ys) k ≡ place cmp xs k + place cmp ys k
     place-append xs ys k = sum_by-append (λ y. cond (is_lt (cmp y.0 k)) 1 0) xs ys
 
     -- the place of a key after a list of lesser keys is its end
-    pub place_all : (xs : List (K × X)) (k : K) → AllByRecursion (λ p. cmp p k ≡ Less) (keys_of xs) → place cmp xs k ≡ length xs
+    place_all : (xs : List (K × X)) (k : K) → AllByRecursion (λ p. cmp p k ≡ Less) (keys_of xs) → place cmp xs k ≡ length xs
     place_all [] k h = refl
     place_all (x ∷ xs) k h = place-later cmp o x xs k h.0 ∙ ap suc (place_all xs k h.1)
 
     -- the place of a key before a list of greater keys is 0
-    pub place_none : (xs : List (K × X)) (k : K) → IsIncreasing cmp xs → AllByRecursion (λ p. cmp p k ≡ Greater) (keys_of xs) → place cmp xs k ≡ 0
+    place_none : (xs : List (K × X)) (k : K) → IsIncreasing cmp xs → AllByRecursion (λ p. cmp p k ≡ Greater) (keys_of xs) → place cmp xs k ≡ 0
     place_none [] k i h = refl
     place_none (x ∷ xs) k i h = place-here cmp o x xs k i (ap is_lt h.0)
 
@@ -66,11 +66,11 @@ module _ {K : Type 0} {cmp : K → K → Ordering} (o : IsTotalOrder cmp) where
     abbrev pub test_at : List (K × X) → K → ℕ → Option (K × X)
     test_at es k i = option_and_then (λ e. if is_eq (cmp e.0 k) then Some e else None) (slice_get es i)
 
-    pub test_past : (ys : List (K × X)) (k : K) → AllByRecursion (λ p. cmp p k ≡ Greater) (keys_of ys) → test_at ys k 0 ≡ None
+    test_past : (ys : List (K × X)) (k : K) → AllByRecursion (λ p. cmp p k ≡ Greater) (keys_of ys) → test_at ys k 0 ≡ None
     test_past [] k h = refl
     test_past (y ∷ ys) k h = cc
 
-    pub test_front : (xs ys : List (K × X)) (k i : _) → i ≤ length xs → AllByRecursion (λ p. cmp p k ≡ Greater) (keys_of ys) → test_at (xs ++ ys) k i ≡ test_at xs k i
+    test_front : (xs ys : List (K × X)) (k i : _) → i ≤ length xs → AllByRecursion (λ p. cmp p k ≡ Greater) (keys_of ys) → test_at (xs ++ ys) k i ≡ test_at xs k i
     test_front [] ys k zero le h = test_past ys k h
     test_front [] ys k (suc i) le h = absurd (omega arith)
     test_front (x ∷ xs) ys k zero le h = refl

@@ -28,7 +28,7 @@ module _ {K V : Type 0} (slots : List (Content K V)) (path indices : _) where
 
 module _ {K V : Type 0} {slots : List (Content K V)} {path indices : _} where
   -- the rows from a higher level on
-  pub over-up : (steps : ℕ) {level size rows list place : _} (to : ℕ)
+  over-up : (steps : ℕ) {level size rows list place : _} (to : ℕ)
       → Over slots path indices level size rows list place → to ≡ level + steps → to ≤ size → HasOver slots path indices to size
   over-up zero {size} {rows} {list} {place} to p is low =
       (rows, list, place, subst (λ z. Over slots path indices z size rows list place) (omega arith) p)
@@ -46,14 +46,14 @@ module _ {K V : Type 0} {slots : List (Content K V)} {path indices : _} where
   turn-above to p other is = let s = spot p other in (s.rest, heads s.row, length s.before, rw is s.over)
 
   -- where each child up to the root is the last, the node is the last of its level
-  pub all-last : (steps : ℕ) {level : ℕ} {size rows list place : _} → Over slots path indices (suc level) size rows list place → size ≡ suc level + steps
+  all-last : (steps : ℕ) {level : ℕ} {size rows list place : _} → Over slots path indices (suc level) size rows list place → size ≡ suc level + steps
       → size ≤ 17 → AreLast slots path indices (suc level) size → suc place ≡ length list
   all-last zero p is height last = (only p (omega arith)).1
   all-last (suc steps) {level} p is height last = last_moves p refl (λ e. omega arith) height (last (suc level) (omega arith) (omega arith))
       (λ rows list place o. all-last steps o (omega arith) height (λ i from to. last i (omega arith) to))
 
   -- where each child up to the root is the first, the node is the first of its level
-  pub all-first : (steps : ℕ) {level : ℕ} {size rows list place : _} → Over slots path indices (suc level) size rows list place → size ≡ suc level + steps
+  all-first : (steps : ℕ) {level : ℕ} {size rows list place : _} → Over slots path indices (suc level) size rows list place → size ≡ suc level + steps
       → size ≤ 17 → AreFirst indices (suc level) size → place ≡ 0
   all-first zero p is height first = (only p (omega arith)).0
   all-first (suc steps) p is height first = first_moves p refl (λ e. omega arith) height (λ rows list place o. all-first steps o (omega arith) height (λ i from

@@ -13,7 +13,7 @@ module _ {K : Type 0} where
   top list (row ∷ rows) s e = let t = top (heads row) rows s.2 e in (t.0, (s.0, s.1, t.1))
 
   -- a path that reaches the root stands on all rows
-  pub stands_above : (path indices : List ℕ) (level : ℕ) (rows : Rows K) (place : ℕ) → StandsTo path indices level rows place 0 → StandsAbove path indices level rows place
+  stands_above : (path indices : List ℕ) (level : ℕ) (rows : Rows K) (place : ℕ) → StandsTo path indices level rows place 0 → StandsAbove path indices level rows place
   stands_above path indices level [] place s = s
   stands_above path indices level (row ∷ rows) place s = (s.0, stands_above path indices (suc level) rows (length s.0.before) s.1)
 
@@ -41,10 +41,10 @@ module _ {K V : Type 0} {cmp : K → K → Ordering} (slots : List (Content K V)
   abbrev points : PointsAt path' indices' size (tree_of slots root) (place cmp (flat (tree_of slots root).leaves) key)
   points = record { before = d.leaf.before; entries = d.leaf.entries; after = d.leaf.after; leaves_are = d.leaf.row_is; within = d.leaf.within; place_is = d.leaf.place_is; above = stands_above _ _ 1 _ _ d.stands; size_is = size_is }
 
-  pub stands-found : is_present cmp (flat (tree_of slots root).leaves) key ≡ true → StandsUnder slots root path' indices' size (place cmp (flat (tree_of slots root).leaves) key)
+  stands-found : is_present cmp (flat (tree_of slots root).leaves) key ≡ true → StandsUnder slots root path' indices' size (place cmp (flat (tree_of slots root).leaves) key)
   stands-found here = record { root_is = is; stands = stands-pointed points (d.leaf.found here) }
 
-  pub placed-found : is_present cmp (flat (tree_of slots root).leaves) key ≡ false → PlacedUnder slots root path' indices' size (place cmp (flat (tree_of slots root).leaves) key)
+  placed-found : is_present cmp (flat (tree_of slots root).leaves) key ≡ false → PlacedUnder slots root path' indices' size (place cmp (flat (tree_of slots root).leaves) key)
   placed-found none = record { root_is = is; at = record { points = points; first = d.leaf.first none } }
 
 -- the leaf that a search reached under a root is the one in which it ends

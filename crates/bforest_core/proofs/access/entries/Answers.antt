@@ -7,9 +7,9 @@ node-requires g c = (search rules, (search rules, slice_get_within _ _ c.require
 pub entries-requires : goal.entries-requires
 entries-requires g c = (search rules, read_as c.requires.1 c.node.ensures.value (λ z. ¬ IsFree z) c.requires.2)
 
-pub returns-clause-value : goal.returns-clause-value
-returns-clause-value g c = λ content slot.
-    c.entries.ensures.value ∙ ap entry_count (some_same (sym c.node.ensures.value ∙ slot))
-
-pub returns-clause-most : goal.returns-clause-most
-returns-clause-most g c = c.entries.ensures.most
+pub returns : goal.returns
+returns g c = record {
+  value = λ content slot.
+      c.entries.ensures.value ∙ ap entry_count (some_same (sym c.node.ensures.value ∙ slot));
+  most = c.entries.ensures.most;
+}

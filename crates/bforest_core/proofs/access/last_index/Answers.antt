@@ -12,9 +12,9 @@ pub overflow_sub-result : goal.overflow_sub-result
 overflow_sub-result g c = let w = c.requires.some in let is = some_same (sym c.node.ensures.value ∙ w.1) in
     omega (arith, w.2, ap entry_count is)
 
-pub returns-clause-last : goal.returns-clause-last
-returns-clause-last g c = λ content slot.
-    ap (λ z. z - 1) (c.entries.ensures.value ∙ ap entry_count (some_same (sym c.node.ensures.value ∙ slot)))
-
-pub returns-clause-most : goal.returns-clause-most
-returns-clause-most g c = omega arith
+pub returns : goal.returns
+returns g c = record {
+  last = λ content slot.
+      ap (λ z. z - 1) (c.entries.ensures.value ∙ ap entry_count (some_same (sym c.node.ensures.value ∙ slot)));
+  most = omega arith;
+}

@@ -21,8 +21,9 @@ told g c es slot = let order = g.C.Comparator.order c.args.comp.now in let w = c
     (read_as c.node.ensures.value slot (λ z. IfSome c.look_up.result.1 (λ v. slice_get (vals_of z) c.look_up.result.0 ≡ Some v)) c.look_up.ensures.value)
     (read_as c.node.ensures.value slot (λ z. c.look_up.result.1 ≡ None → search_of order (keys_of z) c.args.key ≡ Err c.look_up.result.0) c.look_up.ensures.absent)
 
-pub returns-clause-place : goal.returns-clause-place
-returns-clause-place g c = λ es slot. (told g c es slot).0
-
-pub returns-clause-value : goal.returns-clause-value
-returns-clause-value g c = λ es slot. (told g c es slot).1
+pub returns : goal.returns
+returns g c = record {
+  place = λ es slot. (told g c es slot).0;
+  value = λ es slot. (told g c es slot).1;
+  most = search rules;
+}
