@@ -82,8 +82,7 @@ module _ {K : Type 0} (V : Type 0) where
   pub inner_cuts : (x xs y ys q : _) (left right : Content K V) (key : K) → length (x ∷ xs) ≡ q → IsCut (inner_content ((x ∷ xs) ++ y ∷ ys)) q left key right → Parts inner_content (x ∷ xs) y ys left right key
   inner_cuts x xs y ys q left right key e c =
       let kl : length (entry_keys xs) ≡ q - 1 = length-map xs (λ w. w.0) ∙ omega arith in let kl2 = ap suc (length-map xs (λ w. w.0)) ∙ e in
-      let il = length-map (x ∷ xs) (λ w. w.1) ∙ e in let k = map-append (λ w. w.0) xs (y ∷ ys) in let i = map-append (λ w. w.1) (x ∷ xs) (y ∷ ys) in
-      record {
+      let il = length-map (x ∷ xs) (λ w. w.1) ∙ e in let k = map-append (λ w. w.0) xs (y ∷ ys) in let i = map-append (λ w. w.1) (x ∷ xs) (y ∷ ys) in record {
         left_is = rw (k, i, take_at (entry_keys xs) (y.0 ∷ entry_keys ys) (q - 1) kl, take_at (entry_items (x ∷ xs)) (y.1 ∷ entry_items ys) q il) at c.left_is;
         right_is = rw (k, i, drop-behind (entry_keys xs) y.0 (entry_keys ys) q kl2, drop_at (entry_items (x ∷ xs)) (y.1 ∷ entry_items ys) q il) at c.right_is;
         key_is = some_same (cc (slice_get_at (entry_keys xs) y.0 (entry_keys ys) (q - 1) kl));
@@ -97,8 +96,7 @@ module _ {K : Type 0} (V : Type 0) where
   pub leaf_cuts : (xs : List (K × V)) (y ys q left right key : _) → length xs ≡ q → IsCut (leaf_content (xs ++ y ∷ ys)) q left key right → Parts leaf_content xs y ys left right key
   leaf_cuts xs y ys q left right key e c =
       let kl = length-map xs (λ w. w.0) ∙ e in let il = length-map xs (λ w. w.1) ∙ e in let k = map-append (λ w. w.0) xs (y ∷ ys) in
-      let i = map-append (λ w. w.1) xs (y ∷ ys) in
-      record {
+      let i = map-append (λ w. w.1) xs (y ∷ ys) in record {
         left_is = rw (k, i, take_at (entry_keys xs) (y.0 ∷ entry_keys ys) q kl, take_at (entry_items xs) (y.1 ∷ entry_items ys) q il) at c.left_is;
         right_is = rw (k, i, drop_at (entry_keys xs) (y.0 ∷ entry_keys ys) q kl, drop_at (entry_items xs) (y.1 ∷ entry_items ys) q il) at c.right_is;
         key_is = some_same (cc (slice_get_at (entry_keys xs) y.0 (entry_keys ys) q kl));

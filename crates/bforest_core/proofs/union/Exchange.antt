@@ -56,8 +56,7 @@ module _ {K V : Type 0} where
   traded old new gone come taken freed rest free apart old_is new_is freed_are slots nums others =
       let c = λ (m : ℕ). ap (λ z. count m z) old_is ∙ count-append m taken rest in
       let left = (every-append (λ number. IsFree (slot old.nodes number)) taken rest (rw (← old_is) free)).1 in
-      let still = free-same old.nodes new.nodes rest (λ m here. others m (omega (arith, c m, apart m, count-append))) left in
-      record {
+      let still = free-same old.nodes new.nodes rest (λ m here. others m (omega (arith, c m, apart m, count-append))) left in record {
         free = rw new_is (every-join _ _ _ freed_are still);
         slots_are = slots;
         nums = λ m. omega (arith, nums m, c m, ap (λ z. count m z) new_is, count-append);
@@ -77,8 +76,7 @@ module _ {K V : Type 0} where
   exchange-trees {old} {new} before gone come after f p t =
       let one : (m : ℕ) → count m (flat_map numbers_of before) + (count m (flat_map numbers_of gone) + count m (flat_map numbers_of after)) + count m old.chain ≤ 1 =
       λ m. omega (arith, f.account m, at-most-one, count_parts m before gone after old.chain) in
-      let ins = every_outer _ _ _ _ f.inside in
-      record {
+      let ins = every_outer _ _ _ _ f.inside in record {
         capacity = f.capacity;
         fit = every_put _ _ _ _ (every_outer _ _ _ _ f.fit) (every-map _ _ (λ tree q. q.fit) _ p);
         inside = every_put _ _ _ _ (

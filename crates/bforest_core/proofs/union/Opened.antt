@@ -49,8 +49,7 @@ module _ {K V : Type 0} where
       record { list_left = a; list_right = b; left = []; right = []; list_is = s; left_stacked = refl; right_stacked = refl; left_in = tt; right_in = tt; left_height = refl; right_height = refl; counted = λ m. refl }
   rows-cut slots list (row ∷ rows) a b s i =
       let r = rows-cut slots (heads row) rows a b s.2 i.1 in let c = row-cut 4 8 (omega arith) row r.list_left r.list_right s.1 r.list_is in
-      let fits = fit_cut 4 8 (omega arith) c.left c.right (rw (← c.row_is) s.1) in let ins = row-split _ _ _ c.right (rw (← c.row_is) i.0) in
-      record {
+      let fits = fit_cut 4 8 (omega arith) c.left c.right (rw (← c.row_is) s.1) in let ins = row-split _ _ _ c.right (rw (← c.row_is) i.0) in record {
         list_left = flat c.left;
         list_right = flat c.right;
         left = c.left ∷ r.left;

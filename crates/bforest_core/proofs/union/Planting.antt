@@ -30,8 +30,7 @@ module _ {K V : Type 0} where
   planted-alloc most {old} new {number} memory key value union front is growth =
       let mid = reserved old 1 memory in let u = reserved-union most old 1 _ union in let f = front_rest mid.chain front in
       let t = takes mid new number (Leaf (key ∷ []) (value ∷ [])) front is (within-slots u.1 number (omega (arith, ap (λ z. count number z) f.1, count-same number f.0))) in
-      let tree : Tree K V = record { leaves = node number ((key, value) ∷ []) ∷ []; above = [] } in
-      let p : IsPlanted most new.nodes tree = record {
+      let tree : Tree K V = record { leaves = node number ((key, value) ∷ []) ∷ []; above = [] } in let p : IsPlanted most new.nodes tree = record {
         fit = record { leaves_fit = (omega arith, omega arith, tt); stacked = refl; topped = tt };
         inside = record { leaves_in = (t.here, tt); rows_in = tt };
         some = omega arith;
@@ -42,8 +41,7 @@ module _ {K V : Type 0} where
       let back = tree-back [] tree u.0 number g refl refl in let made = length-fresh_nodes K V (slot_count old) (1 - free_count old) (front_of old.chain) in
       let slots = length-append old.nodes (fresh_nodes (slot_count old) (1 - free_count old) (front_of old.chain)) in
       let chains = length-append (down_from (slot_count old) (1 - free_count old)) old.chain in
-      let downs = length-down_from (slot_count old) (1 - free_count old) in
-      record {
+      let downs = length-down_from (slot_count old) (1 - free_count old) in record {
         changes = record {
           union = (tree ∷ u.0, g);
           root_is = back.1;

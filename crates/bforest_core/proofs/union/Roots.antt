@@ -30,8 +30,7 @@ module _ {K V : Type 0} where
   exchanged_by {most} old new root {tree'} union is p t = let r = rooted most old root union is in let tree = tree_of old.nodes root in
       let one = rw (one_tree tree) at (subst (λ z. Traded old new (numbers_of tree) z) (one_tree tree') t) in
       let g = exchange-trees r.before (tree ∷ []) (tree' ∷ []) r.after r.forest (p, tt) one in
-      let back = tree-back r.before tree' r.after (root_of tree') g refl refl in
-      rw (← r.root_is) (record {
+      let back = tree-back r.before tree' r.after (root_of tree') g refl refl in rw (← r.root_is) (record {
         union = (r.before ++ tree' ∷ r.after, g);
         root_is = back.1;
         tree_is = back.0;

@@ -22,8 +22,7 @@ module _ {K V : Type 0} where
       record { leaves_fit = u.leaves_fit; leaves_in = i.leaves_in; stacked = u.stacked; rows_in = i.rows_in }
 
   under_none : (most : ℕ) → IsLeafCapacity most → {slots : List (Content K V)} {leaves lower : _} → Under most slots leaves lower [] → (m : ℕ) → count m (numbers_under leaves lower) ≡ 0
-  under_none most capacity u m =
-      let r = rows_none _ _ u.stacked in let none = no_heads _ _ (some_leaf capacity) _ u.leaves_fit r.0 in
+  under_none most capacity u m = let r = rows_none _ _ u.stacked in let none = no_heads _ _ (some_leaf capacity) _ u.leaves_fit r.0 in
       omega (arith, count-append, ap (λ z. count m (numbers z)) none, r.1 m)
 
   -- the numbers below a node are the same in any slots that agree on them
@@ -68,10 +67,8 @@ module _ {K V : Type 0} where
 
     -- while the index is capacity of the top's, there is a next child
     pub sweep-turn : (now index x : _) → Distinct (numbers_under leaves rows ++ old.chain) → Swept most old now leaves rows top index → slice_get top index ≡ Some x → Turn now index x
-    sweep-turn now index x apart s found =
-        let todo = drop-read top index x found in
-        let cut = under-cut most old.nodes (some_leaf capacity) (x ∷ []) (drop (suc index) top) (rw (← todo) s.under) in
-        record {
+    sweep-turn now index x apart s found = let todo = drop-read top index x found in
+        let cut = under-cut most old.nodes (some_leaf capacity) (x ∷ []) (drop (suc index) top) (rw (← todo) s.under) in record {
           swept = s;
           found = found;
           cut = cut;
@@ -82,8 +79,7 @@ module _ {K V : Type 0} where
     -- the next child is freed with everything below it
     pub sweep-next : {now new index : _} (x : _) → Distinct (numbers_under leaves rows ++ old.chain) → (t : Turn now index x) → GivesAll now new (numbers_under
         t.cut.leaves_left t.cut.lower_left) (numbers_down now.nodes (length t.cut.lower_left) x.1) → Swept most old new leaves rows top (suc index)
-    sweep-next {now} {index} x apart t g =
-        let own = numbers_under t.cut.leaves_left t.cut.lower_left in let n = λ (m : ℕ). count-append m t.swept.own own in
+    sweep-next {now} {index} x apart t g = let own = numbers_under t.cut.leaves_left t.cut.lower_left in let n = λ (m : ℕ). count-append m t.swept.own own in
         record {
           left_leaves = t.cut.leaves_right;
           left_rows = t.cut.lower_right;
@@ -111,10 +107,7 @@ module _ {K V : Type 0} where
     sweep-last {index} past s =
         let left = under_none most capacity (subst (λ z. Under most old.nodes s.left_leaves s.left_rows z) (drop_all _ _ past) s.under) in
         let whole = s.order ∙ ap (λ z. flat_map (numbers_down old.nodes (length rows)) (reverse z)) (take_all index _ (omega (arith, length-map top (λ e. e.1)))) in
-        rw (← whole) (record {
-          frees = frees-wider _ (λ m zero. omega arith) s.frees;
-          counted = λ m. omega arith;
-        })
+        rw (← whole) (record { frees = frees-wider _ (λ m zero. omega arith) s.frees; counted = λ m. omega arith })
 
 -- the entry whose item is at an index
 item_at : {K : Type 0} (top : Heads K) (index child : ℕ) → slice_get (entry_items top) index ≡ Some child → (x : K × ℕ) × (slice_get top index ≡ Some x) × (x.1 ≡ child)

@@ -60,8 +60,7 @@ module _ {K V : Type 0} {cmp : K → K → Ordering} {most : ℕ} {slots : List 
 -- the entries of a row around a node increase
 increasing_about : {K X : Type 0} (cmp : K → K → Ordering) (o : IsTotalOrder cmp) {half most : _} {row : Row K X} {a first number b : _} (at : Seen half most row a first number b) → IsIncreasing cmp (flat row) →
     IsIncreasing cmp (flat at.before ++ (at.e ∷ (at.es ++ flat at.after))) × IsIncreasing cmp (at.e ∷ at.es) × IsIncreasing cmp (flat at.after)
-increasing_about cmp o {number} at inc =
-    let parts = subst (IsIncreasing cmp) (cc (flat-append at.before (node number (at.e ∷ at.es) ∷ at.after))) inc in
+increasing_about cmp o {number} at inc = let parts = subst (IsIncreasing cmp) (cc (flat-append at.before (node number (at.e ∷ at.es) ∷ at.after))) inc in
     let two = increasing_split o (at.e ∷ at.es) (flat at.after) (increasing_split o _ ((at.e ∷ at.es) ++ flat at.after) parts).1 in (parts, two.0, two.1)
 
 module _ {K V : Type 0} {cmp : K → K → Ordering} (o : IsTotalOrder cmp) {most : ℕ} (capacity : IsLeafCapacity most) {slots : List (Content K V)} {leaves key number depth : _}
@@ -76,10 +75,8 @@ module _ {K V : Type 0} {cmp : K → K → Ordering} (o : IsTotalOrder cmp) {mos
   }
 
   pub leaf_step : LeafUnder t.on → LeafStep t
-  leaf_step s =
-      let at = s.at in let parts = increasing_about cmp o at t.increasing in
-      let upto = upto_flat _ _ _ (some_leaf capacity) _ _ at.after_fit (rw at.after_is t.through.upto) in
-      let from = from_at cmp t.before at t.through.from in
+  leaf_step s = let at = s.at in let parts = increasing_about cmp o at t.increasing in
+      let upto = upto_flat _ _ _ (some_leaf capacity) _ _ at.after_fit (rw at.after_is t.through.upto) in let from = from_at cmp t.before at t.through.from in
       record {
         here = s;
         increasing = parts.1;
@@ -106,15 +103,13 @@ module _ {K V : Type 0} {cmp : K → K → Ordering} (o : IsTotalOrder cmp) {mos
     -- following a child gives the search one level down
     pub below : {index child : ℕ} → ((keys : List K) (children : _) → slice_get slots number ≡ Some (Inner keys children) → index ≡ child_index cmp keys key)
         → ChildRead slots number index child → (deeper : ℕ) → deeper ≤ suc depth → Below s index child deeper
-    below {index} {child} says reads deeper low =
-        let index_is = says (entry_keys s.here.at.es) (entry_items (s.here.at.e ∷ s.here.at.es)) s.here.slot_is in
+    below {index} {child} says reads deeper low = let index_is = says (entry_keys s.here.at.es) (entry_items (s.here.at.e ∷ s.here.at.es)) s.here.slot_is in
         let child_at = reads (entry_keys s.here.at.es) (entry_items (s.here.at.e ∷ s.here.at.es)) s.here.slot_is in let at = s.here.at in
         let d = sides o at.es key (increasing_rest o at.e at.es s.increasing) in let w = last_of at.e d.l in
         let es_is = ap (λ z. at.e ∷ z) d.es_is ∙ ap (λ z. z ++ d.r) w.is ∙ append_assoc w.init (w.last ∷ []) d.r in
         let count_is : length w.init ≡ index = omega (arith, ap length w.is, length-append w.init (w.last ∷ [])) in
         let here = ap (λ z. slice_get z index) es_is ∙ slice_get_at _ _ _ _ count_is in
-        let child_is = some_same {x = child} {y = w.last.1} (cc (items-read (at.e ∷ at.es) index, here)) in
-        record {
+        let child_is = some_same {x = child} {y = w.last.1} (cc (items-read (at.e ∷ at.es) index, here)) in record {
           on = record {
             on = record {
               lower = s.here.rows;

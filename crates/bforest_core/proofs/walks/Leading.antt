@@ -35,9 +35,7 @@ module _ {K V : Type 0} {most : ℕ} {slots : List (Content K V)} {leaves : Row 
 
   pub child_under : (index : ℕ) {child : ℕ} → ChildRead slots number index child → ChildUnder index child
   child_under index {child} reads = let c = child_cut (s.at.e ∷ s.at.es) index child (reads _ _ s.slot_is) in let front = flat s.at.before ++ c.0 in
-      let back = c.2 ++ flat s.at.after in
-      let flat_is = ap flat s.at.row_is ∙ flat_parted s.at.before number c.0 (c.1, child) c.2 s.at.after c.3 in
-      record {
+      let back = c.2 ++ flat s.at.after in let flat_is = ap flat s.at.row_is ∙ flat_parted s.at.before number c.0 (c.1, child) c.2 s.at.after c.3 in record {
         on = record { lower = s.rows; before = front; first = c.1; after = back; under = rw flat_is at s.under };
         rows_are = refl;
         place_is = cc (length-append (flat s.at.before) c.0);
@@ -61,8 +59,7 @@ module _ {K V : Type 0} {most : ℕ} {slots : List (Content K V)} {leaves : Row 
       → LedUp n.lower place (length n.before) path indices path2 indices2
   inner_up s rows_are top_is within {path2} {indices2} {place} high high_is led m_is j_is nodes entries =
       let d = rw rows_are at led in let at = seen_at s.at (d.nodes_above high (omega arith) ∙ m_is) (d.entries_above high (omega arith) ∙ j_is) within top_is in
-      let more = stands_more path2 indices2 1 s.rows place high d.stands (omega arith) at in
-      record {
+      let more = stands_more path2 indices2 1 s.rows place high d.stands (omega arith) at in record {
         stands = rw s.lower_is (subst (λ z. StandsTo path2 indices2 1 (s.rows ++ s.row ∷ []) place z) s.at.before_is more);
         nodes_above = λ i low. d.nodes_above i (omega arith) ∙ nodes i (λ z. omega arith);
         entries_above = λ i low. d.entries_above i (omega arith) ∙ entries i (λ z. omega arith);
@@ -134,8 +131,7 @@ module _ {K V : Type 0} {most : ℕ} (capacity : IsLeafCapacity most) {slots : L
           (λ leaves lower top. Led leaves lower (place leaves) top path1 indices1 path2 indices2)
           → OnBelow most slots Side number level (λ leaves lower top. Led leaves lower (place leaves) top path indices path2 indices2)
       led-on here path_is indices_are leads leaves n side level_is = let s = inner n level_is in let c = child_under s index says in
-          let d = leads leaves c.on (turns.keeps s side c) (omega (arith, s.count_is, ap length c.rows_are)) in
-          record {
+          let d = leads leaves c.on (turns.keeps s side c) (omega (arith, s.count_is, ap length c.rows_are)) in record {
             leaf = d.leaf;
             up = inner_up s c.rows_are c.place_is (turns.within s side) level level_is d.up here.0 here.1 (set_but _ _ _ path_is) (set_but _ _ _ indices_are);
           }

@@ -54,11 +54,9 @@ module _ {K V : Type 0} {cmp : K → K → Ordering} (o : IsTotalOrder cmp) {lea
   entry-in i low = let r = read _ i low in entry_at _ _ _ _ i leaves_are r.1 ∙ sym r.1
 
   in-front : (i : ℕ) → place cmp entries key ≡ i → is_present cmp entries key ≡ false → entry_before entries i ≡ entry_before (flat leaves) (place cmp (flat leaves) key)
-  in-front zero is gone =
-      let none = ap (λ z. length (flat z)) (t.first (cc) is) in let first : 0 ≡ place cmp (flat leaves) key = omega arith in
+  in-front zero is gone = let none = ap (λ z. length (flat z)) (t.first (cc) is) in let first : 0 ≡ place cmp (flat leaves) key = omega arith in
       ap (entry_before (flat leaves)) first
-  in-front (suc i) is gone =
-      let low = place-le o entries key in let there : suc (length (flat before) + i) ≡ place cmp (flat leaves) key = omega arith in
+  in-front (suc i) is gone = let low = place-le o entries key in let there : suc (length (flat before) + i) ≡ place cmp (flat leaves) key = omega arith in
       cc (entry-in i (omega arith))
 
   -- the last entry up to the key is that of the leaf

@@ -47,8 +47,7 @@ module _ {K V X : Type 0} (content : List (K × X) → Content K V) (slots : Lis
     abbrev pub node-in : (number place : ℕ) (before : Row K X) (entries after : _)
         → row ≡ before ++ node number entries ∷ after → length before ≡ place → NodeIn row number place
     node-in number place before entries after row_is at =
-        let f = (FitRow-split half most before (node number entries) after (subst (FitRow half most) row_is fit)).1 in
-        record {
+        let f = (FitRow-split half most before (node number entries) after (subst (FitRow half most) row_is fit)).1 in record {
           before = before;
           entries = entries;
           after = after;
@@ -87,8 +86,7 @@ module _ {K V X : Type 0} {content : List (K × X) → Content K V} {slots most 
   pub none-behind : (half : ℕ) → 1 ≤ half → FitRow half most row → suc place ≡ length (heads row)
       → length (flat row) ≡ length (flat a.before) + length a.entries
   none-behind half one fit last = let x = node number a.entries in
-      let none = nil_from_length a.after (omega (arith, fit_full half most one row fit, ap length a.row_is, length-append a.before (x ∷ a.after))) in
-      omega (
+      let none = nil_from_length a.after (omega (arith, fit_full half most one row fit, ap length a.row_is, length-append a.before (x ∷ a.after))) in omega (
         arith,
         ap (λ z. length (flat z)) a.row_is,
         ap length (flat-append a.before (x ∷ a.after)),

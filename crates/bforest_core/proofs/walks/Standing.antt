@@ -152,10 +152,8 @@ module _ {K V : Type 0} {n : ℕ} {table : Table K V} (union : IsUnion n table) 
     -- past a leaf's last entry, the first of the next leaf is at the same place
     pub pointed-next : has ≡ false → (moved new : Path K V n) → Advances table.nodes path.node path.entry moved.node moved.entry 0 path.size →
         new.node ≡ moved.node → get_or new.entry 0 0 ≡ 0 → SameBut 0 moved.entry new.entry → new.size ≡ path.size → StandsAt table root new place
-    pointed-next none moved new goes nodes here above size =
-        let m = goes _ _ _ pointed-over.3 in
-        let s = first_behind union.1.capacity tree_is.fit tree_is.inside pointed (cc) new.entry m nodes here above in
-        on-at table new (record {
+    pointed-next none moved new goes nodes here above size = let m = goes _ _ _ pointed-over.3 in
+        let s = first_behind union.1.capacity tree_is.fit tree_is.inside pointed (cc) new.entry m nodes here above in on-at table new (record {
           root_is = to.root_is;
           stands = subst (λ z. Stands new.node new.entry new.size (tree_of table.nodes root) z)
               (sym (behind none)) s;

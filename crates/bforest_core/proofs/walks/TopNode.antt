@@ -57,8 +57,7 @@ module _ {K V : Type 0} {most : ℕ} (capacity : IsLeafCapacity most) {slots : L
       inl (record { lower_is = refl; at = at; slot_is = seen_slot _ _ at u.leaves_in })
   parted (r ∷ rs) a first number b u =
       let z = last_of r rs in let s = stacked_last _ _ _ _ (rw (← z.is) u.stacked) in let i = in_last _ _ _ (rw (← z.is) u.rows_in) in
-      let at = seen 4 8 (omega arith) z.last a first number b s.1 s.2 in
-      inr (record {
+      let at = seen 4 8 (omega arith) z.last a first number b s.1 s.2 in inr (record {
         rows = z.init;
         row = z.last;
         lower_is = z.is;

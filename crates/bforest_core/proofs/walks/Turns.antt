@@ -65,8 +65,7 @@ module _ {K V : Type 0} where
       turn_moves {path'} {indices'} g = let w = t.on in let e = read _ _ t.low in
           let above = stands-same _ _ _ _ _ _ _ (λ i high. g.nodes i (λ e. omega arith)) (λ i high. g.entries i (λ e. omega arith)) w.stands in
           let at = at_node _ _ _ w.node.row_is (g.nodes up (λ e. omega arith)) (cc) t.low t.to_is in
-          let stands : StandsAbove path' indices' up (here.row ∷ here.rest) to = (at, rw w.node.at above) in
-          record {
+          let stands : StandsAbove path' indices' up (here.row ∷ here.rest) to = (at, rw w.node.at above) in record {
             head = e.0;
             head_is = cc (here.flat_is, entry_at w.node.before (get_or path1 up 0) w.node.entries w.node.after index w.node.row_is e.1);
             node_is = some_same (cc (g.child w.node.entries slot_below, items-read _ _));
@@ -120,8 +119,7 @@ module _ {K V : Type 0} where
     pub first_turn : {path1 indices1 : _} → LastAt slots path indices up → Advances slots path indices path1 indices1 up size
         → Turn path1 indices1 0 (suc place)
     first_turn past goes = let m = goes here.rest (heads here.row) (length here.before) here.over in
-        let on = there inner_content slots 8 4 (omega arith) here.row here.fit here.inside m in
-        record {
+        let on = there inner_content slots 8 4 (omega arith) here.row here.fit here.inside m in record {
           at = suc (length here.before);
           on = on;
           nodes_below = m.nodes_below;

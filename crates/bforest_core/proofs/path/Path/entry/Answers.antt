@@ -10,6 +10,5 @@ returns-else-self-gt0 g c = let past = λ (at : Standing c.args.pool.now c.args.
     record { value = λ at. sym (slice_get_past (list_under c.args.pool.now at.root) at.place (omega (arith, past at))); end = λ none. refl }
 
 pub returns-then-self-gt0 : goal.returns-then-self-gt0
-returns-then-self-gt0 g c =
-    let on = λ (at : Standing c.args.pool.now c.args.self.now). some-on c.args.pool.now c.args.self.now at.at c.if-self-gt0.true in
+returns-then-self-gt0 g c = let on = λ (at : Standing c.args.pool.now c.args.self.now). some-on c.args.pool.now c.args.self.now at.at c.if-self-gt0.true in
     record { value = λ at. sym (here-entry c.requires.union (on at) c.entry_here.ensures); end = λ none. absurd (omega arith) }

@@ -11,7 +11,6 @@ invariant_of-self g c = let used = used_inside c.self.view_is c.number.ensures.v
 
 pub returns : goal.returns
 returns g c = let used = used_inside c.self.view_is c.number.ensures.value c.requires.used in
-    let freed = IsPool-freed _ _ _ _ c.number.result used.within used.off_chain c.self.invariant in
-    record {
+    let freed = IsPool-freed _ _ _ _ c.number.result used.within used.off_chain c.self.invariant in record {
       freed = rw (← c.self.view_is, c.make_free.ensures, c.some-self-inside.ensures.node, ← c.number.ensures.value, freed.1, front_of-is _ _ _ c.self.invariant.linked);
     }

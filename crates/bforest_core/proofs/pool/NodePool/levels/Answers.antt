@@ -8,9 +8,7 @@ levels_from-requires g c = let u = under-root _ c.requires.union c.requires.root
 
 pub returns : goal.returns
 returns g c = let tree = tree_of c.args.self.now.nodes c.args.root in let u = under-root _ c.requires.union c.requires.root in
-    let w = is-rooted _ c.requires.union c.requires.root in let one = some_leaf c.requires.union.1.capacity in
-    let r = c.levels_from.ensures _ u in
-    record {
+    let w = is-rooted _ c.requires.union c.requires.root in let one = some_leaf c.requires.union.1.capacity in let r = c.levels_from.ensures _ u in record {
       value = omega (arith, length-map tree.above sizes);
       leaves = (le-div_iff_mul-le one).1 (rw (← mul_comm _ _) (leaves-few _ _ _ one w.fit.leaves_fit));
       depth = λ two. (let e : length tree.above - 1 ≡ c.levels_from.result - 2 = omega arith in

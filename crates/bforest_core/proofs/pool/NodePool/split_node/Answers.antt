@@ -23,8 +23,7 @@ returns g c = let refilled = refilled_two c.self.inside.nodes.items c.number.res
     (vec_len c.self.inside.nodes) (omega arith) in
     let off_left = rw (← c.take_slot-right.ensures.table) at (off-without_front c.args.self.now c.args.self.now.chain c.args.left refl c.requires.used.off_chain) in
     let pair = IsPool-set_two _ _ _ _ c.split.new.rhs c.split.new.self c.self.view_is c.number.ensures.value c.number-2.ensures.value c.take_slot-right.ensures.used.off_chain off_left c.self.invariant in
-    let within = rw (← c.self.view_is) at c.take_slot-right.ensures.used.within in
-    record {
+    let within = rw (← c.self.view_is) at c.take_slot-right.ensures.used.within in record {
       node = c.take_slot-right.ensures.node;
       split = record {
         whole = c.two_nodes-rhs.result.1.now;

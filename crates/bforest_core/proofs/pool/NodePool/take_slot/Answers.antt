@@ -57,8 +57,7 @@ pub returns : goal.returns
 returns g c = let s = c.self in
     let after = taken s.invariant s.view_is c.requires.room c.expand.ensures.value c.unwrap-node.ensures c.number.ensures.value c.index.ensures
     c.next_free-self-inside.ensures in
-    let inside = within s.invariant s.view_is c.requires.room c.expand.ensures.value c.unwrap-node.ensures c.number.ensures.value in
-    record {
+    let inside = within s.invariant s.view_is c.requires.room c.expand.ensures.value c.unwrap-node.ensures c.number.ensures.value in record {
       node = rw (← c.self.view_is) (front_of-is _ _ _ c.self.invariant.linked ∙ sym c.expand.ensures.value ∙ c.unwrap-node.ensures);
       table = rw (← c.self.view_is, after.1) (rw (← c.self.view_is));
       used = rw (← c.number.ensures.value) (record { within = inside; off_chain = after.2 });

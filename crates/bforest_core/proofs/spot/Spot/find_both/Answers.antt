@@ -33,12 +33,10 @@ find_below-requires g c = let a = search-asks c.loop-index.invariant.0 c.node.en
     (search rules, (w.capacity, (_, _, w.at)))
 
 pub returns-then-not-goes_along : goal.returns-then-not-goes_along
-returns-then-not-goes_along g c = let f = c.follow-index.ensures in
-    let inner = c.is_inner.ensures.inner.0 c.loop-index-test.true in
+returns-then-not-goes_along g c = let f = c.follow-index.ensures in let inner = c.is_inner.ensures.inner.0 c.loop-index-test.true in
     let d = search-on c.loop-index.invariant.0 c.node.ensures.value inner f.index f.child {next = c.below-next.result} (search rules) in
     let a = search-asks c.loop-index.invariant.0 c.node.ensures.value inner in
-    let u = c.loop-index.invariant.1 (c.goes_along.ensures.ordered c.if-not-goes_along.true _ _ _ a.2 (f.index _ _ a.2)) in
-    record {
+    let u = c.loop-index.invariant.1 (c.goes_along.ensures.ordered c.if-not-goes_along.true _ _ _ a.2 (f.index _ _ a.2)) in record {
       some = both-end c.requires.root (c.find_below-first.ensures.found _ _ d.at) (c.find_below.ensures.found _ _ u.at);
       none = λ bad. absurd (let no = bad in cc);
     }

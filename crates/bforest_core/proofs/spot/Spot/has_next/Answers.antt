@@ -9,7 +9,7 @@ pub returns : goal.returns
 returns g c = record {
   next = λ yes. spot-has c.requires.union (c.requires.spot c.if-self-eq0.false).is (omega arith) c.child_count.ensures.value (ltb-true (c.args.self.now.code % 8 + 1) c.child_count.result yes);
   none = λ no. elim (cases_lt (c.args.self.now.code % 8 + 1) c.child_count.result) [
-  | inl low ↦ absurd (false≢true (sym no ∙ lt-ltb (c.args.self.now.code % 8 + 1) c.child_count.result low))
-  | inr past ↦ spot-last c.requires.union (c.requires.spot c.if-self-eq0.false).is (omega arith) c.child_count.ensures.value past
-];
+    | inl low ↦ absurd (false≢true (sym no ∙ lt-ltb (c.args.self.now.code % 8 + 1) c.child_count.result low))
+    | inr past ↦ spot-last c.requires.union (c.requires.spot c.if-self-eq0.false).is (omega arith) c.child_count.ensures.value past
+  ];
 }
