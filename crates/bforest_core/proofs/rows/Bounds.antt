@@ -41,8 +41,7 @@ some_grew (Some q) levels e = (q, refl)
 
 -- an only node with room does not split
 none_small : (p s : ℕ) → s < 8 → (inner_gain p (s ∷ [])).0 ≡ None
-none_small p s room =
-    elim (cases_lt p s) [ inl lt ↦ (let a = lt-ltb p s lt in rw (a, lt-ltb s 8 room) refl) | inr ge ↦ (let a = le-ltb p s ge in rw a refl) ]
+none_small p s room = elim (cases_lt p s) [ inl lt ↦ (let a = lt-ltb p s lt in rw (a, lt-ltb s 8 room) refl) | inr ge ↦ (let a = le-ltb p s ge in rw a refl) ]
 
 root_full : {K : Type 0} (p : ℕ) {q : ℕ} (row : Row K ℕ) → length (heads row) ≡ 1 → FitRow 4 8 row → (inner_gain p (sizes row)).0 ≡ Some q → 8 ≤ length (flat row)
 root_full p [] one f e = absurd (omega arith)

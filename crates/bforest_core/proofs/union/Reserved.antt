@@ -83,5 +83,4 @@ module _ {K V : Type 0} where
 
   -- at least `n` nodes are free after a reservation of `n`
   pub reserved-frees : (old : Table K V) (n : ℕ) {chain : List ℕ} → chain ≡ (reserved old n old.memory).chain → n ≤ length chain
-  reserved-frees old n is =
-      omega (arith, ap length is, length-append (down_from (slot_count old) (n - free_count old)) old.chain, length-down_from)
+  reserved-frees old n is = omega (arith, ap length is, length-append (down_from (slot_count old) (n - free_count old)) old.chain, length-down_from)

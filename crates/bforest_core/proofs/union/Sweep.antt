@@ -91,8 +91,7 @@ module _ {K V : Type 0} where
             arith,
             apart m,
             t.swept.counted m,
-            count-append m (numbers_under leaves rows)
-                old.chain,
+            count-append m (numbers_under leaves rows) old.chain,
             t.swept.split m,
             t.cut.counted m,
           )) (frees-wider _ (λ m z. omega (arith, n m)) t.swept.frees) g.frees;

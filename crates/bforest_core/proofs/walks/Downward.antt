@@ -35,8 +35,7 @@ module _ {K : Type 0} where
       StandsTo path indices level (rows ++ row ∷ []) place (length at.before)
   stands_more path indices level [] place high s e at = let h : high ≡ level = omega arith in
       (record { before = at.before; entries = at.entries; after = at.after; row_is = rw h at at.row_is; within = rw h at at.within; place_is = s ∙ (rw h at at.place_is) }, refl)
-  stands_more path indices level (r ∷ rows) place high s e at =
-      (s.0, stands_more path indices (suc level) rows (length s.0.before) high s.1 (omega arith) at)
+  stands_more path indices level (r ∷ rows) place high s e at = (s.0, stands_more path indices (suc level) rows (length s.0.before) high s.1 (omega arith) at)
 
 -- the node of a row whose head is between these heads
 pub record Seen {K X : Type 0} (half most : ℕ) (row : Row K X) (a : Heads K) (first : K) (number : ℕ) (b : Heads K) : Type 0 where

@@ -44,8 +44,7 @@ module _ {K V : Type 0} {slots : List (Content K V)} {root : ℕ} {spot : Spot} 
 
     module _ {Beside : ℕ → Type 0} {above : Spot} {number index1 : ℕ} (b : Stands Beside above number index1) where
       pub stands-low : spot.height < 16 → (above.code < 35184372088832) × (above.height < 16)
-      stands-low low =
-          (code-low 15 (here p).rest b.others above.code b.branch.top b.way.coded (omega (arith, up.depth_is)), omega (arith, up.depth_is))
+      stands-low low = (code-low 15 (here p).rest b.others above.code b.branch.top b.way.coded (omega (arith, up.depth_is)), omega (arith, up.depth_is))
 
       -- the spot of that child
       stands-spot : {next : Spot} → IsBelow above number index1 next → IsWay (number ∷ b.others) next p.rows b.to

@@ -17,8 +17,7 @@ module _ {K X : Type 0} where
 
   -- of two positions in one row, that in the earlier node is earlier
   at-earlier : {row : List (LevelNode K X)} {a i p b j q : ℕ} (x : IsAt row a i p) (y : IsAt row b j q) → length x.before < length y.before → p < q
-  at-earlier {a} {b} x y low = let ends = in-front x.before a x.entries x.after y.before b y.entries y.after (sym x.row_is ∙ y.row_is) low in
-      omega arith
+  at-earlier {a} {b} x y low = let ends = in-front x.before a x.entries x.after y.before b y.entries y.after (sym x.row_is ∙ y.row_is) low in omega arith
 
   -- in one node, that with the lower index
   at-index : {row : List (LevelNode K X)} {a i p b j q : ℕ} (x : IsAt row a i p) (y : IsAt row b j q) → length x.before ≡ length y.before → length (flat x.before) ≡ length (flat y.before)

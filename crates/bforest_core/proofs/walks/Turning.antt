@@ -30,10 +30,8 @@ module _ {K V : Type 0} {slots : List (Content K V)} {path indices : _} where
   -- the rows from a higher level on
   over-up : (steps : ℕ) {level size rows list place : _} (to : ℕ)
       → Over slots path indices level size rows list place → to ≡ level + steps → to ≤ size → HasOver slots path indices to size
-  over-up zero {size} {rows} {list} {place} to p is low =
-      (rows, list, place, subst (λ z. Over slots path indices z size rows list place) (omega arith) p)
-  over-up (suc steps) to p is low =
-      over-up steps to (spot p (λ e. omega arith)).over (omega arith) low
+  over-up zero {size} {rows} {list} {place} to p is low = (rows, list, place, subst (λ z. Over slots path indices z size rows list place) (omega arith) p)
+  over-up (suc steps) to p is low = over-up steps to (spot p (λ e. omega arith)).over (omega arith) low
 
   -- the node on a level meets what the test for a child requires
   pub turn-asks : {level size rows list place : _} → Over slots path indices level size rows list place → level ≢ size → size ≤ 17 → (level ≤ 16)

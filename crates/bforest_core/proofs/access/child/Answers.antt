@@ -5,8 +5,7 @@ pub node-requires : goal.node-requires
 node-requires g c = (search rules, (search rules, slice_get_within _ _ (Inner c.requires.0 c.requires.1) c.requires.2))
 
 pub child-requires : goal.child-requires
-child-requires g c = let w = c.requires in
-    (search rules, read_as w.2 c.node.ensures.value (λ z. IsInner z × (c.args.index < entry_count z)) (tt, w.3))
+child-requires g c = let w = c.requires in (search rules, read_as w.2 c.node.ensures.value (λ z. IsInner z × (c.args.index < entry_count z)) (tt, w.3))
 
 pub returns : goal.returns
 returns g c = λ keys children slot.

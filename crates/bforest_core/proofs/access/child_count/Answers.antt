@@ -8,5 +8,4 @@ pub unwrap_inner-requires : goal.unwrap_inner-requires
 unwrap_inner-requires g c = (search rules, read_as c.requires.1 c.node.ensures.value IsInner c.requires.2)
 
 pub returns-clause-value : goal.returns-clause-value
-returns-clause-value g c = λ content slot.
-    sym (ap entry_count (some_same (sym slot ∙ c.node.ensures.value) ∙ c.unwrap_inner.ensures.value))
+returns-clause-value g c = λ content slot. sym (ap entry_count (some_same (sym slot ∙ c.node.ensures.value) ∙ c.unwrap_inner.ensures.value))

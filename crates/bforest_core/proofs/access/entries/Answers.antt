@@ -9,7 +9,6 @@ entries-requires g c = (search rules, read_as c.requires.1 c.node.ensures.value 
 
 pub returns : goal.returns
 returns g c = record {
-  value = λ content slot.
-      c.entries.ensures.value ∙ ap entry_count (some_same (sym c.node.ensures.value ∙ slot));
+  value = λ content slot. c.entries.ensures.value ∙ ap entry_count (some_same (sym c.node.ensures.value ∙ slot));
   most = c.entries.ensures.most;
 }

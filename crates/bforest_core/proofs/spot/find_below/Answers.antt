@@ -3,8 +3,7 @@ use Rattle.bforest_core.proofs.{walks.Reading.not_so, walks.Searches.{search-ask
 use Rattle.bforest_core.proofs.spot.find_below.Goals as goal
 
 pub loop-key-init : goal.loop-key-init
-loop-key-init g c = λ leaves rows at.
-    record { total = g.met.C.Comparator.total c.args.comp.now; capacity = c.requires.capacity; at = at }
+loop-key-init g c = λ leaves rows at. record { total = g.met.C.Comparator.total c.args.comp.now; capacity = c.requires.capacity; at = at }
 
 pub node-requires : goal.node-requires
 node-requires g c = let w = c.requires.under in (search rules, (search rules, search-held (c.loop-key.invariant w.0 w.1 w.2)))
@@ -22,8 +21,7 @@ pub loop-key-smaller : goal.loop-key-smaller
 loop-key-smaller g c = let w = c.requires.under in let f = c.follow-index.ensures in
     omega (
       arith,
-      search-below (c.loop-key.invariant w.0 w.1 w.2) c.node.ensures.value (c.is_inner.ensures.inner.0 c.loop-key-test.true) f.index
-          f.child,
+      search-below (c.loop-key.invariant w.0 w.1 w.2) c.node.ensures.value (c.is_inner.ensures.inner.0 c.loop-key-test.true) f.index f.child,
     )
 
 pub loop-key-preserved : goal.loop-key-preserved
@@ -33,6 +31,5 @@ loop-key-preserved g c = λ leaves rows at. let f = c.follow-index.ensures in
 
 pub returns : goal.returns
 returns g c = record {
-  found = λ leaves rows at. search-ends (c.loop-key.invariant leaves rows at) c.node.ensures.value
-      (not_so c.loop-key-test.false c.is_inner.ensures.inner);
+  found = λ leaves rows at. search-ends (c.loop-key.invariant leaves rows at) c.node.ensures.value (not_so c.loop-key-test.false c.is_inner.ensures.inner);
 }

@@ -20,8 +20,7 @@ loop-here-smaller g c =
     omega (
       arith,
       c.below-here.ensures.height,
-      (down-low c.loop-here.invariant c.node.ensures.value (c.is_inner.ensures.inner.0 c.loop-here-test.true)
-          first-turns).1,
+      (down-low c.loop-here.invariant c.node.ensures.value (c.is_inner.ensures.inner.0 c.loop-here-test.true) first-turns).1,
     )
 
 pub loop-here-preserved : goal.loop-here-preserved

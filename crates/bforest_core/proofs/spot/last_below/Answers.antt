@@ -25,8 +25,7 @@ loop-index-smaller g c = let turns = last-turns c.requires.capacity c.last_index
     omega (
       arith,
       c.below-here.ensures.height,
-      (down-low c.loop-index.invariant c.node.ensures.value (c.is_inner.ensures.inner.0 c.loop-index-test.true)
-          turns).1,
+      (down-low c.loop-index.invariant c.node.ensures.value (c.is_inner.ensures.inner.0 c.loop-index-test.true) turns).1,
     )
 
 pub loop-index-preserved : goal.loop-index-preserved

@@ -21,8 +21,7 @@ child-next-requires g c = let t = c.loop-here.invariant in let some = turn-more 
     )
 
 pub loop-here-preserved : goal.loop-here-preserved
-loop-here-preserved g c = let t = c.loop-here.invariant in let some = turn-more t c.loop-here-test.true in let e = turn-end t some in
-    turn-down t some
+loop-here-preserved g c = let t = c.loop-here.invariant in let some = turn-more t c.loop-here-test.true in let e = turn-end t some in turn-down t some
     (turn-said (omega arith) e.way.leads (λ other found. ap entry_count (some_same (sym e.slot_is ∙ found))) (omega arith) (turn-beside t some)
     (search rules) c.child-next.ensures)
     c.below-here.ensures.height

@@ -22,8 +22,7 @@ child-before-requires g c =
     (search rules, branch-asks (back-at (omega arith) e.way.leads (omega arith) (turn-beside t some) c.last_index-last.ensures.last way).branch)
 
 pub loop-here-preserved : goal.loop-here-preserved
-loop-here-preserved g c = let t = c.loop-here.invariant in let some = turn-more t c.loop-here-test.true in let e = turn-end t some in
-    turn-down t some
+loop-here-preserved g c = let t = c.loop-here.invariant in let some = turn-more t c.loop-here-test.true in let e = turn-end t some in turn-down t some
     (back-said (omega arith) e.way.leads (omega arith) (turn-beside t some) c.last_index-last.ensures.last (search rules) c.child-before.ensures)
     c.below-here.ensures.height
 

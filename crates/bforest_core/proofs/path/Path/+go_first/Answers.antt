@@ -5,8 +5,7 @@ pub returns-then-from-level-clause-moved : goal.returns-then-from-level-clause-m
 returns-then-from-level-clause-moved g t c = λ path indices size turned. subst (λ z. Advances c.args.pool.now.nodes path indices c.args.self.now.node c.args.self.now.entry z size) c.if-from-level.true turned.moved
 
 pub go_to_child-requires : goal.go_to_child-requires
-go_to_child-requires g t c =
-    let w = c.requires.turned in (search rules, (search rules, down-asks (omega arith) w.3 w.4))
+go_to_child-requires g t c = let w = c.requires.turned in (search rules, (search rules, down-asks (omega arith) w.3 w.4))
 
 pub go_first-requires : goal.go_first-requires
 go_first-requires g t c κs within = let w = c.requires.turned in let w' = c.go_to_child.ensures in

@@ -5,8 +5,7 @@ pub returns-then-from-level-clause-moved : goal.returns-then-from-level-clause-m
 returns-then-from-level-clause-moved g t c = λ path indices size turned. subst (λ z. Retreats c.args.pool.now.nodes path indices c.args.self.now.node c.args.self.now.entry z size) c.if-from-level.true turned.moved
 
 pub last_index-last-requires : goal.last_index-last-requires
-last_index-last-requires g t c = let w = c.requires.turned in
-    (search rules, last-held (omega arith) w.3 c.index-self-from.result (omega arith) w.4)
+last_index-last-requires g t c = let w = c.requires.turned in (search rules, last-held (omega arith) w.3 c.index-self-from.result (omega arith) w.4)
 
 pub go_to_child-requires : goal.go_to_child-requires
 go_to_child-requires g t c = let w = c.requires.turned in

@@ -4,8 +4,7 @@ use Rattle.bforest_core.proofs.walks.Reading.{not_so}
 use Rattle.bforest_core.proofs.path.Path.first_leaf.Goals as goal
 
 pub node-requires : goal.node-requires
-node-requires g c =
-    (search rules, (search rules, node_within c.requires.union.1.capacity (under-root c.args.root c.requires.union c.requires.root)))
+node-requires g c = (search rules, (search rules, node_within c.requires.union.1.capacity (under-root c.args.root c.requires.union c.requires.root)))
 
 pub returns-then-not-is_inner : goal.returns-then-not-is_inner
 returns-then-not-is_inner g c =

@@ -9,8 +9,7 @@ split-requires g c = let was : slice_get c.args.self.now.nodes c.args.left ≡ S
   ← c.self.view_is,
   ← c.number-2.ensures.value,
   ← c.as_mut_slice.ensures.value,
-) c.two_nodes-rhs.ensures.right in
-    let full = rw was at c.requires.full in (search rules, (full.0, full.1))
+) c.two_nodes-rhs.ensures.right in let full = rw was at c.requires.full in (search rules, (full.0, full.1))
 
 pub invariant_of-self : goal.invariant_of-self
 invariant_of-self g c =
