@@ -65,7 +65,7 @@ module _ {K V : Type 0} where
       pub under : Under most now.nodes cut.leaves_left cut.lower_left (x ∷ [])
       pub apart : Distinct (numbers_under cut.leaves_left cut.lower_left ++ now.chain)
 
-    -- while the index is capacity of the top's, there is a next child
+    -- while the index is one of the top's, there is a next child
     pub sweep-turn : (now index x : _) → Distinct (numbers_under leaves rows ++ old.chain) → Swept most old now leaves rows top index → slice_get top index ≡ Some x → Turn now index x
     sweep-turn now index x apart s found = let todo = drop-read top index x found in
         let cut = under-cut most old.nodes (some_leaf capacity) (x ∷ []) (drop (suc index) top) (rw (← todo) s.under) in record {

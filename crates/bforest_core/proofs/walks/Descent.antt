@@ -44,18 +44,20 @@ module _ {K V : Type 0} {cmp : K → K → Ordering} {most : ℕ} {slots : List 
   -- a search in an inner node, whose row is the highest of those below
   pub record InnerStep : Type 0 where
     pub here : InnerUnder t.on
-    pub increasing : IsIncreasing cmp (here.at.e ∷ here.at.es)
-    pub from : (here.at.before ≡ []) ⊎ (cmp here.at.e.0 key ≢ Greater)
-    pub upto : IsUpTo cmp (flat here.at.after) key
+    pub open here use *
+    pub increasing : IsIncreasing cmp (at.e ∷ at.es)
+    pub from : (at.before ≡ []) ⊎ (cmp at.e.0 key ≢ Greater)
+    pub upto : IsUpTo cmp (flat at.after) key
 
   -- a search at its end, in a leaf
   pub record LeafStep : Type 0 where
     pub here : LeafUnder t.on
-    pub increasing : IsIncreasing cmp (here.at.e ∷ here.at.es)
-    pub increasing_after : IsIncreasing cmp (flat here.at.after)
-    pub from : (here.at.before ≡ []) ⊎ (cmp here.at.e.0 key ≢ Greater)
-    pub low : AllByRecursion (λ p. cmp p key ≡ Less) (keys_of (flat here.at.before))
-    pub high : AllByRecursion (λ p. cmp p key ≡ Greater) (keys_of (flat here.at.after))
+    pub open here use *
+    pub increasing : IsIncreasing cmp (at.e ∷ at.es)
+    pub increasing_after : IsIncreasing cmp (flat at.after)
+    pub from : (at.before ≡ []) ⊎ (cmp at.e.0 key ≢ Greater)
+    pub low : AllByRecursion (λ p. cmp p key ≡ Less) (keys_of (flat at.before))
+    pub high : AllByRecursion (λ p. cmp p key ≡ Greater) (keys_of (flat at.after))
 
 -- the entries of a row around a node increase
 increasing_about : {K X : Type 0} (cmp : K → K → Ordering) (o : IsTotalOrder cmp) {half most : _} {row : Row K X} {a first number b : _} (at : Seen half most row a first number b) → IsIncreasing cmp (flat row) →
@@ -91,20 +93,20 @@ module _ {K V : Type 0} {cmp : K → K → Ordering} (o : IsTotalOrder cmp) {mos
   -- the search one level down: at the child of this index, with everything below it
   pub record Below (s : InnerStep t) (index child deeper : ℕ) : Type 0 where
     pub on : SearchThrough cmp most slots leaves key child deeper
-    pub rows_are : on.lower ≡ s.here.rows
-    pub place_is : length on.before ≡ length (flat s.here.at.before) + index
-    pub within : index ≤ length s.here.at.es
+    pub rows_are : on.lower ≡ s.rows
+    pub place_is : length on.before ≡ length (flat s.at.before) + index
+    pub within : index ≤ length s.at.es
 
   module _ (s : InnerStep t) where
     -- the node meets what following a child requires
     pub follow_asks : (keys : List K) × (children : _) × (slice_get slots number ≡ Some (Inner keys children)) × IsStrictlySortedBy cmp keys
-    follow_asks = (entry_keys s.here.at.es, entry_items (s.here.at.e ∷ s.here.at.es), s.here.slot_is, increasing_rest o s.here.at.e s.here.at.es s.increasing)
+    follow_asks = (entry_keys s.at.es, entry_items (s.at.e ∷ s.at.es), s.slot_is, increasing_rest o s.at.e s.at.es s.increasing)
 
     -- following a child gives the search one level down
     pub below : {index child : ℕ} → ((keys : List K) (children : _) → slice_get slots number ≡ Some (Inner keys children) → index ≡ child_index cmp keys key)
         → ChildRead slots number index child → (deeper : ℕ) → deeper ≤ suc depth → Below s index child deeper
-    below {index} {child} says reads deeper low = let index_is = says (entry_keys s.here.at.es) (entry_items (s.here.at.e ∷ s.here.at.es)) s.here.slot_is in
-        let child_at = reads (entry_keys s.here.at.es) (entry_items (s.here.at.e ∷ s.here.at.es)) s.here.slot_is in let at = s.here.at in
+    below {index} {child} says reads deeper low = let index_is = says (entry_keys s.at.es) (entry_items (s.at.e ∷ s.at.es)) s.slot_is in
+        let child_at = reads (entry_keys s.at.es) (entry_items (s.at.e ∷ s.at.es)) s.slot_is in let at = s.at in
         let d = sides o at.es key (increasing_rest o at.e at.es s.increasing) in let w = last_of at.e d.l in
         let es_is = ap (λ z. at.e ∷ z) d.es_is ∙ ap (λ z. z ++ d.r) w.is ∙ append_assoc w.init (w.last ∷ []) d.r in
         let count_is : length w.init ≡ index = omega (arith, ap length w.is, length-append w.init (w.last ∷ [])) in
@@ -112,18 +114,18 @@ module _ {K V : Type 0} {cmp : K → K → Ordering} (o : IsTotalOrder cmp) {mos
         let child_is = some_same {x = child} {y = w.last.1} (cc (items-read (at.e ∷ at.es) index, here)) in record {
           on = record {
             on = record {
-              lower = s.here.rows;
+              lower = s.rows;
               before = flat at.before ++ w.init;
               first = w.last.0;
               after = d.r ++ flat at.after;
-              under = rw (← (ap flat at.row_is ∙ flat_parted at.before number w.init w.last d.r at.after es_is ∙ ap (λ z. (flat at.before ++ w.init) ++ (w.last.0, z) ∷ (d.r ++ flat at.after)) (sym child_is))) s.here.under;
+              under = rw (← (ap flat at.row_is ∙ flat_parted at.before number w.init w.last d.r at.after es_is ∙ ap (λ z. (flat at.before ++ w.init) ++ (w.last.0, z) ∷ (d.r ++ flat at.after)) (sym child_is))) s.under;
             };
             increasing = t.increasing;
             through = record {
               from = from_last _ _ _ _ _ key (elim s.from [ inl none ↦ inl (ap flat none) | inr ng ↦ inr ng ]) w.is d.low;
               upto = upto_parts _ _ _ key d.high s.upto;
             };
-            low = omega (arith, s.here.count_is, low);
+            low = omega (arith, s.count_is, low);
           };
           rows_are = refl;
           place_is = cc (length-append (flat at.before) w.init);
@@ -141,10 +143,10 @@ module _ {K V : Type 0} {cmp : K → K → Ordering} (o : IsTotalOrder cmp) {mos
 
   module _ (s : LeafStep t) where
     abbrev entries : List (K × V)
-    entries = s.here.at.e ∷ s.here.at.es
+    entries = s.at.e ∷ s.at.es
 
-    pub all_are : flat leaves ≡ flat s.here.at.before ++ (entries ++ flat s.here.at.after)
-    all_are = cc (flat-append s.here.at.before (node number entries ∷ s.here.at.after))
+    pub all_are : flat leaves ≡ flat s.at.before ++ (entries ++ flat s.at.after)
+    all_are = cc (flat-append s.at.before (node number entries ∷ s.at.after))
 
     -- the key's value in the leaf is its value among all entries
     pub leaf_value : value_for cmp (flat leaves) key ≡ value_for cmp entries key
@@ -155,7 +157,7 @@ module _ {K V : Type 0} {cmp : K → K → Ordering} (o : IsTotalOrder cmp) {mos
     leaf_found = cc (all_are, entry_between o _ _ _ _ s.increasing_after s.low s.high)
 
     abbrev pub placed : (m j : ℕ) → m ≡ number → j ≡ place cmp entries key → IsPlaced cmp leaves key m j
-    placed m j m_is j_is = let at = s.here.at in
+    placed m j m_is j_is = let at = s.at in
         let same = ap (λ z. is_present cmp z key) all_are ∙ ap is_some (entry_between o (flat at.before) entries (flat at.after) key s.increasing_after s.low s.high) in
         record {
           before = at.before;
@@ -173,7 +175,7 @@ module _ {K V : Type 0} {cmp : K → K → Ordering} (o : IsTotalOrder cmp) {mos
     reached path indices path' indices' wide wide' nodes indices_are = record {
       leaf_is = cc (get_or-set_same path 0 number 0 wide);
       entries = entries;
-      slot_is = s.here.slot_is;
+      slot_is = s.slot_is;
       increasing = s.increasing;
       value_is = leaf_value;
       found_is = leaf_found;

@@ -24,11 +24,11 @@ module _ {K V : Type 0} {cmp : K → K → Ordering} (o : IsTotalOrder cmp) {mos
 
       -- what a search in the leaf asks
       pub leaf-asks : (entries : List (K × V)) × (slice_get slots number ≡ Some (leaf_content entries)) × IsIncreasing cmp entries
-      leaf-asks = (step-leaf.here.at.e ∷ step-leaf.here.at.es, step-leaf.here.slot_is, step-leaf.increasing)
+      leaf-asks = (step-leaf.at.e ∷ step-leaf.at.es, step-leaf.slot_is, step-leaf.increasing)
 
       -- what a search in the leaf tells
-      pub narrowed : Narrows cmp leaves key step-leaf.here.at.before (step-leaf.here.at.e ∷ step-leaf.here.at.es)
-      narrowed = let s = step-leaf in let p = placed o capacity s number (place cmp (s.here.at.e ∷ s.here.at.es) key) refl refl in
+      pub narrowed : Narrows cmp leaves key step-leaf.at.before (step-leaf.at.e ∷ step-leaf.at.es)
+      narrowed = let s = step-leaf in let p = placed o capacity s number (place cmp (s.at.e ∷ s.at.es) key) refl refl in
           record { increasing = s.increasing; place_is = p.place_is; value_is = leaf_value o capacity s; found_is = leaf_found o capacity s; first = p.first }
 
     -- at an inner node
@@ -42,7 +42,7 @@ module _ {K V : Type 0} {cmp : K → K → Ordering} (o : IsTotalOrder cmp) {mos
 
       -- a level more is not too many
       pub deeper-low : depth < 16
-      deeper-low = omega (arith, step.here.count_is)
+      deeper-low = omega (arith, step.count_is)
 
       -- the search one level down
       pub down : {index child : ℕ} → ((keys : List K) (children : _) → slice_get slots number ≡ Some (Inner keys children) → index ≡ child_index cmp keys key)
@@ -65,16 +65,16 @@ module _ {K V : Type 0} {cmp : K → K → Ordering} {most : ℕ} {slots : List 
   module _ {content : Content K V} (found : slice_get slots number ≡ Some content) where
     -- where it ends
     pub search-ends : (IsInner content → ⊥) → EndsOn cmp slots leaves rows key spot number
-    search-ends other = let s = step-leaf w.total w.capacity w.on found other in let at = s.here.at in record {
+    search-ends other = let s = step-leaf w.total w.capacity w.on found other in let at = s.at in record {
       before = at.before;
       entries = at.e ∷ at.es;
       after = at.after;
       leaves_are = at.row_is;
-      slot_is = s.here.slot_is;
+      slot_is = s.slot_is;
       some = omega arith;
       tells = narrowed w.total w.capacity w.on found other;
       numbers = w.numbers;
-      way = subst (λ z. IsWay w.numbers spot z (length at.before)) (ap (λ z. z ++ w.upper) (sym s.here.lower_is) ∙ w.join) (rw at.before_is w.way);
+      way = subst (λ z. IsWay w.numbers spot z (length at.before)) (ap (λ z. z ++ w.upper) (sym s.lower_is) ∙ w.join) (rw at.before_is w.way);
     }
 
     module _ (inner : IsInner content) where
@@ -95,14 +95,14 @@ module _ {K V : Type 0} {cmp : K → K → Ordering} {most : ℕ} {slots : List 
         search-below = let low = deeper-low w.total w.capacity w.on found inner in (
           code-low 15 w.upper w.numbers spot.code _ w.way.coded (omega (arith, w.way.height_is)),
           low,
-          omega (arith, to.within, here.here.room),
+          omega (arith, to.within, here.room),
         )
 
         -- what asking asks whether another search goes to that child too
         pub search-along : (keys : List K) × (children : List ℕ) × (slice_get slots number ≡ Some (Inner keys children)) × IsStrictlySortedBy cmp keys
             × (length children ≡ suc (length keys)) × (index ≤ length keys)
-        search-along = let a = search-asks in let es = here.here.at.es in let count = length-map es (λ w. w.0) in
-            (entry_keys es, entry_items (here.here.at.e ∷ es), here.here.slot_is, increasing_rest w.total here.here.at.e es here.increasing, omega (arith, item_count (here.here.at.e ∷ es)), omega (arith, to.within))
+        search-along = let a = search-asks in let es = here.at.es in let count = length-map es (λ w. w.0) in
+            (entry_keys es, entry_items (here.at.e ∷ es), here.slot_is, increasing_rest w.total here.at.e es here.increasing, omega (arith, item_count (here.at.e ∷ es)), omega (arith, to.within))
 
         -- the search one level down
         pub search-on : {next : Spot} → IsBelow spot number index next → Search cmp most slots leaves rows key next child

@@ -16,13 +16,13 @@ pub descend-requires : goal.descend-requires
 descend-requires g t c κs within = let w = c.requires.under in let o = g.met.C.Comparator.total c.args.comp.now in
     let s = inner_step o c.requires.capacity w.1 (inner_at c.requires.capacity w.1.on (λ z. c.if-level-eq0.false (w.2 ∙ z))) in
     let d = below o c.requires.capacity s c.follow-index.ensures.index c.follow-index.ensures.child 0 (omega arith) in
-    (omega arith, (within.0, (within.1.0, ((λ a m. search rules), (within.1.1, (search rules, (search rules, (c.requires.capacity, (omega arith, (w.0, d.on, omega (arith, w.2, s.here.count_is, ap length d.rows_are)))))))))))
+    (omega arith, (within.0, (within.1.0, ((λ a m. search rules), (within.1.1, (search rules, (search rules, (c.requires.capacity, (omega arith, (w.0, d.on, omega (arith, w.2, s.count_is, ap length d.rows_are)))))))))))
 
 pub returns-clause-descended : goal.returns-clause-descended
 returns-clause-descended g t c = λ leaves on level_is. let o = g.met.C.Comparator.total c.args.comp.now in
     let s = inner_step o c.requires.capacity on (inner_at c.requires.capacity on.on (λ z. c.if-level-eq0.false (level_is ∙ z))) in
     let d = below o c.requires.capacity s c.follow-index.ensures.index c.follow-index.ensures.child 0 (omega arith) in
-    let r = c.descend.ensures.descended leaves d.on (omega (arith, level_is, s.here.count_is, ap length d.rows_are)) in let set = c.set_level-2.ensures in
+    let r = c.descend.ensures.descended leaves d.on (omega (arith, level_is, s.count_is, ap length d.rows_are)) in let set = c.set_level-2.ensures in
     record {
       leaf_is = r.leaf_is;
       entries = r.entries;
