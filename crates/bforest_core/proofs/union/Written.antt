@@ -48,7 +48,7 @@ module _ {K V : Type 0} {most : ℕ} {table : Table K V} {root place path indice
   at = s.stands.leaf
 
   leaf_at : slice_get table.nodes (get_or path 0 0) ≡ Some (leaf_content at.entries)
-  leaf_at = (leaf_here union.1.capacity (record { tree = _; place = place; fit = r.fit; inside = r.inside; stands = s.stands })).node.slot_is
+  leaf_at = (leaf_here union.1.capacity (record { tree = _; place = place; fit = r.fit; inside = r.inside; stands = s.stands })).slot_is
 
   -- the leaf occurs once among the numbers of the tree and the chain
   once_here : (count (get_or path 0 0) (numbers at.before) + count (get_or path 0 0) (numbers at.after) ≡ 0) × (count (get_or path 0 0) (flat_map numbers (tree_of table.nodes root).above) ≡ 0) × (count (get_or path 0 0) table.chain ≡ 0)

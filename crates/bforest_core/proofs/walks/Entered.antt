@@ -33,19 +33,19 @@ InLeaf most slots tree path indices leaf = Within leaf_content slots most path i
 -- a path with the same nodes, and the same indices but in the leaf, points into the same leaf
 module _ {K V : Type 0} {most : ℕ} {slots : List (Content K V)} {tree : Tree K V} {path indices leaf : _} (w : InLeaf most slots tree path indices leaf) {size : ℕ}
     (size_is : size ≡ suc (length tree.above)) {path' : _} (indices' place : _) (path_is : path' ≡ path) (same : SameBut 0 indices indices') where
-  abbrev pub points_in : get_or indices' 0 0 ≤ length w.node.entries → place ≡ length (flat w.node.before) + get_or indices' 0 0 → PointsAt path' indices' size tree place
+  abbrev pub points_in : get_or indices' 0 0 ≤ length w.entries → place ≡ length (flat w.before) + get_or indices' 0 0 → PointsAt path' indices' size tree place
   points_in low place_is = record {
-    before = w.node.before;
-    entries = w.node.entries;
-    after = w.node.after;
-    leaves_are = cc (w.node.row_is);
+    before = w.before;
+    entries = w.entries;
+    after = w.after;
+    leaves_are = cc (w.row_is);
     within = low;
     place_is = place_is;
-    above = rw w.node.at (stands-same _ _ _ _ 1 _ _ (λ i low. ap (λ z. get_or z i 0) path_is) (λ i low. same i (λ e. omega arith)) w.stands);
+    above = rw w.at (stands-same _ _ _ _ 1 _ _ (λ i low. ap (λ z. get_or z i 0) path_is) (λ i low. same i (λ e. omega arith)) w.stands);
     size_is = size_is;
   }
 
-  stands_in : get_or indices' 0 0 < length w.node.entries → place ≡ length (flat w.node.before) + get_or indices' 0 0 → Stands path' indices' size tree place
+  stands_in : get_or indices' 0 0 < length w.entries → place ≡ length (flat w.before) + get_or indices' 0 0 → Stands path' indices' size tree place
   stands_in low place_is = stands-pointed (points_in (omega arith) place_is) low
 
 module _ {K V : Type 0} {most : ℕ} (capacity : IsLeafCapacity most) {slots : List (Content K V)} {tree : Tree K V} (fit : IsFit most tree) (inside : IsIn slots tree) where
@@ -61,12 +61,12 @@ module _ {K V : Type 0} {most : ℕ} (capacity : IsLeafCapacity most) {slots : L
   -- a path that moved to the front of the next leaf stands on the next entry
   pub first_behind : {path indices : List ℕ} {leaf : ℕ} (w : InLeaf most slots tree path indices leaf) {size : ℕ} → size ≡ suc (length tree.above) → {path1 indices1 : List ℕ} {path' : List ℕ} (indices' : List ℕ)
       → Moved path indices path1 indices1 0 tree.above (heads tree.leaves) (suc leaf) → path' ≡ path1 → get_or indices' 0 0 ≡ 0 → SameBut 0 indices1 indices'
-      → Stands path' indices' size tree (length (flat w.node.before) + length w.node.entries)
+      → Stands path' indices' size tree (length (flat w.before) + length w.entries)
   first_behind w size_is indices' m path_is here above = let next = moved_in m in
-      stands_in next size_is indices' (length (flat w.node.before) + length w.node.entries) path_is above (omega (arith, next.node.some, here)) (omega (arith, here, seam w.node next.node refl))
+      stands_in next size_is indices' (length (flat w.before) + length w.entries) path_is above (omega (arith, next.some, here)) (omega (arith, here, seam w.node next.node refl))
 
   -- the last leaf ends at the end of the list
-  pub leaf_last : {path indices leaf : _} (w : InLeaf most slots tree path indices leaf) → suc leaf ≡ length (heads tree.leaves) → length (flat w.node.before) + length w.node.entries ≡ length (flat tree.leaves)
+  pub leaf_last : {path indices leaf : _} (w : InLeaf most slots tree path indices leaf) → suc leaf ≡ length (heads tree.leaves) → length (flat w.before) + length w.entries ≡ length (flat tree.leaves)
   leaf_last w last = sym (none-behind w.node (half_of most) (some_leaf capacity) fit.leaves_fit last)
 
 -- from the leaf of a path that stands on an entry
@@ -86,7 +86,7 @@ module _ {K V : Type 0} {most : ℕ} (capacity : IsLeafCapacity most) {slots : L
   entry_is : (i : ℕ) (e : K × V) (at : ℕ) → at ≡ length (flat s.leaf.before) + i
       → ((es : List (K × V)) → slice_get slots (get_or path 0 0) ≡ Some (leaf_content es) → slice_get es i ≡ Some e) → slice_get (flat s.tree.leaves) at ≡ Some e
   entry_is i e at at_is read_is =
-      cc (at_is, entry_at s.leaf.before (get_or path 0 0) s.leaf.entries s.leaf.after i s.leaf.row_is (read_is s.leaf.entries leaf_here.node.slot_is))
+      cc (at_is, entry_at s.leaf.before (get_or path 0 0) s.leaf.entries s.leaf.after i s.leaf.row_is (read_is s.leaf.entries leaf_here.slot_is))
 
   -- the entry at the place, as it was read in the leaf
   pub entry_read : {e : K × V} → ((es : List (K × V)) → slice_get slots (get_or path 0 0) ≡ Some (leaf_content es) → slice_get es (get_or indices 0 0) ≡ Some e)
@@ -100,13 +100,13 @@ module _ {K V : Type 0} {most : ℕ} (capacity : IsLeafCapacity most) {slots : L
 
     pub next_within : {path' : _} (indices' : _) → path' ≡ path → get_or indices' 0 0 ≡ get_or indices 0 0 + 1 → SameBut 0 indices indices' → Stands path' indices' size s.tree (suc s.place)
     next_within indices' path_is here above =
-        let low = slice_get_within s.leaf.entries (get_or indices 0 0 + 1) e (sym (read_is s.leaf.entries leaf_here.node.slot_is)) in
+        let low = slice_get_within s.leaf.entries (get_or indices 0 0 + 1) e (sym (read_is s.leaf.entries leaf_here.slot_is)) in
         stands_in leaf_here s.size_is indices' (suc s.place) path_is above (omega arith) (omega (arith, s.leaf.place_is))
 
   module _ (none : (es : List (K × V)) → slice_get slots (get_or path 0 0) ≡ Some (leaf_content es) → None ≡ slice_get es (get_or indices 0 0 + 1)) where
     -- the leaf has no entry at the next index
     leaf_ends : suc s.place ≡ length (flat s.leaf.before) + length s.leaf.entries
-    leaf_ends = omega (arith, s.leaf.place_is, s.leaf.within, read_none s.leaf.entries (get_or indices 0 0 + 1) (none s.leaf.entries leaf_here.node.slot_is))
+    leaf_ends = omega (arith, s.leaf.place_is, s.leaf.within, read_none s.leaf.entries (get_or indices 0 0 + 1) (none s.leaf.entries leaf_here.slot_is))
 
     -- the next entry is the first of the next leaf
     pub next_over : {path1 indices1 path' : List ℕ} (indices' : List ℕ) → Advances slots path indices path1 indices1 0 size → path' ≡ path1

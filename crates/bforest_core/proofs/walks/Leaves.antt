@@ -27,7 +27,7 @@ module _ {K V : Type 0} {n : ℕ} {table : Table K V} (union : IsUnion n table) 
         record {
           on = subst (λ z. StandsOn table root path z) (omega arith) on;
           within = s.leaf.within;
-          leaf = (on-leaf-in union path on).node.slot_is;
+          leaf = (on-leaf-in union path on).slot_is;
           list = rw (← here) (leaf-rest s);
         },
       )

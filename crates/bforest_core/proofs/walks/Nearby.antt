@@ -85,7 +85,7 @@ module _ {K V : Type 0} {n : ℕ} (table : Table K V) (root : ℕ) (path : Path 
 
     -- the index after an entry of a leaf is at most 255
     pub behind-low : (p : ℕ) → StandsOn table root path p → index_of path + 1 ≤ 255
-    behind-low p on = omega (arith, (on-leaf-in union path on).node.room)
+    behind-low p on = omega (arith, (on-leaf-in union path on).room)
 
   module _ (cmp : K → K → Ordering) (key : K) where
     -- the answer of a search, and where the path stands afterwards
@@ -138,7 +138,7 @@ module _ {K V : Type 0} {n : ℕ} (table : Table K V) {root : ℕ} (path : Path 
 module _ {K V : Type 0} {n : ℕ} {table : Table K V} {root : ℕ} {path : Path K V n} {p : ℕ} (union : IsUnion n table) (on : StandsOn table root path p) where
   -- the path's leaf has the entry
   pub here-leaf : (entries : List (K × V)) × (slice_get table.nodes (leaf_of path) ≡ Some (leaf_content entries)) × (index_of path < length entries)
-  here-leaf = (on.stands.leaf.entries, (on-leaf-in union path on).node.slot_is, on.stands.leaf.within)
+  here-leaf = (on.stands.leaf.entries, (on-leaf-in union path on).slot_is, on.stands.leaf.within)
 
   module _ {e : K × V} (read_is : (entries : List (K × V)) → slice_get table.nodes (leaf_of path) ≡ Some (leaf_content entries) → slice_get entries (index_of path) ≡ Some e) where
     -- the entry read in the leaf is the entry of the list

@@ -127,7 +127,7 @@ module _ {K V : Type 0} {n : ℕ} {table : Table K V} (union : IsUnion n table) 
 
   -- the content of the leaf's slot
   pub pointed-leaf : (entries : List (K × V)) × (slice_get table.nodes (leaf_of path) ≡ Some (leaf_content entries))
-  pointed-leaf = (to.points.entries, pointed.node.slot_is)
+  pointed-leaf = (to.points.entries, pointed.slot_is)
 
   abbrev pointed-over : HasOver table.nodes path.node path.entry 1 path.size
   pointed-over = (
@@ -144,10 +144,10 @@ module _ {K V : Type 0} {n : ℕ} {table : Table K V} (union : IsUnion n table) 
   module _ {has : Bool} (test : (entries : List (K × V)) → slice_get table.nodes (leaf_of path) ≡ Some (leaf_content entries) → IsTrue has ↔ (index_of path < length entries)) where
     -- the path is at an entry of the leaf
     pub pointed-here : has ≡ true → StandsAt table root path place
-    pointed-here is = on-at table path (record { root_is = to.root_is; stands = stands-pointed to.points ((test to.points.entries pointed.node.slot_is).0 is) })
+    pointed-here is = on-at table path (record { root_is = to.root_is; stands = stands-pointed to.points ((test to.points.entries pointed.slot_is).0 is) })
 
     behind : has ≡ false → place ≡ length (flat to.points.before) + length to.points.entries
-    behind none = omega (arith, not_less (index_of path) (length to.points.entries) (λ low. false≢true (sym none ∙ (test to.points.entries pointed.node.slot_is).1 low)))
+    behind none = omega (arith, not_less (index_of path) (length to.points.entries) (λ low. false≢true (sym none ∙ (test to.points.entries pointed.slot_is).1 low)))
 
     -- past a leaf's last entry, the first of the next leaf is at the same place
     pub pointed-next : has ≡ false → (moved new : Path K V n) → Advances table.nodes path.node path.entry moved.node moved.entry 0 path.size →

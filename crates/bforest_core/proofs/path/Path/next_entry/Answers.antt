@@ -3,10 +3,10 @@ use Rattle.bforest_core.proofs.walks.Entered.{entry_read, leaf_here, next_last, 
 use Rattle.bforest_core.proofs.path.Path.next_entry.Goals as goal
 
 pub overflow_add-next : goal.overflow_add-next
-overflow_add-next g c = omega (arith, (leaf_here c.requires.capacity c.requires.stands).node.room)
+overflow_add-next g c = omega (arith, (leaf_here c.requires.capacity c.requires.stands).room)
 
 pub leaf_entry-requires : goal.leaf_entry-requires
-leaf_entry-requires g c = (search rules, (search rules, (c.requires.stands.leaf.entries, (leaf_here c.requires.capacity c.requires.stands).node.slot_is)))
+leaf_entry-requires g c = (search rules, (search rules, (c.requires.stands.leaf.entries, (leaf_here c.requires.capacity c.requires.stands).slot_is)))
 
 pub returns-in-Some-clause-value : goal.returns-in-Some-clause-value
 returns-in-Some-clause-value g c = λ s. next_read c.requires.capacity s c.in-Some.ensures.value
@@ -30,7 +30,7 @@ pub entry_here-requires : goal.entry_here-requires
 entry_here-requires g c = let w = c.requires.stands in
     let s = next_over c.requires.capacity w c.in_default.ensures.value _ (c.next_node.ensures.moved (search rules)) c.set_entry-2.ensures.nodes c.set_entry-2.ensures.here c.set_entry-2.ensures.above in
     let at = leaf_here c.requires.capacity (record { tree = w.tree; place = suc w.place; fit = w.fit; inside = w.inside; stands = s }) in
-    (search rules, (search rules, (s.leaf.entries, at.node.slot_is, s.leaf.within)))
+    (search rules, (search rules, (s.leaf.entries, at.slot_is, s.leaf.within)))
 
 pub returns-clause-value : goal.returns-clause-value
 returns-clause-value g c = λ s.
