@@ -124,7 +124,7 @@ module _ {K V : Type 0} where
           low = [];
           rows = [];
           top = [];
-          content = leaf_content (s.at.e ∷ s.at.es);
+          content = leaf_content (s.e ∷ s.es);
           slot_is = s.slot_is;
           children_are = refl;
           under = record { leaves_fit = tt; leaves_in = tt; stacked = refl; rows_in = tt };
@@ -134,7 +134,7 @@ module _ {K V : Type 0} where
         }
 
     open_inner : {lower : _} {first number : _} {u : Under most slots leaves lower ((first, number) ∷ [])} → InnerUnder (node_over lower [] first number [] u) → Opened most slots leaves lower number
-    open_inner s = let row = one_node 8 (omega arith) s.at in let es = s.at.e ∷ s.at.es in
+    open_inner s = let row = one_node 8 (omega arith) s.at in let es = s.e ∷ s.es in
         record {
           low = leaves;
           rows = s.rows;

@@ -14,10 +14,10 @@ module _ {K V : Type 0} {most : _} {slots : List (Content K V)} {leaves : Row K 
   rows-join upper = cc (append_assoc s.rows (s.row ∷ []) upper)
 
   -- the way to a child of an inner node, by the way to the node
-  pub child-way : {index : ℕ} → index ≤ length s.at.es → {spot next : Spot} → IsBelow spot number index next → {upper : Rows K} {numbers : _}
-      → IsWay numbers spot upper (length n.before) → {place : ℕ} → place ≡ length (flat s.at.before) + index → IsWay (number ∷ numbers) next (s.row ∷ upper) place
+  pub child-way : {index : ℕ} → index ≤ length s.es → {spot next : Spot} → IsBelow spot number index next → {upper : Rows K} {numbers : _}
+      → IsWay numbers spot upper (length n.before) → {place : ℕ} → place ≡ length (flat s.before) + index → IsWay (number ∷ numbers) next (s.row ∷ upper) place
   child-way low {spot} b {upper} {numbers} w place_is =
-      way-below (seen_at s.at refl refl low place_is) (omega arith) (subst (IsWay numbers spot upper) (sym s.at.before_is) w) b
+      way-below (seen_at s.at refl refl low place_is) (omega arith) (subst (IsWay numbers spot upper) (sym s.before_is) w) b
 
 -- what is said of the first leaf, and of the last, as the end of a way
 module _ {K V : Type 0} (end : Spot) (leaf : ℕ) (leaves : Row K V) (rows : Rows K) where
@@ -61,11 +61,11 @@ module _ {K V : Type 0} {most : ℕ} {slots : List (Content K V)} (capacity : Is
   abbrev here : InnerUnder s.on
   here = inner_under capacity s.on read inner
 
-  low-here : index ≤ length here.at.es
+  low-here : index ≤ length here.es
   low-here = turns.within here s.side
 
   side-asks : ChildAsked slots number index
-  side-asks = (_, _, here.slot_is, omega (arith, low-here, item_count (here.at.e ∷ here.at.es)))
+  side-asks = (_, _, here.slot_is, omega (arith, low-here, item_count (here.e ∷ here.es)))
 
   side-low : length s.lower + spot.height ≤ 16 → (spot.code < 35184372088832) × (spot.height < 16) × (index < 8)
   side-low low = (

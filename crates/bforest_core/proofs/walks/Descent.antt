@@ -45,19 +45,19 @@ module _ {K V : Type 0} {cmp : K → K → Ordering} {most : ℕ} {slots : List 
   pub record InnerStep : Type 0 where
     pub here : InnerUnder t.on
     pub open here use *
-    pub increasing : IsIncreasing cmp (at.e ∷ at.es)
-    pub from : (at.before ≡ []) ⊎ (cmp at.e.0 key ≢ Greater)
-    pub upto : IsUpTo cmp (flat at.after) key
+    pub increasing : IsIncreasing cmp (e ∷ es)
+    pub from : (before ≡ []) ⊎ (cmp e.0 key ≢ Greater)
+    pub upto : IsUpTo cmp (flat after) key
 
   -- a search at its end, in a leaf
   pub record LeafStep : Type 0 where
     pub here : LeafUnder t.on
     pub open here use *
-    pub increasing : IsIncreasing cmp (at.e ∷ at.es)
-    pub increasing_after : IsIncreasing cmp (flat at.after)
-    pub from : (at.before ≡ []) ⊎ (cmp at.e.0 key ≢ Greater)
-    pub low : AllByRecursion (λ p. cmp p key ≡ Less) (keys_of (flat at.before))
-    pub high : AllByRecursion (λ p. cmp p key ≡ Greater) (keys_of (flat at.after))
+    pub increasing : IsIncreasing cmp (e ∷ es)
+    pub increasing_after : IsIncreasing cmp (flat after)
+    pub from : (before ≡ []) ⊎ (cmp e.0 key ≢ Greater)
+    pub low : AllByRecursion (λ p. cmp p key ≡ Less) (keys_of (flat before))
+    pub high : AllByRecursion (λ p. cmp p key ≡ Greater) (keys_of (flat after))
 
 -- the entries of a row around a node increase
 increasing_about : {K X : Type 0} (cmp : K → K → Ordering) (o : IsTotalOrder cmp) {half most : _} {row : Row K X} {a first number b : _} (at : Seen half most row a first number b) → IsIncreasing cmp (flat row) →
@@ -73,7 +73,7 @@ module _ {K V : Type 0} {cmp : K → K → Ordering} (o : IsTotalOrder cmp) {mos
     here = s;
     increasing = (increasing_about cmp o s.at (stacked_increasing _ o _ _ _ s.under.stacked (heads_increasing o leaves t.increasing))).1;
     from = from_at cmp t.before s.at t.through.from;
-    upto = upto_flat _ 4 8 (omega arith) _ _ s.at.after_fit (rw s.at.after_is t.through.upto);
+    upto = upto_flat _ 4 8 (omega arith) _ _ s.after_fit (rw s.after_is t.through.upto);
   }
 
   pub leaf_step : LeafUnder t.on → LeafStep t
@@ -94,19 +94,19 @@ module _ {K V : Type 0} {cmp : K → K → Ordering} (o : IsTotalOrder cmp) {mos
   pub record Below (s : InnerStep t) (index child deeper : ℕ) : Type 0 where
     pub on : SearchThrough cmp most slots leaves key child deeper
     pub rows_are : on.lower ≡ s.rows
-    pub place_is : length on.before ≡ length (flat s.at.before) + index
-    pub within : index ≤ length s.at.es
+    pub place_is : length on.before ≡ length (flat s.before) + index
+    pub within : index ≤ length s.es
 
   module _ (s : InnerStep t) where
     -- the node meets what following a child requires
     pub follow_asks : (keys : List K) × (children : _) × (slice_get slots number ≡ Some (Inner keys children)) × IsStrictlySortedBy cmp keys
-    follow_asks = (entry_keys s.at.es, entry_items (s.at.e ∷ s.at.es), s.slot_is, increasing_rest o s.at.e s.at.es s.increasing)
+    follow_asks = (entry_keys s.es, entry_items (s.e ∷ s.es), s.slot_is, increasing_rest o s.e s.es s.increasing)
 
     -- following a child gives the search one level down
     pub below : {index child : ℕ} → ((keys : List K) (children : _) → slice_get slots number ≡ Some (Inner keys children) → index ≡ child_index cmp keys key)
         → ChildRead slots number index child → (deeper : ℕ) → deeper ≤ suc depth → Below s index child deeper
-    below {index} {child} says reads deeper low = let index_is = says (entry_keys s.at.es) (entry_items (s.at.e ∷ s.at.es)) s.slot_is in
-        let child_at = reads (entry_keys s.at.es) (entry_items (s.at.e ∷ s.at.es)) s.slot_is in let at = s.at in
+    below {index} {child} says reads deeper low = let index_is = says (entry_keys s.es) (entry_items (s.e ∷ s.es)) s.slot_is in
+        let child_at = reads (entry_keys s.es) (entry_items (s.e ∷ s.es)) s.slot_is in let at = s.at in
         let d = sides o at.es key (increasing_rest o at.e at.es s.increasing) in let w = last_of at.e d.l in
         let es_is = ap (λ z. at.e ∷ z) d.es_is ∙ ap (λ z. z ++ d.r) w.is ∙ append_assoc w.init (w.last ∷ []) d.r in
         let count_is : length w.init ≡ index = omega (arith, ap length w.is, length-append w.init (w.last ∷ [])) in
@@ -143,10 +143,10 @@ module _ {K V : Type 0} {cmp : K → K → Ordering} (o : IsTotalOrder cmp) {mos
 
   module _ (s : LeafStep t) where
     abbrev entries : List (K × V)
-    entries = s.at.e ∷ s.at.es
+    entries = s.e ∷ s.es
 
-    pub all_are : flat leaves ≡ flat s.at.before ++ (entries ++ flat s.at.after)
-    all_are = cc (flat-append s.at.before (node number entries ∷ s.at.after))
+    pub all_are : flat leaves ≡ flat s.before ++ (entries ++ flat s.after)
+    all_are = cc (flat-append s.before (node number entries ∷ s.after))
 
     -- the key's value in the leaf is its value among all entries
     pub leaf_value : value_for cmp (flat leaves) key ≡ value_for cmp entries key

@@ -22,45 +22,45 @@ last-end one {number} at last = let none = ap (λ z. length (flat z)) (no_heads 
 
 module _ {K V : Type 0} {most : ℕ} {slots : List (Content K V)} {leaves : Row K V} {number : ℕ} {n : NodeOver most slots leaves number} (s : InnerUnder n) where
   -- the node meets what reading a child requires
-  pub child_asks : {content : Content K V} → slice_get slots number ≡ Some content → (index : ℕ) → index ≤ length s.at.es → IsInner content × (index < entry_count content)
-  child_asks {content} read index within = let is : content ≡ inner_content (s.at.e ∷ s.at.es) = some_same (cc) in
-      (subst IsInner (sym is) tt, rw is (omega (arith, within, item_count (s.at.e ∷ s.at.es))))
+  pub child_asks : {content : Content K V} → slice_get slots number ≡ Some content → (index : ℕ) → index ≤ length s.es → IsInner content × (index < entry_count content)
+  child_asks {content} read index within = let is : content ≡ inner_content (s.e ∷ s.es) = some_same (cc) in
+      (subst IsInner (sym is) tt, rw is (omega (arith, within, item_count (s.e ∷ s.es))))
 
   -- a child of the node, as a node over the leaves and rows under it
   pub record ChildUnder (index child : ℕ) : Type 0 where
     pub on : NodeOver most slots leaves child
     pub rows_are : on.lower ≡ s.rows
-    pub place_is : length on.before ≡ length (flat s.at.before) + index
+    pub place_is : length on.before ≡ length (flat s.before) + index
     rest_is : length on.before + suc (length on.after) ≡ length (flat s.row)
 
   pub child_under : (index : ℕ) {child : ℕ} → ChildRead slots number index child → ChildUnder index child
-  child_under index {child} reads = let c = child_cut (s.at.e ∷ s.at.es) index child (reads _ _ s.slot_is) in let front = flat s.at.before ++ c.0 in
-      let back = c.2 ++ flat s.at.after in let flat_is = ap flat s.at.row_is ∙ flat_parted s.at.before number c.0 (c.1, child) c.2 s.at.after c.3 in record {
+  child_under index {child} reads = let c = child_cut (s.e ∷ s.es) index child (reads _ _ s.slot_is) in let front = flat s.before ++ c.0 in
+      let back = c.2 ++ flat s.after in let flat_is = ap flat s.row_is ∙ flat_parted s.before number c.0 (c.1, child) c.2 s.after c.3 in record {
         on = record { lower = s.rows; before = front; first = c.1; after = back; under = rw flat_is at s.under };
         rows_are = refl;
-        place_is = cc (length-append (flat s.at.before) c.0);
+        place_is = cc (length-append (flat s.before) c.0);
         rest_is = sym (cc (length-append front ((c.1, child) ∷ back)));
       }
 
 module _ {K V : Type 0} {most : ℕ} {slots : List (Content K V)} {leaves : Row K V} {number : ℕ} {n : NodeOver most slots leaves number} {path indices : List ℕ} where
   -- the path is in a leaf, above which it was not written
   pub leaf_up : (s : LeafUnder n) {path' indices' : _} → SameBut 0 path path' → SameBut 0 indices indices'
-      → LedUp n.lower (length s.at.before) (length n.before) path indices path' indices'
+      → LedUp n.lower (length s.before) (length n.before) path indices path' indices'
   leaf_up s nodes entries = rw s.lower_is (record {
-    stands = s.at.before_is;
+    stands = s.before_is;
     nodes_above = λ i low. nodes i (λ z. omega arith);
     entries_above = λ i low. entries i (λ z. omega arith);
   })
 
   -- the path, once it was written at an inner node, leads on from a child
-  pub inner_up : (s : InnerUnder n) {lower1 : Rows K} {index top : ℕ} → lower1 ≡ s.rows → top ≡ length (flat s.at.before) + index → index ≤ length s.at.es
+  pub inner_up : (s : InnerUnder n) {lower1 : Rows K} {index top : ℕ} → lower1 ≡ s.rows → top ≡ length (flat s.before) + index → index ≤ length s.es
       → {path1 indices1 path2 indices2 : _} {place : ℕ} (high : ℕ) → high ≡ length n.lower → LedUp lower1 place top path1 indices1 path2 indices2
       → get_or path1 high 0 ≡ number → get_or indices1 high 0 ≡ index → SameBut high path path1 → SameBut high indices indices1
       → LedUp n.lower place (length n.before) path indices path2 indices2
   inner_up s rows_are top_is within {path2} {indices2} {place} high high_is led m_is j_is nodes entries =
       let d = rw rows_are at led in let at = seen_at s.at (d.nodes_above high (omega arith) ∙ m_is) (d.entries_above high (omega arith) ∙ j_is) within top_is in
       let more = stands_more path2 indices2 1 s.rows place high d.stands (omega arith) at in record {
-        stands = rw s.lower_is (subst (λ z. StandsTo path2 indices2 1 (s.rows ++ s.row ∷ []) place z) s.at.before_is more);
+        stands = rw s.lower_is (subst (λ z. StandsTo path2 indices2 1 (s.rows ++ s.row ∷ []) place z) s.before_is more);
         nodes_above = λ i low. d.nodes_above i (omega arith) ∙ nodes i (λ z. omega arith);
         entries_above = λ i low. d.entries_above i (omega arith) ∙ entries i (λ z. omega arith);
       }
@@ -69,19 +69,19 @@ module _ {K V : Type 0} (most : ℕ) (slots : List (Content K V)) (Side : Heads 
     (number index : ℕ) where
   -- the way down one side of a tree goes on from a node to its child at this index, and ends at this index of a leaf, at this place
   pub record Turns : Type 0 where
-    pub within : {leaves : _} {n : NodeOver most slots leaves number} (s : InnerUnder n) → Side n.before n.after → index ≤ length s.at.es
+    pub within : {leaves : _} {n : NodeOver most slots leaves number} (s : InnerUnder n) → Side n.before n.after → index ≤ length s.es
     pub keeps : {leaves : _} {n : NodeOver most slots leaves number} (s : InnerUnder n) → Side n.before n.after → {child : ℕ} (c : ChildUnder s index child)
         → Side c.on.before c.on.after
-    pub low : {leaves : _} {n : NodeOver most slots leaves number} (s : LeafUnder n) → Side n.before n.after → index ≤ length s.at.es
-    pub ends : {leaves : _} {n : NodeOver most slots leaves number} (s : LeafUnder n) → Side n.before n.after → place leaves ≡ length (flat s.at.before) + index
+    pub low : {leaves : _} {n : NodeOver most slots leaves number} (s : LeafUnder n) → Side n.before n.after → index ≤ length s.es
+    pub ends : {leaves : _} {n : NodeOver most slots leaves number} (s : LeafUnder n) → Side n.before n.after → place leaves ≡ length (flat s.before) + index
 
 module _ {K V : Type 0} {most : ℕ} {slots : List (Content K V)} where
   pub first-turns : {number : ℕ} → Turns most slots IsFirst (λ leaves. 0) number 0
   first-turns = record {
     within = λ s side. omega arith;
-    keeps = λ s side c. nil_from_length c.on.before (omega (arith, none_flat s.at.before cc));
+    keeps = λ s side c. nil_from_length c.on.before (omega (arith, none_flat s.before cc));
     low = λ s side. omega arith;
-    ends = λ s side. omega (arith, none_flat s.at.before cc);
+    ends = λ s side. omega (arith, none_flat s.before cc);
   }
 
   pub last-turns : {number last : ℕ} (capacity : IsLeafCapacity most) → LastRead slots number last
@@ -93,11 +93,11 @@ module _ {K V : Type 0} {most : ℕ} {slots : List (Content K V)} where
     ends = λ s side. omega (arith, at-leaf s, last-end (some_leaf capacity) s.at side);
   }
     where
-      index : {leaves : _} {n : NodeOver most slots leaves number} (s : InnerUnder n) → last ≡ length s.at.es
-      index s = omega (arith, says (inner_content (s.at.e ∷ s.at.es)) s.slot_is, item_count (s.at.e ∷ s.at.es))
+      index : {leaves : _} {n : NodeOver most slots leaves number} (s : InnerUnder n) → last ≡ length s.es
+      index s = omega (arith, says (inner_content (s.e ∷ s.es)) s.slot_is, item_count (s.e ∷ s.es))
 
-      at-leaf : {leaves : _} {n : NodeOver most slots leaves number} (s : LeafUnder n) → last ≡ length s.at.es
-      at-leaf s = omega (arith, says (leaf_content (s.at.e ∷ s.at.es)) s.slot_is, length-map (s.at.e ∷ s.at.es) (λ w. w.0))
+      at-leaf : {leaves : _} {n : NodeOver most slots leaves number} (s : LeafUnder n) → last ≡ length s.es
+      at-leaf s = omega (arith, says (leaf_content (s.e ∷ s.es)) s.slot_is, length-map (s.e ∷ s.es) (λ w. w.0))
 
 -- the descent on one side, from a node whose index in the path was written
 module _ {K V : Type 0} {most : ℕ} (capacity : IsLeafCapacity most) {slots : List (Content K V)} {Side : Heads K → Heads K → Type 0}
@@ -118,7 +118,7 @@ module _ {K V : Type 0} {most : ℕ} (capacity : IsLeafCapacity most) {slots : L
 
     -- what reading the child requires
     pub led-asks : HasBelow most slots Side number level → ChildAsked slots number index
-    led-asks w = let s = inner w.1 w.3 in (_, _, s.slot_is, omega (arith, turns.within s w.2, item_count (s.at.e ∷ s.at.es)))
+    led-asks w = let s = inner w.1 w.3 in (_, _, s.slot_is, omega (arith, turns.within s w.2, item_count (s.e ∷ s.es)))
 
     module _ {child : ℕ} (says : ChildRead slots number index child) where
       -- what the call one level down requires

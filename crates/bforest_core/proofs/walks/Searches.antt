@@ -24,11 +24,11 @@ module _ {K V : Type 0} {cmp : K → K → Ordering} (o : IsTotalOrder cmp) {mos
 
       -- what a search in the leaf asks
       pub leaf-asks : (entries : List (K × V)) × (slice_get slots number ≡ Some (leaf_content entries)) × IsIncreasing cmp entries
-      leaf-asks = (step-leaf.at.e ∷ step-leaf.at.es, step-leaf.slot_is, step-leaf.increasing)
+      leaf-asks = (step-leaf.e ∷ step-leaf.es, step-leaf.slot_is, step-leaf.increasing)
 
       -- what a search in the leaf tells
-      pub narrowed : Narrows cmp leaves key step-leaf.at.before (step-leaf.at.e ∷ step-leaf.at.es)
-      narrowed = let s = step-leaf in let p = placed o capacity s number (place cmp (s.at.e ∷ s.at.es) key) refl refl in
+      pub narrowed : Narrows cmp leaves key step-leaf.before (step-leaf.e ∷ step-leaf.es)
+      narrowed = let s = step-leaf in let p = placed o capacity s number (place cmp (s.e ∷ s.es) key) refl refl in
           record { increasing = s.increasing; place_is = p.place_is; value_is = leaf_value o capacity s; found_is = leaf_found o capacity s; first = p.first }
 
     -- at an inner node
@@ -101,8 +101,8 @@ module _ {K V : Type 0} {cmp : K → K → Ordering} {most : ℕ} {slots : List 
         -- what asking asks whether another search goes to that child too
         pub search-along : (keys : List K) × (children : List ℕ) × (slice_get slots number ≡ Some (Inner keys children)) × IsStrictlySortedBy cmp keys
             × (length children ≡ suc (length keys)) × (index ≤ length keys)
-        search-along = let a = search-asks in let es = here.at.es in let count = length-map es (λ w. w.0) in
-            (entry_keys es, entry_items (here.at.e ∷ es), here.slot_is, increasing_rest w.total here.at.e es here.increasing, omega (arith, item_count (here.at.e ∷ es)), omega (arith, to.within))
+        search-along = let a = search-asks in let es = here.es in let count = length-map es (λ w. w.0) in
+            (entry_keys es, entry_items (here.e ∷ es), here.slot_is, increasing_rest w.total here.e es here.increasing, omega (arith, item_count (here.e ∷ es)), omega (arith, to.within))
 
         -- the search one level down
         pub search-on : {next : Spot} → IsBelow spot number index next → Search cmp most slots leaves rows key next child

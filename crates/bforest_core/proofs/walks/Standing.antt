@@ -62,7 +62,7 @@ on-leaf table root path indices union is leaf node_is index_is =
     elim (node_under union.1.capacity (under-root root union is)) [
       | inl s ↦ (
           let d : Led (tree_of table.nodes root).leaves (tree_of table.nodes root).above 0 0 path indices path indices = record {
-            leaf = seen_at s.at node_is index_is (omega arith) (omega (arith, none_flat _ s.at.before_is));
+            leaf = seen_at s.at node_is index_is (omega arith) (omega (arith, none_flat _ s.before_is));
             up = leaf_up s (λ i ne. refl) (λ i ne. refl);
           } in
           record { root_is = is; stands = led_stands _ 1 d (sym (ap (λ z. suc (length z)) s.lower_is)) }

@@ -31,7 +31,8 @@ module _ {K V : Type 0} {most : ℕ} {slots : List (Content K V)} {leaves : Row 
   pub record LeafUnder : Type 0 where
     pub lower_is : n.lower ≡ []
     pub at : Seen (half_of most) most leaves n.before n.first number n.after
-    pub slot_is : slice_get slots number ≡ Some (leaf_content (at.e ∷ at.es))
+    pub open at use *
+    pub slot_is : slice_get slots number ≡ Some (leaf_content (e ∷ es))
 
   -- the node is one of the highest row
   pub record InnerUnder : Type 0 where
@@ -40,9 +41,10 @@ module _ {K V : Type 0} {most : ℕ} {slots : List (Content K V)} {leaves : Row 
     pub lower_is : n.lower ≡ rows ++ row ∷ []
     pub count_is : length n.lower ≡ suc (length rows)
     pub at : Seen 4 8 row n.before n.first number n.after
-    pub room : length at.es < 8
+    pub open at use *
+    pub room : length es < 8
     pub under : Under most slots leaves rows (flat row)
-    pub slot_is : slice_get slots number ≡ Some (inner_content (at.e ∷ at.es))
+    pub slot_is : slice_get slots number ≡ Some (inner_content (e ∷ es))
 
 -- a node, by all that lies around it
 abbrev pub node_over : {K V : Type 0} {most : ℕ} {slots : List (Content K V)} {leaves : _} (lower : _) (a first : _) (number : ℕ) (b : _) → Under most slots leaves lower (a ++ (first, number) ∷ b) → NodeOver most slots leaves number
@@ -74,7 +76,7 @@ module _ {K V : Type 0} {most : ℕ} (capacity : IsLeafCapacity most) {slots : L
 
     -- the node's slot holds a node with entries
     pub node_held : LastAsked slots number
-    node_held = elim node_under [ inl s ↦ (leaf_content (s.at.e ∷ s.at.es), s.slot_is, omega arith) | inr s ↦ (inner_content (s.at.e ∷ s.at.es), s.slot_is, omega arith) ]
+    node_held = elim node_under [ inl s ↦ (leaf_content (s.e ∷ s.es), s.slot_is, omega arith) | inr s ↦ (inner_content (s.e ∷ s.es), s.slot_is, omega arith) ]
 
     pub node_within : number < length slots
     node_within = slice_get_within _ _ _ node_held.1

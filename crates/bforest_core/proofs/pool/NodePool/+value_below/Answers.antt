@@ -19,7 +19,7 @@ look_up-requires g t c = (
 pub returns-then-not-is_inner : goal.returns-then-not-is_inner
 returns-then-not-is_inner g t c = λ leaves on. let o = g.met.C.Comparator.total c.args.comp.now in
     let other = not_so c.if-not-is_inner.true c.is_inner.ensures.inner in let s = step-leaf o c.requires.capacity on c.node.ensures.value other in
-    c.look_up.ensures.value (s.at.e ∷ s.at.es) s.slot_is ∙ sym (narrowed o c.requires.capacity on c.node.ensures.value other).value_is
+    c.look_up.ensures.value (s.e ∷ s.es) s.slot_is ∙ sym (narrowed o c.requires.capacity on c.node.ensures.value other).value_is
 
 pub follow-child-requires : goal.follow-child-requires
 follow-child-requires g t c = (search rules, asks (g.met.C.Comparator.total c.args.comp.now) c.requires.capacity c.requires.through.1 c.node.ensures.value (c.is_inner.ensures.inner.0 c.if-not-is_inner.false))
