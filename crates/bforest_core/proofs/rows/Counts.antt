@@ -41,8 +41,8 @@ pub sum-same : (f : ℕ → ℕ) (xs ys : _) → ((n : ℕ) → count n xs ≡ c
 sum-same f [] [] same = refl
 sum-same f [] (y ∷ ys) same = absurd (omega (arith, same y, count-same y ys))
 sum-same f (x ∷ xs) ys same = let s = standing x ys (omega (arith, same x, count-same x xs)) in
-    let less : (n : ℕ) → count n xs ≡ count n (s.0 ++ s.1) = λ n. (let a = ap (λ z. count n z) s.2 in omega (arith, same n, count-append)) in
-    omega (arith, sum-same f xs (s.0 ++ s.1) less, ap (λ z. sum_by f z) s.2, sum_by-cons f x xs, sum_by-append f s.0 (x ∷ s.1), sum_by-append f s.0 s.1, sum_by-cons f x s.1)
+    let less : (n : ℕ) → count n xs ≡ count n (s.0 ++ s.1) = λ n. (let a = ap (count n) s.2 in omega (arith, same n, count-append)) in
+    omega (arith, sum-same f xs (s.0 ++ s.1) less, ap (sum_by f) s.2, sum_by-cons f x xs, sum_by-append f s.0 (x ∷ s.1), sum_by-append f s.0 s.1, sum_by-cons f x s.1)
 
 -- how often a number is named by the numbers of a list
 count-named : (f : ℕ → List ℕ) (m xs : _) → count m (flat_map f xs) ≡ sum_by (λ x. count m (f x)) xs
@@ -78,7 +78,7 @@ length-upto (suc n) = omega (arith, length-append (upto n) (n ∷ []), length-up
 no-longer : (xs ys : _) → ((n : ℕ) → count n xs ≤ count n ys) → length xs ≤ length ys
 no-longer [] ys le = omega arith
 no-longer (x ∷ xs) ys le = let s = standing x ys (omega (arith, le x, count-same x xs)) in
-    let less : (n : ℕ) → count n xs ≤ count n (s.0 ++ s.1) = λ n. (let a = ap (λ z. count n z) s.2 in omega (arith, le n, count-append)) in
+    let less : (n : ℕ) → count n xs ≤ count n (s.0 ++ s.1) = λ n. (let a = ap (count n) s.2 in omega (arith, le n, count-append)) in
     omega (arith, no-longer xs (s.0 ++ s.1) less, ap length s.2, length-append s.0 (x ∷ s.1), length-append s.0 s.1)
 
 -- a list of numbers below n, none of which occurs twice, has at most n elements
@@ -93,13 +93,13 @@ module _ {K V : Type 0} where
   -- the first `k + 1` slots name what the first `k` name, and the children of the next
   pub named-more : (slots : List (Content K V)) (k : ℕ) {content : Content K V} (m : ℕ) → slice_get slots k ≡ Some content → count m (flat_map children_of (take (suc k) slots)) ≡ count m (flat_map children_of (take k slots)) + count m (children_of content)
   named-more slots k {content} m found =
-      let a = ap (λ z. count m (flat_map children_of z)) (last_taken slots k content found) ∙ ap (λ z. count m z) (flat_map-append children_of (take k slots) (content ∷ [])) in
+      let a = ap (λ z. count m (flat_map children_of z)) (last_taken slots k content found) ∙ ap (count m) (flat_map-append children_of (take k slots) (content ∷ [])) in
       omega (arith, count-append)
 
   -- whatever a slot names, the slots name
   pub named-slot : (slots : List (Content K V)) (k : ℕ) {content : Content K V} (m : ℕ) → slice_get slots k ≡ Some content → count m (children_of content) ≤ count m (flat_map children_of slots)
   named-slot slots k {content} m found = let rest = drop (suc k) slots in
-      let a = ap (λ z. count m (flat_map children_of z)) (sym (around slots k content found)) ∙ ap (λ z. count m z) (flat_map-append children_of (take k slots) (content ∷ rest)) in
+      let a = ap (λ z. count m (flat_map children_of z)) (sym (around slots k content found)) ∙ ap (count m) (flat_map-append children_of (take k slots) (content ∷ rest)) in
       omega (arith, count-append)
 
   -- the first `n` slots name what the numbers below `n` name
@@ -112,4 +112,4 @@ module _ {K V : Type 0} where
   pub all-named : (slots ms : _) → ((n : ℕ) → count n ms ≡ once_below n (length slots)) → (m : ℕ) → count m (flat_map children_of slots) ≡ count m (named_by slots ms)
   all-named slots ms once m =
       let a = named-same (λ k. children_of (slot slots k)) ms (upto (length slots)) (λ n. once n ∙ sym (count-upto n (length slots))) m in
-      let b = named-upto slots (length slots) (omega arith) ∙ ap (λ z. flat_map children_of z) (take_all (length slots) slots (omega arith)) in sym (cc)
+      let b = named-upto slots (length slots) (omega arith) ∙ ap (flat_map children_of) (take_all (length slots) slots (omega arith)) in sym (cc)

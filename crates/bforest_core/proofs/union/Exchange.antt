@@ -1,6 +1,6 @@
 -- Replacing trees of a table by others, with nodes from or to the chain: all other roots keep their trees.
 use Rattle.bforest_core.proofs.Words.{◌≡◌, ℕ, ◌+◌, ◌≤◌, ◌<◌, ◌↔◌, IsTrue, List, [], ◌∷◌, ◌++◌, map, length, slice_get, sym, ap, ◌∙◌, inl, inr, append_assoc}
-use Rattle.bforest_core.proofs.Words.{arith, flat_map, map-append, flat_map-append, cases_lt, Content, IsFree, Table, flat, numbers, Tree, IsFit, IsIn}
+use Rattle.bforest_core.proofs.Words.{arith, flat_map, map-append, flat_map-append, cases_lt, Content, IsFree, Table, flat, Tree, IsFit, IsIn}
 use Rattle.bforest_core.proofs.{Words.{Distinct, count, root_of, numbers_of, slot, tree_of, is_root, Every, IsForest}, union.FreeSlots.free-same}
 use Rattle.bforest_core.proofs.{rows.Counts.{once_below, at-most-one}, union.Forests.{every-append, every-join, roots-once, root-counts, tree-with, tree-back}}
 use Rattle.bforest_core.proofs.table.Tables.{count-append, row-same, rows-same}
@@ -38,7 +38,7 @@ module _ {K V : Type 0} where
   count_parts m before some after chain = let a = ap (λ z. count m (z ++ chain)) (flat_map-append numbers_of before (some ++ after)) in
       let b = count-append m (flat_map numbers_of before ++ flat_map numbers_of (some ++ after)) chain in
       let c = count-append m (flat_map numbers_of before) (flat_map numbers_of (some ++ after)) in
-      let d = ap (λ z. count m z) (flat_map-append numbers_of some after) ∙ count-append m (flat_map numbers_of some) (flat_map numbers_of after) in omega arith
+      let d = ap (count m) (flat_map-append numbers_of some after) ∙ count-append m (flat_map numbers_of some) (flat_map numbers_of after) in omega arith
 
   -- some numbers of the trees are replaced: with the chain, each occurs as often as before, and other slots
   -- stay
@@ -54,12 +54,12 @@ module _ {K V : Type 0} where
       → new.chain ≡ freed ++ rest → Every (λ number. IsFree (slot new.nodes number)) freed → length new.nodes ≡ length old.nodes →
       ((m : ℕ) → count m come + count m freed ≡ count m gone + count m taken) → ((m : ℕ) → count m gone + count m taken ≡ 0 → slice_get new.nodes m ≡ slice_get old.nodes m) → Traded old new gone come
   traded old new gone come taken freed rest free apart old_is new_is freed_are slots nums others =
-      let c = λ (m : ℕ). ap (λ z. count m z) old_is ∙ count-append m taken rest in
+      let c = λ (m : ℕ). ap (count m) old_is ∙ count-append m taken rest in
       let left = (every-append (λ number. IsFree (slot old.nodes number)) taken rest (rw (← old_is) free)).1 in
       let still = free-same old.nodes new.nodes rest (λ m here. others m (omega (arith, c m, apart m, count-append))) left in record {
         free = rw new_is (every-join _ _ _ freed_are still);
         slots_are = slots;
-        nums = λ m. omega (arith, nums m, c m, ap (λ z. count m z) new_is, count-append);
+        nums = λ m. omega (arith, nums m, c m, ap (count m) new_is, count-append);
         others = λ m none. others m (omega (arith, c m));
       }
 
@@ -87,13 +87,13 @@ module _ {K V : Type 0} where
             (every-map _ _ (λ tree q. q.some) _ p);
         low = every_put (λ tree. length tree.above ≤ 16) _ _ _ (every_outer (λ tree. length tree.above ≤ 16) _ _ _ f.low) (every-map _ _ (λ tree q. q.low) _ p);
         free = t.free;
-        account = λ m. omega (arith, count_parts m before come after new.chain, count_parts m before gone after old.chain, t.nums m) ∙ f.account m ∙ ap (λ z. once_below m z) (sym t.slots_are);
+        account = λ m. omega (arith, count_parts m before come after new.chain, count_parts m before gone after old.chain, t.nums m) ∙ f.account m ∙ ap (once_below m) (sym t.slots_are);
       }
 
   -- how often a number is a root in three parts of the trees
   count_roots : (m : ℕ) (before some after : List (Tree K V)) → count m (map root_of (before ++ (some ++ after))) ≡ count m (map root_of before) + (count m (map root_of some) + count m (map root_of after))
-  count_roots m before some after = let a = ap (λ z. count m z) (map-append _ _ _) ∙ count-append m (map root_of before) (map root_of (some ++ after)) in
-      let b = ap (λ z. count m z) (map-append _ _ _) ∙ count-append m (map root_of some) (map root_of after) in omega arith
+  count_roots m before some after = let a = ap (count m) (map-append _ _ _) ∙ count-append m (map root_of before) (map root_of (some ++ after)) in
+      let b = ap (count m) (map-append _ _ _) ∙ count-append m (map root_of some) (map root_of after) in omega arith
 
   -- a tree before or after the replaced ones is computed alike from each table that has it
   outer_tree : (most : ℕ) (before after : List (Tree K V)) (other : ℕ) → 0 < count other (map root_of before) + count other (map root_of after) → (tree : _) × ((table : _) (some : List (Tree K V)) → IsForest most table (before ++ (some ++ after)) → tree_of table.nodes other ≡ tree)

@@ -25,17 +25,17 @@ module _ {K V : Type 0} where
   named_rows slots (x ∷ []) [] s i m = omega arith
   named_rows slots (x ∷ y ∷ hs) [] s i m = absurd (omega arith)
   named_rows slots hs (row ∷ rows) s i m = let ih = named_rows slots (heads row) rows s.2 i.1 m in
-      let a = ap (λ z. count m z) (flat_map-append (λ k. children_of (slot slots k)) _ _) ∙ count-append m (named_by slots (numbers row)) (named_by slots (flat_map numbers rows)) in
-      let b = ap (λ z. count m z) (children-row slots row i.0 ∙ ap entry_items s.0) in let c = ap (λ z. count m z) (items-heads 4 8 (omega arith) row s.1) in
+      let a = ap (count m) (flat_map-append (λ k. children_of (slot slots k)) _ _) ∙ count-append m (named_by slots (numbers row)) (named_by slots (flat_map numbers rows)) in
+      let b = ap (count m) (children-row slots row i.0 ∙ ap entry_items s.0) in let c = ap (count m) (items-heads 4 8 (omega arith) row s.1) in
       omega (arith, count-append)
 
   -- each number of a tree but its root is named by one node of the tree, and no other number is
   named_tree : {most slots : _} {tree : Tree K V} → IsFit most tree → IsIn slots tree → 1 ≤ length (flat tree.leaves) → (m : ℕ) →
       count m (named_by slots (numbers_of tree)) + count m (root_of tree ∷ []) ≡ count m (numbers_of tree)
   named_tree {most} {slots} {tree} f i some m = let r = named_rows _ _ _ f.stacked i.rows_in m in
-      let a = ap (λ z. count m z) (flat_map-append (λ k. children_of (slot slots k)) _ _) ∙ count-append m (named_by slots (numbers tree.leaves)) (named_by slots (flat_map numbers tree.above)) in
-      let b = ap (λ z. count m z) (children-leaves slots tree.leaves i.leaves_in) in
-      let c = ap (λ z. count m z) (items-heads (half_of most) most (half-some most tree.leaves f.leaves_fit some) tree.leaves f.leaves_fit) in
+      let a = ap (count m) (flat_map-append (λ k. children_of (slot slots k)) _ _) ∙ count-append m (named_by slots (numbers tree.leaves)) (named_by slots (flat_map numbers tree.above)) in
+      let b = ap (count m) (children-leaves slots tree.leaves i.leaves_in) in
+      let c = ap (count m) (items-heads (half_of most) most (half-some most tree.leaves f.leaves_fit some) tree.leaves f.leaves_fit) in
       omega (arith, count-append)
 
   -- the root of a tree is one of its numbers
@@ -47,7 +47,7 @@ module _ {K V : Type 0} where
       count m (named_by slots (flat_map numbers_of trees)) + count m (map root_of trees) ≡ count m (flat_map numbers_of trees)
   named_trees most slots [] f i some m = omega arith
   named_trees most slots (tree ∷ trees) f i some m = let one = named_tree f.0 i.0 some.0 m in let ih = named_trees most slots trees f.1 i.1 some.1 m in
-      let a = ap (λ z. count m z) (flat_map-append (λ k. children_of (slot slots k)) _ _) ∙ count-append m (named_by slots (numbers_of tree)) (named_by slots (flat_map numbers_of trees)) in
+      let a = ap (count m) (flat_map-append (λ k. children_of (slot slots k)) _ _) ∙ count-append m (named_by slots (numbers_of tree)) (named_by slots (flat_map numbers_of trees)) in
       omega (arith, count-append)
 
   -- a free slot names no node
@@ -72,8 +72,8 @@ module _ {K V : Type 0} where
   -- the slots of a table name each number of its trees except the roots
   named_all : {most : _} {table : Table K V} {trees : _} → IsForest most table trees → (m : ℕ) → count m (flat_map children_of table.nodes) + count m (map root_of trees) ≡ count m (flat_map numbers_of trees)
   named_all {table} {trees} f m = let a = all-named _ _ f.account m in
-      let b = ap (λ z. count m z) (flat_map-append (λ k. children_of (slot table.nodes k)) _ _) ∙ count-append m (named_by table.nodes (flat_map numbers_of trees)) (named_by table.nodes table.chain) in
-      let c = ap (λ z. count m z) (named_free table.nodes table.chain f.free) in omega (arith, named_trees _ _ _ f.fit f.inside f.some m)
+      let b = ap (count m) (flat_map-append (λ k. children_of (slot table.nodes k)) _ _) ∙ count-append m (named_by table.nodes (flat_map numbers_of trees)) (named_by table.nodes table.chain) in
+      let c = ap (count m) (named_free table.nodes table.chain f.free) in omega (arith, named_trees _ _ _ f.fit f.inside f.some m)
 
   -- a number occurs in the trees or on the chain at most once
   pub once : {most : _} {table : Table K V} {trees : _} → IsForest most table trees → (m : ℕ) → count m (flat_map numbers_of trees) + count m table.chain ≤ 1
@@ -110,7 +110,7 @@ module _ {K V : Type 0} where
       let inside = (every-append (IsIn table.nodes) before (tree ∷ after) f.inside).1.0 in
       let some = (every-append (λ tree. 1 ≤ length (flat tree.leaves)) before (tree ∷ after) f.some).1.0 in
       let low = (every-append (λ tree. length tree.above ≤ 16) before (tree ∷ after) f.low).1.0 in let m = root_of tree in
-      let here = ap (λ z. count m z) (map-append root_of before (tree ∷ after)) ∙ count-append m (map root_of before) (m ∷ map root_of after) in
+      let here = ap (count m) (map-append root_of before (tree ∷ after)) ∙ count-append m (map root_of before) (m ∷ map root_of after) in
       let none : count m (flat_map children_of table.nodes) ≡ 0 = omega (arith, count-same m (map root_of after), named_all f m, once f m) in
       let used = root_used f.capacity table.nodes tree (record { fit = fit; inside = inside; root_is = refl; some = some; low = low }) in
       rw (← is) (read-back most tree fit inside some low, rw (used, none) refl)

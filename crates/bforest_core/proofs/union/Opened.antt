@@ -61,7 +61,7 @@ module _ {K V : Type 0} where
         right_in = (ins.1, r.right_in);
         left_height = cc;
         right_height = cc;
-        counted = λ m. omega (arith, r.counted m, ap (λ z. count m (numbers z)) c.row_is, ap (λ z. count m z) (numbers-append c.left c.right), count-append);
+        counted = λ m. omega (arith, r.counted m, ap (λ z. count m (numbers z)) c.row_is, ap (count m) (numbers-append c.left c.right), count-append);
       }
 
 module _ {K V : Type 0} (most : ℕ) (slots : List (Content K V)) where
@@ -90,7 +90,7 @@ module _ {K V : Type 0} (most : ℕ) (slots : List (Content K V)) where
         right = record { leaves_fit = fits.1; leaves_in = ins.1; stacked = rw c.right_is r.right_stacked; rows_in = r.right_in };
         left_height = r.left_height;
         right_height = r.right_height;
-        counted = λ m. omega (arith, r.counted m, ap (λ z. count m (numbers z)) c.row_is, ap (λ z. count m z) (numbers-append c.left c.right), count-append);
+        counted = λ m. omega (arith, r.counted m, ap (λ z. count m (numbers z)) c.row_is, ap (count m) (numbers-append c.left c.right), count-append);
       }
 
 -- a row with one head has one node
@@ -142,8 +142,8 @@ module _ {K V : Type 0} where
           content = inner_content es;
           slot_is = s.slot_is;
           children_are = refl;
-          under = subst (λ z. Under most slots leaves s.rows z) (cc (append-nil es)) s.under;
-          counted = λ m. omega (arith, ap (λ z. count m (flat_map numbers z)) s.lower_is, ap (λ z. count m z) (flat_map-append numbers s.rows (s.row ∷ [])), ap (λ z. count m z) (append-nil (numbers s.row)), ap (λ z. count m (numbers z)) row, count-append);
+          under = subst (Under most slots leaves s.rows) (cc (append-nil es)) s.under;
+          counted = λ m. omega (arith, ap (λ z. count m (flat_map numbers z)) s.lower_is, ap (count m) (flat_map-append numbers s.rows (s.row ∷ [])), ap (count m) (append-nil (numbers s.row)), ap (λ z. count m (numbers z)) row, count-append);
           height = λ some. sym s.count_is;
           down = cc (slot-is _ _ s.slot_is);
         }

@@ -29,7 +29,7 @@ module _ {K V : Type 0} where
       Plants most old new number (key, value)
   planted-alloc most {old} new {number} memory key value union front is growth =
       let mid = reserved old 1 memory in let u = reserved-union most old 1 _ union in let f = front_rest mid.chain front in
-      let t = takes mid new number (Leaf (key ∷ []) (value ∷ [])) front is (within-slots u.1 number (omega (arith, ap (λ z. count number z) f.1, count-same number f.0))) in
+      let t = takes mid new number (Leaf (key ∷ []) (value ∷ [])) front is (within-slots u.1 number (omega (arith, ap (count number) f.1, count-same number f.0))) in
       let tree : Tree K V = record { leaves = node number ((key, value) ∷ []) ∷ []; above = [] } in let p : IsPlanted most new.nodes tree = record {
         fit = record { leaves_fit = (omega arith, omega arith, tt); stacked = refl; topped = tt };
         inside = record { leaves_in = (t.here, tt); rows_in = tt };

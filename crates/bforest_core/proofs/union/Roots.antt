@@ -28,7 +28,7 @@ module _ {K V : Type 0} where
 
   exchanged_by : {most : ℕ} (old new : Table K V) (root : ℕ) {tree' : Tree K V} → IsUnion most old → IsTrue (is_root old.nodes root) → IsPlanted most new.nodes tree' → Traded old new (numbers_of (tree_of old.nodes root)) (numbers_of tree') → Exchanged most old new root tree'
   exchanged_by {most} old new root {tree'} union is p t = let r = rooted most old root union is in let tree = tree_of old.nodes root in
-      let one = rw (one_tree tree) at (subst (λ z. Traded old new (numbers_of tree) z) (one_tree tree') t) in
+      let one = rw (one_tree tree) at (subst (Traded old new (numbers_of tree)) (one_tree tree') t) in
       let g = exchange-trees r.before (tree ∷ []) (tree' ∷ []) r.after r.forest (p, tt) one in
       let back = tree-back r.before tree' r.after (root_of tree') g refl refl in rw (← r.root_is) (record {
         union = (r.before ++ tree' ∷ r.after, g);

@@ -73,7 +73,7 @@ module _ {K V : Type 0} where
           found = found;
           cut = cut;
           under = under-same _ (λ m some. s.frees.others m (omega (arith, apart m, count-append, s.split m, cut.counted m))) cut.left;
-          apart = λ m. omega (arith, apart m, s.split m, cut.counted m, s.counted m, ap (λ z. count m z) s.frees.chain_is, count-append);
+          apart = λ m. omega (arith, apart m, s.split m, cut.counted m, s.counted m, ap (count m) s.frees.chain_is, count-append);
         }
 
     -- the next child is freed with everything below it
@@ -104,7 +104,7 @@ module _ {K V : Type 0} where
     -- at last everything below the top is freed
     pub sweep-last : {now : Table K V} {index : ℕ} → length top ≤ index → Swept most old now leaves rows top index → GivesAll old now (numbers_under leaves rows) (flat_map (numbers_down old.nodes (length rows)) (reverse (entry_items top)))
     sweep-last {index} past s =
-        let left = under_none most capacity (subst (λ z. Under most old.nodes s.left_leaves s.left_rows z) (drop_all _ _ past) s.under) in
+        let left = under_none most capacity (subst (Under most old.nodes s.left_leaves s.left_rows) (drop_all _ _ past) s.under) in
         let whole = s.order ∙ ap (λ z. flat_map (numbers_down old.nodes (length rows)) (reverse z)) (take_all index _ (omega (arith, length-map top (λ e. e.1)))) in
         rw (← whole) (record { frees = frees-wider _ (λ m zero. omega arith) s.frees; counted = λ m. omega arith })
 
@@ -132,7 +132,7 @@ module _ {K V : Type 0} where
         alone = omega (arith, o.counted number, count-append);
         apart = λ m. omega (arith, apart m, o.counted m, count-append);
         slot_is = s.frees.others number (omega (arith, o.counted number, s.split number, count-append)) ∙ o.slot_is;
-        off_chain = omega (arith, o.counted number, s.split number, s.counted number, ap (λ z. count number z) s.frees.chain_is, count-append);
+        off_chain = omega (arith, o.counted number, s.split number, s.counted number, ap (count number) s.frees.chain_is, count-append);
       }
 
   -- the node is freed after its children

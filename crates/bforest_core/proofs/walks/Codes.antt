@@ -62,7 +62,7 @@ module _ {K V : Type 0} {slots : List (Content K V)} {root code depth : ℕ} whe
   way-none {rows = []} {list = []} p none = absurd (omega arith)
   way-none {rows = []} {list = x ∷ y ∷ list} p none = absurd (omega arith)
   way-none {rows = []} {list = x ∷ []} p none =
-      ((x.0, ap (λ z. slice_get (x ∷ []) z) p.coded.1 ∙ ap (λ z. Some (x.0, z)) p.root_is), omega arith, p.coded.1, p.coded.0)
+      ((x.0, ap (slice_get (x ∷ [])) p.coded.1 ∙ ap (λ z. Some (x.0, z)) p.root_is), omega arith, p.coded.1, p.coded.0)
   way-none {rows = row ∷ rest} p none = absurd (omega arith)
 
 -- a code, with one digit more

@@ -12,7 +12,7 @@ use Rattle.bforest_core.specs.declared.spot.Spot.{Spot}
 pub coded-place : {K : Type 0} (numbers : List ℕ) (rows : Rows K) (code place : ℕ) → Coded numbers rows code place → place_by rows code ≡ place
 coded-place numbers [] code place c = sym c.1
 coded-place numbers (row ∷ rows) code place c = let at = c.0 in let up = coded-place (drop 1 numbers) rows (code / 8) (length at.before) c.1 in
-    let front : take (place_by rows (code / 8)) row ≡ at.before = ap (λ z. take z row) up ∙ ap (λ z. take (length at.before) z) at.row_is
+    let front : take (place_by rows (code / 8)) row ≡ at.before = ap (λ z. take z row) up ∙ ap (take (length at.before)) at.row_is
     ∙ take_at at.before _ (length at.before) refl in
     cc
 

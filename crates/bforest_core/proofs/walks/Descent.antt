@@ -2,16 +2,13 @@
 use Rattle.bforest_core.proofs.Words.{place-present, ◌≡◌, ◌≢◌, ℕ, suc, ◌+◌, ◌≤◌, ◌<◌, ◌⊎◌, inl, inr, List, [], ◌∷◌, ◌++◌, length, get_or, set, slice_get}
 use Rattle.bforest_core.proofs.Words.{Some, refl, sym, ap, subst, ◌∙◌, arith, append_assoc, length-append, length-set, Heads, Row, get_or-set_same}
 use Rattle.bforest_core.proofs.Words.{nil_from_length, slice_get_within, IsTotalOrder, IsStrictlySortedBy, AllByRecursion, is_some, Content, Inner}
-use Rattle.bforest_core.proofs.Words.{IsLeafCapacity, IsIncreasing, place, is_present, value_for, node, flat, entry_keys, entry_items, child_index}
-use Rattle.bforest_core.proofs.walks.Rising.{all_split, all_less, increasing_split, increasing_rest, all_before, all_greater, place_between, entry_between}
-use Rattle.bforest_core.proofs.{Words.{IsFrom, IsUpTo, Descended, Reached, SearchThrough}, rows.LevelRows.{flat-append, some_leaf}}
-use Rattle.bforest_core.proofs.{walks.Rising.{place-le, first_passed, sides}, walks.TopNode.{InnerUnder, LeafUnder, flat_parted, set_but}}
-use Rattle.bforest_core.proofs.{walks.LeafSearch.items-read, walks.Downward.{Seen, last_of, heads_increasing, upto_flat, stacked_increasing}}
-use Rattle.bforest_core.proofs.{table.Stored.{some_same, slice_get_at}, walks.Reading.ChildRead, walks.Leading.{inner_up, leaf_up}}
-use Rattle.std.specs.Map.{keys_of}
-use Rattle.std.specs.declared.cmp.Ordering.{Ordering}
-use Rattle.std.specs.declared.cmp.Ordering.TheVariants.{Less, Greater}
-use Rattle.bforest_core.specs.Descent.{IsPlaced}
+use Rattle.bforest_core.proofs.Words.{IsLeafCapacity, IsIncreasing, place, is_present, value_for, node, flat, entry_keys, entry_items, child_index, IsFrom}
+use Rattle.bforest_core.proofs.{Words.{IsUpTo, Descended, Reached, SearchThrough}, rows.LevelRows.{flat-append, some_leaf}, table.Stored.some_same}
+use Rattle.bforest_core.proofs.{table.Stored.slice_get_at, walks.Downward.{Seen, last_of, heads_increasing, upto_flat, stacked_increasing}}
+use Rattle.bforest_core.proofs.{walks.Leading.{inner_up, leaf_up}, walks.LeafSearch.items-read, walks.Reading.ChildRead, walks.Rising.{all_split, all_less}}
+use Rattle.bforest_core.proofs.walks.Rising.{increasing_split, increasing_rest, all_before, all_greater, place_between, entry_between, place-le, first_passed}
+use Rattle.bforest_core.proofs.{walks.Rising.sides, walks.TopNode.{InnerUnder, LeafUnder, flat_parted, set_but}}
+use Rattle.{std.specs.{Map.keys_of, declared.cmp.Ordering.{Ordering, TheVariants.{Less, Greater}}}, bforest_core.specs.Descent.IsPlaced}
 
 -- writing the first of a list twice
 set_twice : (xs : List ℕ) (i j : ℕ) → set (set xs 0 i) 0 j ≡ set xs 0 j

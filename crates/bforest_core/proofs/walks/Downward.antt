@@ -1,10 +1,9 @@
 -- Rows from the top: the highest of them, and a node of a row as an entry of the level above.
 use Rattle.bforest_core.proofs.Words.{◌≡◌, ℕ, suc, ◌+◌, ◌≤◌, ◌<◌, List, [], ◌∷◌, ◌++◌, length, get_or, refl, sym, ap, subst, ◌∙◌, arith, Heads, Row, Rows}
 use Rattle.bforest_core.proofs.Words.{IsTotalOrder, IsStrictlySortedBy, AllByRecursion, Content, IsIncreasing, node, flat, heads, FitRow, RowIn, RowsIn}
-use Rattle.bforest_core.proofs.{Words.{inner_content, IsAt, StackedTo, StandsTo, IsUpTo}, rows.LevelRows.least-pos, walks.Rising.{all_split, increasing_split}}
-use Rattle.std.specs.Map.{keys_of}
-use Rattle.std.specs.declared.cmp.Ordering.{Ordering}
-use Rattle.std.specs.declared.cmp.Ordering.TheVariants.{Less}
+use Rattle.bforest_core.proofs.{Words.{inner_content, IsAt, StackedTo, StandsTo, IsUpTo}, rows.LevelRows.least-pos, walks.Rising.all_split}
+use Rattle.bforest_core.proofs.walks.Rising.{increasing_split}
+use Rattle.std.specs.{Map.keys_of, declared.cmp.Ordering.{Ordering, TheVariants.Less}}
 
 -- the last element of a list
 pub record Last {A : Type 0} (xs : List A) : Type 0 where

@@ -25,7 +25,7 @@ module _ {K V : Type 0} {n : ℕ} {table : Table K V} (union : IsUnion n table) 
       let here : length (flat s.leaf.before) ≡ place = omega arith in (
         s.leaf.entries,
         record {
-          on = subst (λ z. StandsOn table root path z) (omega arith) on;
+          on = subst (StandsOn table root path) (omega arith) on;
           within = s.leaf.within;
           leaf = (on-leaf-in union path on).slot_is;
           list = rw (← here) (leaf-rest s);

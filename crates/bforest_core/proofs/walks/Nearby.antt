@@ -3,13 +3,11 @@ use Rattle.bforest_core.proofs.Words.{place-here, place-later, ◌≡◌, ◌≢
 use Rattle.bforest_core.proofs.Words.{length-append, drop, slice_get, Option, Some, None, refl, sym, subst, ap, ◌∙◌, arith, Row, IsTotalOrder}
 use Rattle.bforest_core.proofs.Words.{IsStrictlySortedBy, AllByRecursion, is_some, option_map, is_lt, ordering_reverse, drop_all, Path, IsUpTo, Solid, flat}
 use Rattle.bforest_core.proofs.Words.{half_of, node, StandsAt, StandsOn, index_of, leaf_of, list_under, entry_before, leaf_content, Table, IsUnion, tree_of}
-use Rattle.bforest_core.proofs.{Words.{IsIncreasing, entry_for, is_present, place, value_for}, walks.Standing.{on-leaf-in, on-tree, on-within, points-stands}}
-use Rattle.bforest_core.proofs.{rows.LevelRows.{FitRow-split, some_leaf}, walks.Rising.{all_greater, entry_between, increasing_rest, less_from, place_between}}
-use Rattle.bforest_core.proofs.{walks.Backward.{at_end, at_entry}, walks.Steps.{never, read}, table.Stored.some_same, walks.Entered.{entry_read, points_in}}
-use Rattle.std.specs.Map.{keys_of}
-use Rattle.std.specs.declared.cmp.Ordering.{Ordering}
-use Rattle.std.specs.declared.cmp.Ordering.TheVariants.{Less, Equal, Greater}
-use Rattle.bforest_core.specs.Paths.{IsPlaced}
+use Rattle.bforest_core.proofs.{Words.{IsIncreasing, entry_for, is_present, place, value_for}, rows.LevelRows.{FitRow-split, some_leaf}}
+use Rattle.bforest_core.proofs.{table.Stored.some_same, walks.Backward.{at_end, at_entry}, walks.Entered.{entry_read, points_in}, walks.Rising.all_greater}
+use Rattle.bforest_core.proofs.{walks.Rising.{entry_between, increasing_rest, less_from, place_between}, walks.Standing.{on-leaf-in, on-tree, on-within}}
+use Rattle.bforest_core.proofs.{walks.Standing.points-stands, walks.Steps.{never, read}}
+use Rattle.{std.specs.{Map.keys_of, declared.cmp.Ordering.{Ordering, TheVariants.{Less, Equal, Greater}}}, bforest_core.specs.Paths.IsPlaced}
 
 module _ {K X : Type 0} (cmp : K → K → Ordering) (es : List (K × X)) (key : K) where
   -- what a search finds: the place of the key, and the entry there if the key is present
@@ -111,7 +109,7 @@ module _ {K V : Type 0} {n : ℕ} {cmp : K → K → Ordering} (o : IsTotalOrder
   pub before-equal : (p : ℕ) → answer ≡ entry_before (list_under table root) p → StandsOn table root path (p - 1) → {e : K × V} → answer ≡ Some e → cmp key e.0 ≡ Equal → Ended table root path cmp key (Some e.1)
   before-equal zero value on is t = let bad = sym is ∙ value in absurd (cc)
   before-equal (suc p) value on {e} is t =
-      ended table root path cmp key (finds_here o _ _ p e (sym value ∙ is) increasing t) (λ some. subst (λ z. StandsOn table root path z) (omega arith) on) (never refl)
+      ended table root path cmp key (finds_here o _ _ p e (sym value ∙ is) increasing t) (λ some. subst (StandsOn table root path) (omega arith) on) (never refl)
 
   -- the entry before the place is less, and the path moved just past it
   pub before-greater : (p : ℕ) → answer ≡ entry_before (list_under table root) p → StandsOn table root path (p - 1) → {e : K × V} → answer ≡ Some e →
@@ -121,7 +119,7 @@ module _ {K V : Type 0} {n : ℕ} {cmp : K → K → Ordering} (o : IsTotalOrder
   before-greater (suc p) value on {e} is path' union same index_is above size_is up t =
       ended table root path' cmp key (finds_behind o _ _ p e (sym value ∙ is) increasing t up)
       (λ some. never some refl) (λ none. placed-behind _ _ path union path' p
-      (subst (λ z. StandsOn table root path z) (omega arith) on) same index_is above size_is)
+      (subst (StandsOn table root path) (omega arith) on) same index_is above size_is)
 
 -- a path at a place
 module _ {K V : Type 0} {n : ℕ} (table : Table K V) {root : ℕ} (path : Path K V n) {p : ℕ} (at : StandsAt table root path p) where

@@ -1,12 +1,10 @@
 -- Increasing lists of entries, cut in parts, and the place of a key in them.
 use Rattle.bforest_core.proofs.Words.{count_by-le-length, all_greater_behind, count_up_to-no, count_up_to-none, count_up_to-yes, place-later, place-here, ◌≡◌}
-use Rattle.bforest_core.proofs.Words.{◌≢◌, ℕ, zero, suc, ◌+◌, ◌≤◌, false, cond, if◌then◌else◌, List, [], ◌∷◌, ◌++◌, length, slice_get, Option, Some, None, refl}
-use Rattle.bforest_core.proofs.Words.{sym, ap, ◌∙◌, arith, sum_by-append, alike_right, IsTotalOrder, IsStrictlySortedBy, AllByRecursion, is_some}
+use Rattle.bforest_core.proofs.Words.{◌≢◌, ℕ, zero, suc, ◌+◌, ◌≤◌, false, cond, if◌then◌else◌, List, [], ◌∷◌, ◌++◌, length, slice_get, Option, Some, None}
+use Rattle.bforest_core.proofs.Words.{refl, sym, ap, ◌∙◌, arith, sum_by-append, alike_right, IsTotalOrder, IsStrictlySortedBy, AllByRecursion, is_some}
 use Rattle.bforest_core.proofs.Words.{option_and_then, is_eq, is_gt, is_lt, IsIncreasing, place, entry_for, is_present, child_index}
 use Rattle.bforest_core.proofs.table.Lists.{slice_get-append-add}
-use Rattle.std.specs.Map.{keys_of}
-use Rattle.std.specs.declared.cmp.Ordering.{Ordering}
-use Rattle.std.specs.declared.cmp.Ordering.TheVariants.{Less, Equal, Greater}
+use Rattle.std.specs.{Map.keys_of, declared.cmp.Ordering.{Ordering, TheVariants.{Less, Equal, Greater}}}
 
 -- a property of all keys of a list holds in each of its two parts
 pub all_split : {K X : Type 0} (P : K → Type 0) (xs ys : List (K × X)) → AllByRecursion P (keys_of (xs ++ ys)) → AllByRecursion P (keys_of xs) × AllByRecursion P (keys_of ys)

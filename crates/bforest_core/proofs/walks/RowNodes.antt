@@ -72,7 +72,7 @@ module _ {K V X : Type 0} {content : List (K × X) → Content K V} {slots most 
   pub seam : {number1 place1 : ℕ} (b : NodeIn content slots most row number1 place1) → place1 ≡ suc place
       → length (flat b.before) ≡ length (flat a.before) + length a.entries
   seam {number1} b next = let k = length b.before in let x = node number a.entries in
-      let two = sym (take_at b.before (node number1 b.entries ∷ b.after) k refl) ∙ ap (λ z. take k z) (cc (append_assoc _ _ _))
+      let two = sym (take_at b.before (node number1 b.entries ∷ b.after) k refl) ∙ ap (take k) (cc (append_assoc _ _ _))
       ∙ take_at (a.before ++ x ∷ []) a.after k (omega (arith, length-append a.before (x ∷ []))) in
       omega (
         arith,

@@ -13,5 +13,5 @@ try_inner_insert-requires g c = let w = c.requires.inner in
 pub returns : goal.returns
 returns g c = record {
   room = λ keys children slot. read_as c.node_mut.ensures.value slot (λ z. IsTrue c.try_inner_insert.result ↔ (entry_count z < 8)) c.try_inner_insert.ensures.room;
-  node = λ keys children slot. ap (λ z. with_node c.args.pool.now c.args.node z) (c.try_inner_insert.ensures.node ∙ ap (λ z. if c.try_inner_insert.result then with_child z c.args.index c.args.key c.args.child else z) (read_same c.args.pool.now.nodes c.args.node slot c.node_mut.ensures.value));
+  node = λ keys children slot. ap (with_node c.args.pool.now c.args.node) (c.try_inner_insert.ensures.node ∙ ap (λ z. if c.try_inner_insert.result then with_child z c.args.index c.args.key c.args.child else z) (read_same c.args.pool.now.nodes c.args.node slot c.node_mut.ensures.value));
 }

@@ -12,5 +12,5 @@ try_leaf_insert-requires g c = let w = c.requires.leaf in
 pub returns : goal.returns
 returns g c = record {
   room = λ keys vals slot. read_as c.node_mut.ensures.value slot (λ z. IsTrue c.try_leaf_insert.result ↔ (entry_count z < g.row.N)) c.try_leaf_insert.ensures.room;
-  node = λ keys vals slot. ap (λ z. with_node c.args.pool.now c.args.node z) (c.try_leaf_insert.ensures.node ∙ ap (λ z. if c.try_leaf_insert.result then with_entry z c.args.index c.args.key c.args.value else z) (read_same c.args.pool.now.nodes c.args.node slot c.node_mut.ensures.value));
+  node = λ keys vals slot. ap (with_node c.args.pool.now c.args.node) (c.try_leaf_insert.ensures.node ∙ ap (λ z. if c.try_leaf_insert.result then with_entry z c.args.index c.args.key c.args.value else z) (read_same c.args.pool.now.nodes c.args.node slot c.node_mut.ensures.value));
 }

@@ -15,6 +15,6 @@ returns g c = record {
   answer = λ es slot.
       read_as c.node_mut.ensures.value slot (λ z. c.take.result ≡ take_answer z (search_of (g.C.Comparator.order c.args.comp.now) (keys_of z) c.args.key)) c.take.ensures.answer;
   node = λ es slot.
-      ap (λ z. with_node c.args.pool.now c.args.node z) (c.take.ensures.node ∙ ap (λ z. with_taken z (search_of (g.C.Comparator.order c.args.comp.now) (keys_of z) c.args.key)) (read_same c.args.pool.now.nodes c.args.node slot c.node_mut.ensures.value));
+      ap (with_node c.args.pool.now c.args.node) (c.take.ensures.node ∙ ap (λ z. with_taken z (search_of (g.C.Comparator.order c.args.comp.now) (keys_of z) c.args.key)) (read_same c.args.pool.now.nodes c.args.node slot c.node_mut.ensures.value));
   most = search rules;
 }

@@ -1,5 +1,4 @@
-use Rattle.bforest_core.proofs.Words.{rules, arith}
-use Rattle.bforest_core.proofs.{walks.Reading.not_so, walks.Searches.{search-asks, search-below, search-ends, search-held, search-on}}
+use Rattle.bforest_core.proofs.{Words.{rules, arith}, walks.Reading.not_so, walks.Searches.{search-asks, search-below, search-ends, search-held, search-on}}
 use Rattle.bforest_core.proofs.spot.find_below.Goals as goal
 
 pub loop-key-init : goal.loop-key-init

@@ -1,6 +1,5 @@
-use Rattle.bforest_core.proofs.{Words.{IsFirst, rules, refl, sym, arith, get_or_default}, walks.Standing.{led-root, root-below, under-root}}
-use Rattle.bforest_core.proofs.{union.Unions.is-rooted, walks.TopNode.node_within, walks.Leaves.{leaf-front, root-leaf}}
-use Rattle.bforest_core.proofs.walks.Reading.{not_so}
+use Rattle.bforest_core.proofs.{Words.{IsFirst, rules, refl, sym, arith, get_or_default}, union.Unions.is-rooted, walks.Leaves.{leaf-front, root-leaf}}
+use Rattle.bforest_core.proofs.{walks.Reading.not_so, walks.Standing.{led-root, root-below, under-root}, walks.TopNode.node_within}
 use Rattle.bforest_core.proofs.path.Path.first_leaf.Goals as goal
 
 pub node-requires : goal.node-requires

@@ -1,5 +1,5 @@
-use Rattle.bforest_core.proofs.{Words.{IsLast, rules, refl, length, ◌-◌, arith, flat}, walks.Standing.{led-root, root-below}}
-use Rattle.bforest_core.proofs.{union.Unions.is-rooted, walks.Nearby.{here-entry, here-leaf}}
+use Rattle.bforest_core.proofs.{Words.{IsLast, rules, refl, length, ◌-◌, arith, flat}, union.Unions.is-rooted, walks.Nearby.{here-entry, here-leaf}}
+use Rattle.bforest_core.proofs.walks.Standing.{led-root, root-below}
 use Rattle.bforest_core.proofs.path.Path.last.Goals as goal
 
 pub overflow_sub-height : goal.overflow_sub-height

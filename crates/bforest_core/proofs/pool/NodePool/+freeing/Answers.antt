@@ -55,7 +55,7 @@ free_under-loop-index-preserved g t c = λ leaves lower apart o. let one = c.req
     subst (λ z. GivesAll c.loop-index.self c.free_below.new.self (numbers_under x.3.cut.leaves_left x.3.cut.lower_left) (numbers_down c.loop-index.self.nodes (length x.3.cut.lower_left) z)) (sym x.1)
     (c.free_below.ensures x.3.cut.leaves_left x.3.cut.lower_left x.0.0 under x.3.apart) in
     let swept = sweep-next one c.args.self.now s.opened.low s.opened.rows s.opened.top x.0 s.apart x.3 gone in
-    subst (λ z. Sweeping g.row.N c.args.self.now c.free_below.new.self leaves lower c.args.node z) (omega arith) (sweeping apart s.opened swept)
+    subst (Sweeping g.row.N c.args.self.now c.free_below.new.self leaves lower c.args.node) (omega arith) (sweeping apart s.opened swept)
 
 pub free_under-free_node-requires : goal.free_under-free_node-requires
 free_under-free_node-requires g t c = let w = c.requires.under in let s = c.loop-index.invariant w.0 w.1 w.4 (under-open c.requires.capacity w.3) in

@@ -1,6 +1,5 @@
-use Rattle.bforest_core.proofs.Words.{rules, ◌∷◌, ◌+◌, sym, ◌∙◌, arith}
-use Rattle.bforest_core.proofs.walks.Searches.{asks, deeper-low, down, leaf-asks, narrowed, step-leaf, within}
-use Rattle.bforest_core.proofs.walks.Reading.{not_so}
+use Rattle.bforest_core.proofs.{Words.{rules, ◌∷◌, ◌+◌, sym, ◌∙◌, arith}, walks.Reading.not_so, walks.Searches.{asks, deeper-low, down, leaf-asks, narrowed}}
+use Rattle.bforest_core.proofs.walks.Searches.{step-leaf, within}
 use Rattle.bforest_core.proofs.pool.NodePool.+value_below.Goals as goal
 
 pub node-requires : goal.node-requires

@@ -1,5 +1,4 @@
-use Rattle.bforest_core.proofs.{Words.{rules, length, ap, sym, ◌∙◌, children_of}, table.Stored.{some_same, inner_used, childless}}
-use Rattle.bforest_core.proofs.walks.Reading.{not_so}
+use Rattle.bforest_core.proofs.{Words.{rules, length, ap, sym, ◌∙◌, children_of}, table.Stored.{some_same, inner_used, childless}, walks.Reading.not_so}
 use Rattle.bforest_core.proofs.pool.NodePool.child_count.Goals as goal
 
 pub entries-requires : goal.entries-requires

@@ -1,5 +1,4 @@
-use Rattle.bforest_core.proofs.{Words.{refl, rules, slice_get_within}, walks.CodesDown.{first-here, first-of, root-held, root-under}}
-use Rattle.bforest_core.proofs.walks.Reading.{not_so}
+use Rattle.bforest_core.proofs.{Words.{refl, rules, slice_get_within}, walks.CodesDown.{first-here, first-of, root-held, root-under}, walks.Reading.not_so}
 use Rattle.bforest_core.proofs.spot.Spot.first.Goals as goal
 
 pub node-requires : goal.node-requires
