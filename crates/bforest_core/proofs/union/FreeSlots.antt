@@ -8,7 +8,7 @@ module _ {K V : Type 0} where
   pub free-at : (slots : List (Content K V)) (ms : _) → Every (λ m. IsFree (slot slots m)) ms → (k : ℕ) → 0 < count k ms → IsFree (slot slots k)
   free-at slots [] f k some = absurd (omega arith)
   free-at slots (m ∷ ms) f k some =
-      elim (eqb_tells m k) [ inl w ↦ subst (λ z. IsFree (slot slots z)) w.1 f.0 | inr w ↦ free-at slots ms f.1 k (omega (arith, count-other k m ms w.1)) ]
+      elim (eqb_tells m k) [ inl w ↦ rw (← w.1) f.0 | inr w ↦ free-at slots ms f.1 k (omega (arith, count-other k m ms w.1)) ]
 
   -- two tables with the same entry for a slot have the same content there
   pub slot_same : (old new : List (Content K V)) (m : ℕ) → slice_get new m ≡ slice_get old m → slot new m ≡ slot old m

@@ -97,7 +97,7 @@ module _ {K V : Type 0} {most : ℕ} {table : Table K V} {root place path indice
       (λ m. (let d = ap (λ z. count m (z ++ flat_map numbers tree.above)) ns in omega arith))
       (λ m zero_is. w.same m (λ is. (let d = ap (λ z. count z (numbers_of tree)) is in omega (arith, count-append, count-same n (numbers at.after))))) in
       let changes = exchanged-changes e same_root w.limit_is in let tree_is = ap (tree_of new.nodes) (sym same_root) ∙ e.tree_is in (
-        rw (← ss) (subst (λ z. Changes most table new root root z (sizes_of tree')) fl changes),
+        rw (← ss) (rw (← fl) changes),
         record {
           root_is = changes.root_is;
           stands = rw tree_is (record {

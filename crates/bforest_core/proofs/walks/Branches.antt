@@ -33,7 +33,7 @@ module _ {K V : Type 0} {slots : List (Content K V)} {root code depth : ℕ} {p 
 
   -- the way to the child, by the way to the node
   pub branch-way : (above : ℕ) (others : List ℕ) → Coded others (here p).rest above b.top → {code1 : ℕ} → code1 ≡ above * 8 + index → Coded (number ∷ others) p.rows code1 to
-  branch-way above others c code_is = rw (here p).rows_are (coded-below branch-at branch-low others _ above (subst (Coded others (here p).rest above) (sym b.at.at) c) code_is)
+  branch-way above others c code_is = rw (here p).rows_are (coded-below branch-at branch-low others _ above (rw b.at.at c) code_is)
 
 -- what the index of a node's last child asks
 pub last-asks : {K V : Type 0} {slots : List (Content K V)} {root code depth : ℕ} (p : Way slots root code (suc depth)) {number : ℕ} (top : ℕ) → NumberAt (heads (here p).row) top number → LastAsked slots number

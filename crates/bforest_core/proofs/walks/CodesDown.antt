@@ -17,7 +17,7 @@ module _ {K V : Type 0} {most : _} {slots : List (Content K V)} {leaves : Row K 
   pub child-way : {index : ℕ} → index ≤ length s.es → {spot next : Spot} → IsBelow spot number index next → {upper : Rows K} {numbers : _}
       → IsWay numbers spot upper (length n.before) → {place : ℕ} → place ≡ length (flat s.before) + index → IsWay (number ∷ numbers) next (s.row ∷ upper) place
   child-way low {spot} b {upper} {numbers} w place_is =
-      way-below (seen_at s.at refl refl low place_is) (omega arith) (subst (IsWay numbers spot upper) (sym s.before_is) w) b
+      way-below (seen_at s.at refl refl low place_is) (omega arith) (rw s.before_is w) b
 
 -- what is said of the first leaf, and of the last, as the end of a way
 module _ {K V : Type 0} (end : Spot) (leaf : ℕ) (leaves : Row K V) (rows : Rows K) where
@@ -39,7 +39,7 @@ module _ {K V : Type 0} {most : ℕ} {slots : List (Content K V)} (capacity : Is
     way-here : {place : ℕ} → length d.before ≡ place → Said spot number leaves rows place
     way-here {place} is = let all = rw ended.lower_is at d.under.stacked in (
       d.numbers,
-      subst (λ z. IsWay d.numbers spot z place) (ap (λ z. z ++ d.upper) (sym ended.lower_is) ∙ d.join) (rw (← is) d.way),
+      rw (← (ap (λ z. z ++ d.upper) (sym ended.lower_is) ∙ d.join)) (rw (← is) d.way),
       rw (← is) ((d.first, cc (slice_get_at d.before (d.first, number) d.after (length d.before) refl))),
     )
 

@@ -180,12 +180,12 @@ module _ {K V : Type 0} {n : ℕ} {table : Table K V} (union : IsUnion n table) 
   pub far-behind : IsBesideOf table.nodes root spot.code spot.height onwards (Some (far, leaf)) → (place : ℕ) → IsSpotAt table root spot place
       → IsSpotAt table root (record far { height = spot.height }) (suc place) × IsLeafAt table root (suc place) leaf
   far-behind says place s = let r = says.some (spot-over union s) in
-      (subst (IsSpotAt table root (record far { height = spot.height })) r.1 (far-spot s r.3), rw (← r.1) (leaf-at union root s.root_is r.4))
+      (rw (← r.1) (far-spot s r.3), rw (← r.1) (leaf-at union root s.root_is r.4))
 
   pub far-before : IsBesideOf table.nodes root spot.code spot.height backwards (Some (far, leaf)) → (place : ℕ) → IsSpotAt table root spot place
       → (0 < place) × IsSpotAt table root (record far { height = spot.height }) (place - 1) × IsLeafAt table root (place - 1) leaf
   far-before says place s = let r = says.some (spot-over union s) in let to : r.0 ≡ place - 1 = omega arith in (
     omega arith,
-    subst (IsSpotAt table root (record far { height = spot.height })) to (far-spot s r.3),
+    rw (← to) (far-spot s r.3),
     rw (← to) (leaf-at union root s.root_is r.4),
   )

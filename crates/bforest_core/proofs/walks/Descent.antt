@@ -33,7 +33,7 @@ module _ {K : Type 0} (cmp : K → K → Ordering) where
   -- the last entry that is not greater than the key is the first of its level, or not greater
   from_last : (front init : Heads K) (last : K × ℕ) {e : K × ℕ} (l : Heads K) (key : K) → (front ≡ []) ⊎ (cmp e.0 key ≢ Greater) → e ∷ l ≡ init ++ last ∷ [] → AllByRecursion (λ p. cmp p key ≢ Greater) (keys_of l) → IsFrom cmp (front ++ init) last.0 key
   from_last front [] last {e} l key f is h =
-      let same : e ≡ last = cc in elim f [ inl none ↦ subst (λ z. IsFrom cmp (z ++ []) last.0 key) (sym none) tt | inr ng ↦ is_from _ _ _ (rw (← same) ng) ]
+      let same : e ≡ last = cc in elim f [ inl none ↦ rw none tt | inr ng ↦ is_from _ _ _ (rw (← same) ng) ]
   from_last front (x ∷ init) last l key f is h =
       let rest : l ≡ init ++ last ∷ [] = cc in is_from _ _ _ (all_split (λ p. cmp p key ≢ Greater) init (last ∷ []) (rw (← rest) h)).1.0
 
@@ -81,7 +81,7 @@ module _ {K V : Type 0} {cmp : K → K → Ordering} (o : IsTotalOrder cmp) {mos
         increasing = parts.1;
         increasing_after = parts.2;
         from = from;
-        low = elim from [ inl none ↦ subst (λ z. AllByRecursion (λ p. cmp p key ≡ Less) (keys_of (flat z))) (sym none) tt | inr ng ↦ all_less o _ _ _ (all_before o _ _ (at.es ++ flat at.after) parts.0) ng ];
+        low = elim from [ inl none ↦ rw none tt | inr ng ↦ all_less o _ _ _ (all_before o _ _ (at.es ++ flat at.after) parts.0) ng ];
         high = all_greater o _ key parts.2 (λ y c is. subst (λ z. IsUpTo cmp z key) is upto);
       }
 

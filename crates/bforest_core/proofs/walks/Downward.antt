@@ -79,5 +79,5 @@ module _ {K X : Type 0} where
 
 -- the nodes of the top increase where the entries of the lowest row do
 pub stacked_increasing : {K : Type 0} (cmp : K → K → Ordering) → IsTotalOrder cmp → (list rows top : _) → StackedTo list rows top → IsIncreasing cmp list → IsIncreasing cmp top
-stacked_increasing cmp o list [] top s h = subst (IsIncreasing cmp) s h
+stacked_increasing cmp o list [] top s h = rw (← s) h
 stacked_increasing cmp o list (row ∷ rows) top s h = stacked_increasing cmp o (heads row) rows top s.2 (heads_increasing o row (subst (IsIncreasing cmp) (sym s.0) h))

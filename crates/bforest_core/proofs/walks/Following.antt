@@ -15,7 +15,7 @@ up-none code = omega arith
 module _ {K V : Type 0} {slots : List (Content K V)} {root code height : ℕ} (o : Way slots root code height) where
   -- the ways to the nodes above the one at which a way ends
   ways : (n : ℕ) → n ≤ height → Way slots root (code / 2 ^ (3 * n)) (height - n)
-  ways zero low = let none : height ≡ height - 0 = omega arith in rw (← none) (subst (λ z. Way slots root z height) (sym (up-none code)) o)
+  ways zero low = let none : height ≡ height - 0 = omega arith in rw (← none) (rw ((up-none code)) o)
   ways (suc n) low = rw (← up-code code n) (above (subst (Way slots root (code / 2 ^ (3 * n))) (omega arith) (ways n (omega arith))))
 
   -- at the root
@@ -26,14 +26,14 @@ module _ {K V : Type 0} {slots : List (Content K V)} {root code height : ℕ} (o
 -- what is said of a code and its levels holds of a spot that has them, one level further down
 pub moved : (Of : ℕ → ℕ → Type 0) {spot next : Spot} {node index : ℕ} → IsBelow spot node index next →
     Of (spot.code * 8 + index) (suc spot.height) → Of next.code next.height
-moved Of {next} b says = subst (Of next.code) (sym b.height) (rw b.code says)
+moved Of {next} b says = rw b.height (rw b.code says)
 
 module _ {K V : Type 0} {slots : List (Content K V)} {root code height left : ℕ} {spot : Spot} {node : ℕ}
     (f : Followed slots root code height left spot node) where
   -- at the end of the way
   pub ended : (Of : ℕ → ℕ → Type 0) → left ≤ 0 → Of spot.code spot.height → Of code height
   ended Of none says = let nought : left ≡ 0 = omega (arith, none) in let whole : spot.height ≡ height = omega (arith, none) in
-      rw (← whole) (subst (λ z. Of z spot.height) (f.code_is ∙ ap (λ z. code / 2 ^ (3 * z)) nought ∙ up-none code) says)
+      rw (← whole) (rw (← (f.code_is ∙ ap (λ z. code / 2 ^ (3 * z)) nought ∙ up-none code)) says)
 
   module _ (some : 0 < left) where
     abbrev digit : ℕ
@@ -53,7 +53,7 @@ module _ {K V : Type 0} {slots : List (Content K V)} {root code height left : �
 
     -- the way to the child to which the code goes
     pub turn-way : Way slots root code height → Way slots root (spot.code * 8 + digit) (suc spot.height)
-    turn-way o = subst (Way slots root (spot.code * 8 + digit)) (sym turn-height) (rw turn-code (ways o (left - 1) (omega arith)))
+    turn-way o = rw turn-height (rw turn-code (ways o (left - 1) (omega arith)))
 
     pub turned : {next : Spot} {child : ℕ} → IsBelow spot node digit next → ChildRead slots node digit child →
         Followed slots root code height (left - 1) next child
@@ -95,7 +95,7 @@ module _ {K V : Type 0} {slots : List (Content K V)} {root code height : ℕ} {d
         height_is = height_is ∙ turn-height f some;
         within = omega arith;
         low = omega arith;
-        beside = rw (← turn-height f some) (subst (λ z. IsBesideOf slots root z (suc here.height) d (Some child)) (turn-code f some) beside);
+        beside = rw (← turn-height f some) (rw (← (turn-code f some)) beside);
         ends = λ j more less. absurd (omega arith);
       }
 
@@ -150,7 +150,7 @@ module _ {K V : Type 0} {slots : List (Content K V)} {root code height : ℕ} {d
 
     pub turn-beside : IsBesideOf slots root turn-end.spot.code turn-end.spot.height d (Some (spot, number))
     turn-beside = rw turn-end.way.code_is
-        (subst (λ z. IsBesideOf slots root (code / 2 ^ (3 * t.level)) z d (Some (spot, number))) (sym turn-end.way.height_is) t.beside)
+        (rw turn-end.way.height_is t.beside)
 
     pub turn-down : {child : Spot × ℕ} → IsBesideOf slots root (turn-end.spot.code * 8 + turn-digit) (suc turn-end.spot.height) d (Some child)
         → child.0.height ≡ suc spot.height → IsTurn slots root code height d 0 child.0 child.1

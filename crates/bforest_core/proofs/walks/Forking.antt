@@ -74,7 +74,7 @@ module _ {K V : Type 0} {cmp : K → K → Ordering} (o : IsTotalOrder cmp) (slo
     same-keys = ap keys_of (some_same (sym asked.2 ∙ found))
 
     sorted-keys : IsStrictlySortedBy cmp keys
-    sorted-keys = subst (IsStrictlySortedBy cmp) same-keys asked.3
+    sorted-keys = rw (← same-keys) asked.3
 
   -- there is a separator at an index that is not that of the last child
   module _ {last : ℕ} (says : LastRead slots node last) where

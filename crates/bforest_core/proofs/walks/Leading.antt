@@ -60,7 +60,7 @@ module _ {K V : Type 0} {most : ℕ} {slots : List (Content K V)} {leaves : Row 
   inner_up s rows_are top_is within {path2} {indices2} {place} high high_is led m_is j_is nodes entries =
       let d = rw rows_are at led in let at = seen_at s.at (d.nodes_above high (omega arith) ∙ m_is) (d.entries_above high (omega arith) ∙ j_is) within top_is in
       let more = stands_more path2 indices2 1 s.rows place high d.stands (omega arith) at in record {
-        stands = rw s.lower_is (subst (StandsTo path2 indices2 1 (s.rows ++ s.row ∷ []) place) s.before_is more);
+        stands = rw s.lower_is (rw (← s.before_is) more);
         nodes_above = λ i low. d.nodes_above i (omega arith) ∙ nodes i (λ z. omega arith);
         entries_above = λ i low. d.entries_above i (omega arith) ∙ entries i (λ z. omega arith);
       }

@@ -63,7 +63,7 @@ placed-alone slots root path indices path' indices' node_is index_is p = let q =
           entries = q.entries;
           after = q.after;
           leaves_are = q.leaves_are ∙ ap (λ z. q.before ++ node z q.entries ∷ q.after) node_is;
-          within = subst (λ z. z ≤ length q.entries) index_is q.within;
+          within = rw (← index_is) q.within;
           place_is = q.place_is ∙ ap (λ z. length (flat q.before) + z) index_is;
           above = none-above _ _ _ _ _ _ q.size_is q.above;
           size_is = q.size_is;

@@ -48,7 +48,7 @@ module _ {K V : Type 0} {slots : List (Content K V)} {root : ℕ} {spot : Spot} 
       -- the spot of that child
       stands-spot : {next : Spot} → IsBelow above number index1 next → IsWay (number ∷ b.others) next p.rows b.to
       stands-spot below = rw (here p).rows_are (way-below (branch-at b.branch) (branch-low b.branch)
-          (subst (IsWay b.others above (here p).rest) (sym b.branch.at.at) b.way) below)
+          (rw b.branch.at.at b.way) below)
 
     own-at : Stands (λ to. to ≡ p.place) spot node index
     own-at = record { to = p.place; is = refl; branch = own parent; others = drop 1 p.numbers; way = its }

@@ -47,7 +47,7 @@ module _ {K V X : Type 0} (content : List (K × X) → Content K V) (slots : Lis
     abbrev pub node-in : (number place : ℕ) (before : Row K X) (entries after : _)
         → row ≡ before ++ node number entries ∷ after → length before ≡ place → NodeIn row number place
     node-in number place before entries after row_is at =
-        let f = (FitRow-split half most before (node number entries) after (subst (FitRow half most) row_is fit)).1 in record {
+        let f = (FitRow-split half most before (node number entries) after (rw (← row_is) fit)).1 in record {
           before = before;
           entries = entries;
           after = after;

@@ -74,7 +74,7 @@ module _ {K V : Type 0} {cmp : K → K → Ordering} {most : ℕ} {slots : List 
       some = omega arith;
       tells = narrowed w.total w.capacity w.on found other;
       numbers = w.numbers;
-      way = subst (λ z. IsWay w.numbers spot z (length at.before)) (ap (λ z. z ++ w.upper) (sym s.lower_is) ∙ w.join) (rw at.before_is w.way);
+      way = rw (← (ap (λ z. z ++ w.upper) (sym s.lower_is) ∙ w.join)) (rw at.before_is w.way);
     }
 
     module _ (inner : IsInner content) where

@@ -155,7 +155,7 @@ module _ {K V : Type 0} {n : ℕ} {table : Table K V} (union : IsUnion n table) 
     pointed-next none moved new goes nodes here above size = let m = goes _ _ _ pointed-over.3 in
         let s = first_behind union.1.capacity tree_is.fit tree_is.inside pointed (cc) new.entry m nodes here above in on-at table new (record {
           root_is = to.root_is;
-          stands = subst (Stands new.node new.entry new.size (tree_of table.nodes root)) (sym (behind none)) s;
+          stands = rw ((behind none)) s;
         })
 
     -- past the last entry of all, the path is at the end

@@ -65,7 +65,7 @@ module _ {K V : Type 0} {most : ℕ} (capacity : IsLeafCapacity most) {slots : L
         lower_is = z.is;
         count_is = ap length z.is ∙ length-append z.init (z.last ∷ []) ∙ omega arith;
         at = at;
-        room = omega (arith, (FitRow-split 4 8 at.before (node number (at.e ∷ at.es)) at.after (subst (FitRow 4 8) at.row_is s.1)).1.1);
+        room = omega (arith, (FitRow-split 4 8 at.before (node number (at.e ∷ at.es)) at.after (rw (← at.row_is) s.1)).1.1);
         under = record { leaves_fit = u.leaves_fit; leaves_in = u.leaves_in; stacked = s.0; rows_in = i.0 };
         slot_is = seen_slot _ _ at i.1;
       })

@@ -69,7 +69,7 @@ module _ {K V : Type 0} where
             head = e.0;
             head_is = cc (here.flat_is, entry_at w.before (get_or path1 up 0) w.entries w.after index w.row_is e.1);
             node_is = some_same (cc (g.child w.entries slot_below, items-read _ _));
-            stands = rw (← up_is) (subst (λ z. StandsAbove path' indices' up z to) (sym here.rows_are) stands);
+            stands = rw (← up_is) (rw here.rows_are stands);
             nodes_below = λ i low. g.nodes i (λ e. omega arith) ∙ t.nodes_below i (omega arith);
             entries_below = λ i low. g.entries i (λ e. omega arith) ∙ t.entries_below i (omega arith);
           }

@@ -10,7 +10,7 @@ returns-then-entries-gt0 g c = record {
 }
 
 pub free_node-requires : goal.free_node-requires
-free_node-requires g c = let w = c.requires.taken in (search rules, subst (IsUsed c.args.self.now) (sym (leaf_is_root w.4 refl)) (leaf_used w.4))
+free_node-requires g c = let w = c.requires.taken in (search rules, rw ((leaf_is_root w.4 refl)) (leaf_used w.4))
 
 pub returns : goal.returns
 returns g c = record {
