@@ -1,5 +1,5 @@
 -- Free slots: those of a list, of a freed node, and those that a change leaves free.
-use Rattle.bforest_core.proofs.Words.{◌≡◌, ℕ, ◌<◌, List, [], ◌∷◌, slice_get, subst, inl, inr, arith, eqb_tells, unwrap_or-slice_get, Content, IsFree, Table}
+use Rattle.bforest_core.proofs.Words.{◌≡◌, ℕ, ◌<◌, List, [], ◌∷◌, slice_get, inl, inr, arith, eqb_tells, unwrap_or-slice_get, Content, IsFree, Table}
 use Rattle.bforest_core.proofs.{Words.{slot_count, with_freed, count, slot, Every}, table.Lists.slice_get-set_same, table.Read.slot-is}
 use Rattle.bforest_core.proofs.table.Tables.{count-same, count-other}
 

@@ -1,6 +1,6 @@
 -- The children of the level at which the way of a code ends: the way's own, those beside it, and the ways there.
 use Rattle.bforest_core.proofs.Words.{Coded, IsAt, NumberAt, Way, ◌≡◌, ℕ, suc, ◌+◌, ◌-◌, ◌*◌, ◌≤◌, ◌<◌, List, ◌∷◌, drop, length, slice_get}
-use Rattle.bforest_core.proofs.Words.{option_map, Some, sym, ap, subst, ◌∙◌, arith, Content, entry_items, entry_keys, flat, heads, inner_content}
+use Rattle.bforest_core.proofs.Words.{option_map, Some, sym, ap, ◌∙◌, arith, Content, entry_items, entry_keys, flat, heads, inner_content}
 use Rattle.bforest_core.proofs.{walks.Codes.{Parent, coded-below, count-is, here, node-above, node-here}, walks.RowNodes.{NodeIn, entry_at, none-behind, seam}}
 use Rattle.bforest_core.proofs.{table.Stored.{item_count, some_same}, walks.Reading.{ChildAsked, ChildRead, CountRead, LastAsked, LastRead}}
 use Rattle.bforest_core.proofs.{walks.LeafSearch.items-read, walks.Steps.read, walks.TopNode.none_flat}

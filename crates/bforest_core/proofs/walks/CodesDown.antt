@@ -1,6 +1,6 @@
 -- The way down to the first leaf below a node, and to the last, as a spot: each answer of `first_below` and `last_below` is one of these.
 use Rattle.bforest_core.proofs.Words.{HasUnder, IsLeafAt, IsSpotAt, IsWay, NodeOver, NumberAt, OnUnder, Sided, leaf_count, ◌≡◌, ℕ, suc, ◌+◌, ◌-◌, ◌≤◌, ◌<◌}
-use Rattle.bforest_core.proofs.Words.{List, [], ◌∷◌, ◌++◌, IsTrue, length, slice_get, Some, refl, sym, ap, subst, ◌∙◌, arith, append_assoc, length-append, Heads, Row}
+use Rattle.bforest_core.proofs.Words.{List, [], ◌∷◌, ◌++◌, IsTrue, length, slice_get, Some, refl, sym, ap, ◌∙◌, arith, append_assoc, length-append, Heads, Row}
 use Rattle.bforest_core.proofs.Words.{Rows, Content, IsInner, IsLeafCapacity, IsUnion, flat, heads, node, IsFirst, IsLast, append-nil, Table, is_root}
 use Rattle.bforest_core.proofs.{Words.tree_of, rows.LevelRows.some_leaf, walks.RowNodes.no_heads, walks.Standing.under-root, union.Unions.is-rooted}
 use Rattle.bforest_core.proofs.walks.TopNode.{InnerUnder, LeafUnder, inner_under, leaf_under, node_held, seen_at}

@@ -1,6 +1,6 @@
 -- The step of a spot to the next leaf and to the one before, and the place of a spot's leaf.
 use Rattle.bforest_core.proofs.Words.{Coded, HasNext, HasPrev, IsBesideOf, IsLeafAt, IsSpotAt, IsWay, NumberAt, Way, backwards, leaf_count, leaf_place, onwards, place_by, ◌≡◌}
-use Rattle.bforest_core.proofs.Words.{ℕ, suc, ◌+◌, ◌-◌, ◌*◌, ◌/◌, ◌%◌, ◌≤◌, ◌<◌, List, [], ◌∷◌, drop, get_or, length, take, Some, inl, inr, refl, sym, ap, subst}
+use Rattle.bforest_core.proofs.Words.{ℕ, suc, ◌+◌, ◌-◌, ◌*◌, ◌/◌, ◌%◌, ◌≤◌, ◌<◌, List, [], ◌∷◌, drop, get_or, length, take, Some, inl, inr, refl, sym, ap}
 use Rattle.bforest_core.proofs.walks.Branches.{Branch, branch-asks, branch-child, branch-way, first-of, last-asks, last-of, last-some, next-own}
 use Rattle.bforest_core.proofs.{Words.{◌∙◌, arith, Rows, cases_lt, take_at, IsUnion, Table, tree_of}, table.Stored.item_count}
 use Rattle.bforest_core.proofs.walks.Branches.{none-next, none-prev, prev-own, prev-some}

@@ -1,5 +1,5 @@
 -- Rows from the top: the highest of them, and a node of a row as an entry of the level above.
-use Rattle.bforest_core.proofs.Words.{◌≡◌, ℕ, suc, ◌+◌, ◌≤◌, ◌<◌, List, [], ◌∷◌, ◌++◌, length, get_or, refl, sym, ap, subst, ◌∙◌, arith, Heads, Row, Rows}
+use Rattle.bforest_core.proofs.Words.{◌≡◌, ℕ, suc, ◌+◌, ◌≤◌, ◌<◌, List, [], ◌∷◌, ◌++◌, length, get_or, refl, sym, ap, ◌∙◌, arith, Heads, Row, Rows}
 use Rattle.bforest_core.proofs.Words.{IsTotalOrder, IsStrictlySortedBy, AllByRecursion, Content, IsIncreasing, node, flat, heads, FitRow, RowIn, RowsIn}
 use Rattle.bforest_core.proofs.{Words.{inner_content, IsAt, StackedTo, StandsTo, IsUpTo}, rows.LevelRows.least-pos, walks.Rising.all_split}
 use Rattle.bforest_core.proofs.walks.Rising.{increasing_split}
@@ -80,4 +80,4 @@ module _ {K X : Type 0} where
 -- the nodes of the top increase where the entries of the lowest row do
 pub stacked_increasing : {K : Type 0} (cmp : K → K → Ordering) → IsTotalOrder cmp → (list rows top : _) → StackedTo list rows top → IsIncreasing cmp list → IsIncreasing cmp top
 stacked_increasing cmp o list [] top s h = rw (← s) h
-stacked_increasing cmp o list (row ∷ rows) top s h = stacked_increasing cmp o (heads row) rows top s.2 (heads_increasing o row (subst (IsIncreasing cmp) (sym s.0) h))
+stacked_increasing cmp o list (row ∷ rows) top s h = stacked_increasing cmp o (heads row) rows top s.2 (heads_increasing o row (rw s.0 h))

@@ -1,6 +1,6 @@
 -- Two searches that go to the same child of a node: each answer of `goes_along` is one of these.
 use Rattle.bforest_core.proofs.Words.{all_greater_behind, count_up_to-no, count_up_to-none, count_up_to-yes, count_up_to, alike_right, is_gt, is_lt, ◌≡◌, ℕ}
-use Rattle.bforest_core.proofs.Words.{suc, ◌<◌, ◌≤◌, List, [], ◌∷◌, Some, arith, false, length, refl, slice_get, subst, sym, ap, true, ◌∙◌, Content, Inner}
+use Rattle.bforest_core.proofs.Words.{suc, ◌<◌, ◌≤◌, List, [], ◌∷◌, Some, arith, false, length, refl, slice_get, sym, ap, true, ◌∙◌, Content, Inner}
 use Rattle.bforest_core.proofs.{Words.{IsStrictlySortedBy, IsTotalOrder, child_index, slice_get_within}, table.Stored.some_same, walks.Reading.LastRead}
 use Rattle.{bforest_nodes.specs.Content.keys_of, std.specs.declared.cmp.Ordering.{Ordering, TheVariants.{Equal, Greater, Less}}}
 

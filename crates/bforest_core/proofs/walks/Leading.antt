@@ -1,7 +1,7 @@
 -- The descent to the first entry and to the last, as one on a side: the answers of `descend_first` and `descend_last`.
 use Rattle.bforest_core.proofs.Words.{◌≡◌, ◌≢◌, ℕ, zero, suc, ◌+◌, ◌-◌, ◌≤◌, ◌<◌, List, [], ◌∷◌, ◌++◌, length, get_or, set, slice_get, Some, refl, sym, ap}
 use Rattle.bforest_core.proofs.Words.{subst, ◌∙◌, arith, length-append, Heads, Row, Rows, length-map, nil_from_length, Content, IsInner, entry_count}
-use Rattle.bforest_core.proofs.Words.{node, flat, leaf_content, inner_content, entry_items, StandsTo, HasBelow, IsFirst, IsLast, Led, LedUp, NodeOver, OnBelow}
+use Rattle.bforest_core.proofs.Words.{node, flat, leaf_content, inner_content, entry_items, HasBelow, IsFirst, IsLast, Led, LedUp, NodeOver, OnBelow}
 use Rattle.bforest_core.proofs.{Words.IsLeafCapacity, walks.Downward.{Seen, stands_more}, walks.RowNodes.no_heads}
 use Rattle.bforest_core.proofs.{table.Stored.{some_same, item_count}, rows.LevelRows.{flat-append, some_leaf}, walks.Reading.{ChildAsked, ChildRead, LastRead}}
 use Rattle.bforest_core.proofs.walks.TopNode.{SameBut, none_flat, flat_parted, seen_at, set_but, LeafUnder, InnerUnder, inner_at, leaf_at}

@@ -1,7 +1,7 @@
 -- The leaf in which a path stands, and its entries in the list; a tree of one leaf, where a search ends there, and a path of one level.
 use Rattle.bforest_core.proofs.Words.{◌≡◌, ℕ, ◌+◌, IsTrue, List, [], ◌∷◌, ◌++◌, drop, length, get_or, slice_get, Some, refl, sym, ap, subst, ◌∙◌, arith}
 use Rattle.bforest_core.proofs.Words.{append_assoc, length-append, drop_at, Content, IsInner, IsLeaf, Path, Tree, flat, node, OnLeaf, StandsOn, index_of}
-use Rattle.bforest_core.proofs.Words.{Stands, Table, IsUnion, is_root, slot, suc, ◌≤◌, inl, inr, EndsIn, IsTotalOrder, IsIncreasing, LevelNode, PlacedUnder}
+use Rattle.bforest_core.proofs.Words.{Stands, Table, IsUnion, is_root, slot, suc, inl, inr, EndsIn, IsTotalOrder, IsIncreasing, LevelNode, PlacedUnder}
 use Rattle.bforest_core.proofs.{Words.{StandsAbove, tree_of}, rows.LevelRows.flat-append, table.Read.slot-is, union.Unions.is-rooted, walks.Descent.leaf_step}
 use Rattle.bforest_core.proofs.{walks.Descent.reached, walks.Searches.search-root, walks.Standing.on-leaf-in, walks.TopNode.{leaf_under, node_under}}
 use Rattle.bforest_core.proofs.walks.Whole.{root-node, ends-in}

@@ -1,6 +1,6 @@
 -- The node beside the one at which the way of a code ends, one level further down: what `turn_on`, `turn_back`, `next_far` and `prev_far` find there.
 use Rattle.bforest_core.proofs.Words.{Direction, IsBesideOf, IsWay, Leads, NumberAt, Way, backwards, onwards, ◌≡◌, ℕ, suc, ◌+◌, ◌-◌, ◌*◌, ◌/◌, ◌≤◌, ◌<◌, List}
-use Rattle.bforest_core.proofs.{Words.{◌∷◌, drop, length, Some, None, refl, sym, subst, ◌∙◌, arith, Content, heads}, walks.Branches.{Branch, branch-asks}}
+use Rattle.bforest_core.proofs.{Words.{◌∷◌, drop, length, Some, None, refl, sym, ◌∙◌, arith, Content, heads}, walks.Branches.{Branch, branch-asks}}
 use Rattle.bforest_core.proofs.walks.Branches.{branch-at, branch-child, branch-low, first-of, last-asks, last-of, last-some, next-own, none-next, none-prev}
 use Rattle.bforest_core.proofs.{walks.Branches.{own, prev-own, prev-some}, walks.Codes.{IsBelow, Parent, code-low, count-asks, digit-put, here, read-same}}
 use Rattle.bforest_core.proofs.{walks.Codes.way-below, walks.Reading.{ChildAsked, ChildRead, CountAsked, CountRead, LastAsked, LastRead}}

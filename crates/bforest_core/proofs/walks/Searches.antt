@@ -1,7 +1,7 @@
 -- The way down to the leaf in which a search ends: each answer of `value_below` and, as a spot, of `find_below` is one of these.
 use Rattle.bforest_core.proofs.Words.{EndsBothAt, entry_items, entry_keys, IsSpotAt, leaf_place, length-map, ◌≡◌, ℕ, suc, ◌≤◌, ◌<◌, List, [], ◌∷◌, ◌++◌}
-use Rattle.bforest_core.proofs.Words.{IsTrue, length, slice_get, Some, refl, sym, ap, ◌∙◌, subst, arith, append-nil, Row, Rows, Content, EndsOn, Inner, IsInner}
-use Rattle.bforest_core.proofs.Words.{IsIncreasing, IsTotalOrder, IsStrictlySortedBy, IsUnion, Narrows, SearchAt, SearchEndsAt, SearchThrough, Table, IsWay}
+use Rattle.bforest_core.proofs.Words.{IsTrue, length, slice_get, Some, refl, sym, ap, ◌∙◌, arith, append-nil, Row, Rows, Content, EndsOn, Inner, IsInner}
+use Rattle.bforest_core.proofs.Words.{IsIncreasing, IsTotalOrder, IsStrictlySortedBy, IsUnion, Narrows, SearchAt, SearchEndsAt, SearchThrough, Table}
 use Rattle.bforest_core.proofs.{Words.{child_index, flat, is_root, leaf_content, place, tree_of, IsLeafCapacity}, union.Unions.is-rooted}
 use Rattle.bforest_core.proofs.{walks.Codes.{IsBelow, code-low}, table.Stored.item_count, walks.Cousins.place-is, walks.Whole.all_through, walks.Reading.ChildRead}
 use Rattle.bforest_core.proofs.{walks.Standing.under-root, walks.TopNode.{inner_under, leaf_under, node_within}, walks.Rising.increasing_rest}

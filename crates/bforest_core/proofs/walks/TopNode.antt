@@ -1,7 +1,7 @@
 -- A node on top of some rows: a leaf where there are no inner rows, else a node of the highest of them.
 use Rattle.bforest_core.proofs.Words.{◌≡◌, ◌≢◌, ℕ, suc, ◌+◌, ◌≤◌, ◌<◌, ◌⊎◌, inl, inr, List, [], ◌∷◌, ◌++◌, length, get_or, set, slice_get, Some, refl, sym, ap}
 use Rattle.bforest_core.proofs.Words.{subst, ◌∙◌, arith, append_assoc, length-append, Row, Rows, get_or-set_other, nil_from_length, slice_get_within}
-use Rattle.bforest_core.proofs.Words.{Content, IsInner, node, flat, half_of, FitRow, RowIn, leaf_content, inner_content, IsAt, NodeOver, Under, IsLeafCapacity}
+use Rattle.bforest_core.proofs.Words.{Content, IsInner, node, flat, half_of, RowIn, leaf_content, inner_content, IsAt, NodeOver, Under, IsLeafCapacity}
 use Rattle.bforest_core.proofs.{rows.LevelRows.{FitRow-split, flat-append, some_leaf}, walks.Downward.{Seen, at_node, seen, last_of, stacked_last, in_last}}
 use Rattle.bforest_core.proofs.{table.Stored.some_same, table.Tables.row-split, walks.Reading.LastAsked}
 

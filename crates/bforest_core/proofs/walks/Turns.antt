@@ -1,5 +1,5 @@
 -- Moving a path's node to the next or the previous one of its level, once the node above it is there.
-use Rattle.bforest_core.proofs.Words.{◌≡◌, ◌≢◌, ℕ, suc, ◌+◌, ◌-◌, ◌≤◌, ◌<◌, List, ◌∷◌, length, get_or, slice_get, Some, refl, sym, ap, subst, ◌∙◌, arith}
+use Rattle.bforest_core.proofs.Words.{◌≡◌, ◌≢◌, ℕ, suc, ◌+◌, ◌-◌, ◌≤◌, ◌<◌, List, ◌∷◌, length, get_or, slice_get, Some, refl, ap, ◌∙◌, arith}
 use Rattle.bforest_core.proofs.Words.{Content, flat, heads, inner_content, entry_items, SameBelow, StandsAbove, Advances, LastAt, MoreAt, OnOver, Over, Moved}
 use Rattle.bforest_core.proofs.{Words.Retreats, table.Stored.{some_same, item_count}, walks.TopNode.{SameBut, none_flat}, walks.Reading.{LastAsked, LastRead}}
 use Rattle.bforest_core.proofs.{walks.LeafSearch.items-read, rows.Zipper.stands-same, walks.Downward.at_node}

@@ -1,4 +1,4 @@
-use Rattle.bforest_core.proofs.{Words.{rules, refl, subst, sym, IsUsed}, removal.Healing.{alone_freed, alone_kept, counted_asks, leaf_is_root, leaf_used}}
+use Rattle.bforest_core.proofs.{Words.{rules, refl}, removal.Healing.{alone_freed, alone_kept, counted_asks, leaf_is_root, leaf_used}}
 use Rattle.bforest_core.proofs.pool.NodePool.heal_alone.Goals as goal
 
 pub entries-requires : goal.entries-requires
