@@ -93,7 +93,8 @@ impl<K: Copy, V: Copy, const N: usize> Path<K, V, N> {
         ensures moved { IfSome result (λ entry.
             (s : OnTree N pool.now.nodes self.old.node self.old.entry self.old.size)
             → Stands self.new.node self.new.entry self.old.size s.tree (suc s.place)) }
-        ensures last { result ≡ None → (s : OnTree N pool.now.nodes self.old.node self.old.entry self.old.size)
+        ensures last { result ≡ None
+            → (s : OnTree N pool.now.nodes self.old.node self.old.entry self.old.size)
             → suc s.place ≡ length (flat s.tree.leaves) }
         ensures same { result ≡ None → self.new ≡ self.old }
         ensures size { self.new.size ≡ self.old.size }
@@ -369,7 +370,8 @@ impl<K: Copy, V: Copy, const N: usize> Path<K, V, N> {
         requires capacity { IsLeafCapacity N }
         requires height { self.old.size ≤ most_levels }
         requires stands { OnTree N pool.now.nodes self.old.node self.old.entry self.old.size }
-        ensures moved { result ≡ true → (s : OnTree N pool.now.nodes self.old.node self.old.entry self.old.size)
+        ensures moved { result ≡ true
+            → (s : OnTree N pool.now.nodes self.old.node self.old.entry self.old.size)
             → (0 < s.place) × Stands self.new.node self.new.entry self.old.size s.tree (s.place - 1) }
         ensures first { result ≡ false
             → (s : OnTree N pool.now.nodes self.old.node self.old.entry self.old.size) → s.place ≡ 0 }
