@@ -2,20 +2,20 @@
 pub use Rattle.bforest_core.proofs.rows.Shapes.{Heads, Row, Rows}
 pub use Rattle.bforest_core.specs.Change.{AtUnder, Changes, EntryTaken, KeepsTrees, PlacedUnder, Plants, Shrinks}
 pub use Rattle.bforest_core.specs.Climb.{Above, Draws, Grown, GrownBy, Halved, HalvedBy, Inserted, LastAbove, LeafHalved, NextIs, OneAbove, Placed, Raised, SameBelow}
-pub use Rattle.bforest_core.specs.Descent.{Descended, GoesThrough, HasBelow, IsFirst, IsFrom, IsLast, IsRooted, IsUpTo, Led, OnBelow, Reached}
+pub use Rattle.bforest_core.specs.Descent.{Descended, GoesThrough, HasBelow, IsFirst, IsFrom, IsLast, IsRooted, IsUpTo, Led, LedUp, NodeOver, OnBelow, Reached}
 pub use Rattle.bforest_core.specs.Levels.{FitRow, IsFit, LevelNode, Solid, Stacked, Topped, Tree, flat, half_of, head_of, heads, least, node, numbers, sizes}
 pub use Rattle.bforest_core.specs.Paths.{InsertsHere, OnEntry, OnLeaf, Placing, PointsTo, Standing, StandsAt, StandsOn, index_of, leaf_of, list_under, path_root, place_in}
 pub use Rattle.bforest_core.specs.Place.{Distinct, IsAt, IsIn, IsPathAt, PointsAt, RowIn, RowsIn, Stands, StandsAbove, count, entry_before, entry_items}
 pub use Rattle.bforest_core.specs.Removal.{Dropped, Emptied, Frees, GivesAll, HasOthers, Healed, Heals, IsSingle, Item, Joined, Joins, Keeps, LeafLoss, Loosened, LoosenedRows}
-pub use Rattle.bforest_core.specs.Spots.{Coded, CodedOver, EndsAt, Followed, HasNext, HasNextChild, HasPrev, HasPrevChild, HasUnder, HasWay, IsBefore, IsBehind}
-pub use Rattle.bforest_core.specs.Spots.{IsBesideOf, IsFirstPlace, IsLastPlace, IsLeafAt, IsLower, IsNextOf, IsPrevOf, IsSpotAt, IsTurn, IsWay, Leads, NumberAt}
-pub use Rattle.bforest_core.specs.Steps.{Advances, AreFirst, AreLast, HasOver, LastAt, MoreAt, Moved, OnLevels, OnOver, Over, Retreats, Turned, TurnedBack}
+pub use Rattle.bforest_core.specs.Spots.{Coded, CodedOver, Direction, EndsAt, Followed, HasNext, HasPrev, HasUnder, IsBesideOf, IsLeafAt, IsLower, IsSpotAt, IsTurn}
+pub use Rattle.bforest_core.specs.Spots.{IsWay, Leads, NumberAt, SearchAt, Sided, Way, backwards, onwards}
+pub use Rattle.bforest_core.specs.Steps.{Advances, AreFirst, AreLast, HasOver, LastAt, MoreAt, Moved, OnLevels, OnOver, OnTree, Over, Retreats, Turned, TurnedBack}
 pub use Rattle.bforest_core.specs.Table.{IsBalancedAt, IsEntryAt, IsFreeAt, IsFullAt, IsSplitAt, IsUnderflowedAt, IsUsed}
 pub use Rattle.bforest_core.specs.Table.{GrowsFor, NeedsGrowth, PutsChild, PutsEntry, PutsIn, Table, down_from}
 pub use Rattle.bforest_core.specs.Table.{free_count, fresh_nodes, front_of, front_of_new, reserved, room, slot_count, value_at, with_freed, with_front}
 pub use Rattle.bforest_core.specs.Trees.{Every, IsForest, IsUnion, OthersKeep, entries_of, inner_row, inner_rows, is_used, leaf_row, levels_below, numbers_down}
 pub use Rattle.bforest_core.specs.{Chain.{IsChain, IsPool, chain_from, next_of}, Descent.{SearchThrough, StackedTo, StandsTo, Under, child_index}, Trees.slot}
-pub use Rattle.bforest_core.specs.{Change.{StandsUnder, TakesNodes, node_count}, Spots.{OnUnder, OnWay, leaf_count, leaf_place, place_by}}
+pub use Rattle.bforest_core.specs.{Change.{StandsUnder, TakesNodes, node_count}, Spots.{OnUnder, leaf_count, leaf_place, place_by}}
 pub use Rattle.bforest_core.specs.{Climb.{TwoAbove, nodes_up, top_of}, Leaves.{EndsBothAt, EndsIn, EndsOn, Narrows, PutsInLeaf, SearchEndsAt, TakesFromLeaf, entry_up_to}}
 pub use Rattle.bforest_core.specs.{Levels.sizes_of, Steps.TurnedBy, Table.{with_node, with_slots, with_value_at, without_front}, declared.path.Path.Path}
 pub use Rattle.bforest_core.specs.{Paths.{RemovesHere, spot}, Place.{entry_keys, first_number, inner_content, leaf_content, numbers_of, root_above, root_of}}

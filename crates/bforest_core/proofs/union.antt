@@ -8,6 +8,5 @@ pub mod Reserved
 pub mod Planting
 pub mod Account
 pub mod Written
-pub mod Sections
 pub mod Opened
 pub mod Sweep

@@ -24,6 +24,4 @@ pub mod CodesDown
 pub mod Cousins
 pub mod OnLevel
 pub mod Following
-pub mod Alone
 pub mod Searches
-pub mod AtMost

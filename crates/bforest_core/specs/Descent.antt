@@ -53,6 +53,20 @@ pub record Under {K V : Type 0} (most : ℕ) (slots : List (Content K V)) (leave
   pub stacked : StackedTo (heads leaves) lower top
   pub rows_in : RowsIn slots lower
 
+-- the path stands on these rows, from a place on the lowest level up to this node of the top; above that it is unchanged
+pub record LedUp {K : Type 0} (lower : List (List (LevelNode K ℕ))) (place top : ℕ) (path indices path' indices' : List ℕ) : Type 0 where
+  pub stands : StandsTo path' indices' 1 lower place top
+  pub nodes_above : SameAbove (length lower) path path'
+  pub entries_above : SameAbove (length lower) indices indices'
+
+-- a node over these leaves, with the inner rows between and the other nodes of its level
+pub record NodeOver {K V : Type 0} (most : ℕ) (slots : List (Content K V)) (leaves : List (LevelNode K V)) (number : ℕ) : Type 0 where
+  pub lower : List (List (LevelNode K ℕ))
+  pub before : List (K × ℕ)
+  pub first : K
+  pub after : List (K × ℕ)
+  pub under : Under most slots leaves lower (before ++ (first, number) ∷ after)
+
 module _ {K V : Type 0} (cmp : K → K → Ordering) where
   -- where a path stands in the leaf in which a search for the key ends, at the key's place. It is past the
   -- last entry only if the key is absent, and before the first only if the key is present or the leaf is the
@@ -71,9 +85,8 @@ module _ {K V : Type 0} (cmp : K → K → Ordering) where
   -- above that it is unchanged
   pub record Descended (leaves : List (LevelNode K V)) (lower : List (List (LevelNode K ℕ))) (key : K) (top : ℕ) (path indices path' indices' : List ℕ) : Type 0 where
     pub leaf : IsPlaced leaves key (get_or path' 0 0) (get_or indices' 0 0)
-    pub stands : StandsTo path' indices' 1 lower (length leaf.before) top
-    pub nodes_above : SameAbove (length lower) path path'
-    pub entries_above : SameAbove (length lower) indices indices'
+    pub up : LedUp lower (length leaf.before) top path indices path' indices'
+    pub open up use *
 
   -- the path is in the leaf in which a search for the key ends, which has these entries: it descended there,
   -- once its index in the leaf is the key's place among these entries
@@ -91,9 +104,8 @@ module _ {K V : Type 0} (cmp : K → K → Ordering) where
 -- the path stands at a place of the leaves, and on the rows from there up to this node of the top; above that it is unchanged
 pub record Led {K V : Type 0} (leaves : List (LevelNode K V)) (lower : List (List (LevelNode K ℕ))) (place top : ℕ) (path indices path' indices' : List ℕ) : Type 0 where
   pub leaf : IsAt leaves (get_or path' 0 0) (get_or indices' 0 0) place
-  pub stands : StandsTo path' indices' 1 lower (length leaf.before) top
-  pub nodes_above : SameAbove (length lower) path path'
-  pub entries_above : SameAbove (length lower) indices indices'
+  pub up : LedUp lower (length leaf.before) top path indices path' indices'
+  pub open up use *
 
 module _ {K : Type 0} where
   -- no node of a level is before a node, or none is after it
@@ -106,15 +118,13 @@ module _ {K : Type 0} where
 module _ {K V : Type 0} (most : ℕ) (slots : List (Content K V)) (Side : List (K × ℕ) → List (K × ℕ) → Type 0) (number level : ℕ) where
   -- leaves and rows lie under a node of this level, which is on one side of it
   abbrev pub HasBelow : Type 0
-  HasBelow =
-      (leaves : List (LevelNode K V)) × (lower : List (List (LevelNode K ℕ))) × (before : List (K × ℕ)) × (first : K) × (after : List (K × ℕ))
-      × Side before after × Under most slots leaves lower (before ++ (first, number) ∷ after) × (level ≡ length lower)
+  HasBelow = (leaves : List (LevelNode K V)) × (n : NodeOver most slots leaves number) × Side n.before n.after × (level ≡ length n.lower)
 
   -- what is said of the leaves and rows under that node and of its place in the level, whichever they are
   abbrev pub OnBelow : (List (LevelNode K V) → List (List (LevelNode K ℕ)) → ℕ → Type 0) → Type 0
   OnBelow Said =
-      (leaves : List (LevelNode K V)) (lower : List (List (LevelNode K ℕ))) (before : List (K × ℕ)) (first : K) (after : List (K × ℕ)) → Side before after
-      → Under most slots leaves lower (before ++ (first, number) ∷ after) → level ≡ length lower → Said leaves lower (length before)
+      (leaves : List (LevelNode K V)) (n : NodeOver most slots leaves number) → Side n.before n.after → level ≡ length n.lower
+      → Said leaves n.lower (length n.before)
 
 -- the tree is in the slots under this root, fit, not empty, and at most 17 levels high
 pub record IsRooted {K V : Type 0} (most : ℕ) (slots : List (Content K V)) (root : ℕ) (tree : Tree K V) : Type 0 where
@@ -126,11 +136,8 @@ pub record IsRooted {K V : Type 0} (most : ℕ) (slots : List (Content K V)) (ro
 
 -- a search for the key among these leaves goes through this node, above which this many levels are
 pub record SearchThrough {K V : Type 0} (cmp : K → K → Ordering) (most : ℕ) (slots : List (Content K V)) (leaves : List (LevelNode K V)) (key : K) (number depth : ℕ) : Type 0 where
-  pub lower : List (List (LevelNode K ℕ))
-  pub before : List (K × ℕ)
-  pub first : K
-  pub after : List (K × ℕ)
-  pub under : Under most slots leaves lower (before ++ (first, number) ∷ after)
+  pub on : NodeOver most slots leaves number
+  pub open on use *
   pub increasing : IsIncreasing cmp (flat leaves)
   pub through : GoesThrough cmp before first after key
   pub low : depth + length lower ≤ top_level

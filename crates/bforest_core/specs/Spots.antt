@@ -2,7 +2,8 @@
 use Rattle.std.proofs.Math.Logic.{◌⊎◌}
 use Rattle.std.specs.Prelude.{◌≡◌, ℕ, suc, ◌+◌, ◌-◌, ◌<◌, ◌/◌, ◌%◌, IfSome, IsTrue, List, [], ◌∷◌, ◌++◌, drop, length, get_or, slice_get, take, Option, Some, None, ◌≤◌, ◌*◌, ◌^◌}
 use Rattle.bforest_nodes.specs.Content.{Content, entry_count}
-use Rattle.bforest_core.specs.Descent.{Under}
+use Rattle.bforest_core.specs.Descent.{NodeOver, SearchThrough}
+use Rattle.std.specs.declared.cmp.Ordering.{Ordering}
 use Rattle.bforest_core.specs.Levels.{LevelNode, flat, node, Stacked}
 use Rattle.bforest_core.specs.Place.{IsAt, RowsIn, inner_content, leaf_content, root_above}
 use Rattle.bforest_core.specs.Table.{Table}
@@ -34,16 +35,14 @@ module _ {K : Type 0} where
     pub root_is : root_above list rows ≡ root
     pub depth_is : depth ≡ length rows
 
-module _ {K V : Type 0} (slots : List (Content K V)) (root code depth : ℕ) where
-  -- the way of a code goes down some rows
-  abbrev pub HasWay : Type 0
-  HasWay =
-      (numbers : List ℕ) × (rows : List (List (LevelNode K ℕ))) × (list : List (K × ℕ)) × (place : ℕ) × CodedOver slots root code depth numbers rows list place
-
-  -- what is said of the rows down which the way of a code goes, of the nodes below them and of its place there, whichever they are
-  abbrev pub OnWay : (List ℕ → List (List (LevelNode K ℕ)) → List (K × ℕ) → ℕ → Type 0) → Type 0
-  OnWay Said =
-      (numbers : List ℕ) (rows : List (List (LevelNode K ℕ))) (list : List (K × ℕ)) (place : ℕ) → CodedOver slots root code depth numbers rows list place → Said numbers rows list place
+-- the way of a code goes down these rows, which stand over these nodes, to the node at this place
+pub record Way {K V : Type 0} (slots : List (Content K V)) (root code depth : ℕ) : Type 0 where
+  pub numbers : List ℕ
+  pub rows : List (List (LevelNode K ℕ))
+  pub list : List (K × ℕ)
+  pub place : ℕ
+  pub over : CodedOver slots root code depth numbers rows list place
+  pub open over use *
 
 -- no inner node is above a spot's leaf: it is the only one of its tree, or there is none
 abbrev pub HasNoParent : Spot → Type 0
@@ -102,51 +101,41 @@ module _ {K : Type 0} where
     pub grand_is : 1 < spot.height → get_or (drop 1 numbers) 0 0 ≡ spot.grand
     pub height_is : spot.height ≡ length rows
 
--- a place is right behind another, or right before it
-abbrev pub IsBehind : ℕ → ℕ → Type 0
-IsBehind place to = to ≡ suc place
+-- onwards or backwards: whether a node has a child on that side of the one at an index, which of two places is beside the other, and which of so
+-- many places is the last on that side
+pub record Direction (K V : Type 0) : Type 1 where
+  pub HasChild : Content K V → ℕ → Type 0
+  pub Beside : ℕ → ℕ → Type 0
+  pub AtEnd : ℕ → ℕ → Type 0
 
-abbrev pub IsBefore : ℕ → ℕ → Type 0
-IsBefore place to = suc to ≡ place
+module _ {K V : Type 0} where
+  abbrev pub onwards : Direction K V
+  onwards = record {
+    HasChild = λ content index. index + 1 < entry_count content;
+    Beside = λ place to. to ≡ suc place;
+    AtEnd = λ place count. suc place ≡ count;
+  }
 
--- a place is the last of so many, or the first
-abbrev pub IsLastPlace : ℕ → ℕ → Type 0
-IsLastPlace place count = suc place ≡ count
-
-abbrev pub IsFirstPlace : ℕ → ℕ → Type 0
-IsFirstPlace place count = place ≡ 0
+  abbrev pub backwards : Direction K V
+  backwards = record { HasChild = λ content index. 0 < index; Beside = λ place to. suc to ≡ place; AtEnd = λ place count. place ≡ 0 }
 
 module _ {K V : Type 0} (slots : List (Content K V)) (root code depth : ℕ) where
   -- the way of a code ends at this node, whose spot this is
   abbrev pub Leads : Spot → ℕ → Type 0
-  Leads here number = OnWay slots root code depth (λ numbers rows list place. IsWay numbers here rows place × NumberAt list place number)
+  Leads here number = (w : Way slots root code depth) → IsWay w.numbers here w.rows w.place × NumberAt w.list w.place number
 
   -- the node beside the one at which the way of a code ends, with its spot, or nothing where that one is at an end of its level
-  pub record IsBesideOf (Beside AtEnd : ℕ → ℕ → Type 0) (found : Option (Spot × ℕ)) : Type 0 where
-    pub some : IfSome found (λ next. OnWay slots root code depth (λ numbers rows list place. (to : ℕ) × Beside place to ×
-        (others : List ℕ) × IsWay others next.0 rows to × NumberAt list to next.1))
-    pub none : found ≡ None → OnWay slots root code depth (λ numbers rows list place. AtEnd place (length list))
+  pub record IsBesideOf (d : Direction K V) (found : Option (Spot × ℕ)) : Type 0 where
+    pub some : IfSome found (λ next. (w : Way slots root code depth) → (to : ℕ) × d.Beside w.place to ×
+        (others : List ℕ) × IsWay others next.0 w.rows to × NumberAt w.list to next.1)
+    pub none : found ≡ None → (w : Way slots root code depth) → d.AtEnd w.place (length w.list)
 
-  -- the next node, or the one before
-  abbrev pub IsNextOf : Option (Spot × ℕ) → Type 0
-  IsNextOf = IsBesideOf IsBehind IsLastPlace
-
-  abbrev pub IsPrevOf : Option (Spot × ℕ) → Type 0
-  IsPrevOf = IsBesideOf IsBefore IsFirstPlace
-
--- a node has a child behind the one at an index, or before it
-abbrev pub HasNextChild : {K V : Type 0} → Content K V → ℕ → Type 0
-HasNextChild content index = index + 1 < entry_count content
-
-abbrev pub HasPrevChild : {K V : Type 0} → Content K V → ℕ → Type 0
-HasPrevChild content index = 0 < index
-
-module _ {K V : Type 0} (slots : List (Content K V)) (root : ℕ) (here : Spot) (node : ℕ) (HasBeside : Content K V → ℕ → Type 0) (Beside AtEnd : ℕ → ℕ → Type 0) where
+module _ {K V : Type 0} (slots : List (Content K V)) (root : ℕ) (here : Spot) (node : ℕ) (d : Direction K V) where
   -- the child of a node beside the one at an index was found, or there is none, and what was found further up stays
   abbrev pub IsLower : ℕ → Option (Spot × ℕ) → Option (Spot × ℕ) → Type 0
   IsLower index above found =
-      ((child : Spot × ℕ) × (found ≡ Some child) × IsBesideOf slots root (here.code * 8 + index) (suc here.height) Beside AtEnd (Some child) × (child.0.height ≡ suc here.height))
-      ⊎ ((content : Content K V) × (slice_get slots node ≡ Some content) × (¬ HasBeside content index) × (found ≡ above))
+      ((child : Spot × ℕ) × (found ≡ Some child) × IsBesideOf slots root (here.code * 8 + index) (suc here.height) d (Some child) × (child.0.height ≡ suc here.height))
+      ⊎ ((content : Content K V) × (slice_get slots node ≡ Some content) × (¬ d.HasChild content index) × (found ≡ above))
 
 module _ {K V : Type 0} (slots : List (Content K V)) (root code height : ℕ) where
   -- the way of a code is followed down to this node, with some levels left
@@ -156,7 +145,7 @@ module _ {K V : Type 0} (slots : List (Content K V)) (root code height : ℕ) wh
     pub code_is : spot.code ≡ code / 2 ^ (3 * left)
     pub leads : Leads slots root spot.code spot.height spot node
 
-  module _ (HasBeside : Content K V → ℕ → Type 0) where
+  module _ (d : Direction K V) where
     -- on the way of a code the node with this many levels left has no child beside the one to which the way goes
     pub record EndsAt (left : ℕ) : Type 0 where
       pub spot : Spot
@@ -164,24 +153,43 @@ module _ {K V : Type 0} (slots : List (Content K V)) (root code height : ℕ) wh
       pub content : Content K V
       pub way : Followed left spot node
       pub slot_is : slice_get slots node ≡ Some content
-      pub none : ¬ HasBeside content (code / 2 ^ (3 * (left - 1)) % 8)
+      pub none : ¬ d.HasChild content (code / 2 ^ (3 * (left - 1)) % 8)
 
     -- this is the lowest node beside the way of a code, as far as the way was followed, and its spot
-    pub record IsTurn (Beside AtEnd : ℕ → ℕ → Type 0) (left : ℕ) (spot : Spot) (number : ℕ) : Type 0 where
+    pub record IsTurn (left : ℕ) (spot : Spot) (number : ℕ) : Type 0 where
       pub level : ℕ
       pub height_is : spot.height ≡ height - level
       pub within : level ≤ height
       pub low : left ≤ level
-      pub beside : IsBesideOf slots root (code / 2 ^ (3 * level)) (height - level) Beside AtEnd (Some (spot, number))
+      pub beside : IsBesideOf slots root (code / 2 ^ (3 * level)) (height - level) d (Some (spot, number))
       pub ends : (j : ℕ) → left < j → j ≤ level → EndsAt j
+
+-- a spot's way goes to a node on one side of its level; the rows below the node and those above it are these rows
+pub record Sided {K V : Type 0} (most : ℕ) (slots : List (Content K V)) (Side : List (K × ℕ) → List (K × ℕ) → Type 0) (leaves : List (LevelNode K V))
+    (rows : List (List (LevelNode K ℕ))) (spot : Spot) (number : ℕ) : Type 0 where
+  pub on : NodeOver most slots leaves number
+  pub open on use *
+  pub upper : List (List (LevelNode K ℕ))
+  pub numbers : List ℕ
+  pub side : Side before after
+  pub way : IsWay numbers spot upper (length before)
+  pub join : lower ++ upper ≡ rows
 
 module _ {K V : Type 0} (most : ℕ) (slots : List (Content K V)) (Side : List (K × ℕ) → List (K × ℕ) → Type 0) (spot : Spot) (number : ℕ) where
   -- a spot's way goes to a node on one side of its level, under which lie some leaves and rows
   abbrev pub HasUnder : Type 0
-  HasUnder =
-      (leaves : List (LevelNode K V)) × (lower : List (List (LevelNode K ℕ))) × (upper : List (List (LevelNode K ℕ))) × (numbers : List ℕ) × (before : List (K × ℕ)) × (first : K) × (after : List (K × ℕ)) × Side before after × Under most slots leaves lower (before ++ (first, number) ∷ after) × IsWay numbers spot upper (length before) × (length lower + spot.height ≤ 16)
+  HasUnder = (leaves : List (LevelNode K V)) × (rows : List (List (LevelNode K ℕ))) × (d : Sided most slots Side leaves rows spot number)
+      × (length d.lower + spot.height ≤ 16)
 
   -- what is said of the leaves under that node and of all rows above them, whichever they are
   abbrev pub OnUnder : (List (LevelNode K V) → List (List (LevelNode K ℕ)) → Type 0) → Type 0
-  OnUnder Said =
-      (leaves : List (LevelNode K V)) (lower upper : List (List (LevelNode K ℕ))) (numbers : List ℕ) (before : List (K × ℕ)) (first : K) (after : List (K × ℕ)) → Side before after → Under most slots leaves lower (before ++ (first, number) ∷ after) → IsWay numbers spot upper (length before) → Said leaves (lower ++ upper)
+  OnUnder Said = (leaves : List (LevelNode K V)) (rows : List (List (LevelNode K ℕ))) → Sided most slots Side leaves rows spot number → Said leaves rows
+
+-- a search for the key goes through the node to which a spot's way goes; the rows below the node and those above it are these rows
+pub record SearchAt {K V : Type 0} (cmp : K → K → Ordering) (most : ℕ) (slots : List (Content K V)) (leaves : List (LevelNode K V))
+    (rows : List (List (LevelNode K ℕ))) (key : K) (spot : Spot) (number : ℕ) : Type 0 where
+  pub on : SearchThrough cmp most slots leaves key number spot.height
+  pub upper : List (List (LevelNode K ℕ))
+  pub numbers : List ℕ
+  pub way : IsWay numbers spot upper (length on.before)
+  pub join : on.lower ++ upper ≡ rows

@@ -1,8 +1,8 @@
 -- Steps of a path from node to node.
 use Rattle.std.specs.Prelude.{◌≡◌, ℕ, suc, ◌+◌, ◌-◌, ◌≤◌, ◌<◌, List, length, get_or, slice_get, Some}
 use Rattle.bforest_nodes.specs.Content.{Content}
-use Rattle.bforest_core.specs.Levels.{LevelNode, Stacked, most_levels}
-use Rattle.bforest_core.specs.Place.{RowsIn, StandsAbove, inner_content}
+use Rattle.bforest_core.specs.Levels.{IsFit, LevelNode, Stacked, Tree, most_levels}
+use Rattle.bforest_core.specs.Place.{IsIn, RowsIn, Stands, StandsAbove, inner_content}
 use Rattle.bforest_core.specs.Climb.{SameBelow}
 
 -- the rows from a level up stand over these nodes and are in the slots, and the path leads through them to
@@ -42,6 +42,15 @@ pub record TurnedBy (AtEnd Moves : ℕ → Type 0) (level from size : ℕ) : Typ
   pub within : from < size
   pub ends : OnLevels AtEnd (suc level) (suc from)
   pub moved : Moves from
+
+-- the path stands on an entry of a tree that fits and lies in the slots
+pub record OnTree {K V : Type 0} (most : ℕ) (slots : List (Content K V)) (path indices : List ℕ) (size : ℕ) : Type 0 where
+  pub tree : Tree K V
+  pub place : ℕ
+  pub fit : IsFit most tree
+  pub inside : IsIn slots tree
+  pub stands : Stands path indices size tree place
+  pub open stands use *
 
 module _ {K V : Type 0} (slots : List (Content K V)) (path indices : List ℕ) where
   -- some rows from a level up are over the path

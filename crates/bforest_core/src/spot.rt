@@ -8,8 +8,8 @@ ghost use Rattle.bforest_core.specs.Paths.{list_under};
 ghost use Rattle.bforest_core.specs.Trees.{IsUnion, is_root, tree_of};
 ghost use Rattle.bforest_nodes.specs.Content.{Inner, IsLeafCapacity};
 ghost use Rattle.bforest_nodes.specs.Entries.{IsIncreasing};
-ghost use Rattle.bforest_core.specs.Descent.{IsFirst, IsLast, SearchThrough, child_index};
-ghost use Rattle.bforest_core.specs.Spots.{IsLower, Leads, HasNext, HasNextChild, HasNoParent, HasPrev, HasPrevChild, HasUnder, HasWay, IsBefore, IsBehind, IsFirstPlace, IsLastPlace, IsLeafAt, IsNextOf, IsPrevOf, IsSpotAt, IsTurn, IsWay, NumberAt, OnUnder, OnWay, SpotOn, leaf_count, leaf_place};
+ghost use Rattle.bforest_core.specs.Descent.{IsFirst, IsLast, child_index};
+ghost use Rattle.bforest_core.specs.Spots.{IsBesideOf, IsLower, Leads, HasNext, HasNoParent, HasPrev, HasUnder, IsLeafAt, IsSpotAt, IsTurn, IsWay, NumberAt, OnUnder, SearchAt, SpotOn, Way, backwards, leaf_count, leaf_place, onwards};
 
 use crate::access::{child, child_count, follow, last_index, separator};
 use crate::pool::NodePool;
@@ -386,8 +386,8 @@ fn next_far<K: Copy, V: Copy, const N: usize>(
     pool: &NodePool<K, V, N>,
 ) -> Option<(Spot, Node)>
     requires low { height ≤ 16 }
-    requires over { HasWay pool.now.nodes root code height }
-    ensures next { IsNextOf pool.now.nodes root code height result }
+    requires over { Way pool.now.nodes root code height }
+    ensures next { IsBesideOf pool.now.nodes root code height onwards result }
 {
     let (mut here, mut next) = turn_on(code, height, root, pool)?;
     while here.height < height {
@@ -406,10 +406,10 @@ fn turn_on<K: Copy, V: Copy, const N: usize>(
     pool: &NodePool<K, V, N>,
 ) -> Option<(Spot, Node)>
     requires low { height ≤ 16 }
-    requires over { HasWay pool.now.nodes root code height }
+    requires over { Way pool.now.nodes root code height }
     ensures some { IfSome result (λ turn.
-        IsTurn pool.now.nodes root code height HasNextChild IsBehind IsLastPlace 0 turn.0 turn.1) }
-    ensures none { result ≡ None → IsNextOf pool.now.nodes root code height None }
+        IsTurn pool.now.nodes root code height onwards 0 turn.0 turn.1) }
+    ensures none { result ≡ None → IsBesideOf pool.now.nodes root code height onwards None }
 {
     let (mut here, mut node) = (Spot::root(root), root);
     let mut next = None;
@@ -435,10 +435,10 @@ fn lower_next<K: Copy, V: Copy, const N: usize>(
 ) -> Option<(Spot, Node)>
     requires low { here.now.height < 16 }
     requires index { index < 8 }
-    requires way { (root : ℕ) × HasWay pool.now.nodes root (here.now.code * 8 + index) (suc here.now.height)
+    requires way { (root : ℕ) × Way pool.now.nodes root (here.now.code * 8 + index) (suc here.now.height)
         × Leads pool.now.nodes root here.now.code here.now.height here.now node }
     ensures lower { (root : ℕ) → Leads pool.now.nodes root here.now.code here.now.height here.now node
-        → IsLower pool.now.nodes root here.now node HasNextChild IsBehind IsLastPlace index above result }
+        → IsLower pool.now.nodes root here.now node onwards index above result }
 {
     if index + 1 < child_count(pool, node) {
         return Some((here.below(node, index + 1), child(pool, node, index + 1)));
@@ -456,8 +456,8 @@ fn prev_far<K: Copy, V: Copy, const N: usize>(
     pool: &NodePool<K, V, N>,
 ) -> Option<(Spot, Node)>
     requires low { height ≤ 16 }
-    requires over { HasWay pool.now.nodes root code height }
-    ensures before { IsPrevOf pool.now.nodes root code height result }
+    requires over { Way pool.now.nodes root code height }
+    ensures before { IsBesideOf pool.now.nodes root code height backwards result }
 {
     let (mut here, mut before) = turn_back(code, height, root, pool)?;
     while here.height < height {
@@ -477,10 +477,10 @@ fn turn_back<K: Copy, V: Copy, const N: usize>(
     pool: &NodePool<K, V, N>,
 ) -> Option<(Spot, Node)>
     requires low { height ≤ 16 }
-    requires over { HasWay pool.now.nodes root code height }
+    requires over { Way pool.now.nodes root code height }
     ensures some { IfSome result (λ turn.
-        IsTurn pool.now.nodes root code height HasPrevChild IsBefore IsFirstPlace 0 turn.0 turn.1) }
-    ensures none { result ≡ None → IsPrevOf pool.now.nodes root code height None }
+        IsTurn pool.now.nodes root code height backwards 0 turn.0 turn.1) }
+    ensures none { result ≡ None → IsBesideOf pool.now.nodes root code height backwards None }
 {
     let (mut here, mut node) = (Spot::root(root), root);
     let mut before = None;
@@ -506,10 +506,10 @@ fn lower_prev<K: Copy, V: Copy, const N: usize>(
 ) -> Option<(Spot, Node)>
     requires low { here.now.height < 16 }
     requires index { index < 8 }
-    requires way { (root : ℕ) × HasWay pool.now.nodes root (here.now.code * 8 + index) (suc here.now.height)
+    requires way { (root : ℕ) × Way pool.now.nodes root (here.now.code * 8 + index) (suc here.now.height)
         × Leads pool.now.nodes root here.now.code here.now.height here.now node }
     ensures lower { (root : ℕ) → Leads pool.now.nodes root here.now.code here.now.height here.now node
-        → IsLower pool.now.nodes root here.now node HasPrevChild IsBefore IsFirstPlace index above result }
+        → IsLower pool.now.nodes root here.now node backwards index above result }
 {
     if index > 0 {
         return Some((here.below(node, index - 1), child(pool, node, index - 1)));
@@ -566,14 +566,11 @@ fn find_below<K: Copy, V: Copy, const N: usize, C: Comparator<K>>(
     comp: &C,
 ) -> (Spot, Node)
     requires capacity { IsLeafCapacity N }
-    requires under { (leaves : List (LevelNode K V)) × (upper : List (List (LevelNode K ℕ)))
-        × (numbers : List ℕ)
-        × (on : SearchThrough (C.order comp.now) N pool.now.nodes leaves key node spot.now.height)
-        × IsWay numbers spot.now upper (length on.before) }
-    ensures found { (leaves : List (LevelNode K V)) (upper : List (List (LevelNode K ℕ))) (numbers : List ℕ)
-        (on : SearchThrough (C.order comp.now) N pool.now.nodes leaves key node spot.now.height)
-        → IsWay numbers spot.now upper (length on.before)
-        → EndsOn (C.order comp.now) pool.now.nodes leaves (on.lower ++ upper) key result.0 result.1 }
+    requires under { (leaves : List (LevelNode K V)) × (rows : List (List (LevelNode K ℕ)))
+        × SearchAt (C.order comp.now) N pool.now.nodes leaves rows key spot.now node }
+    ensures found { (leaves : List (LevelNode K V)) (rows : List (List (LevelNode K ℕ)))
+        → SearchAt (C.order comp.now) N pool.now.nodes leaves rows key spot.now node
+        → EndsOn (C.order comp.now) pool.now.nodes leaves rows key result.0 result.1 }
 {
     let (mut here, mut lower) = (*spot, node);
     while pool.node(lower).is_inner() {

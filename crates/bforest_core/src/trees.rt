@@ -4,7 +4,7 @@ ghost use Rattle.std.specs.List.{flat_map};
 ghost use Rattle.bforest_nodes.specs.Content.{Content, IsLeafCapacity, children_of};
 ghost use Rattle.bforest_core.specs.Change.{Ends, GivesNodes};
 ghost use Rattle.bforest_core.specs.Levels.{LevelNode, flat, half_of, sizes_of, most_levels, top_level};
-ghost use Rattle.bforest_core.specs.Descent.{Under};
+ghost use Rattle.bforest_core.specs.Descent.{NodeOver, Under};
 ghost use Rattle.bforest_core.specs.Place.{count, Distinct};
 ghost use Rattle.bforest_core.specs.Removal.{GivesAll, numbers_under};
 ghost use Rattle.bforest_core.specs.Table.{slot_count};
@@ -114,12 +114,10 @@ impl<K: Copy, V: Copy, const N: usize> NodePool<K, V, N> {
     // The number of levels from a node down; `depth` levels are above it.
     fn levels_from(&self, node: Node, depth: usize) -> usize
         requires capacity { IsLeafCapacity N }
-        requires under { (leaves : List (LevelNode K V)) × (lower : List (List (LevelNode K ℕ))) × (first : K)
-            × (b : List (K × ℕ)) × Under N self.now.nodes leaves lower ((first, node) ∷ b)
-            × (depth + length lower ≤ top_level) }
-        ensures { (leaves : List (LevelNode K V)) (lower : List (List (LevelNode K ℕ))) (first : K)
-            (b : List (K × ℕ)) → Under N self.now.nodes leaves lower ((first, node) ∷ b) → result
-            ≡ length lower + 1 }
+        requires under { (leaves : List (LevelNode K V)) × (n : NodeOver N self.now.nodes leaves node)
+            × (depth + length n.lower ≤ top_level) }
+        ensures { (leaves : List (LevelNode K V)) (n : NodeOver N self.now.nodes leaves node) → result
+            ≡ length n.lower + 1 }
     {
         if self.node(node).is_inner() {
             self.levels_from(self.node(node).child(0), depth + 1) + 1

@@ -8,7 +8,7 @@ use Rattle.bforest_trees.specs.Forest.{Forest, IsTooMany, NeedsGrowth, free_of, 
 use Rattle.bforest_trees.specs.Place.{IsSpot}
 use Rattle.bforest_core.proofs.walks.Standing.{on-at, placed-points}
 use Rattle.bforest_core.specs.Change.{Changes, TakesNodes}
-use Rattle.bforest_core.proofs.walks.Alone.{ends-alone, lone}
+use Rattle.bforest_core.proofs.walks.Leaves.{ends-alone, lone}
 use Rattle.bforest_core.proofs.walks.CodesDown.{root-held}
 use Rattle.bforest_core.proofs.walks.Leaves.{root-leaf}
 use Rattle.bforest_core.specs.Leaves.{EndsIn, PutsInLeaf}

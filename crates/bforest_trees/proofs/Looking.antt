@@ -155,16 +155,16 @@ module _ {K V : Type 0} {cmp : K → K → Ordering} (table : Table K V) (root :
   module _ (content : Content K V) (found : slice_get table.nodes number ≡ Some content) where
     -- what a search in the leaf asks
     pub search-asks : IsLeaf content × IsStrictlySortedBy cmp (keys_of content)
-    search-asks = read_as table.nodes number s.leaf.slot_is found (λ z. IsLeaf z × IsStrictlySortedBy cmp (keys_of z)) (tt, s.tells.increasing)
+    search-asks = read_as s.leaf.slot_is found (λ z. IsLeaf z × IsStrictlySortedBy cmp (keys_of z)) (tt, s.tells.increasing)
 
     module _ (o : Option V) (index : ℕ) (present : IfSome o (λ v. search_of cmp (keys_of content) key ≡ Ok index)) (reads : IfSome o (λ v. slice_get (vals_of content) index ≡ Some v)) (absent : o ≡ None → search_of cmp (keys_of content) key ≡ Err index) where
       told : (index ≡ place cmp s.leaf.entries key) × (o ≡ value_for cmp s.leaf.entries key)
       told =
           let slots = table.nodes in
           looked cmp s.leaf.entries key s.tells.increasing o
-          (read_as slots number found s.leaf.slot_is (λ z. IfSome o (λ v. search_of cmp (keys_of z) key ≡ Ok index)) present)
-          (read_as slots number found s.leaf.slot_is (λ z. IfSome o (λ v. slice_get (vals_of z) index ≡ Some v)) reads)
-          (read_as slots number found s.leaf.slot_is (λ z. o ≡ None → search_of cmp (keys_of z) key ≡ Err index) absent)
+          (read_as found s.leaf.slot_is (λ z. IfSome o (λ v. search_of cmp (keys_of z) key ≡ Ok index)) present)
+          (read_as found s.leaf.slot_is (λ z. IfSome o (λ v. slice_get (vals_of z) index ≡ Some v)) reads)
+          (read_as found s.leaf.slot_is (λ z. o ≡ None → search_of cmp (keys_of z) key ≡ Err index) absent)
 
       pub searched-value : o ≡ value_for cmp (list_of table (Some root)) key
       searched-value = told.1 ∙ sym s.tells.value_is ∙ ap (λ l. value_for cmp l key) (sym (list-root table root on.root_is))

@@ -5,7 +5,7 @@ use Rattle.bforest_core.proofs.{Words.{node, flat, heads, sizes, FitRow, Stacked
 
 -- a row has more entries than half full nodes, one fewer than its nodes, would have
 pub entries-many : {K X : Type 0} (half most : ℕ) → 1 ≤ half → (m : ℕ) (es : List (K × X)) (ns : _) → FitRow half most (node m es ∷ ns) → half * length ns < length (flat (node m es ∷ ns))
-entries-many {K} {X} half most one m es [] f = let z : half * 0 ≡ 0 = omega arith in omega (arith, length-append es (flat []))
+entries-many half most one m es [] f = let z : half * 0 ≡ 0 = omega arith in omega (arith, length-append es (flat []))
 entries-many half most one m es (node n fs ∷ ns) f = omega (arith, entries-many half most one n fs ns f.2, length-append es (fs ++ flat ns))
 
 -- a row has at most as many nodes as half full ones would be, rounded up
@@ -26,7 +26,7 @@ depth half most one leaves [] f s t two = absurd (omega arith)
 depth half most one [] (row ∷ rows) f s t two = absurd (omega arith)
 depth half most one (node m es ∷ ns) (row ∷ rows) f s t two = let e : length (row ∷ rows) - 1 ≡ length rows = omega arith in
     let p : half * 4 ^ length rows ≤ half * length ns = mul-le-mul_left half (omega (arith, levels-few (heads (node m es ∷ ns)) row rows s t, fit_full half most one (node m es ∷ ns) f)) in
-    rw e (omega (arith, p, entries-many _ _ one m _ _ f))
+    rw e (omega (arith, entries-many _ _ one m _ _ f))
 
 -- an insertion adds at most one level
 pub gain-most : (k levels : _) → length (gain_above k levels) ≤ suc (length levels)
@@ -41,8 +41,7 @@ some_grew (Some q) levels e = (q, refl)
 
 -- an only node with room does not split
 none_small : (p s : ℕ) → s < 8 → (inner_gain p (s ∷ [])).0 ≡ None
-none_small p s room =
-    elim (cases_lt p s) [ inl lt ↦ (let a = lt-ltb p s lt in rw (a, lt-ltb s 8 room) refl) | inr ge ↦ (let a = le-ltb p s ge in rw a refl) ]
+none_small p s room = elim (cases_lt p s) [ inl lt ↦ (let a = lt-ltb p s lt in rw (a, lt-ltb s 8 room) refl) | inr ge ↦ (let a = le-ltb p s ge in rw a refl) ]
 
 root_full : {K : Type 0} (p : ℕ) {q : ℕ} (row : Row K ℕ) → length (heads row) ≡ 1 → FitRow 4 8 row → (inner_gain p (sizes row)).0 ≡ Some q → 8 ≤ length (flat row)
 root_full p [] one f e = absurd (omega arith)

@@ -65,8 +65,7 @@ module _ {K V : Type 0} where
       let whole : a ++ x ∷ b ≡ (flat at.before ++ c.l) ++ c.x ∷ (c.r ++ flat at.after) =
       sym p.stacked.0 ∙ ap flat at.row_is ∙ ap (λ z. flat (at.before ++ node n z ∷ at.after)) c.es_is ∙ simp (flat-append, append_assoc) in
       let same = cut_same a (flat at.before ++ c.l) x c.x b (c.r ++ flat at.after) whole (omega (arith, length-append (flat at.before) c.l)) in
-      let full = Solid-full 4 8 (omega arith) at.before (FitRow-split 4 8 at.before (node n at.entries) at.after (rw (← at.row_is) p.stacked.1)).0 in
-      record {
+      let full = Solid-full 4 8 (omega arith) at.before (FitRow-split 4 8 at.before (node n at.entries) at.after (rw (← at.row_is) p.stacked.1)).0 in record {
         before = at.before;
         l = c.l;
         r = c.r;
@@ -101,8 +100,7 @@ module _ {K V : Type 0} where
   pub facts : (t : Table K V) (ms js up size before n l x r after rest : _) →
       Cut_above t ms js up size before n l x r after rest → Facts t ms js up size before n l x r after rest
   facts t ms js up size before n l x r after rest p =
-      let f = FitRow-split 4 8 before (node n (l ++ x ∷ r)) after p.stacked.1 in let d = apart_here n _ _ _ _ _ p.apart in
-      record {
+      let f = FitRow-split 4 8 before (node n (l ++ x ∷ r)) after p.stacked.1 in let d = apart_here n _ _ _ _ _ p.apart in record {
         slot_is = (row-split _ _ _ (node n (l ++ x ∷ r) ∷ after) p.inside.0).1.0;
         solid = f.0;
         fit = f.1;
@@ -148,14 +146,13 @@ module _ {K V : Type 0} where
       tree.leaves ≡ before ++ node (get_or ms 0 0) entries ∷ after →
       get_or js 0 0 ≤ length entries → place ≡ length (flat before) + get_or js 0 0 → StandsAbove ms js 1 tree.above (length before) →
       LeafCut most t ms js tree place (take (get_or js 0 0) entries) (drop (get_or js 0 0) entries)
-  cut_leaf {most} {ms = ms} {js} before entries after fit inside apart is within place_is stands =
+  cut_leaf {most} {ms} {js} before entries after fit inside apart is within place_is stands =
       let n = get_or ms 0 0 in let l = take (get_or js 0 0) entries in let r = drop (get_or js 0 0) entries in
       let l_is = length-take-le (get_or js 0 0) entries within in
       let row_is = is ∙ ap (λ z. before ++ node n z ∷ after) (sym (take-append-drop _ _)) in let fit_row = rw row_is at fit in
       let apart_row = rw row_is at apart in
       let inside_row = rw row_is at inside.leaves_in in let f = FitRow-split (half_of most) most before (node n (l ++ r)) after fit_row.leaves_fit in
-      let d = apart_here n _ _ _ _ _ apart_row in
-      record {
+      let d = apart_here n _ _ _ _ _ apart_row in record {
         before = before;
         after = after;
         leaves_are = row_is;

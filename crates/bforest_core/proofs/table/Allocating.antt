@@ -16,7 +16,7 @@ err_iff r e f is = (λ same. (let s : e ≡ f = cc in ap Err s), λ same. (let s
 module _ {K V : Type 0} where
   -- writing the node taken from the front of the chain
   pub taken_is : (t : Table K V) {u : Table K V} {node c d : _} → front_of t.chain ≡ Some node → u ≡ without_front t t.chain → c ≡ d → with_node u node c ≡ with_front t t.chain d
-  taken_is t {d = d} front u_is c_is = cc (with_front-is t _ d front)
+  taken_is t {d} front u_is c_is = cc (with_front-is t _ d front)
 
   memory-without_front : (t : Table K V) (chain : _) → (without_front t chain).memory ≡ t.memory
   memory-without_front t [] = refl
@@ -32,7 +32,7 @@ module _ {K V : Type 0} where
 
   -- the number of free nodes after a reservation
   pub reserved-free : (table : Table K V) (n memory : ℕ) → length (reserved table n memory).chain ≡ (n - free_count table) + free_count table
-  reserved-free table n memory = omega (arith, length-append (down_from (slot_count table) (n - free_count table)) table.chain, length-down_from (slot_count table) (n - free_count table))
+  reserved-free table n memory = omega (arith, length-append (down_from (slot_count table) (n - free_count table)) table.chain, length-down_from)
 
   -- a reservation changes nothing where enough nodes are free
   pub reserved-enough : (table : Table K V) (n : ℕ) → n ≤ free_count table → reserved table n table.memory ≡ table

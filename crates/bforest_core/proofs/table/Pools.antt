@@ -22,14 +22,14 @@ module _ {K V : Type 0} where
   -- a write to a slot that is not on the chain keeps the chain
   pub IsPool-set : {n : ℕ} {nodes : List (Content K V)} {first free limit : _} (at : ℕ) (content : Content K V) → list_any (nat_eq at) (chain_from nodes free first) ≡ false → IsPool n nodes first free limit →
       IsPool n (set nodes at content) first free limit × (chain_from (set nodes at content) free first ≡ chain_from nodes free first)
-  IsPool-set {nodes = nodes} {first = first} {free = free} {limit = limit} at content off pool =
+  IsPool-set {nodes} {first} {free} {limit} at content off pool =
       IsPool-made (set nodes at content) (chain_from nodes free first) first free limit pool.capacity (IsChain-set nodes _ first at content off pool.linked) pool.counted pool.distinct (omega (arith, length-set nodes at content)) pool.limit_within
 
   -- writes to two slots that are not on the chain keep the chain
   pub IsPool-set_two : {n : ℕ} (nodes : List (Content K V)) (first free limit : _) {memory left right : ℕ} (l r : Content K V) {t : Table K V} {a b : ℕ} →
       record { nodes = nodes; chain = chain_from nodes free first; limit = limit; memory = memory } ≡ t → left ≡ a → right ≡ b →
       list_any (nat_eq a) t.chain ≡ false → list_any (nat_eq b) t.chain ≡ false → IsPool n nodes first free limit → IsPool n (set (set nodes left l) right r) first free limit × (chain_from (set (set nodes left l) right r) free first ≡ chain_from nodes free first)
-  IsPool-set_two nodes first free limit {left = left} {right = right} l r view left_is right_is off_a off_b pool =
+  IsPool-set_two nodes first free limit {left} {right} l r view left_is right_is off_a off_b pool =
       let once = IsPool-set left l (rw (← view, ← left_is) at off_a) pool in let twice = IsPool-set right r (cc) once.0 in (twice.0, cc)
 
   -- a used node is used in an equal table, under an equal number
@@ -62,7 +62,7 @@ module _ {K V : Type 0} where
       first)
   IsPool-grown nodes first free limit count total total_is within pool =
       IsPool-made (nodes ++ fresh_nodes (length nodes) count first) (down_from (length nodes) count ++ chain_from nodes free first) (front_of_new (length nodes) count first) total limit pool.capacity (IsChain-fresh nodes (chain_from nodes free first) first count pool.linked)
-      (omega (arith, length-append (down_from (length nodes) count) (chain_from nodes free first), length-down_from (length nodes) count))
+      (omega (arith, length-append (down_from (length nodes) count) (chain_from nodes free first), length-down_from))
       (IsDistinct-fresh nodes _ first count pool.linked pool.distinct) (omega (arith, length-append nodes (fresh_nodes (length nodes) count first), length-fresh_nodes K V (length nodes) count first)) pool.limit_within
 
   -- where nodes are free, the chain has a first node
@@ -80,7 +80,7 @@ module _ {K V : Type 0} where
   pub IsPool-taken : {n : ℕ} {nodes : List (Content K V)} {node : ℕ} (next free : _) {limit : ℕ} → 0 < free → IsPool n nodes (Some node) free limit → slice_get nodes node ≡ Some (Free next)
       → IsPool n nodes next (free - 1) limit × (chain_from nodes free (Some node) ≡ node ∷ chain_from nodes (free - 1) next) × (list_any (nat_eq node) (chain_from nodes (free - 1) next) ≡ false)
   IsPool-taken next zero some pool found = absurd (omega arith)
-  IsPool-taken {nodes = nodes} {node = node} next (suc count) {limit = limit} some pool found =
+  IsPool-taken {nodes} {node} next (suc count) {limit} some pool found =
       let less : suc count - 1 ≡ count = omega arith in let after = ap next_of found in let same : pool.linked.0 ≡ next = let there = pool.linked.2 in cc in
       let tail = chain_from nodes count next in let distinct : IsDistinct nat_eq (node ∷ tail) = rw after at pool.distinct in
       let counted : length tail ≡ count = omega (arith, rw after at pool.counted) in
@@ -100,7 +100,7 @@ module _ {K V : Type 0} where
   -- writing the taken front of the chain
   pub with_front-is : (table : Table K V) (chain : _) {node : ℕ} (content : Content K V) → front_of chain ≡ Some node → with_front table chain content ≡ with_node (without_front table chain) node content
   with_front-is table [] content front = cc
-  with_front-is table (first ∷ rest) {node = node} content front = let same : first ≡ node = cc in rw same
+  with_front-is table (first ∷ rest) {node} content front = let same : first ≡ node = cc in rw same
 
   -- a table with no slots, from its fields
   pub empty-is : (table : Table K V) (limit memory : ℕ) → table.nodes ≡ [] → table.chain ≡ [] → table.limit ≡ limit → table.memory ≡ memory →
@@ -110,4 +110,4 @@ module _ {K V : Type 0} where
 -- a number that is not on the chain is not its front
 pub apart_front : (chain : _) {node front : ℕ} → front_of chain ≡ Some front → list_any (nat_eq node) chain ≡ false → front ≡ node → ⊥
 apart_front [] is off e = cc
-apart_front (first ∷ rest) {node = node} {front = front} is off e = let same : first ≡ front = cc in eqb-false node first (or_parts _ _ off).0 (sym (same ∙ e))
+apart_front (first ∷ rest) {node} {front} is off e = let same : first ≡ front = cc in eqb-false node first (or_parts _ _ off).0 (sym (same ∙ e))

@@ -79,10 +79,8 @@ module _ {K V : Type 0} where
   -- a fit tree with an entry, at most 17 levels high, is computed from any table that it is in
   pub read-back : (most : _) {slots : _} (tree : Tree K V) → IsFit most tree → IsIn slots tree → 1 ≤ length (flat tree.leaves) → length tree.above ≤ 16 → tree_of slots (root_of tree) ≡ tree
   unfolding tree_of
-  read-back most {slots = slots} tree fit inside some low =
-      let one = half-some most tree.leaves fit.leaves_fit some in let g = (17 - length tree.above) - 1 in
-      let ef : 17 ≡ suc g + length tree.above = omega arith in
-      let d = down-all _ _ _ _ fit.stacked inside.rows_in (heads-some tree.leaves some) in
+  read-back most {slots} tree fit inside some low = let one = half-some most tree.leaves fit.leaves_fit some in let g = (17 - length tree.above) - 1 in
+      let ef : 17 ≡ suc g + length tree.above = omega arith in let d = down-all _ _ _ _ fit.stacked inside.rows_in (heads-some tree.leaves some) in
       let a : levels_below slots 17 (root_of tree ∷ []) [] ≡ numbers tree.leaves ∷ map numbers tree.above =
       ap (λ z. levels_below slots z (root_of tree ∷ []) []) ef ∙ d ∙ ap (λ z. levels_below slots (suc g) z (map numbers tree.above)) (items-heads _ _ one _ fit.leaves_fit) ∙ (let e = children-leaves slots tree.leaves inside.leaves_in in rw (e, levels_below) refl) in
       rw a (let b = leaves-back slots tree.leaves inside.leaves_in in rw (b, rows-back _ _ _ fit.stacked inside.rows_in) refl)

@@ -2,7 +2,7 @@
 use Rattle.bforest_core.proofs.Words.{◌≡◌, ℕ, zero, suc, ◌+◌, ◌-◌, ◌≤◌, List, [], ◌∷◌, ◌++◌, map, length, drop, insert, slice_get, Some, refl, sym, ap, ◌∙◌}
 use Rattle.bforest_core.proofs.Words.{subst, append_assoc, length-append, arith, Heads, length-map, map-append, take_at, drop_at, length-drop, Content, Inner}
 use Rattle.bforest_core.proofs.Words.{Leaf, Free, IsFree, IsInner, IsCut, children_of, entry_count, with_child, with_entry, inner_content, leaf_content}
-use Rattle.bforest_core.proofs.Words.{entry_keys, entry_items}
+use Rattle.bforest_core.proofs.Words.{Option, entry_keys, entry_items}
 
 pub some_same : {A : Type 0} → {x y : A} → Some x ≡ Some y → x ≡ y
 some_same e = cc
@@ -12,8 +12,8 @@ pub read_same : {A : Type 0} → (list : List A) (n : ℕ) {x y : A} → slice_g
 read_same list n first second = some_same (cc)
 
 -- what holds of one read of a slot holds of another
-pub read_as : {A : Type 0} {x y : A} (list : List A) (n : ℕ) → slice_get list n ≡ Some x → slice_get list n ≡ Some y → (P : A → Type 0) → P x → P y
-read_as list n first second P said = subst P (sym (some_same cc)) said
+pub read_as : {A : Type 0} {x y : A} {read : Option A} → read ≡ Some x → read ≡ Some y → (P : A → Type 0) → P x → P y
+read_as first second P said = subst P (some_same (sym first ∙ second)) said
 
 pub slice_get_at : {A : Type 0} → (p : List A) (y : A) (ys : List A) (n : ℕ) → length p ≡ n → slice_get (p ++ y ∷ ys) n ≡ Some y
 slice_get_at [] y ys zero e = refl
@@ -74,8 +74,7 @@ module _ {K : Type 0} (V : Type 0) where
   pub inner_cuts : (x xs y ys q : _) (left right : Content K V) (key : K) → length (x ∷ xs) ≡ q → IsCut (inner_content ((x ∷ xs) ++ y ∷ ys)) q left key right → Parts inner_content (x ∷ xs) y ys left right key
   inner_cuts x xs y ys q left right key e c =
       let kl : length (entry_keys xs) ≡ q - 1 = length-map xs (λ w. w.0) ∙ omega arith in let kl2 = ap suc (length-map xs (λ w. w.0)) ∙ e in
-      let il = length-map (x ∷ xs) (λ w. w.1) ∙ e in let k = map-append (λ w. w.0) xs (y ∷ ys) in let i = map-append (λ w. w.1) (x ∷ xs) (y ∷ ys) in
-      record {
+      let il = length-map (x ∷ xs) (λ w. w.1) ∙ e in let k = map-append (λ w. w.0) xs (y ∷ ys) in let i = map-append (λ w. w.1) (x ∷ xs) (y ∷ ys) in record {
         left_is = rw (k, i, take_at (entry_keys xs) (y.0 ∷ entry_keys ys) (q - 1) kl, take_at (entry_items (x ∷ xs)) (y.1 ∷ entry_items ys) q il) at c.left_is;
         right_is = rw (k, i, drop-behind (entry_keys xs) y.0 (entry_keys ys) q kl2, drop_at (entry_items (x ∷ xs)) (y.1 ∷ entry_items ys) q il) at c.right_is;
         key_is = some_same (cc (slice_get_at (entry_keys xs) y.0 (entry_keys ys) (q - 1) kl));
@@ -89,8 +88,7 @@ module _ {K : Type 0} (V : Type 0) where
   pub leaf_cuts : (xs : List (K × V)) (y ys q left right key : _) → length xs ≡ q → IsCut (leaf_content (xs ++ y ∷ ys)) q left key right → Parts leaf_content xs y ys left right key
   leaf_cuts xs y ys q left right key e c =
       let kl = length-map xs (λ w. w.0) ∙ e in let il = length-map xs (λ w. w.1) ∙ e in let k = map-append (λ w. w.0) xs (y ∷ ys) in
-      let i = map-append (λ w. w.1) xs (y ∷ ys) in
-      record {
+      let i = map-append (λ w. w.1) xs (y ∷ ys) in record {
         left_is = rw (k, i, take_at (entry_keys xs) (y.0 ∷ entry_keys ys) q kl, take_at (entry_items xs) (y.1 ∷ entry_items ys) q il) at c.left_is;
         right_is = rw (k, i, drop_at (entry_keys xs) (y.0 ∷ entry_keys ys) q kl, drop_at (entry_items xs) (y.1 ∷ entry_items ys) q il) at c.right_is;
         key_is = some_same (cc (slice_get_at (entry_keys xs) y.0 (entry_keys ys) q kl));

@@ -21,7 +21,7 @@ pub absent_ne : (m x ms : _) → count m (x ∷ ms) ≡ 0 → m ≢ x
 absent_ne m x ms z = λ e. let c = count-same x ms in let f = ap (λ w. count w (x ∷ ms)) e in omega arith
 
 pub count-row : {K X : Type 0} (k : ℕ) (before : Row K X) (n : ℕ) (es : List (K × X)) (after : Row K X) → count k (numbers (before ++ node n es ∷ after)) ≡ count k (numbers before) + count k (n ∷ numbers after)
-count-row k before n es after = ap (λ z. count k z) (numbers-append _ _) ∙ count-append k _ _
+count-row k before n es after = ap (count k) (numbers-append _ _) ∙ count-append k _ _
 
 -- how often a number occurs in a level, in all rows from it up, and with the chain
 pub counts : {K X : Type 0} (m : ℕ) (before : Row K X) (n : ℕ) (es : List (K × X)) (after : Row K X) (rest : Rows K) (chain : List ℕ) →
@@ -88,8 +88,8 @@ module _ {K V : Type 0} where
   pub rows-same : (t u : List (Content K V)) (rows : _) → ((m : ℕ) → 0 < count m (flat_map numbers rows) → slice_get u m ≡ slice_get t m) → RowsIn t rows → RowsIn u rows
   rows-same t u [] same i = tt
   rows-same t u (row ∷ rows) same i = (
-    row-same _ t u row (λ m some. same m (omega (arith, count-append m (numbers row) (flat_map numbers rows)))) i.0,
-    rows-same t u rows (λ m some. same m (omega (arith, count-append m (numbers row) (flat_map numbers rows)))) i.1,
+    row-same _ t u row (λ m some. same m (omega (arith, count-append))) i.0,
+    rows-same t u rows (λ m some. same m (omega (arith, count-append))) i.1,
   )
 
   -- one slot was written

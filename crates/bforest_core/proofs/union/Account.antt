@@ -54,12 +54,12 @@ module _ {K V : Type 0} where
   abbrev pub nodes_under : List (Content K V) → ℕ → ℕ
   nodes_under slots root = length (numbers_of (tree_of slots root))
 
-  trees-sum : {most table : _} (before trees : List (Tree K V)) → IsForest most table (before ++ trees) → length (flat_map numbers_of trees) ≡ sum_by (λ n. nodes_under table.nodes n) (map root_of trees)
+  trees-sum : {most table : _} (before trees : List (Tree K V)) → IsForest most table (before ++ trees) → length (flat_map numbers_of trees) ≡ sum_by (nodes_under table.nodes) (map root_of trees)
   trees-sum before [] f = refl
-  trees-sum {most = most} {table = table} before (tree ∷ trees) f =
-      let ih = trees-sum (before ++ tree ∷ []) trees (subst (λ z. IsForest most table z) (sym (append_assoc before (tree ∷ []) trees)) f) in
+  trees-sum {most} {table} before (tree ∷ trees) f =
+      let ih = trees-sum (before ++ tree ∷ []) trees (subst (IsForest most table) (sym (append_assoc before (tree ∷ []) trees)) f) in
       let back = ap (λ z. length (numbers_of z)) (tree-back before tree trees (root_of tree) f refl refl).0 in
-      omega (arith, length-append (numbers_of tree) (flat_map numbers_of trees), sum_by-cons (λ n. nodes_under table.nodes n) (root_of tree) (map root_of trees))
+      omega (arith, length-append (numbers_of tree) (flat_map numbers_of trees), sum_by-cons (nodes_under table.nodes) (root_of tree) (map root_of trees))
 
   -- the roots are the numbers of slots that pass the test
   roots-kept : {most : _} (table : Table K V) (trees : _) → IsForest most table trees → (m : ℕ) → count m (map root_of trees) ≡ count m (kept (is_root table.nodes) (upto (length table.nodes)))
@@ -75,18 +75,18 @@ module _ {K V : Type 0} where
   account table union = let trees = union.0 in let f = union.1 in
       let a = length-same (flat_map numbers_of trees ++ table.chain) (upto (length table.nodes)) (λ m. f.account m ∙ sym (count-upto m (length table.nodes))) in
       let b = trees-sum [] trees f in
-      let c = sum-same (λ n. nodes_under table.nodes n) (map root_of trees) (kept (is_root table.nodes) (upto (length table.nodes))) (roots-kept table trees f) in
-      let d = sum-kept (is_root table.nodes) (λ n. nodes_under table.nodes n) (upto (length table.nodes)) in
+      let c = sum-same (nodes_under table.nodes) (map root_of trees) (kept (is_root table.nodes) (upto (length table.nodes))) (roots-kept table trees f) in
+      let d = sum-kept (is_root table.nodes) (nodes_under table.nodes) (upto (length table.nodes)) in
       omega (arith, length-append (flat_map numbers_of trees) table.chain, length-upto (length table.nodes))
 
 row-count : {K X : Type 0} (row : Row K X) → length (numbers row) ≡ length (sizes row)
 row-count [] = refl
 row-count (node m es ∷ row) = ap suc (row-count row)
 
-rows-count : {K : Type 0} (rows : Rows K) → length (flat_map numbers rows) ≡ sum_by (λ s. length s) (map sizes rows)
+rows-count : {K : Type 0} (rows : Rows K) → length (flat_map numbers rows) ≡ sum_by length (map sizes rows)
 rows-count [] = refl
-rows-count (row ∷ rows) = omega (arith, length-append (numbers row) (flat_map numbers rows), row-count row, rows-count rows, sum_by-cons (λ s. length s) (sizes row) (map sizes rows))
+rows-count (row ∷ rows) = omega (arith, length-append (numbers row) (flat_map numbers rows), row-count row, rows-count rows, sum_by-cons length (sizes row) (map sizes rows))
 
 -- a tree has as many nodes as all its levels together
-pub nodes-count : {K V : Type 0} (tree : Tree K V) → length (numbers_of tree) ≡ sum_by (λ s. length s) (sizes_of tree)
-nodes-count tree = omega (arith, length-append (numbers tree.leaves) (flat_map numbers tree.above), row-count tree.leaves, rows-count tree.above, sum_by-cons (λ s. length s) (sizes tree.leaves) (map sizes tree.above))
+pub nodes-count : {K V : Type 0} (tree : Tree K V) → length (numbers_of tree) ≡ sum_by length (sizes_of tree)
+nodes-count tree = omega (arith, length-append (numbers tree.leaves) (flat_map numbers tree.above), row-count tree.leaves, rows-count tree.above, sum_by-cons length (sizes tree.leaves) (map sizes tree.above))

@@ -3,7 +3,7 @@ use Rattle.bforest_core.proofs.Words.{◌≡◌, ℕ, ◌+◌, ◌≤◌, ◌<�
 use Rattle.bforest_core.proofs.Words.{inr, arith, IsLeafCapacity, nil_from_length, flat_map, map-append, get_or_past, flat_map-append, and_parts, cases_lt}
 use Rattle.bforest_core.proofs.Words.{eqb_tells, Content, Inner, Leaf, Free, IsFree, children_of, Table, flat, heads, numbers, Stacked, Tree, IsFit, half_of}
 use Rattle.bforest_core.proofs.Words.{IsRooted, RowsIn, IsIn, entry_items, count, root_above, root_of, numbers_of, slot, is_used, tree_of, is_root, Every}
-use Rattle.bforest_core.proofs.{Words.IsForest, union.FreeSlots.free-at, walks.TopNode.node_under, walks.Whole.whole_under}
+use Rattle.bforest_core.proofs.{Words.IsForest, union.FreeSlots.free-at, walks.TopNode.node_under, walks.Whole.root-node}
 use Rattle.bforest_core.proofs.{rows.Counts.{below-one, past-none, at-most-one, named_by, all-named}, table.Tables.{count-append, count-same, count-other}}
 use Rattle.bforest_core.proofs.{table.Read.{items-heads, half-some, slot-is, children-row, children-leaves, read-back}, table.Stored.{childless, inner_used}}
 
@@ -25,18 +25,18 @@ module _ {K V : Type 0} where
   named_rows slots (x ∷ []) [] s i m = omega arith
   named_rows slots (x ∷ y ∷ hs) [] s i m = absurd (omega arith)
   named_rows slots hs (row ∷ rows) s i m = let ih = named_rows slots (heads row) rows s.2 i.1 m in
-      let a = ap (λ z. count m z) (flat_map-append (λ k. children_of (slot slots k)) _ _) ∙ count-append m (named_by slots (numbers row)) (named_by slots (flat_map numbers rows)) in
-      let b = ap (λ z. count m z) (children-row slots row i.0 ∙ ap entry_items s.0) in let c = ap (λ z. count m z) (items-heads 4 8 (omega arith) row s.1) in
-      omega (arith, count-append m (numbers row) (flat_map numbers rows))
+      let a = ap (count m) (flat_map-append (λ k. children_of (slot slots k)) _ _) ∙ count-append m (named_by slots (numbers row)) (named_by slots (flat_map numbers rows)) in
+      let b = ap (count m) (children-row slots row i.0 ∙ ap entry_items s.0) in let c = ap (count m) (items-heads 4 8 (omega arith) row s.1) in
+      omega (arith, count-append)
 
   -- each number of a tree but its root is named by one node of the tree, and no other number is
   named_tree : {most slots : _} {tree : Tree K V} → IsFit most tree → IsIn slots tree → 1 ≤ length (flat tree.leaves) → (m : ℕ) →
       count m (named_by slots (numbers_of tree)) + count m (root_of tree ∷ []) ≡ count m (numbers_of tree)
-  named_tree {most = most} {slots = slots} {tree = tree} f i some m = let r = named_rows _ _ _ f.stacked i.rows_in m in
-      let a = ap (λ z. count m z) (flat_map-append (λ k. children_of (slot slots k)) _ _) ∙ count-append m (named_by slots (numbers tree.leaves)) (named_by slots (flat_map numbers tree.above)) in
-      let b = ap (λ z. count m z) (children-leaves slots tree.leaves i.leaves_in) in
-      let c = ap (λ z. count m z) (items-heads (half_of most) most (half-some most tree.leaves f.leaves_fit some) tree.leaves f.leaves_fit) in
-      omega (arith, count-append m (numbers tree.leaves) (flat_map numbers tree.above))
+  named_tree {most} {slots} {tree} f i some m = let r = named_rows _ _ _ f.stacked i.rows_in m in
+      let a = ap (count m) (flat_map-append (λ k. children_of (slot slots k)) _ _) ∙ count-append m (named_by slots (numbers tree.leaves)) (named_by slots (flat_map numbers tree.above)) in
+      let b = ap (count m) (children-leaves slots tree.leaves i.leaves_in) in
+      let c = ap (count m) (items-heads (half_of most) most (half-some most tree.leaves f.leaves_fit some) tree.leaves f.leaves_fit) in
+      omega (arith, count-append)
 
   -- the root of a tree is one of its numbers
   pub root-among : (most slots : _) (tree : Tree K V) → IsFit most tree → IsIn slots tree → 1 ≤ length (flat tree.leaves) → 0 < count (root_of tree) (numbers_of tree)
@@ -47,8 +47,8 @@ module _ {K V : Type 0} where
       count m (named_by slots (flat_map numbers_of trees)) + count m (map root_of trees) ≡ count m (flat_map numbers_of trees)
   named_trees most slots [] f i some m = omega arith
   named_trees most slots (tree ∷ trees) f i some m = let one = named_tree f.0 i.0 some.0 m in let ih = named_trees most slots trees f.1 i.1 some.1 m in
-      let a = ap (λ z. count m z) (flat_map-append (λ k. children_of (slot slots k)) _ _) ∙ count-append m (named_by slots (numbers_of tree)) (named_by slots (flat_map numbers_of trees)) in
-      omega (arith, count-append m (numbers_of tree) (flat_map numbers_of trees))
+      let a = ap (count m) (flat_map-append (λ k. children_of (slot slots k)) _ _) ∙ count-append m (named_by slots (numbers_of tree)) (named_by slots (flat_map numbers_of trees)) in
+      omega (arith, count-append)
 
   -- a free slot names no node
   no_children : (content : Content K V) → IsFree content → children_of content ≡ []
@@ -67,23 +67,22 @@ module _ {K V : Type 0} where
 
   -- the root of a tree is a node
   root_used : {most : ℕ} → IsLeafCapacity most → (slots : List (Content K V)) (tree : _) → IsRooted most slots (root_of tree) tree → is_used (slot slots (root_of tree)) ≡ true
-  root_used capacity slots tree r = let u = whole_under r in
-      elim (node_under capacity tree.above [] u.0 (root_of tree) [] u.1) [ inl w ↦ ap is_used (slot-is slots (root_of tree) w.slot_is) | inr w ↦ ap is_used (slot-is slots (root_of tree) w.slot_is) ]
+  root_used capacity slots tree r = elim (node_under capacity (root-node r)) [ inl w ↦ ap is_used (slot-is slots (root_of tree) w.slot_is) | inr w ↦ ap is_used (slot-is slots (root_of tree) w.slot_is) ]
 
   -- the slots of a table name each number of its trees except the roots
   named_all : {most : _} {table : Table K V} {trees : _} → IsForest most table trees → (m : ℕ) → count m (flat_map children_of table.nodes) + count m (map root_of trees) ≡ count m (flat_map numbers_of trees)
-  named_all {table = table} {trees = trees} f m = let a = all-named _ _ f.account m in
-      let b = ap (λ z. count m z) (flat_map-append (λ k. children_of (slot table.nodes k)) _ _) ∙ count-append m (named_by table.nodes (flat_map numbers_of trees)) (named_by table.nodes table.chain) in
-      let c = ap (λ z. count m z) (named_free table.nodes table.chain f.free) in omega (arith, named_trees _ _ _ f.fit f.inside f.some m)
+  named_all {table} {trees} f m = let a = all-named _ _ f.account m in
+      let b = ap (count m) (flat_map-append (λ k. children_of (slot table.nodes k)) _ _) ∙ count-append m (named_by table.nodes (flat_map numbers_of trees)) (named_by table.nodes table.chain) in
+      let c = ap (count m) (named_free table.nodes table.chain f.free) in omega (arith, named_trees _ _ _ f.fit f.inside f.some m)
 
   -- a number occurs in the trees or on the chain at most once
   pub once : {most : _} {table : Table K V} {trees : _} → IsForest most table trees → (m : ℕ) → count m (flat_map numbers_of trees) + count m table.chain ≤ 1
-  once {table = table} {trees = trees} f m = omega (arith, f.account m, at-most-one m (length table.nodes), count-append m (flat_map numbers_of trees) table.chain)
+  once {table} f m = omega (arith, f.account m, at-most-one, count-append)
 
   -- a number in the trees or on the chain is that of a slot
   pub within-slots : {most : _} {table : Table K V} {trees : _} → IsForest most table trees → (m : ℕ) → 0 < count m (flat_map numbers_of trees) + count m table.chain → m < length table.nodes
-  within-slots {table = table} {trees = trees} f m some =
-      elim (cases_lt m (length table.nodes)) [ inl low ↦ low | inr past ↦ absurd (omega (arith, f.account m, past-none m _ past, count-append m (flat_map numbers_of trees) table.chain)) ]
+  within-slots {table} f m some =
+      elim (cases_lt m (length table.nodes)) [ inl low ↦ low | inr past ↦ absurd (omega (arith, f.account m, past-none m _ past, count-append)) ]
 
   -- no two trees have the same root
   pub roots-once : {most : _} (table : Table K V) {trees : _} → IsForest most table trees → (m : ℕ) → count m (map root_of trees) ≤ 1
@@ -106,12 +105,12 @@ module _ {K V : Type 0} where
   pub tree-back : {most : _} {table : Table K V} {trees : _} (before : List (Tree K V)) (tree : Tree K V) (after : List (Tree K V)) (root : ℕ) → IsForest most table trees → trees ≡ before ++ tree ∷ after → root_of tree ≡ root →
       (tree_of table.nodes root ≡ tree) × IsTrue (is_root table.nodes root)
   unfolding is_root
-  tree-back {most = most} {table = table} before tree after root given split is =
+  tree-back {most} {table} before tree after root given split is =
       let f = rw split at given in let fit = (every-append (IsFit most) before (tree ∷ after) f.fit).1.0 in
       let inside = (every-append (IsIn table.nodes) before (tree ∷ after) f.inside).1.0 in
       let some = (every-append (λ tree. 1 ≤ length (flat tree.leaves)) before (tree ∷ after) f.some).1.0 in
       let low = (every-append (λ tree. length tree.above ≤ 16) before (tree ∷ after) f.low).1.0 in let m = root_of tree in
-      let here = ap (λ z. count m z) (map-append root_of before (tree ∷ after)) ∙ count-append m (map root_of before) (m ∷ map root_of after) in
+      let here = ap (count m) (map-append root_of before (tree ∷ after)) ∙ count-append m (map root_of before) (m ∷ map root_of after) in
       let none : count m (flat_map children_of table.nodes) ≡ 0 = omega (arith, count-same m (map root_of after), named_all f m, once f m) in
       let used = root_used f.capacity table.nodes tree (record { fit = fit; inside = inside; root_is = refl; some = some; low = low }) in
       rw (← is) (read-back most tree fit inside some low, rw (used, none) refl)
@@ -119,13 +118,13 @@ module _ {K V : Type 0} where
   -- a number is a root exactly if it is the root of one of the trees
   pub root-counts : {most : _} {table : Table K V} {trees : _} → IsForest most table trees → (m : ℕ) → IsTrue (is_root table.nodes m) ↔ (0 < count m (map root_of trees))
   unfolding is_root
-  root-counts {table = table} {trees = trees} f m = (
+  root-counts {table} {trees} f m = (
     λ root. (
         let parts = and_parts (is_used _) (nat_eq (count m (flat_map children_of table.nodes)) 0) root in
         let none : count m (flat_map children_of table.nodes) ≡ 0 = elim (eqb_tells (count m (flat_map children_of table.nodes)) 0) [ inl w ↦ w.1 | inr w ↦ absurd (let e = w.0 in let d = parts.1 in cc) ] in
         let low = used_within _ m parts.0 in
         let off : count m table.chain ≡ 0 = elim (cases_lt 0 (count m table.chain)) [ inl on ↦ absurd (let e = free-unused _ (free-at _ _ f.free m on) in let d = parts.0 in cc) | inr off ↦ omega arith ] in
-        omega (arith, f.account m, below-one m _ low, count-append m (flat_map numbers_of trees) table.chain, named_all f m)
+        omega (arith, f.account m, below-one, count-append, named_all f m)
         ),
     λ some. (let r = tree-with trees m some in (tree-back r.0 r.1 r.2 m f r.3 r.4).1),
   )

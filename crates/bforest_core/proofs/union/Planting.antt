@@ -9,7 +9,7 @@ use Rattle.bforest_core.proofs.{union.Roots.{not-root, one_root, one_tree}, unio
 -- a chain with a front is not empty
 front_rest : {m : ℕ} (chain : _) → front_of chain ≡ Some m → (rest : _) × (chain ≡ m ∷ rest)
 front_rest [] e = absurd cc
-front_rest {m = m} (x ∷ rest) e = (rest, (let same : x ≡ m = cc in ap (λ z. z ∷ rest) same))
+front_rest {m} (x ∷ rest) e = (rest, (let same : x ≡ m = cc in ap (λ z. z ∷ rest) same))
 
 -- a table without slots has no root
 pub no-root : (K V : Type 0) (number : ℕ) → ¬ IsTrue (is_root {K = K} {V = V} [] number)
@@ -27,11 +27,10 @@ module _ {K V : Type 0} where
       front_of (reserved old 1 memory).chain ≡ Some number →
       new ≡ with_front (reserved old 1 memory) (reserved old 1 memory).chain (Leaf (key ∷ []) (value ∷ [])) → GrowsFor 1 old new →
       Plants most old new number (key, value)
-  planted-alloc most {old = old} new {number = number} memory key value union front is growth =
+  planted-alloc most {old} new {number} memory key value union front is growth =
       let mid = reserved old 1 memory in let u = reserved-union most old 1 _ union in let f = front_rest mid.chain front in
-      let t = takes mid new number (Leaf (key ∷ []) (value ∷ [])) front is (within-slots u.1 number (omega (arith, ap (λ z. count number z) f.1, count-same number f.0))) in
-      let tree : Tree K V = record { leaves = node number ((key, value) ∷ []) ∷ []; above = [] } in
-      let p : IsPlanted most new.nodes tree = record {
+      let t = takes mid new number (Leaf (key ∷ []) (value ∷ [])) front is (within-slots u.1 number (omega (arith, ap (count number) f.1, count-same number f.0))) in
+      let tree : Tree K V = record { leaves = node number ((key, value) ∷ []) ∷ []; above = [] } in let p : IsPlanted most new.nodes tree = record {
         fit = record { leaves_fit = (omega arith, omega arith, tt); stacked = refl; topped = tt };
         inside = record { leaves_in = (t.here, tt); rows_in = tt };
         some = omega arith;
@@ -42,8 +41,7 @@ module _ {K V : Type 0} where
       let back = tree-back [] tree u.0 number g refl refl in let made = length-fresh_nodes K V (slot_count old) (1 - free_count old) (front_of old.chain) in
       let slots = length-append old.nodes (fresh_nodes (slot_count old) (1 - free_count old) (front_of old.chain)) in
       let chains = length-append (down_from (slot_count old) (1 - free_count old)) old.chain in
-      let downs = length-down_from (slot_count old) (1 - free_count old) in
-      record {
+      let downs = length-down_from (slot_count old) (1 - free_count old) in record {
         changes = record {
           union = (tree ∷ u.0, g);
           root_is = back.1;

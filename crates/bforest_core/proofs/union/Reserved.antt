@@ -4,7 +4,7 @@ use Rattle.bforest_core.proofs.Words.{ap, ◌∙◌, subst, length-append, arith
 use Rattle.bforest_core.proofs.Words.{down_from, fresh_nodes, front_of, free_count, slot_count, with_slots, reserved, KeepsTrees, count, numbers_of, slot}
 use Rattle.bforest_core.proofs.{Words.{tree_of, is_root, Every, IsForest, IsUnion, OthersKeep}, table.Chains.{length-down_from, length-fresh_nodes}}
 use Rattle.bforest_core.proofs.{table.Tables.count-append, table.Lists.slice_get-append_left, union.FreeSlots.free-same}
-use Rattle.bforest_core.proofs.{union.Forests.{every-join, within-slots}, union.Exchange.{trees-same, others-keep}, rows.Counts.{once_below, upto, count-upto}}
+use Rattle.bforest_core.proofs.{union.Forests.{every-join, within-slots}, union.Exchange.{trees-same, others-keep}, rows.Counts.{once_below, count-upto}}
 
 -- each of `n` new numbers is at least the first
 every-down : (P : ℕ → Type 0) (first : ℕ) → ((m : ℕ) → first ≤ m → P m) → (n : ℕ) → Every P (down_from first n)
@@ -14,8 +14,8 @@ every-down P first f (suc n) = (f (first + n) (omega arith), every-down P first 
 -- the new numbers are those that `n` more slots have
 count-down : (m first n : ℕ) → count m (down_from first n) + once_below m first ≡ once_below m (first + n)
 count-down m first zero = let e : first + 0 ≡ first = omega arith in rw e (omega arith)
-count-down m first (suc n) = let e : first + suc n ≡ suc (first + n) = omega arith in let a = ap (λ z. once_below m z) e in
-    omega (arith, count-upto m (suc (first + n)), count-upto m (first + n), count-append m (upto (first + n)) ((first + n) ∷ []), count-down m first n)
+count-down m first (suc n) = let e : first + suc n ≡ suc (first + n) = omega arith in let a = ap (once_below m) e in
+    omega (arith, count-upto m (suc (first + n)), count-upto m (first + n), count-append, count-down m first n)
 
 module _ {K V : Type 0} where
   -- free slots followed by one more free slot
@@ -41,7 +41,7 @@ module _ {K V : Type 0} where
 
   -- a table with `n` new slots has the same trees
   with-slots-forest : {most : _} {table : Table K V} (n memory : _) {trees : _} → IsForest most table trees → IsForest most (with_slots table n memory) trees
-  with-slots-forest {table = table} n memory {trees = trees} f =
+  with-slots-forest {table} n memory {trees} f =
       let more = fresh_nodes (slot_count table) n (front_of table.chain) in let c = λ (m : ℕ). count-append m (flat_map numbers_of trees) table.chain in
       let low = within-slots f in
       let slots : length (table.nodes ++ more) ≡ length table.nodes + n = omega (arith, length-append table.nodes more, length-fresh_nodes K V (slot_count table) n (front_of table.chain)) in
@@ -53,7 +53,7 @@ module _ {K V : Type 0} where
         low = f.low;
         free = every-join _ _ _ (every-down _ _ (past_free table.nodes more (fresh_free K V (slot_count table) n (front_of table.chain))) n)
             (free-same table.nodes (table.nodes ++ more) table.chain (λ m some. slots_same table.nodes more m (low m (omega arith))) f.free);
-        account = λ m. omega (arith, c m, f.account m, count-down m (slot_count table) n, count-append) ∙ ap (λ z. once_below m z) (sym slots);
+        account = λ m. omega (arith, c m, f.account m, count-down m (slot_count table) n, count-append) ∙ ap (once_below m) (sym slots);
       }
 
   -- the used slots are a union of trees after a reservation
@@ -79,9 +79,8 @@ module _ {K V : Type 0} where
 
   pub reserved-keeps : (most : ℕ) {old : Table K V} (new : Table K V) (n memory : ℕ) → new ≡ reserved old n memory → IsUnion most old →
       IsUnion most new × KeepsTrees old.nodes new.nodes
-  reserved-keeps most {old = old} new n memory is union = rw is (reserved-union most old n memory union, reserved-roots most old n memory union)
+  reserved-keeps most {old} new n memory is union = rw is (reserved-union most old n memory union, reserved-roots most old n memory union)
 
   -- at least `n` nodes are free after a reservation of `n`
   pub reserved-frees : (old : Table K V) (n : ℕ) {chain : List ℕ} → chain ≡ (reserved old n old.memory).chain → n ≤ length chain
-  reserved-frees old n is =
-      omega (arith, ap length is, length-append (down_from (slot_count old) (n - free_count old)) old.chain, length-down_from (slot_count old) (n - free_count old))
+  reserved-frees old n is = omega (arith, ap length is, length-append (down_from (slot_count old) (n - free_count old)) old.chain, length-down_from)

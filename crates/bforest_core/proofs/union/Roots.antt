@@ -27,11 +27,10 @@ module _ {K V : Type 0} where
   one_tree tree = sym (append-nil (numbers_of tree))
 
   exchanged_by : {most : ℕ} (old new : Table K V) (root : ℕ) {tree' : Tree K V} → IsUnion most old → IsTrue (is_root old.nodes root) → IsPlanted most new.nodes tree' → Traded old new (numbers_of (tree_of old.nodes root)) (numbers_of tree') → Exchanged most old new root tree'
-  exchanged_by {most = most} old new root {tree' = tree'} union is p t = let r = rooted most old root union is in let tree = tree_of old.nodes root in
-      let one = rw (one_tree tree) at (subst (λ z. Traded old new (numbers_of tree) z) (one_tree tree') t) in
+  exchanged_by {most} old new root {tree'} union is p t = let r = rooted most old root union is in let tree = tree_of old.nodes root in
+      let one = rw (one_tree tree) at (subst (Traded old new (numbers_of tree)) (one_tree tree') t) in
       let g = exchange-trees r.before (tree ∷ []) (tree' ∷ []) r.after r.forest (p, tt) one in
-      let back = tree-back r.before tree' r.after (root_of tree') g refl refl in
-      rw (← r.root_is) (record {
+      let back = tree-back r.before tree' r.after (root_of tree') g refl refl in rw (← r.root_is) (record {
         union = (r.before ++ tree' ∷ r.after, g);
         root_is = back.1;
         tree_is = back.0;
@@ -45,13 +44,13 @@ module _ {K V : Type 0} where
       most new.nodes tree' → old.chain ≡ taken ++ new.chain → length new.nodes ≡ length old.nodes → ((m : ℕ) → count m (numbers_of tree') ≡ count m (numbers_of
       (tree_of old.nodes root)) + count m taken) → ((m : ℕ) → count m (numbers_of (tree_of old.nodes root)) + count m taken ≡ 0 → slice_get new.nodes m ≡
       slice_get old.nodes m) → Exchanged most old new root tree'
-  exchanged {old = old} {new = new} root {tree' = tree'} taken union is p chain_is slots nums others =
+  exchanged {old} {new} root {tree'} taken union is p chain_is slots nums others =
       exchanged_by old new root union is p (traded old new (numbers_of (tree_of old.nodes root)) (numbers_of tree') taken [] new.chain union.1.free (rooted _ old root union is).apart chain_is refl tt slots (λ m. omega arith) others)
 
   -- the tree after a removal under a root
   pub exchanged-freed : {most : ℕ} {old new : Table K V} (root : ℕ) {tree' : Tree K V} {freed : _} → IsUnion most old → IsTrue (is_root old.nodes root) → IsPlanted most new.nodes tree' → Frees old new (numbers_of (tree_of old.nodes root)) freed →
       ((m : ℕ) → count m (numbers_of tree') + count m freed ≡ count m (numbers_of (tree_of old.nodes root))) → Exchanged most old new root tree'
-  exchanged-freed {old = old} {new = new} root {tree' = tree'} {freed = freed} union is p frees nums = exchanged_by old new root union is p (traded old new
+  exchanged-freed {old} {new} root {tree'} {freed} union is p frees nums = exchanged_by old new root union is p (traded old new
       (numbers_of (tree_of old.nodes root)) (numbers_of tree') [] freed old.chain union.1.free (rooted _ old root union is).apart refl frees.chain_is
       frees.freed_are frees.slots_are (λ m. omega arith) (λ m none. frees.others m (omega arith)))
 

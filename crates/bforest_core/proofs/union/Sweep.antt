@@ -4,41 +4,40 @@ use Rattle.bforest_core.proofs.Words.{sym, ap, subst, ◌∙◌, inl, inr, arith
 use Rattle.bforest_core.proofs.Words.{with_freed, heads, numbers, entry_items, count, Distinct, StackedTo, Under, numbers_down, slot, Frees, GivesAll}
 use Rattle.bforest_core.proofs.{Words.{numbers_under, drop_all, length-map, reverse-append, take_all, slice_get_within, IsLeafCapacity}, table.Lists.drop-read}
 use Rattle.bforest_core.proofs.{removal.Frees.{frees-one, frees-refl, frees-then, frees-wider, only_here}, table.Tables.{count-append, count-same}}
-use Rattle.bforest_core.proofs.{walks.LeafSearch.items-read, walks.RowNodes.no_heads, table.Stored.{childless, some_same}, union.Sections.{UnderCut, under-cut}}
+use Rattle.bforest_core.proofs.{walks.LeafSearch.items-read, walks.RowNodes.no_heads, table.Stored.{childless, some_same}, union.Opened.{UnderCut, under-cut}}
 use Rattle.bforest_core.proofs.{walks.Steps.read, rows.LevelRows.some_leaf, union.Exchange.tree-same, union.Opened.Opened, union.FreeSlots.slot_same}
 
 -- rows below no nodes have no nodes
 rows_none : {K : Type 0} (list : Heads K) (rows : Rows K) → StackedTo list rows [] → (list ≡ []) × ((m : ℕ) → count m (flat_map numbers rows) ≡ 0)
 rows_none list [] s = (s, λ m. refl)
 rows_none list (row ∷ rows) s = let r = rows_none (heads row) rows s.2 in let none = no_heads 4 8 (omega arith) row s.1 r.0 in
-    (cc, λ m. omega (arith, count-append m (numbers row) (flat_map numbers rows), ap (λ z. count m (numbers z)) none, r.1 m))
+    (cc, λ m. omega (arith, count-append, ap (λ z. count m (numbers z)) none, r.1 m))
 
 module _ {K V : Type 0} where
   -- the rows under some nodes are in any slots that agree on their numbers
   under-same : {most : _} {old : List (Content K V)} (new : List (Content K V)) {leaves : Row K V} {lower : _} {top : _} → ((m : ℕ) → 0 < count m (numbers_under leaves lower) → slice_get new m ≡ slice_get old m)
       → Under most old leaves lower top → Under most new leaves lower top
-  under-same new {leaves = leaves} {lower = lower} same u =
+  under-same new {leaves} {lower} same u =
       let i = tree-same new {tree = record { leaves = leaves; above = lower }} same (record { leaves_in = u.leaves_in; rows_in = u.rows_in }) in
       record { leaves_fit = u.leaves_fit; leaves_in = i.leaves_in; stacked = u.stacked; rows_in = i.rows_in }
 
   under_none : (most : ℕ) → IsLeafCapacity most → {slots : List (Content K V)} {leaves lower : _} → Under most slots leaves lower [] → (m : ℕ) → count m (numbers_under leaves lower) ≡ 0
-  under_none most capacity {leaves = leaves} {lower = lower} u m =
-      let r = rows_none _ _ u.stacked in let none = no_heads _ _ (some_leaf capacity) _ u.leaves_fit r.0 in
-      omega (arith, count-append m (numbers leaves) (flat_map numbers lower), ap (λ z. count m (numbers z)) none, r.1 m)
+  under_none most capacity u m = let r = rows_none _ _ u.stacked in let none = no_heads _ _ (some_leaf capacity) _ u.leaves_fit r.0 in
+      omega (arith, count-append, ap (λ z. count m (numbers z)) none, r.1 m)
 
   -- the numbers below a node are the same in any slots that agree on them
   down-same : (old new : List (Content K V)) (levels number : ℕ) → ((m : ℕ) → 0 < count m (numbers_down old levels number) → slice_get new m ≡ slice_get old m) → numbers_down new levels number ≡ numbers_down old levels number
   down-same old new zero number same = refl
   down-same old new (suc levels) number same =
       let kids = reverse (children_of (slot old number)) in let here = slot_same old new number (same number (omega (arith, count-same number []))) in
-      cc (all (down-same old new levels) kids (λ m some. same m (omega (arith, count-append m (number ∷ []) (flat_map (numbers_down old levels) kids)))))
+      cc (all (down-same old new levels) kids (λ m some. same m (omega (arith, count-append))))
     where
       all : ((kid : ℕ) → ((m : ℕ) → 0 < count m (numbers_down old levels kid) → slice_get new m ≡ slice_get old m) → numbers_down new levels kid ≡ numbers_down
           old levels kid) → (kids : _) → ((m : ℕ) → 0 < count m (flat_map (numbers_down old levels) kids) → slice_get new m ≡ slice_get old m) → flat_map
           (numbers_down new levels) kids ≡ flat_map (numbers_down old levels) kids
       all again [] same = refl
       all again (kid ∷ kids) same =
-          cc (again kid (λ m some. same m (omega (arith, count-append m (numbers_down old levels kid) (flat_map (numbers_down old levels) kids)))), all again kids (λ m some. same m (omega (arith, count-append m (numbers_down old levels kid) (flat_map (numbers_down old levels) kids)))))
+          cc (again kid (λ m some. same m (omega (arith, count-append))), all again kids (λ m some. same m (omega (arith, count-append))))
 
   -- everything below the first `index` nodes of the top is freed, and everything below the others unchanged
   pub record Swept (most : ℕ) (old now : Table K V) (leaves : Row K V) (rows : Rows K) (top : Heads K) (index : ℕ) : Type 0 where
@@ -66,24 +65,21 @@ module _ {K V : Type 0} where
       pub under : Under most now.nodes cut.leaves_left cut.lower_left (x ∷ [])
       pub apart : Distinct (numbers_under cut.leaves_left cut.lower_left ++ now.chain)
 
-    -- while the index is capacity of the top's, there is a next child
+    -- while the index is one of the top's, there is a next child
     pub sweep-turn : (now index x : _) → Distinct (numbers_under leaves rows ++ old.chain) → Swept most old now leaves rows top index → slice_get top index ≡ Some x → Turn now index x
-    sweep-turn now index x apart s found =
-        let todo = drop-read top index x found in
-        let cut = under-cut most old.nodes (some_leaf capacity) (x ∷ []) (drop (suc index) top) (rw (← todo) s.under) in
-        record {
+    sweep-turn now index x apart s found = let todo = drop-read top index x found in
+        let cut = under-cut most old.nodes (some_leaf capacity) (x ∷ []) (drop (suc index) top) (rw (← todo) s.under) in record {
           swept = s;
           found = found;
           cut = cut;
-          under = under-same _ (λ m some. s.frees.others m (omega (arith, apart m, count-append m (numbers_under leaves rows) old.chain, s.split m, cut.counted m))) cut.left;
-          apart = λ m. omega (arith, apart m, s.split m, cut.counted m, s.counted m, ap (λ z. count m z) s.frees.chain_is, count-append);
+          under = under-same _ (λ m some. s.frees.others m (omega (arith, apart m, count-append, s.split m, cut.counted m))) cut.left;
+          apart = λ m. omega (arith, apart m, s.split m, cut.counted m, s.counted m, ap (count m) s.frees.chain_is, count-append);
         }
 
     -- the next child is freed with everything below it
     pub sweep-next : {now new index : _} (x : _) → Distinct (numbers_under leaves rows ++ old.chain) → (t : Turn now index x) → GivesAll now new (numbers_under
         t.cut.leaves_left t.cut.lower_left) (numbers_down now.nodes (length t.cut.lower_left) x.1) → Swept most old new leaves rows top (suc index)
-    sweep-next {now = now} {index = index} x apart t g =
-        let own = numbers_under t.cut.leaves_left t.cut.lower_left in let n = λ (m : ℕ). count-append m t.swept.own own in
+    sweep-next {now} {index} x apart t g = let own = numbers_under t.cut.leaves_left t.cut.lower_left in let n = λ (m : ℕ). count-append m t.swept.own own in
         record {
           left_leaves = t.cut.leaves_right;
           left_rows = t.cut.lower_right;
@@ -95,26 +91,22 @@ module _ {K V : Type 0} where
             arith,
             apart m,
             t.swept.counted m,
-            count-append m (numbers_under leaves rows)
-                old.chain,
+            count-append m (numbers_under leaves rows) old.chain,
             t.swept.split m,
             t.cut.counted m,
           )) (frees-wider _ (λ m z. omega (arith, n m)) t.swept.frees) g.frees;
           order =
-              cc (down-same now.nodes old.nodes (length t.cut.lower_left) x.1 (λ m some. sym (t.swept.frees.others m (omega (arith, g.counted m, apart m, count-append m (numbers_under leaves rows) old.chain, t.swept.split m, t.cut.counted m)))), last_taken (entry_items top) index x.1 (simp (items-read top index, t.found)), reverse-append (take index (entry_items top)) (x.1 ∷ []));
-          counted = λ m. omega (arith, count-append m (numbers_down now.nodes (length t.cut.lower_left) x.1) t.swept.given, n m, g.counted m, t.swept.counted m);
+              cc (down-same now.nodes old.nodes (length t.cut.lower_left) x.1 (λ m some. sym (t.swept.frees.others m (omega (arith, g.counted m, apart m, count-append, t.swept.split m, t.cut.counted m)))), last_taken (entry_items top) index x.1 (simp (items-read top index, t.found)), reverse-append (take index (entry_items top)) (x.1 ∷ []));
+          counted = λ m. omega (arith, count-append, n m, g.counted m, t.swept.counted m);
           split = λ m. omega (arith, n m, t.swept.split m, t.cut.counted m);
         }
 
     -- at last everything below the top is freed
     pub sweep-last : {now : Table K V} {index : ℕ} → length top ≤ index → Swept most old now leaves rows top index → GivesAll old now (numbers_under leaves rows) (flat_map (numbers_down old.nodes (length rows)) (reverse (entry_items top)))
-    sweep-last {index = index} past s =
-        let left = under_none most capacity (subst (λ z. Under most old.nodes s.left_leaves s.left_rows z) (drop_all _ _ past) s.under) in
+    sweep-last {index} past s =
+        let left = under_none most capacity (subst (Under most old.nodes s.left_leaves s.left_rows) (drop_all _ _ past) s.under) in
         let whole = s.order ∙ ap (λ z. flat_map (numbers_down old.nodes (length rows)) (reverse z)) (take_all index _ (omega (arith, length-map top (λ e. e.1)))) in
-        rw (← whole) (record {
-          frees = frees-wider _ (λ m zero. omega arith) s.frees;
-          counted = λ m. omega arith;
-        })
+        rw (← whole) (record { frees = frees-wider _ (λ m zero. omega arith) s.frees; counted = λ m. omega arith })
 
 -- the entry whose item is at an index
 item_at : {K : Type 0} (top : Heads K) (index child : ℕ) → slice_get (entry_items top) index ≡ Some child → (x : K × ℕ) × (slice_get top index ≡ Some x) × (x.1 ≡ child)
@@ -133,20 +125,20 @@ module _ {K V : Type 0} where
 
   pub sweeping : {most : ℕ} {old now : Table K V} {leaves lower number index : _} → Distinct (numbers_under leaves lower ++ old.chain) → (o : Opened most
       old.nodes leaves lower number) → Swept most old now o.low o.rows o.top index → Sweeping most old now leaves lower number index
-  sweeping {old = old} {leaves = leaves} {lower = lower} {number = number} apart o s = let one = count-same number [] in let a = apart number in
+  sweeping {number} apart o s = let one = count-same number [] in let a = apart number in
       record {
         opened = o;
         swept = s;
-        alone = omega (arith, o.counted number, count-append number (numbers_under leaves lower) old.chain);
+        alone = omega (arith, o.counted number, count-append);
         apart = λ m. omega (arith, apart m, o.counted m, count-append);
-        slot_is = s.frees.others number (omega (arith, o.counted number, s.split number, count-append number (numbers_under leaves lower) old.chain)) ∙ o.slot_is;
-        off_chain = omega (arith, o.counted number, s.split number, s.counted number, ap (λ z. count number z) s.frees.chain_is, count-append);
+        slot_is = s.frees.others number (omega (arith, o.counted number, s.split number, count-append)) ∙ o.slot_is;
+        off_chain = omega (arith, o.counted number, s.split number, s.counted number, ap (count number) s.frees.chain_is, count-append);
       }
 
   -- the node is freed after its children
   pub gives-down : {most : _} {old now : _} {leaves lower number index : _} → (s : Sweeping most old now leaves lower number index) →
       GivesAll old now (numbers_under s.opened.low s.opened.rows) (flat_map (numbers_down old.nodes (length s.opened.rows)) (reverse (entry_items s.opened.top))) → GivesAll old (with_freed now number) (numbers_under leaves lower) (numbers_down old.nodes (length lower) number)
-  gives-down {old = old} {now = now} {number = number} s all = let own = numbers_under s.opened.low s.opened.rows in
+  gives-down {old} {now} {number} s all = let own = numbers_under s.opened.low s.opened.rows in
       let below = flat_map (numbers_down old.nodes (length s.opened.rows)) (reverse (entry_items s.opened.top)) in
       let apart : (m : ℕ) → 0 < count m below → count m (number ∷ []) ≡ 0 =
       λ m some. elim (cases_lt 0 (count m (number ∷ []))) [ inl here ↦ absurd (omega (arith, all.counted m, only_here m _ _ here s.alone)) | inr past ↦ omega arith ] in
@@ -169,5 +161,5 @@ module _ {K V : Type 0} where
   pub child_turn : {most : ℕ} (capacity : IsLeafCapacity most) {old now : _} {leaves lower number index : _} {child : ℕ} → (s : Sweeping most old now leaves lower number index)
       → slice_get (children_of s.opened.content) index ≡ Some child → (x : K × ℕ) × (x.1 ≡ child) × (index < length s.opened.top)
       × Turn capacity old s.opened.low s.opened.rows s.opened.top now index x
-  child_turn capacity {now = now} {index = index} {child = child} s found = let i = item_at s.opened.top index child (cc) in
+  child_turn capacity {now} {index} {child} s found = let i = item_at s.opened.top index child (cc) in
       (i.0, i.2, slice_get_within _ _ _ i.1, sweep-turn _ _ _ s.opened.rows s.opened.top now index i.0 s.apart s.swept i.1)

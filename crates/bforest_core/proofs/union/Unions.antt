@@ -20,7 +20,7 @@ module _ {K V : Type 0} where
 
   -- the numbers of one tree are among those of all
   numbers_parts : (m : ℕ) (before : List (Tree K V)) (tree : _) (after : List (Tree K V)) → count m (numbers_of tree) ≤ count m (flat_map numbers_of (before ++ tree ∷ after))
-  numbers_parts m before tree after = omega (arith, ap (λ z. count m z) (flat_map-append numbers_of before (tree ∷ after)), count-append)
+  numbers_parts m before tree after = omega (arith, ap (count m) (flat_map-append numbers_of before (tree ∷ after)), count-append)
 
   -- a tree of the witness is under its root
   rooted_at : {most table : _} (root : ℕ) (before : List (Tree K V)) (tree : _) (after : List (Tree K V)) → root_of tree ≡ root → IsForest most table (before ++ tree ∷ after) → Rooted most table root tree
@@ -34,14 +34,14 @@ module _ {K V : Type 0} where
     low = (every-append (λ tree. length tree.above ≤ 16) before (tree ∷ after) f.low).1.0;
     root_is = is;
     tree_is = (tree-back before tree after root f refl is).0;
-    apart = λ m. omega (arith, once f m, numbers_parts m before tree after, count-append m (numbers_of tree) table.chain);
+    apart = λ m. omega (arith, once f m, numbers_parts m before tree after, count-append);
     within = λ m some. within-slots f m (omega (arith, some, numbers_parts m before tree after));
   }
 
   -- in a union of trees, the tree computed from a root is the tree under it
   pub rooted : (most table root : _) → IsUnion most table → IsTrue (is_root table.nodes root) → Rooted most table root (tree_of table.nodes root)
   rooted most table root union root_there =
-      let r = tree-with _ _ ((root-counts union.1 root).0 root_there) in let s = rooted_at _ _ _ _ r.4 (subst (λ z. IsForest most table z) r.3 union.1) in
+      let r = tree-with _ _ ((root-counts union.1 root).0 root_there) in let s = rooted_at _ _ _ _ r.4 (subst (IsForest most table) r.3 union.1) in
       rw s.tree_is s
 
   -- the tree computed from a root is in the slots

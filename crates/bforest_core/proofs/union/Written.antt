@@ -1,5 +1,5 @@
 -- Writing the value of an entry of a tree, which keeps its nodes and keys.
-use Rattle.bforest_core.proofs.Words.{◌≡◌, ℕ, zero, suc, ◌+◌, ◌<◌, List, [], ◌∷◌, ◌++◌, map, length, get_or, set, slice_get, Some, refl, sym, ap, ◌∙◌, subst}
+use Rattle.bforest_core.proofs.Words.{◌≡◌, ℕ, zero, suc, ◌+◌, ◌<◌, List, [], ◌∷◌, ◌++◌, map, length, get_or, set, slice_get, Some, refl, sym, ap, ◌∙◌}
 use Rattle.bforest_core.proofs.Words.{length-set, arith, flat_map, Table, IsUsed, IsEntryAt, value_at, with_node, with_value_at, value_at_place, node, flat}
 use Rattle.bforest_core.proofs.Words.{head_of, heads, sizes, sizes_of, numbers, Tree, half_of, leaf_content, entry_keys, entry_items, count, IsAt, numbers_of}
 use Rattle.bforest_core.proofs.{Words.{root_above, tree_of, IsUnion, Changes, StandsUnder}, union.Roots.{exchanged, exchanged-changes}}
@@ -48,7 +48,7 @@ module _ {K V : Type 0} {most : ℕ} {table : Table K V} {root place path indice
   at = s.stands.leaf
 
   leaf_at : slice_get table.nodes (get_or path 0 0) ≡ Some (leaf_content at.entries)
-  leaf_at = (leaf_here union.1.capacity r.fit r.inside s.stands).node.slot_is
+  leaf_at = (leaf_here union.1.capacity (record { tree = _; place = place; fit = r.fit; inside = r.inside; stands = s.stands })).slot_is
 
   -- the leaf occurs once among the numbers of the tree and the chain
   once_here : (count (get_or path 0 0) (numbers at.before) + count (get_or path 0 0) (numbers at.after) ≡ 0) × (count (get_or path 0 0) (flat_map numbers (tree_of table.nodes root).above) ≡ 0) × (count (get_or path 0 0) table.chain ≡ 0)
@@ -95,10 +95,9 @@ module _ {K V : Type 0} {most : ℕ} {table : Table K V} {root place path indice
       let c = ap (λ z. count n (numbers z)) at.row_is ∙ count-row n at.before n at.entries at.after in
       let e = exchanged root [] union s.root_is p (sym w.chain_is) w.slots_are
       (λ m. (let d = ap (λ z. count m (z ++ flat_map numbers tree.above)) ns in omega arith))
-      (λ m zero_is. w.same m (λ is. (let d = ap (λ z. count z (numbers_of tree)) is in omega (arith, count-append n (numbers tree.leaves) (flat_map numbers tree.above), count-same n (numbers at.after))))) in
-      let changes = exchanged-changes e same_root w.limit_is in
-      let tree_is = ap (tree_of new.nodes) (sym same_root) ∙ e.tree_is in (
-        rw (← ss) (subst (λ z. Changes most table new root root z (sizes_of tree')) fl changes),
+      (λ m zero_is. w.same m (λ is. (let d = ap (λ z. count z (numbers_of tree)) is in omega (arith, count-append, count-same n (numbers at.after))))) in
+      let changes = exchanged-changes e same_root w.limit_is in let tree_is = ap (tree_of new.nodes) (sym same_root) ∙ e.tree_is in (
+        rw (← ss) (rw (← fl) changes),
         record {
           root_is = changes.root_is;
           stands = rw tree_is (record {

@@ -4,7 +4,7 @@ use Rattle.bforest_core.proofs.Words.{◌≡◌, ◌≢◌, ℕ, zero, suc, ◌-
 -- the entry before a place that is not the first
 pub before_is : {X : Type 0} (list : List X) (place : ℕ) → 0 < place → slice_get list (place - 1) ≡ entry_before list place
 before_is list zero some = absurd (omega arith)
-before_is list (suc place) some = let e : suc place - 1 ≡ place = omega arith in ap (λ z. slice_get list z) e
+before_is list (suc place) some = let e : suc place - 1 ≡ place = omega arith in ap (slice_get list) e
 
 module _ {K V : Type 0} (path indices : _) (tree : Tree K V) (place : ℕ) where
   -- a path with nodes stands at an entry

@@ -1,10 +1,9 @@
 -- Rows from the top: the highest of them, and a node of a row as an entry of the level above.
-use Rattle.bforest_core.proofs.Words.{◌≡◌, ℕ, suc, ◌+◌, ◌≤◌, ◌<◌, List, [], ◌∷◌, ◌++◌, length, get_or, refl, sym, ap, subst, ◌∙◌, arith, Heads, Row, Rows}
+use Rattle.bforest_core.proofs.Words.{◌≡◌, ℕ, suc, ◌+◌, ◌≤◌, ◌<◌, List, [], ◌∷◌, ◌++◌, length, get_or, refl, sym, ap, ◌∙◌, arith, Heads, Row, Rows}
 use Rattle.bforest_core.proofs.Words.{IsTotalOrder, IsStrictlySortedBy, AllByRecursion, Content, IsIncreasing, node, flat, heads, FitRow, RowIn, RowsIn}
-use Rattle.bforest_core.proofs.{Words.{inner_content, IsAt, StackedTo, StandsTo, IsUpTo}, rows.LevelRows.least-pos, walks.Rising.{all_split, increasing_split}}
-use Rattle.std.specs.Map.{keys_of}
-use Rattle.std.specs.declared.cmp.Ordering.{Ordering}
-use Rattle.std.specs.declared.cmp.Ordering.TheVariants.{Less}
+use Rattle.bforest_core.proofs.{Words.{inner_content, IsAt, StackedTo, StandsTo, IsUpTo}, rows.LevelRows.least-pos, walks.Rising.all_split}
+use Rattle.bforest_core.proofs.walks.Rising.{increasing_split}
+use Rattle.std.specs.{Map.keys_of, declared.cmp.Ordering.{Ordering, TheVariants.Less}}
 
 -- the last element of a list
 pub record Last {A : Type 0} (xs : List A) : Type 0 where
@@ -35,8 +34,7 @@ module _ {K : Type 0} where
       StandsTo path indices level (rows ++ row ∷ []) place (length at.before)
   stands_more path indices level [] place high s e at = let h : high ≡ level = omega arith in
       (record { before = at.before; entries = at.entries; after = at.after; row_is = rw h at at.row_is; within = rw h at at.within; place_is = s ∙ (rw h at at.place_is) }, refl)
-  stands_more path indices level (r ∷ rows) place high s e at =
-      (s.0, stands_more path indices (suc level) rows (length s.0.before) high s.1 (omega arith) at)
+  stands_more path indices level (r ∷ rows) place high s e at = (s.0, stands_more path indices (suc level) rows (length s.0.before) high s.1 (omega arith) at)
 
 -- the node of a row whose head is between these heads
 pub record Seen {K X : Type 0} (half most : ℕ) (row : Row K X) (a : Heads K) (first : K) (number : ℕ) (b : Heads K) : Type 0 where
@@ -71,7 +69,7 @@ module _ {K X : Type 0} where
   unfolding IsStrictlySortedBy
   heads_increasing o [] h = tt
   heads_increasing o (node m [] ∷ ns) h = heads_increasing o ns h
-  heads_increasing {cmp = cmp} o (node m (e ∷ es) ∷ ns) h = (heads_all (λ k. cmp e.0 k ≡ Less) ns (all_split _ _ _ h.0).1, heads_increasing o ns (increasing_split o es (flat ns) h.1).1)
+  heads_increasing {cmp} o (node m (e ∷ es) ∷ ns) h = (heads_all (λ k. cmp e.0 k ≡ Less) ns (all_split _ _ _ h.0).1, heads_increasing o ns (increasing_split o es (flat ns) h.1).1)
 
   -- a key that is less than the first head of a row is less than its first entry
   pub upto_flat : (cmp : K → K → Ordering) (half most : ℕ) → 1 ≤ half → (row : Row K X) (key : K) → FitRow half most row → IsUpTo cmp (heads row) key → IsUpTo cmp (flat row) key
@@ -81,5 +79,5 @@ module _ {K X : Type 0} where
 
 -- the nodes of the top increase where the entries of the lowest row do
 pub stacked_increasing : {K : Type 0} (cmp : K → K → Ordering) → IsTotalOrder cmp → (list rows top : _) → StackedTo list rows top → IsIncreasing cmp list → IsIncreasing cmp top
-stacked_increasing cmp o list [] top s h = subst (IsIncreasing cmp) s h
-stacked_increasing cmp o list (row ∷ rows) top s h = stacked_increasing cmp o (heads row) rows top s.2 (heads_increasing o row (subst (IsIncreasing cmp) (sym s.0) h))
+stacked_increasing cmp o list [] top s h = rw (← s) h
+stacked_increasing cmp o list (row ∷ rows) top s h = stacked_increasing cmp o (heads row) rows top s.2 (heads_increasing o row (rw s.0 h))

@@ -1,10 +1,8 @@
 -- Two searches that go to the same child of a node: each answer of `goes_along` is one of these.
 use Rattle.bforest_core.proofs.Words.{all_greater_behind, count_up_to-no, count_up_to-none, count_up_to-yes, count_up_to, alike_right, is_gt, is_lt, ◌≡◌, ℕ}
-use Rattle.bforest_core.proofs.Words.{suc, ◌<◌, ◌≤◌, List, [], ◌∷◌, Some, arith, false, length, refl, slice_get, subst, sym, ap, true, ◌∙◌, Content, Inner}
+use Rattle.bforest_core.proofs.Words.{suc, ◌<◌, ◌≤◌, List, [], ◌∷◌, Some, arith, false, length, refl, slice_get, sym, ap, true, ◌∙◌, Content, Inner}
 use Rattle.bforest_core.proofs.{Words.{IsStrictlySortedBy, IsTotalOrder, child_index, slice_get_within}, table.Stored.some_same, walks.Reading.LastRead}
-use Rattle.bforest_nodes.specs.Content.{keys_of}
-use Rattle.std.specs.declared.cmp.Ordering.TheVariants.{Equal, Greater, Less}
-use Rattle.std.specs.declared.cmp.Ordering.{Ordering}
+use Rattle.{bforest_nodes.specs.Content.keys_of, std.specs.declared.cmp.Ordering.{Ordering, TheVariants.{Equal, Greater, Less}}}
 
 module _ {K : Type 0} {cmp : K → K → Ordering} (o : IsTotalOrder cmp) where
   -- what is not greater than a key is not greater than one that is not less
@@ -20,7 +18,7 @@ module _ {K : Type 0} {cmp : K → K → Ordering} (o : IsTotalOrder cmp) where
 
   module _ (from to : K) (ordered : is_gt (cmp from to) ≡ false) where
     -- where the separator behind the first key's child is greater than the second key, or there is none, both go there
-    pub same-child : (ks : List K) → IsStrictlySortedBy cmp ks
+    same-child : (ks : List K) → IsStrictlySortedBy cmp ks
         → ((s : K) → slice_get ks (count_up_to cmp ks from) ≡ Some s → cmp s to ≡ Greater) → count_up_to cmp ks from ≡ count_up_to cmp ks to
     unfolding IsStrictlySortedBy
     same-child [] sorted says = refl
@@ -40,7 +38,7 @@ module _ {K : Type 0} {cmp : K → K → Ordering} (o : IsTotalOrder cmp) where
             cc (count_up_to-no cmp x ks to (ap is_gt above), count_up_to-none cmp to ks (all_greater_behind cmp to o x ks sorted.0 (ap is_lt above)))
 
   -- the separator behind the child to which a search goes is greater than the key
-  pub greater-behind : (from s : K) (ks : List K) → IsStrictlySortedBy cmp ks → slice_get ks (count_up_to cmp ks from) ≡ Some s → cmp s from ≡ Greater
+  greater-behind : (from s : K) (ks : List K) → IsStrictlySortedBy cmp ks → slice_get ks (count_up_to cmp ks from) ≡ Some s → cmp s from ≡ Greater
   unfolding IsStrictlySortedBy
   greater-behind from s [] sorted read = absurd (cc)
   greater-behind from s (x ∷ ks) sorted read = go (λ more. greater-behind from s ks sorted.1 cc) (cmp x from) refl
@@ -76,7 +74,7 @@ module _ {K V : Type 0} {cmp : K → K → Ordering} (o : IsTotalOrder cmp) (slo
     same-keys = ap keys_of (some_same (sym asked.2 ∙ found))
 
     sorted-keys : IsStrictlySortedBy cmp keys
-    sorted-keys = subst (IsStrictlySortedBy cmp) same-keys asked.3
+    sorted-keys = rw (← same-keys) asked.3
 
   -- there is a separator at an index that is not that of the last child
   module _ {last : ℕ} (says : LastRead slots node last) where

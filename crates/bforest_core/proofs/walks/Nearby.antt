@@ -3,13 +3,11 @@ use Rattle.bforest_core.proofs.Words.{place-here, place-later, ◌≡◌, ◌≢
 use Rattle.bforest_core.proofs.Words.{length-append, drop, slice_get, Option, Some, None, refl, sym, subst, ap, ◌∙◌, arith, Row, IsTotalOrder}
 use Rattle.bforest_core.proofs.Words.{IsStrictlySortedBy, AllByRecursion, is_some, option_map, is_lt, ordering_reverse, drop_all, Path, IsUpTo, Solid, flat}
 use Rattle.bforest_core.proofs.Words.{half_of, node, StandsAt, StandsOn, index_of, leaf_of, list_under, entry_before, leaf_content, Table, IsUnion, tree_of}
-use Rattle.bforest_core.proofs.{Words.{IsIncreasing, entry_for, is_present, place, value_for}, walks.Standing.{on-leaf-in, on-tree, on-within, points-stands}}
-use Rattle.bforest_core.proofs.{rows.LevelRows.{FitRow-split, some_leaf}, walks.Rising.{all_greater, entry_between, increasing_rest, less_from, place_between}}
-use Rattle.bforest_core.proofs.{walks.Backward.{at_end, at_entry}, walks.Steps.{never, read}, table.Stored.some_same, walks.Entered.{entry_read, points_in}}
-use Rattle.std.specs.Map.{keys_of}
-use Rattle.std.specs.declared.cmp.Ordering.{Ordering}
-use Rattle.std.specs.declared.cmp.Ordering.TheVariants.{Less, Equal, Greater}
-use Rattle.bforest_core.specs.Paths.{IsPlaced}
+use Rattle.bforest_core.proofs.{Words.{IsIncreasing, entry_for, is_present, place, value_for}, rows.LevelRows.{FitRow-split, some_leaf}}
+use Rattle.bforest_core.proofs.{table.Stored.some_same, walks.Backward.{at_end, at_entry}, walks.Entered.{entry_read, points_in}, walks.Rising.all_greater}
+use Rattle.bforest_core.proofs.{walks.Rising.{entry_between, increasing_rest, less_from, place_between}, walks.Standing.{on-leaf-in, on-tree, on-within}}
+use Rattle.bforest_core.proofs.{walks.Standing.points-stands, walks.Steps.{never, read}}
+use Rattle.{std.specs.{Map.keys_of, declared.cmp.Ordering.{Ordering, TheVariants.{Less, Equal, Greater}}}, bforest_core.specs.Paths.IsPlaced}
 
 module _ {K X : Type 0} (cmp : K → K → Ordering) (es : List (K × X)) (key : K) where
   -- what a search finds: the place of the key, and the entry there if the key is present
@@ -19,7 +17,7 @@ module _ {K X : Type 0} (cmp : K → K → Ordering) (es : List (K × X)) (key :
 
 -- a key without a value is not present
 pub no-value : {K X : Type 0} (cmp : K → K → Ordering) (key : K) (es : List (K × X)) → None ≡ value_for cmp es key → is_present cmp es key ≡ true → ⊥
-no-value {K} {X} cmp key es none here =
+no-value cmp key es none here =
     (elim (entry_for cmp es key) as (λ o. None ≡ option_map (λ e. e.1) o → is_some o ≡ true → ⊥) [ None ↦ λ n h. never h refl | Some e ↦ λ n h. absurd (cc) ]) none here
 
 -- where the entry at a place is greater than the key, the key is less than the list from there on
@@ -31,10 +29,10 @@ upto_at cmp key (x ∷ es) (suc p) e here t = upto_at cmp key es p e here t
 module _ {K X : Type 0} {cmp : K → K → Ordering} (o : IsTotalOrder cmp) (key : K) where
   -- a search that passes a lesser first entry
   later : (e : K × X) {es : List (K × X)} → cmp e.0 key ≡ Less → {p found : _} → Finds cmp es key p found → Finds cmp (e ∷ es) key (suc p) found
-  later e {es = es} t f = let z = place-later cmp o e es key t in record { place_is = cc; entry_is = cc }
+  later e {es} t f = let z = place-later cmp o e es key t in record { place_is = cc; entry_is = cc }
 
   -- a search in a list whose first entry is greater
-  pub finds_first : (es : List (K × X)) → IsIncreasing cmp es → IsUpTo cmp es key → Finds cmp es key 0 None
+  finds_first : (es : List (K × X)) → IsIncreasing cmp es → IsUpTo cmp es key → Finds cmp es key 0 None
   finds_first es h up = let high = all_greater o es key h (λ y c is. subst (λ z. IsUpTo cmp z key) is up) in
       record { place_is = place_between o [] [] es key h tt high; entry_is = entry_between o [] [] es key h tt high }
 
@@ -53,14 +51,14 @@ module _ {K X : Type 0} {cmp : K → K → Ordering} (o : IsTotalOrder cmp) (key
       subst (λ z. Finds cmp (x ∷ es) key z found) (omega arith) (later x (less_from o _ _ _ (all_at _ _ p e h.0 here) ng) (behind es p e here h.1 ng n found f))
 
   -- a search that ends at an entry whose key compares equal
-  pub finds_here : (es : List (K × X)) (p e : _) → slice_get es p ≡ Some e → IsIncreasing cmp es → cmp key e.0 ≡ Equal → Finds cmp es key p (Some e)
+  finds_here : (es : List (K × X)) (p e : _) → slice_get es p ≡ Some e → IsIncreasing cmp es → cmp key e.0 ≡ Equal → Finds cmp es key p (Some e)
   finds_here es p e here h t = let same = o.antisymm e.0 key ∙ ap ordering_reverse t in
       subst (λ z. Finds cmp es key z (Some e)) (omega arith) (behind es p e here h (λ g. let bad = sym same ∙ g in absurd cc) 0 (Some e) (λ i.
       let z = place-here cmp o e (drop (suc p) es) key i (ap is_lt same) in
       record { place_is = z; entry_is = cc }))
 
   -- a search that ends after a lesser entry, where the next is greater
-  pub finds_behind : (es : List (K × X)) (p e : _) → slice_get es p ≡ Some e → IsIncreasing cmp es → cmp key e.0 ≡ Greater → IsUpTo cmp (drop (suc p) es) key → Finds cmp es key (suc p) None
+  finds_behind : (es : List (K × X)) (p e : _) → slice_get es p ≡ Some e → IsIncreasing cmp es → cmp key e.0 ≡ Greater → IsUpTo cmp (drop (suc p) es) key → Finds cmp es key (suc p) None
   finds_behind es p e here h t up = let less = o.antisymm e.0 key ∙ ap ordering_reverse t in
       subst (λ z. Finds cmp es key z None) (omega arith) (behind es p e here h (λ g. let bad = sym less ∙ g in absurd cc) 1 None (λ i. later e less (finds_first _ (increasing_rest o e (drop (suc p) es) i) up)))
 
@@ -72,13 +70,12 @@ no_nodes half most one (node m es ∷ row) solid none = absurd (omega (arith, le
 module _ {K V : Type 0} {n : ℕ} (table : Table K V) (root : ℕ) (path : Path K V n) where
   module _ (union : IsUnion n table) where
     -- an entry may be inserted after the one on which the path stands
-    pub placed-behind : (path' : Path K V n) (p : ℕ) → StandsOn table root path p → path'.node ≡ path.node → index_of path' ≡ index_of path + 1 → ((i : ℕ) → i ≢ 0 → get_or path'.entry i 0 ≡ get_or path.entry i 0) → path'.size ≡ path.size → IsPlaced table root path' (suc p)
-    placed-behind path' p on same index_is above size_is = let w = on-tree union path on in
-        let points = points_in union.1.capacity w.fit w.inside (on-leaf-in union path on) (cc) path'.entry (suc p) same above (omega arith) (omega arith) in
+    placed-behind : (path' : Path K V n) (p : ℕ) → StandsOn table root path p → path'.node ≡ path.node → index_of path' ≡ index_of path + 1 → ((i : ℕ) → i ≢ 0 → get_or path'.entry i 0 ≡ get_or path.entry i 0) → path'.size ≡ path.size → IsPlaced table root path' (suc p)
+    placed-behind path' p on same index_is above size_is = let points = points_in (on-leaf-in union path on) (cc) path'.entry (suc p) same above (omega arith) (omega arith) in
         record { root_is = on.root_is; at = record { points = points; first = λ none. absurd (omega arith) } }
 
     -- an entry may be inserted before the first of the list
-    pub placed-first : StandsOn table root path 0 → IsPlaced table root path 0
+    placed-first : StandsOn table root path 0 → IsPlaced table root path 0
     placed-first on = let s = on.stands in
         let solid = (FitRow-split (half_of n) n s.leaf.before (node (leaf_of path) s.leaf.entries) s.leaf.after (rw (← s.leaf.row_is) (on-tree union path on).fit.leaves_fit)).0 in
         let points = points-stands _ _ _ 0 s in
@@ -86,7 +83,7 @@ module _ {K V : Type 0} {n : ℕ} (table : Table K V) (root : ℕ) (path : Path 
 
     -- the index after an entry of a leaf is at most 255
     pub behind-low : (p : ℕ) → StandsOn table root path p → index_of path + 1 ≤ 255
-    behind-low p on = omega (arith, (on-leaf-in union path on).node.room)
+    behind-low p on = omega (arith, (on-leaf-in union path on).room)
 
   module _ (cmp : K → K → Ordering) (key : K) where
     -- the answer of a search, and where the path stands afterwards
@@ -111,18 +108,18 @@ module _ {K V : Type 0} {n : ℕ} {cmp : K → K → Ordering} (o : IsTotalOrder
   -- the entry before the place has an equal key
   pub before-equal : (p : ℕ) → answer ≡ entry_before (list_under table root) p → StandsOn table root path (p - 1) → {e : K × V} → answer ≡ Some e → cmp key e.0 ≡ Equal → Ended table root path cmp key (Some e.1)
   before-equal zero value on is t = let bad = sym is ∙ value in absurd (cc)
-  before-equal (suc p) value on {e = e} is t =
-      ended table root path cmp key (finds_here o _ _ p e (sym value ∙ is) increasing t) (λ some. subst (λ z. StandsOn table root path z) (omega arith) on) (never refl)
+  before-equal (suc p) value on {e} is t =
+      ended table root path cmp key (finds_here o _ _ p e (sym value ∙ is) increasing t) (λ some. subst (StandsOn table root path) (omega arith) on) (never refl)
 
   -- the entry before the place is less, and the path moved just past it
   pub before-greater : (p : ℕ) → answer ≡ entry_before (list_under table root) p → StandsOn table root path (p - 1) → {e : K × V} → answer ≡ Some e →
       (path' : Path K V n) → IsUnion n table → path'.node ≡ path.node → index_of path' ≡ index_of path + 1 → ((i : ℕ) → i ≢ 0 → get_or path'.entry i 0 ≡ get_or path.entry i 0) → path'.size ≡ path.size →
       IsUpTo cmp (drop p (list_under table root)) key → cmp key e.0 ≡ Greater → Ended table root path' cmp key None
   before-greater zero value on is path' union same index_is above size_is up t = let bad = sym is ∙ value in absurd (cc)
-  before-greater (suc p) value on {e = e} is path' union same index_is above size_is up t =
+  before-greater (suc p) value on {e} is path' union same index_is above size_is up t =
       ended table root path' cmp key (finds_behind o _ _ p e (sym value ∙ is) increasing t up)
       (λ some. never some refl) (λ none. placed-behind _ _ path union path' p
-      (subst (λ z. StandsOn table root path z) (omega arith) on) same index_is above size_is)
+      (subst (StandsOn table root path) (omega arith) on) same index_is above size_is)
 
 -- a path at a place
 module _ {K V : Type 0} {n : ℕ} (table : Table K V) {root : ℕ} (path : Path K V n) {p : ℕ} (at : StandsAt table root path p) where
@@ -139,12 +136,12 @@ module _ {K V : Type 0} {n : ℕ} (table : Table K V) {root : ℕ} (path : Path 
 module _ {K V : Type 0} {n : ℕ} {table : Table K V} {root : ℕ} {path : Path K V n} {p : ℕ} (union : IsUnion n table) (on : StandsOn table root path p) where
   -- the path's leaf has the entry
   pub here-leaf : (entries : List (K × V)) × (slice_get table.nodes (leaf_of path) ≡ Some (leaf_content entries)) × (index_of path < length entries)
-  here-leaf = (on.stands.leaf.entries, (on-leaf-in union path on).node.slot_is, on.stands.leaf.within)
+  here-leaf = (on.stands.leaf.entries, (on-leaf-in union path on).slot_is, on.stands.leaf.within)
 
   module _ {e : K × V} (read_is : (entries : List (K × V)) → slice_get table.nodes (leaf_of path) ≡ Some (leaf_content entries) → slice_get entries (index_of path) ≡ Some e) where
     -- the entry read in the leaf is the entry of the list
     pub here-entry : slice_get (list_under table root) p ≡ Some e
-    here-entry = let w = on-tree union path on in entry_read union.1.capacity w.fit w.inside on.stands read_is
+    here-entry = entry_read union.1.capacity (on-tree union path on) read_is
 
     module _ {cmp : K → K → Ordering} (o : IsTotalOrder cmp) (key : K) where
       -- the entry has an equal key

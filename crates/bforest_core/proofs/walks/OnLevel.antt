@@ -1,10 +1,9 @@
 -- The node beside the one at which the way of a code ends, one level further down: what `turn_on`, `turn_back`, `next_far` and `prev_far` find there.
-use Rattle.bforest_core.proofs.Words.{CodedOver, HasWay, IsBefore, IsBehind, IsBesideOf, IsNextOf, IsPrevOf, IsWay, Leads, NumberAt, OnWay, ◌≡◌, ◌≢◌, ℕ, suc}
-use Rattle.bforest_core.proofs.Words.{◌+◌, ◌-◌, ◌*◌, ◌/◌, ◌%◌, ◌≤◌, ◌<◌, List, ◌∷◌, drop, length, Some, None, Option, refl, sym, subst, ◌∙◌, arith, Heads, Rows}
-use Rattle.bforest_core.proofs.walks.Branches.{Branch, branch-asks, branch-child, branch-way, count-asks, first-of, last-asks, last-of, last-some, next-own}
-use Rattle.bforest_core.proofs.{Words.{Content, heads}, walks.Reading.{ChildAsked, ChildRead, CountAsked, CountRead, LastAsked, LastRead}}
-use Rattle.bforest_core.proofs.walks.Branches.{none-next, none-prev, own, prev-own, prev-some}
-use Rattle.bforest_core.proofs.walks.Codes.{IsBelow, code-low, digit-put, first-kept, here, read-same, way-of}
+use Rattle.bforest_core.proofs.Words.{Direction, IsBesideOf, IsWay, Leads, NumberAt, Way, backwards, onwards, ◌≡◌, ℕ, suc, ◌+◌, ◌-◌, ◌*◌, ◌/◌, ◌≤◌, ◌<◌, List}
+use Rattle.bforest_core.proofs.{Words.{◌∷◌, drop, length, Some, None, refl, sym, ◌∙◌, arith, Content, heads}, walks.Branches.{Branch, branch-asks}}
+use Rattle.bforest_core.proofs.walks.Branches.{branch-at, branch-child, branch-low, first-of, last-asks, last-of, last-some, next-own, none-next, none-prev}
+use Rattle.bforest_core.proofs.{walks.Branches.{own, prev-own, prev-some}, walks.Codes.{IsBelow, Parent, code-low, count-asks, digit-put, here, read-same}}
+use Rattle.bforest_core.proofs.{walks.Codes.way-below, walks.Reading.{ChildAsked, ChildRead, CountAsked, CountRead, LastAsked, LastRead}}
 use Rattle.bforest_core.specs.declared.spot.Spot.{Spot}
 
 -- a level down, to the child at an index of the node at which the way of a spot ends
@@ -14,179 +13,140 @@ module _ {K V : Type 0} {slots : List (Content K V)} {root : ℕ} {spot : Spot} 
   code = spot.code * 8 + index
 
   -- the way to the child
-  abbrev Way : List ℕ → Rows K → Heads K → ℕ → Type 0
-  Way = CodedOver slots root code (suc spot.height)
-
   abbrev There : Type 0
-  There = HasWay slots root code (suc spot.height)
+  There = Way slots root code (suc spot.height)
 
-  pub some : suc spot.height ≢ 0
-  some = λ none. omega arith
-
-  index-is : code % 8 ≡ index
-  index-is = (digit-put _ _ _ digit refl).0
-
-  above-is : code / 8 ≡ spot.code
+  pub above-is : code / 8 ≡ spot.code
   above-is = (digit-put _ _ _ digit refl).1
 
-  level-is : suc spot.height - 1 ≡ spot.height
-  level-is = omega arith
+  pub said : (w : Way slots root (code / 8) spot.height) → NumberAt w.list w.place node
+  said = rw above-is (λ w. (leads w).1)
 
-  said : OnWay slots root (code / 8) (suc spot.height - 1) (λ numbers rows list place. NumberAt list place node)
-  said numbers rows list place q = (leads numbers rows list place (rw (← level-is) (rw above-is at q))).1
-
-  module _ {numbers rows list place : _} (p : Way numbers rows list place) where
-    pub same : node ≡ (here p some).number
-    same = read-same p some node said
-
-    -- the rows above the child's parent, that row, and the parent's place there
-    abbrev rest : Rows K
-    rest = (here p some).rest
-
-    abbrev parents : Heads K
-    parents = heads (here p some).row
-
-    abbrev top : ℕ
-    top = (here p some).top
+  module _ (p : There) where
+    abbrev pub parent : Parent p node index
+    parent = record { same = read-same p node said; digit = (digit-put _ _ _ digit refl).0 }
 
     -- the way to the node
-    pub over : CodedOver slots root spot.code spot.height (drop 1 numbers) rest parents top
-    over = let q = (here p some).over in let coded = rw above-is at q.coded in
-        record { stacked = q.stacked; inside = q.inside; coded = coded; root_is = q.root_is; depth_is = cc (level-is) }
+    abbrev pub up : Way slots root spot.code spot.height
+    up = record { numbers = drop 1 p.numbers; rows = (here p).rest; list = heads (here p).row; place = (here p).top; over = rw above-is at (here p).over }
 
-    its : IsWay (drop 1 numbers) spot rest top
-    its = (leads (drop 1 numbers) rest parents top over).0
+    its : IsWay (drop 1 p.numbers) spot (here p).rest (here p).top
+    its = (leads up).0
 
     -- the child at an index of a node, of which this is the spot, stands beside the way's end
     pub record Stands (Beside : ℕ → Type 0) (above : Spot) (number index1 : ℕ) : Type 0 where
       pub to : ℕ
       pub is : Beside to
-      pub branch : Branch p some number index1 to
+      pub branch : Branch p number index1 to
       pub others : List ℕ
-      pub way : IsWay others above rest branch.top
+      pub way : IsWay others above (here p).rest branch.top
 
     module _ {Beside : ℕ → Type 0} {above : Spot} {number index1 : ℕ} (b : Stands Beside above number index1) where
-      pub stands-height : above.height ≡ spot.height
-      stands-height = cc (over.depth_is)
-
       pub stands-low : spot.height < 16 → (above.code < 35184372088832) × (above.height < 16)
-      stands-low low = (code-low 15 rest b.others above.code b.branch.top b.way.coded (omega (arith, over.depth_is)), omega (arith, stands-height))
+      stands-low low = (code-low 15 (here p).rest b.others above.code b.branch.top b.way.coded (omega (arith, up.depth_is)), omega (arith, up.depth_is))
 
       -- the spot of that child
-      stands-spot : {next : Spot} → IsBelow above number index1 next → IsWay (number ∷ b.others) next rows b.to
-      stands-spot {next} below = let q = (here p some).over in
-          let beside : CodedOver slots root above.code (suc spot.height - 1) b.others rest parents
-          b.branch.top = record { stacked = q.stacked; inside = q.inside; coded = b.way.coded; root_is = q.root_is; depth_is = q.depth_is } in
-          way-of (branch-way b.branch beside refl) next below.code (cc (stands-height)) (λ more. sym below.parent)
-          (λ more. cc (b.way.parent_is (omega (arith, stands-height))))
+      stands-spot : {next : Spot} → IsBelow above number index1 next → IsWay (number ∷ b.others) next p.rows b.to
+      stands-spot below = rw (here p).rows_are (way-below (branch-at b.branch) (branch-low b.branch)
+          (rw b.branch.at.at b.way) below)
 
-    pub own-at : Stands (λ to. to ≡ place) spot node index
-    own-at = record { to = place; is = refl; branch = own p some same index-is; others = drop 1 numbers; way = its }
+    own-at : Stands (λ to. to ≡ p.place) spot node index
+    own-at = record { to = p.place; is = refl; branch = own parent; others = drop 1 p.numbers; way = its }
 
-  pub index-asked : There → ChildAsked slots node index
-  index-asked o = branch-asks (own-at o.4).branch
+    pub index-asked : ChildAsked slots node index
+    index-asked = branch-asks (own parent)
 
-  pub code-low-here : There → spot.height < 16 → spot.code < 35184372088832
-  code-low-here o low = (stands-low o.4 (own-at o.4) low).0
+    pub code-low-here : spot.height < 16 → spot.code < 35184372088832
+    code-low-here low = (stands-low own-at low).0
+
+    pub count-asked : CountAsked slots node
+    count-asked = count-asks parent
 
   -- the child, and its spot
   pub leads-on : {next : Spot} {child : ℕ} → IsBelow spot node index next → ChildRead slots node index child →
       Leads slots root code (suc spot.height) next child
-  leads-on {next} b reads numbers rows list place p = let parent = λ (low : 0 < suc spot.height). first-kept p some node said ∙ sym b.parent in
-      let grand = λ (low : 1 < suc spot.height). (its p).parent_is (omega arith) ∙ sym b.grand in
-      (way-of p next b.code b.height parent grand, branch-child (own p some (same p) index-is) reads)
+  leads-on b reads p = (
+    record {
+      coded = rw b.code p.coded;
+      parent_is = λ low. (parent p).same ∙ sym b.parent;
+      grand_is = λ low. (its p).parent_is (omega arith) ∙ sym b.grand;
+      height_is = b.height ∙ p.depth_is;
+    },
+    branch-child (own (parent p)) reads,
+  )
 
   -- the child that was read is the one beside
-  said-some : {Beside AtEnd : ℕ → ℕ → Type 0} {above : Spot} {number index1 : ℕ} → ((numbers rows list place : _) (p : Way numbers rows list place) → Stands p
-      (Beside place) above number index1) → {next : Spot} {child : ℕ} → IsBelow above number index1 next → ChildRead slots number index1 child →
-      IsBesideOf slots
-      root code (suc spot.height) Beside AtEnd (Some (next, child))
-  said-some {number = number} stands b reads = record {
-    some = λ numbers rows list place p.
-        let w = stands numbers rows list place p in (w.to, w.is, number ∷ w.others, stands-spot p w b, branch-child w.branch reads);
+  said-some : {d : Direction K V} {above : Spot} {number index1 : ℕ} → ((p : There) → Stands p (d.Beside p.place) above number index1)
+      → {next : Spot} {child : ℕ} → IsBelow above number index1 next → ChildRead slots number index1 child
+      → IsBesideOf slots root code (suc spot.height) d (Some (next, child))
+  said-some {number} stands b reads = record {
+    some = λ p. let w = stands p in (w.to, w.is, number ∷ w.others, stands-spot p w b, branch-child w.branch reads);
     none = λ bad. absurd (let no = bad in cc);
   }
 
   -- nothing is beside it, where nothing is beside the node
-  said-none : {Beside AtEnd : ℕ → ℕ → Type 0} → ((numbers rows list place : _) (p : Way numbers rows list place) → AtEnd (top p) (length (parents p))
-      → AtEnd place (length list)) → {up found : Option (Spot × ℕ)} → up ≡ None → found ≡ None → IsBesideOf slots root spot.code spot.height Beside AtEnd up
-      → IsBesideOf slots root code (suc spot.height) Beside AtEnd found
-  said-none {Beside} {AtEnd} ends nothing is says = subst (IsBesideOf slots root code (suc spot.height) Beside AtEnd) (sym is) record {
-    some = tt;
-    none = λ none numbers rows list place p. ends numbers rows list place p (says.none nothing (drop 1 numbers) (rest p) (parents p) (top p) (over p));
-  }
-
-  pub count-asked : There → CountAsked slots node
-  count-asked o = count-asks o.4 some (same o.4) index-is
+  said-none : {d : Direction K V} → ((p : There) → d.AtEnd (here p).top (length (heads (here p).row)) → d.AtEnd p.place (length p.list))
+      → IsBesideOf slots root spot.code spot.height d None → IsBesideOf slots root code (suc spot.height) d None
+  said-none ends says = record { some = tt; none = λ none p. ends p (says.none refl (up p)) }
 
   module _ {count : ℕ} (counts : CountRead slots node count) where
     -- the next child of the same node
     module _ (low : index + 1 < count) where
-      pub next-at : {numbers rows list place : _} (p : Way numbers rows list place) → Stands p (IsBehind place) spot node (index + 1)
-      next-at {numbers} {place =
-          place} p = record { to = suc place; is = refl; branch = next-own p some (same p) index-is counts low; others = drop 1 numbers; way = its p }
+      pub next-at : (p : There) → Stands p (λ to. to ≡ suc p.place) spot node (index + 1)
+      next-at p = record { to = suc p.place; is = refl; branch = next-own (parent p) counts low; others = drop 1 p.numbers; way = its p }
 
       pub next-said : {next : Spot} {child : ℕ} → IsBelow spot node (index + 1) next → ChildRead slots node (index + 1) child
-          → IsNextOf slots root code (suc spot.height) (Some (next, child))
-      next-said b reads = said-some (λ numbers rows list place p. next-at p) b reads
+          → IsBesideOf slots root code (suc spot.height) onwards (Some (next, child))
+      next-said b reads = said-some next-at b reads
 
     module _ (high : count ≤ index + 1) where
-      pub last-said : {up found : Option (Spot × ℕ)} → up ≡ None → found ≡ None → IsNextOf slots root spot.code spot.height up
-          → IsNextOf slots root code (suc spot.height) found
-      last-said nothing is says = said-none (λ numbers rows list place p. none-next p some (same p) index-is counts high) nothing is says
+      pub last-said : IsBesideOf slots root spot.code spot.height onwards None → IsBesideOf slots root code (suc spot.height) onwards None
+      last-said says = said-none (λ p. none-next (parent p) counts high) says
 
       -- the first child of the node behind
-      module _ {up : Option (Spot × ℕ)} {above : Spot} {number : ℕ} (up_is : up ≡ Some (above, number)) (on : IsNextOf slots root spot.code spot.height up)
-        where
-          pub turn-at : {numbers rows list place : _} (p : Way numbers rows list place) → Stands p (IsBehind place) above number 0
-          turn-at {numbers} {place = place} p =
-              let w = (subst (IsNextOf slots root spot.code spot.height) up_is on).some (drop 1 numbers) (rest p) (parents p) (top p) (over p) in
-              record { to = suc place; is = refl; branch = first-of p some (same p) index-is counts high w.1 w.4; others = w.2; way = w.3 }
+      module _ {above : Spot} {number : ℕ} (on : IsBesideOf slots root spot.code spot.height onwards (Some (above, number))) where
+        pub turn-at : (p : There) → Stands p (λ to. to ≡ suc p.place) above number 0
+        turn-at p = let w = on.some (up p) in
+            record { to = suc p.place; is = refl; branch = first-of (parent p) counts high w.1 w.4; others = w.2; way = w.3 }
 
-          pub turn-said : {next : Spot} {child : ℕ} → IsBelow above number 0 next → ChildRead slots number 0 child
-              → IsNextOf slots root code (suc spot.height) (Some (next, child))
-          turn-said b reads = said-some (λ numbers rows list place p. turn-at p) b reads
+        pub turn-said : {next : Spot} {child : ℕ} → IsBelow above number 0 next → ChildRead slots number 0 child
+            → IsBesideOf slots root code (suc spot.height) onwards (Some (next, child))
+        turn-said b reads = said-some turn-at b reads
 
   -- the child before, of the same node
   module _ (low : 0 < index) where
-    pub prev-at : {numbers rows list place : _} (p : Way numbers rows list place) → Stands p (IsBefore place) spot node (index - 1)
-    prev-at {numbers} {place = place} p = record {
-      to = place - 1;
-      is = omega (arith, prev-some p some (same p) index-is low);
-      branch = prev-own p some (same p) index-is low;
-      others = drop 1 numbers;
+    pub prev-at : (p : There) → Stands p (λ to. suc to ≡ p.place) spot node (index - 1)
+    prev-at p = record {
+      to = p.place - 1;
+      is = omega (arith, prev-some (parent p) low);
+      branch = prev-own (parent p) low;
+      others = drop 1 p.numbers;
       way = its p;
     }
 
     pub prev-said : {next : Spot} {child : ℕ} → IsBelow spot node (index - 1) next → ChildRead slots node (index - 1) child
-        → IsPrevOf slots root code (suc spot.height) (Some (next, child))
-    prev-said b reads = said-some (λ numbers rows list place p. prev-at p) b reads
+        → IsBesideOf slots root code (suc spot.height) backwards (Some (next, child))
+    prev-said b reads = said-some prev-at b reads
 
   module _ (none : index ≤ 0) where
-    pub first-said : {up found : Option (Spot × ℕ)} → up ≡ None → found ≡ None → IsPrevOf slots root spot.code spot.height up
-        → IsPrevOf slots root code (suc spot.height) found
-    first-said nothing is says = said-none (λ numbers rows list place p. none-prev p some (same p) index-is none) nothing is says
+    pub first-said : IsBesideOf slots root spot.code spot.height backwards None → IsBesideOf slots root code (suc spot.height) backwards None
+    first-said says = said-none (λ p. none-prev (parent p) none) says
 
     -- the last child of the node before
-    module _ {up : Option (Spot × ℕ)} {above : Spot} {number : ℕ} (up_is : up ≡ Some (above, number)) (on : IsPrevOf slots root spot.code spot.height up) where
-      before : {numbers rows list place : _} (p : Way numbers rows list place) → (to : ℕ) × IsBefore (top p) to × (others : _)
-          × IsWay others above (rest p) to × NumberAt (parents p) to number
-      before {numbers} p = (subst (IsPrevOf slots root spot.code spot.height) up_is on).some (drop 1 numbers) (rest p) (parents p) (top p) (over p)
-
+    module _ {above : Spot} {number : ℕ} (on : IsBesideOf slots root spot.code spot.height backwards (Some (above, number))) where
       pub back-count : There → LastAsked slots number
-      back-count o = last-asks o.4 some _ (before o.4).4
+      back-count p = last-asks p _ (on.some (up p)).4
 
       module _ {last : ℕ} (says : LastRead slots number last) where
-        pub back-at : {numbers rows list place : _} (p : Way numbers rows list place) → Stands p (IsBefore place) above number last
-        back-at {place = place} p = let w = before p in
-            record {
-              to = place - 1;
-              is = omega (arith, last-some p some (same p) index-is none w.1 w.4 says);
-              branch = last-of p some (same p) index-is none w.1 w.4 says;
-              others = w.2;
-              way = w.3;
-            }
+        pub back-at : (p : There) → Stands p (λ to. suc to ≡ p.place) above number last
+        back-at p = let w = on.some (up p) in record {
+          to = p.place - 1;
+          is = omega (arith, last-some (parent p) none w.1 w.4 says);
+          branch = last-of (parent p) none w.1 w.4 says;
+          others = w.2;
+          way = w.3;
+        }
 
         pub back-said : {next : Spot} {child : ℕ} → IsBelow above number last next → ChildRead slots number last child
-            → IsPrevOf slots root code (suc spot.height) (Some (next, child))
-        back-said b reads = said-some (λ numbers rows list place p. back-at p) b reads
+            → IsBesideOf slots root code (suc spot.height) backwards (Some (next, child))
+        back-said b reads = said-some back-at b reads

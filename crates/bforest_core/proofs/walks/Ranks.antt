@@ -17,12 +17,11 @@ module _ {K X : Type 0} where
 
   -- of two positions in one row, that in the earlier node is earlier
   at-earlier : {row : List (LevelNode K X)} {a i p b j q : ℕ} (x : IsAt row a i p) (y : IsAt row b j q) → length x.before < length y.before → p < q
-  at-earlier {a = a} {b = b} x y low = let ends = in-front x.before a x.entries x.after y.before b y.entries y.after (sym x.row_is ∙ y.row_is) low in
-      omega arith
+  at-earlier {a} {b} x y low = let ends = in-front x.before a x.entries x.after y.before b y.entries y.after (sym x.row_is ∙ y.row_is) low in omega arith
 
   -- in one node, that with the lower index
   at-index : {row : List (LevelNode K X)} {a i p b j q : ℕ} (x : IsAt row a i p) (y : IsAt row b j q) → length x.before ≡ length y.before → length (flat x.before) ≡ length (flat y.before)
-  at-index {a = a} {b = b} x y same =
+  at-index {a} {b} x y same =
       ap (λ z. length (flat z)) (same-cut x.before (node a x.entries) x.after y.before (node b y.entries) y.after (sym x.row_is ∙ y.row_is) same).0
 
 -- the quotient or else the last digit is less

@@ -1,12 +1,10 @@
 -- Increasing lists of entries, cut in parts, and the place of a key in them.
 use Rattle.bforest_core.proofs.Words.{count_by-le-length, all_greater_behind, count_up_to-no, count_up_to-none, count_up_to-yes, place-later, place-here, ◌≡◌}
-use Rattle.bforest_core.proofs.Words.{◌≢◌, ℕ, zero, suc, ◌+◌, ◌≤◌, false, cond, if◌then◌else◌, List, [], ◌∷◌, ◌++◌, length, slice_get, Option, Some, None, refl}
-use Rattle.bforest_core.proofs.Words.{sym, ap, ◌∙◌, arith, sum_by-append, alike_right, IsTotalOrder, IsStrictlySortedBy, AllByRecursion, is_some}
+use Rattle.bforest_core.proofs.Words.{◌≢◌, ℕ, zero, suc, ◌+◌, ◌≤◌, false, cond, if◌then◌else◌, List, [], ◌∷◌, ◌++◌, length, slice_get, Option, Some, None}
+use Rattle.bforest_core.proofs.Words.{refl, sym, ap, ◌∙◌, arith, sum_by-append, alike_right, IsTotalOrder, IsStrictlySortedBy, AllByRecursion, is_some}
 use Rattle.bforest_core.proofs.Words.{option_and_then, is_eq, is_gt, is_lt, IsIncreasing, place, entry_for, is_present, child_index}
 use Rattle.bforest_core.proofs.table.Lists.{slice_get-append-add}
-use Rattle.std.specs.Map.{keys_of}
-use Rattle.std.specs.declared.cmp.Ordering.{Ordering}
-use Rattle.std.specs.declared.cmp.Ordering.TheVariants.{Less, Equal, Greater}
+use Rattle.std.specs.{Map.keys_of, declared.cmp.Ordering.{Ordering, TheVariants.{Less, Equal, Greater}}}
 
 -- a property of all keys of a list holds in each of its two parts
 pub all_split : {K X : Type 0} (P : K → Type 0) (xs ys : List (K × X)) → AllByRecursion P (keys_of (xs ++ ys)) → AllByRecursion P (keys_of xs) × AllByRecursion P (keys_of ys)
@@ -45,16 +43,16 @@ module _ {K : Type 0} {cmp : K → K → Ordering} (o : IsTotalOrder cmp) where
     increasing_rest x xs h = h.1
 
     -- the place of a key in two parts is the sum of its places
-    pub place-append : (xs ys : List (K × X)) (k : K) → place cmp (xs ++ ys) k ≡ place cmp xs k + place cmp ys k
+    place-append : (xs ys : List (K × X)) (k : K) → place cmp (xs ++ ys) k ≡ place cmp xs k + place cmp ys k
     place-append xs ys k = sum_by-append (λ y. cond (is_lt (cmp y.0 k)) 1 0) xs ys
 
     -- the place of a key after a list of lesser keys is its end
-    pub place_all : (xs : List (K × X)) (k : K) → AllByRecursion (λ p. cmp p k ≡ Less) (keys_of xs) → place cmp xs k ≡ length xs
+    place_all : (xs : List (K × X)) (k : K) → AllByRecursion (λ p. cmp p k ≡ Less) (keys_of xs) → place cmp xs k ≡ length xs
     place_all [] k h = refl
     place_all (x ∷ xs) k h = place-later cmp o x xs k h.0 ∙ ap suc (place_all xs k h.1)
 
     -- the place of a key before a list of greater keys is 0
-    pub place_none : (xs : List (K × X)) (k : K) → IsIncreasing cmp xs → AllByRecursion (λ p. cmp p k ≡ Greater) (keys_of xs) → place cmp xs k ≡ 0
+    place_none : (xs : List (K × X)) (k : K) → IsIncreasing cmp xs → AllByRecursion (λ p. cmp p k ≡ Greater) (keys_of xs) → place cmp xs k ≡ 0
     place_none [] k i h = refl
     place_none (x ∷ xs) k i h = place-here cmp o x xs k i (ap is_lt h.0)
 
@@ -66,11 +64,11 @@ module _ {K : Type 0} {cmp : K → K → Ordering} (o : IsTotalOrder cmp) where
     abbrev pub test_at : List (K × X) → K → ℕ → Option (K × X)
     test_at es k i = option_and_then (λ e. if is_eq (cmp e.0 k) then Some e else None) (slice_get es i)
 
-    pub test_past : (ys : List (K × X)) (k : K) → AllByRecursion (λ p. cmp p k ≡ Greater) (keys_of ys) → test_at ys k 0 ≡ None
+    test_past : (ys : List (K × X)) (k : K) → AllByRecursion (λ p. cmp p k ≡ Greater) (keys_of ys) → test_at ys k 0 ≡ None
     test_past [] k h = refl
     test_past (y ∷ ys) k h = cc
 
-    pub test_front : (xs ys : List (K × X)) (k i : _) → i ≤ length xs → AllByRecursion (λ p. cmp p k ≡ Greater) (keys_of ys) → test_at (xs ++ ys) k i ≡ test_at xs k i
+    test_front : (xs ys : List (K × X)) (k i : _) → i ≤ length xs → AllByRecursion (λ p. cmp p k ≡ Greater) (keys_of ys) → test_at (xs ++ ys) k i ≡ test_at xs k i
     test_front [] ys k zero le h = test_past ys k h
     test_front [] ys k (suc i) le h = absurd (omega arith)
     test_front (x ∷ xs) ys k zero le h = refl

@@ -17,7 +17,7 @@ no_heads half most one row f none = nil_from_length row (cc (fit_full _ _ one _ 
 -- an entry of a node is an entry of the row
 pub entry_at : {K X : Type 0} {row : Row K X} (before : Row K X) (n es after i : _)
     {x : K × X} → row ≡ before ++ node n es ∷ after → slice_get es i ≡ Some x → slice_get (flat row) (length (flat before) + i) ≡ Some x
-entry_at before n es after i {x = x} row_is found =
+entry_at before n es after i {x} row_is found =
     cc (row_is, flat-append before (node n es ∷ after), slice_get-append-add (flat before) (es ++ flat after) i, slice_get-append_left es (flat after) i x found)
 
 -- a list cut at one place is cut into the same parts
@@ -47,8 +47,7 @@ module _ {K V X : Type 0} (content : List (K × X) → Content K V) (slots : Lis
     abbrev pub node-in : (number place : ℕ) (before : Row K X) (entries after : _)
         → row ≡ before ++ node number entries ∷ after → length before ≡ place → NodeIn row number place
     node-in number place before entries after row_is at =
-        let f = (FitRow-split half most before (node number entries) after (subst (FitRow half most) row_is fit)).1 in
-        record {
+        let f = (FitRow-split half most before (node number entries) after (rw (← row_is) fit)).1 in record {
           before = before;
           entries = entries;
           after = after;
@@ -73,7 +72,7 @@ module _ {K V X : Type 0} {content : List (K × X) → Content K V} {slots most 
   pub seam : {number1 place1 : ℕ} (b : NodeIn content slots most row number1 place1) → place1 ≡ suc place
       → length (flat b.before) ≡ length (flat a.before) + length a.entries
   seam {number1} b next = let k = length b.before in let x = node number a.entries in
-      let two = sym (take_at b.before (node number1 b.entries ∷ b.after) k refl) ∙ ap (λ z. take k z) (cc (append_assoc _ _ _))
+      let two = sym (take_at b.before (node number1 b.entries ∷ b.after) k refl) ∙ ap (take k) (cc (append_assoc _ _ _))
       ∙ take_at (a.before ++ x ∷ []) a.after k (omega (arith, length-append a.before (x ∷ []))) in
       omega (
         arith,
@@ -87,8 +86,7 @@ module _ {K V X : Type 0} {content : List (K × X) → Content K V} {slots most 
   pub none-behind : (half : ℕ) → 1 ≤ half → FitRow half most row → suc place ≡ length (heads row)
       → length (flat row) ≡ length (flat a.before) + length a.entries
   none-behind half one fit last = let x = node number a.entries in
-      let none = nil_from_length a.after (omega (arith, fit_full half most one row fit, ap length a.row_is, length-append a.before (x ∷ a.after))) in
-      omega (
+      let none = nil_from_length a.after (omega (arith, fit_full half most one row fit, ap length a.row_is, length-append a.before (x ∷ a.after))) in omega (
         arith,
         ap (λ z. length (flat z)) a.row_is,
         ap length (flat-append a.before (x ∷ a.after)),

@@ -2,12 +2,12 @@
 use Rattle.bforest_core.proofs.Words.{◌≡◌, ◌≢◌, ℕ, zero, suc, ◌+◌, ◌-◌, ◌==◌, ◌≤◌, ◌<◌, ◌↔◌, Bool, IsTrue, true, false, Some, slice_get, if◌then◌else◌, List}
 use Rattle.bforest_core.proofs.Words.{[], ◌∷◌, ◌++◌, get_or, length, length-append, inl, inr, refl, sym, subst, ap, ◌∙◌, arith, Heads, Row, flat_map}
 use Rattle.bforest_core.proofs.Words.{false≢true, eqb_tells, Path, PointsTo, StandsAt, StandsOn, index_of, leaf_of, list_under, path_root, place_in, spot}
-use Rattle.bforest_core.proofs.Words.{IsLeaf, AtUnder, StandsUnder, IsRooted, Under, Tree, flat, HasBelow, Led, OnBelow, heads, length-map, node, numbers}
-use Rattle.bforest_core.proofs.Words.{sizes, sizes_of, IsFit, IsIn, IsPathAt, PointsAt, Stands, count, leaf_content, numbers_of, Moved, Over, Table, IsUnion}
+use Rattle.bforest_core.proofs.Words.{IsLeaf, AtUnder, StandsUnder, IsRooted, NodeOver, OnTree, Tree, flat, HasBelow, Led, OnBelow, heads, length-map, node, numbers}
+use Rattle.bforest_core.proofs.Words.{sizes, sizes_of, IsPathAt, PointsAt, Stands, count, leaf_content, numbers_of, Advances, HasOver, OnOver, Table, IsUnion}
 use Rattle.bforest_core.proofs.{Words.{is_root, slot, tree_of}, walks.Backward.{at_end, at_entry}, rows.LevelRows.flat-append, union.Unions.{is-rooted, rooted}}
-use Rattle.bforest_core.proofs.{walks.Whole.{led_stands, stands-pointed, whole_under}, walks.Entered.{InLeaf, first_behind, in_leaf, leaf_here, leaf_last}}
-use Rattle.bforest_core.proofs.{walks.Leading.leaf_led, table.Read.slot-is, rows.Tops.root-points, walks.Steps.not_less}
-use Rattle.bforest_core.proofs.{walks.TopNode.{SameBut, node_under, none_flat}, table.Tables.{absent_ne, count-append, count-row, count-same}}
+use Rattle.bforest_core.proofs.{walks.Whole.{led_stands, stands-pointed, root-node}, walks.Entered.{InLeaf, first_behind, in_leaf, leaf_here, leaf_last}}
+use Rattle.bforest_core.proofs.{walks.Leading.leaf_up, table.Read.slot-is, rows.Tops.root-points, walks.Steps.not_less}
+use Rattle.bforest_core.proofs.{walks.TopNode.{SameBut, node_under, none_flat, seen_at}, table.Tables.{absent_ne, count-append, count-row, count-same}}
 use Rattle.bforest_core.specs.Paths.{IsPlaced}
 
 module _ {K V : Type 0} (path indices : _) (tree : Tree K V) (place : ℕ) where
@@ -34,14 +34,10 @@ module _ {K V : Type 0} (path indices : _) (tree : Tree K V) (place : ℕ) where
   path-ended zero none e = e
   path-ended (suc size) none e = absurd (omega arith)
 
--- the leaves and rows under a root
-pub record UnderRoot {K V : Type 0} (most : ℕ) (table : Table K V) (root : ℕ) : Type 0 where
-  pub first : K
-  pub under : Under most table.nodes (tree_of table.nodes root).leaves (tree_of table.nodes root).above ((first, root) ∷ [])
-  pub low : length (tree_of table.nodes root).above ≤ 16
-
-pub under-root : {K V : Type 0} {most : ℕ} {table : Table K V} (root : ℕ) → IsUnion most table → IsTrue (is_root table.nodes root) → UnderRoot most table root
-under-root root union is = let w = is-rooted root union is in let u = whole_under w in record { first = u.0; under = u.1; low = w.low }
+-- a root, as a node over the leaves of its tree
+abbrev pub under-root : {K V : Type 0} {most : ℕ} {table : Table K V} (root : ℕ) → IsUnion most table → IsTrue (is_root table.nodes root)
+    → NodeOver most table.nodes (tree_of table.nodes root).leaves root
+under-root root union is = root-node (is-rooted root union is)
 
 -- the level of a root, and the number of levels of a path in its tree
 pub root-level : {K V : Type 0} (tree : Tree K V) {levels : ℕ} → levels ≡ length (sizes_of tree) → levels - 1 ≡ length tree.above
@@ -51,22 +47,26 @@ pub path-levels : {K V : Type 0} (tree : Tree K V) {levels size : ℕ} → level
 path-levels tree is same = omega (arith, length-map tree.above sizes)
 
 -- a path that descended on one side from a root stands there
-module _ {K V : Type 0} {most : ℕ} {table : Table K V} (root : ℕ) (union : IsUnion most table) (is : IsTrue (is_root table.nodes root)) {levels : ℕ} (levels_is : levels ≡ length (sizes_of (tree_of table.nodes root))) {Side : Heads K → Heads K → Type 0} (side : Side [] []) where
+module _ {K V : Type 0} {most : ℕ} {table : Table K V} (root : ℕ) (union : IsUnion most table) (is : IsTrue (is_root table.nodes root)) {levels : ℕ} (levels_is : levels ≡ length (sizes_of (tree_of table.nodes root))) (Side : Heads K → Heads K → Type 0) (side : Side [] []) where
   -- what the descent requires
   pub root-below : HasBelow most table.nodes Side root (levels - 1)
-  root-below = let u = under-root root union is in
-      ((tree_of table.nodes root).leaves, (tree_of table.nodes root).above, [], u.first, [], side, u.under, root-level (tree_of table.nodes root) levels_is)
+  root-below = ((tree_of table.nodes root).leaves, under-root root union is, side, root-level (tree_of table.nodes root) levels_is)
 
   pub led-root : (place : Row K V → ℕ) {size path indices path' indices' : _} → size ≡ levels → OnBelow most table.nodes Side root (levels - 1) (λ leaves lower top. Led leaves lower (place leaves) top path indices path' indices') → StandsUnder table.nodes root path' indices' size (place (tree_of table.nodes root).leaves)
-  led-root place size_is leads = let tree = tree_of table.nodes root in let u = under-root root union is in
-      let d = leads tree.leaves tree.above [] u.first [] side u.under (root-level tree levels_is) in
+  led-root place size_is leads = let tree = tree_of table.nodes root in let d = leads tree.leaves (under-root root union is) side (root-level tree levels_is) in
       record { root_is = is; stands = led_stands _ _ d (path-levels tree levels_is size_is) }
 
 -- a path of one level at the front of a root that is a leaf is on the first entry
 pub on-leaf : {K V : Type 0} {most : ℕ} (table : Table K V) (root : ℕ) (path indices : List ℕ) → IsUnion most table → IsTrue (is_root table.nodes root) → IsLeaf (slot table.nodes root) → get_or path 0 0 ≡ root → get_or indices 0 0 ≡ 0 → StandsUnder table.nodes root path indices 1 0
-on-leaf table root path indices union is leaf node_is index_is = let u = under-root root union is in
-    elim (node_under union.1.capacity _ [] u.first root [] u.under) [
-      | inl s ↦ (let d = leaf_led _ _ s _ indices 0 (omega arith) (omega (arith, none_flat _ s.at.before_is)) node_is index_is (λ i ne. refl) (λ i ne. refl) in record { root_is = is; stands = led_stands _ 1 d (sym (ap (λ z. suc (length z)) s.lower_is)) })
+on-leaf table root path indices union is leaf node_is index_is =
+    elim (node_under union.1.capacity (under-root root union is)) [
+      | inl s ↦ (
+          let d : Led (tree_of table.nodes root).leaves (tree_of table.nodes root).above 0 0 path indices path indices = record {
+            leaf = seen_at s.at node_is index_is (omega arith) (omega (arith, none_flat _ s.before_is));
+            up = leaf_up s (λ i ne. refl) (λ i ne. refl);
+          } in
+          record { root_is = is; stands = led_stands _ 1 d (sym (ap (λ z. suc (length z)) s.lower_is)) }
+          )
       | inr s ↦ absurd (subst IsLeaf (slot-is table.nodes root s.slot_is) leaf)
     ]
 
@@ -105,63 +105,63 @@ module _ {K V : Type 0} {n : ℕ} (table : Table K V) {root : ℕ} (path : Path 
 
 -- a path on an entry, in a union of trees
 module _ {K V : Type 0} {n : ℕ} {table : Table K V} (union : IsUnion n table) {root place : ℕ} (path : Path K V n) (on : StandsOn table root path place) where
-  abbrev pub on-tree : IsRooted n table.nodes root (tree_of table.nodes root)
-  on-tree = is-rooted root union on.root_is
+  -- the path stands on the tree under the root
+  abbrev pub on-tree : OnTree n table.nodes path.node path.entry path.size
+  on-tree = let r = is-rooted root union on.root_is in record { tree = tree_of table.nodes root; place = place; fit = r.fit; inside = r.inside; stands = on.stands }
 
   -- the path's leaf, and the rows above it
-  abbrev pub on-leaf-in : InLeaf union.1.capacity on-tree.fit on-tree.inside path.node path.entry (length on.stands.leaf.before)
-  on-leaf-in = leaf_here union.1.capacity on-tree.fit on-tree.inside on.stands
+  abbrev pub on-leaf-in : InLeaf n table.nodes (tree_of table.nodes root) path.node path.entry (length on.stands.leaf.before)
+  on-leaf-in = leaf_here union.1.capacity on-tree
 
   -- the path meets what a step requires
-  pub on-asks : (path.size ≤ 17) × ((tree : Tree K V) × (place : ℕ) × IsFit n tree × IsIn table.nodes tree × Stands path.node path.entry path.size tree place)
-  on-asks = (omega (arith, on-tree.low), (tree_of table.nodes root, place, on-tree.fit, on-tree.inside, on.stands))
-
-  pub said : {Says : Tree K V → ℕ → Type 0} → ((tree : Tree K V) (place : ℕ) → IsFit n tree → IsIn table.nodes tree → Stands path.node path.entry path.size tree place → Says tree place) → Says (tree_of table.nodes root) place
-  said says = says (tree_of table.nodes root) place on-tree.fit on-tree.inside on.stands
+  pub on-asks : (path.size ≤ 17) × OnTree n table.nodes path.node path.entry path.size
+  on-asks = (omega (arith, (is-rooted root union on.root_is).low), on-tree)
 
 -- a path at an entry of a leaf, or past a leaf's last one
 module _ {K V : Type 0} {n : ℕ} {table : Table K V} (union : IsUnion n table) {root place : ℕ} (path : Path K V n) (to : PointsTo table root path place) where
   abbrev tree_is : IsRooted n table.nodes root (tree_of table.nodes root)
   tree_is = is-rooted root union to.root_is
 
-  abbrev pointed : InLeaf union.1.capacity tree_is.fit tree_is.inside path.node path.entry (length to.points.before)
+  abbrev pointed : InLeaf n table.nodes (tree_of table.nodes root) path.node path.entry (length to.points.before)
   pointed = in_leaf union.1.capacity tree_is.fit tree_is.inside path.node path.entry to.points.before to.points.entries to.points.after to.points.leaves_are to.points.above
 
   -- the content of the leaf's slot
   pub pointed-leaf : (entries : List (K × V)) × (slice_get table.nodes (leaf_of path) ≡ Some (leaf_content entries))
-  pointed-leaf = (to.points.entries, pointed.node.slot_is)
+  pointed-leaf = (to.points.entries, pointed.slot_is)
 
-  pointed-over : Over table.nodes path.node path.entry 1 path.size (tree_of table.nodes root).above (heads (tree_of table.nodes root).leaves) (length to.points.before)
-  pointed-over = record { stacked = tree_is.fit.stacked; inside = tree_is.inside.rows_in; stands = to.points.above; height = omega arith }
+  abbrev pointed-over : HasOver table.nodes path.node path.entry 1 path.size
+  pointed-over = (
+    (tree_of table.nodes root).above,
+    heads (tree_of table.nodes root).leaves,
+    length to.points.before,
+    record { stacked = tree_is.fit.stacked; inside = tree_is.inside.rows_in; stands = to.points.above; height = omega arith },
+  )
 
   -- the rows above the leaf
-  pub pointed-above : (path.size ≤ 17) × ((rows : _) × (list : _) × (at : ℕ) × Over table.nodes path.node path.entry 1 path.size rows list at)
-  pointed-above = (omega (arith, tree_is.low), ((tree_of table.nodes root).above, heads (tree_of table.nodes root).leaves, length to.points.before, pointed-over))
+  pub pointed-above : (path.size ≤ 17) × HasOver table.nodes path.node path.entry 1 path.size
+  pointed-above = (omega (arith, tree_is.low), pointed-over)
 
   module _ {has : Bool} (test : (entries : List (K × V)) → slice_get table.nodes (leaf_of path) ≡ Some (leaf_content entries) → IsTrue has ↔ (index_of path < length entries)) where
     -- the path is at an entry of the leaf
     pub pointed-here : has ≡ true → StandsAt table root path place
-    pointed-here is = on-at table path (record { root_is = to.root_is; stands = stands-pointed to.points ((test to.points.entries pointed.node.slot_is).0 is) })
+    pointed-here is = on-at table path (record { root_is = to.root_is; stands = stands-pointed to.points ((test to.points.entries pointed.slot_is).0 is) })
 
     behind : has ≡ false → place ≡ length (flat to.points.before) + length to.points.entries
-    behind none = omega (arith, not_less (index_of path) (length to.points.entries) (λ low. false≢true (sym none ∙ (test to.points.entries pointed.node.slot_is).1 low)))
+    behind none = omega (arith, not_less (index_of path) (length to.points.entries) (λ low. false≢true (sym none ∙ (test to.points.entries pointed.slot_is).1 low)))
 
     -- past a leaf's last entry, the first of the next leaf is at the same place
-    pub pointed-next : has ≡ false → (moved new : Path K V n) → ((rows list at : _) → Over table.nodes path.node path.entry 1 path.size rows list at → Moved path.node path.entry moved.node moved.entry 0 rows list (suc at)) →
+    pub pointed-next : has ≡ false → (moved new : Path K V n) → Advances table.nodes path.node path.entry moved.node moved.entry 0 path.size →
         new.node ≡ moved.node → get_or new.entry 0 0 ≡ 0 → SameBut 0 moved.entry new.entry → new.size ≡ path.size → StandsAt table root new place
-    pointed-next none moved new goes nodes here above size =
-        let m = goes (tree_of table.nodes root).above (heads (tree_of table.nodes root).leaves) (length to.points.before) pointed-over in
-        let s = first_behind union.1.capacity tree_is.fit tree_is.inside pointed (cc) new.entry m nodes here above in
-        on-at table new (record {
+    pointed-next none moved new goes nodes here above size = let m = goes _ _ _ pointed-over.3 in
+        let s = first_behind union.1.capacity tree_is.fit tree_is.inside pointed (cc) new.entry m nodes here above in on-at table new (record {
           root_is = to.root_is;
-          stands = subst (λ z. Stands new.node new.entry new.size (tree_of table.nodes root) z)
-              (sym (behind none)) s;
+          stands = rw ((behind none)) s;
         })
 
     -- past the last entry of all, the path is at the end
-    pub pointed-last : has ≡ false → ((rows list at : _) → Over table.nodes path.node path.entry 1 path.size rows list at → suc at ≡ length list) → (nodes entries : _) → AtUnder table.nodes root nodes entries 0 place
+    pub pointed-last : has ≡ false → OnOver table.nodes path.node path.entry 1 path.size (λ rows list at. suc at ≡ length list) → (nodes entries : _) → AtUnder table.nodes root nodes entries 0 place
     pointed-last none last nodes entries =
-        record { root_is = to.root_is; at = behind none ∙ leaf_last union.1.capacity tree_is.fit tree_is.inside pointed (last (tree_of table.nodes root).above (heads (tree_of table.nodes root).leaves) (length to.points.before) pointed-over) }
+        record { root_is = to.root_is; at = behind none ∙ leaf_last union.1.capacity tree_is.fit tree_is.inside pointed (last _ _ _ pointed-over.3) }
 
 -- a path in a union of trees
 module _ {K V : Type 0} {n : ℕ} {most : ℕ} {table : Table K V} {root : ℕ} (path : Path K V n) {place : ℕ} (union : IsUnion most table) where

@@ -23,6 +23,7 @@ module _ {K V X : Type 0} (content : List (K × X) → Content K V) (slots : Lis
   -- a path in the node at a place of a row, and in the rows above
   pub record Within (path indices : List ℕ) (up : ℕ) (row : Row K X) (rest : Rows K) (place : ℕ) : Type 0 where
     pub node : NodeIn content slots most row (get_or path up 0) place
+    pub open node use *
     pub stands : StandsAbove path indices (suc up) rest place
 
   -- a path that moved to a place is in the node there
@@ -32,10 +33,10 @@ module _ {K V X : Type 0} (content : List (K × X) → Content K V) (slots : Lis
 module _ {K V X : Type 0} {content : List (K × X) → Content K V} {slots most path indices up row rest place : _} (a : Within content slots most path indices up row rest place) (counts : (es : List (K × X)) → entry_count (content es) ≡ length es) (r : ℕ) (wide : up < length path) where
   -- the node meets what reading its last index requires
   abbrev pub last_asks : LastAsked slots (get_or path up r)
-  last_asks = (content a.node.entries, at_index _ _ r wide refl a.node.slot_is, omega arith)
+  last_asks = (content a.entries, at_index _ _ r wide refl a.slot_is, omega arith)
 
-  pub last_is : {last : ℕ} → LastRead slots (get_or path up r) last → suc last ≡ length a.node.entries
-  last_is says = omega (arith, says (content a.node.entries) last_asks.1, counts a.node.entries)
+  pub last_is : {last : ℕ} → LastRead slots (get_or path up r) last → suc last ≡ length a.entries
+  last_is says = omega (arith, says (content a.entries) last_asks.1, counts a.entries)
 
 module _ {K V : Type 0} where
   -- where the path stands on a row
@@ -58,7 +59,7 @@ module _ {K V : Type 0} where
 
   pub spot : {slots : List (Content K V)} {path indices up size rows list place : _} → Over slots path indices up size rows list place → up ≢ size → Spot slots path indices up size rows list place
   spot {rows = []} p other = absurd (other (omega arith))
-  spot {slots} {path} {up = up} {rows = row ∷ rest} p other = let at = p.stands.0 in
+  spot {slots} {path} {up} {rows = row ∷ rest} p other = let at = p.stands.0 in
       record {
         row = row;
         rest = rest;

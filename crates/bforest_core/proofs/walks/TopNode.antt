@@ -1,7 +1,7 @@
 -- A node on top of some rows: a leaf where there are no inner rows, else a node of the highest of them.
 use Rattle.bforest_core.proofs.Words.{◌≡◌, ◌≢◌, ℕ, suc, ◌+◌, ◌≤◌, ◌<◌, ◌⊎◌, inl, inr, List, [], ◌∷◌, ◌++◌, length, get_or, set, slice_get, Some, refl, sym, ap}
-use Rattle.bforest_core.proofs.Words.{subst, ◌∙◌, arith, append_assoc, length-append, Heads, Row, Rows, get_or-set_other, nil_from_length, slice_get_within}
-use Rattle.bforest_core.proofs.Words.{Content, IsInner, node, flat, half_of, FitRow, RowIn, leaf_content, inner_content, IsAt, Under, IsLeafCapacity}
+use Rattle.bforest_core.proofs.Words.{subst, ◌∙◌, arith, append_assoc, length-append, Row, Rows, get_or-set_other, nil_from_length, slice_get_within}
+use Rattle.bforest_core.proofs.Words.{Content, IsInner, node, flat, half_of, RowIn, leaf_content, inner_content, IsAt, NodeOver, Under, IsLeafCapacity}
 use Rattle.bforest_core.proofs.{rows.LevelRows.{FitRow-split, flat-append, some_leaf}, walks.Downward.{Seen, at_node, seen, last_of, stacked_last, in_last}}
 use Rattle.bforest_core.proofs.{table.Stored.some_same, table.Tables.row-split, walks.Reading.LastAsked}
 
@@ -18,7 +18,7 @@ none_flat row e = cc (nil_from_length row e)
 
 -- the entries of a row, cut within a node
 pub flat_parted : {K X : Type 0} (before : Row K X) (n : ℕ) {es : List (K × X)} (l : List (K × X)) (x r after : _) → es ≡ l ++ x ∷ r → flat (before ++ node n es ∷ after) ≡ (flat before ++ l) ++ x ∷ (r ++ flat after)
-flat_parted before n {es = es} l x r after is =
+flat_parted before n {es} l x r after is =
     cc (flat-append before (node n es ∷ after), append_assoc l (x ∷ r) (flat after), append_assoc (flat before) l (x ∷ (r ++ flat after)))
 
 -- a path's place at the node
@@ -26,63 +26,74 @@ abbrev pub seen_at : {K X : Type 0} {half most : _} {row : Row K X} {a first num
     → place ≡ length (flat at.before) + index → IsAt row n j place
 seen_at at n_is j_is within place_is = at_node _ _ _ at.row_is n_is j_is (omega arith) place_is
 
-pub record LeafUnder {K V : Type 0} (most : ℕ) (slots : List (Content K V)) (leaves : Row K V) (lower : Rows K) (a : Heads K) (first : K) (number : ℕ) (b : Heads K) : Type 0 where
-  pub lower_is : lower ≡ []
-  pub at : Seen (half_of most) most leaves a first number b
-  pub slot_is : slice_get slots number ≡ Some (leaf_content (at.e ∷ at.es))
+module _ {K V : Type 0} {most : ℕ} {slots : List (Content K V)} {leaves : Row K V} {number : ℕ} (n : NodeOver most slots leaves number) where
+  -- the node is a leaf
+  pub record LeafUnder : Type 0 where
+    pub lower_is : n.lower ≡ []
+    pub at : Seen (half_of most) most leaves n.before n.first number n.after
+    pub open at use *
+    pub slot_is : slice_get slots number ≡ Some (leaf_content (e ∷ es))
 
-pub record InnerUnder {K V : Type 0} (most : ℕ) (slots : List (Content K V)) (leaves : Row K V) (lower : Rows K) (a : Heads K) (first : K) (number : ℕ) (b : Heads K) : Type 0 where
-  pub rows : Rows K
-  pub row : Row K ℕ
-  pub lower_is : lower ≡ rows ++ row ∷ []
-  pub count_is : length lower ≡ suc (length rows)
-  pub at : Seen 4 8 row a first number b
-  pub room : length at.es < 8
-  pub under : Under most slots leaves rows (flat row)
-  pub slot_is : slice_get slots number ≡ Some (inner_content (at.e ∷ at.es))
+  -- the node is one of the highest row
+  pub record InnerUnder : Type 0 where
+    pub rows : Rows K
+    pub row : Row K ℕ
+    pub lower_is : n.lower ≡ rows ++ row ∷ []
+    pub count_is : length n.lower ≡ suc (length rows)
+    pub at : Seen 4 8 row n.before n.first number n.after
+    pub open at use *
+    pub room : length es < 8
+    pub under : Under most slots leaves rows (flat row)
+    pub slot_is : slice_get slots number ≡ Some (inner_content (e ∷ es))
+
+-- a node, by all that lies around it
+abbrev pub node_over : {K V : Type 0} {most : ℕ} {slots : List (Content K V)} {leaves : _} (lower : _) (a first : _) (number : ℕ) (b : _) → Under most slots leaves lower (a ++ (first, number) ∷ b) → NodeOver most slots leaves number
+node_over lower a first number b u = record { lower = lower; before = a; first = first; after = b; under = u }
 
 seen_slot : {K V X : Type 0} (content : List (K × X) → Content K V) (slots : List (Content K V)) {half most : _} {row : Row K X} {a first number b : _} (at : Seen half most row a first number b) → RowIn content slots row → slice_get slots number ≡ Some (content (at.e ∷ at.es))
-seen_slot content slots {number = number} at i = (row-split content slots at.before (node number (at.e ∷ at.es) ∷ at.after) (rw (← at.row_is) i)).1.0
+seen_slot content slots {number} at i = (row-split content slots at.before (node number (at.e ∷ at.es) ∷ at.after) (rw (← at.row_is) i)).1.0
 
 module _ {K V : Type 0} {most : ℕ} (capacity : IsLeafCapacity most) {slots : List (Content K V)} {leaves : _} where
-  pub node_under : (lower : _) (a first number b : _) → Under most slots leaves lower (a ++ (first, number) ∷ b) → LeafUnder most slots leaves lower a first number b ⊎ InnerUnder most slots leaves lower a first number b
-  node_under [] a first number b u = let at = seen (half_of most) most (some_leaf capacity) leaves a first number b u.leaves_fit u.stacked in
+  parted : (lower : _) (a first number b : _) (u : Under most slots leaves lower (a ++ (first, number) ∷ b)) → LeafUnder (node_over lower a first number b u) ⊎ InnerUnder (node_over lower a first number b u)
+  parted [] a first number b u = let at = seen (half_of most) most (some_leaf capacity) leaves a first number b u.leaves_fit u.stacked in
       inl (record { lower_is = refl; at = at; slot_is = seen_slot _ _ at u.leaves_in })
-  node_under (r ∷ rs) a first number b u =
+  parted (r ∷ rs) a first number b u =
       let z = last_of r rs in let s = stacked_last _ _ _ _ (rw (← z.is) u.stacked) in let i = in_last _ _ _ (rw (← z.is) u.rows_in) in
-      let at = seen 4 8 (omega arith) z.last a first number b s.1 s.2 in
-      inr (record {
+      let at = seen 4 8 (omega arith) z.last a first number b s.1 s.2 in inr (record {
         rows = z.init;
         row = z.last;
         lower_is = z.is;
         count_is = ap length z.is ∙ length-append z.init (z.last ∷ []) ∙ omega arith;
         at = at;
-        room = omega (arith, (FitRow-split 4 8 at.before (node number (at.e ∷ at.es)) at.after (subst (FitRow 4 8) at.row_is s.1)).1.1);
+        room = omega (arith, (FitRow-split 4 8 at.before (node number (at.e ∷ at.es)) at.after (rw (← at.row_is) s.1)).1.1);
         under = record { leaves_fit = u.leaves_fit; leaves_in = u.leaves_in; stacked = s.0; rows_in = i.0 };
         slot_is = seen_slot _ _ at i.1;
       })
 
-  module _ {lower : _} (a first number b : _) (u : Under most slots leaves lower (a ++ (first, number) ∷ b)) where
+  module _ {number : ℕ} (n : NodeOver most slots leaves number) where
+    pub node_under : LeafUnder n ⊎ InnerUnder n
+    node_under = parted n.lower n.before n.first number n.after n.under
+
     -- the node's slot holds a node with entries
     pub node_held : LastAsked slots number
-    node_held = elim (node_under _ a _ _ b u) [ inl s ↦ (leaf_content (s.at.e ∷ s.at.es), s.slot_is, omega arith) | inr s ↦ (inner_content (s.at.e ∷ s.at.es), s.slot_is, omega arith) ]
+    node_held = elim node_under [ inl s ↦ (leaf_content (s.e ∷ s.es), s.slot_is, omega arith) | inr s ↦ (inner_content (s.e ∷ s.es), s.slot_is, omega arith) ]
 
     pub node_within : number < length slots
     node_within = slice_get_within _ _ _ node_held.1
 
     same_inner : {c d : Content K V} → slice_get slots number ≡ Some c → slice_get slots number ≡ Some d → IsInner d → IsInner c
-    same_inner {c = c} {d = d} e f i = subst IsInner (some_same (sym f ∙ e)) i
+    same_inner e f i = subst IsInner (some_same (sym f ∙ e)) i
 
     -- the node is a leaf if its content is not an inner node
-    pub leaf_under : {content : Content K V} → slice_get slots number ≡ Some content → (IsInner content → ⊥) → LeafUnder most slots leaves lower a first number b
-    leaf_under found other = elim (node_under _ a _ _ b u) [ inl s ↦ s | inr s ↦ absurd (other (same_inner found s.slot_is tt)) ]
+    pub leaf_under : {content : Content K V} → slice_get slots number ≡ Some content → (IsInner content → ⊥) → LeafUnder n
+    leaf_under found other = elim node_under [ inl s ↦ s | inr s ↦ absurd (other (same_inner found s.slot_is tt)) ]
 
-    pub inner_under : {content : Content K V} → slice_get slots number ≡ Some content → IsInner content → InnerUnder most slots leaves lower a first number b
-    inner_under found inner = elim (node_under _ a _ _ b u) [ inl s ↦ absurd (same_inner s.slot_is found inner) | inr s ↦ s ]
+    pub inner_under : {content : Content K V} → slice_get slots number ≡ Some content → IsInner content → InnerUnder n
+    inner_under found inner = elim node_under [ inl s ↦ absurd (same_inner s.slot_is found inner) | inr s ↦ s ]
 
     -- the node is a leaf if there are no rows below it
-    pub leaf_at : length lower ≡ 0 → LeafUnder most slots leaves lower a first number b
-    leaf_at none = elim (node_under _ a _ _ b u) [ inl s ↦ s | inr s ↦ absurd (omega arith) ]
+    pub leaf_at : length n.lower ≡ 0 → LeafUnder n
+    leaf_at none = elim node_under [ inl s ↦ s | inr s ↦ absurd (omega arith) ]
 
-    pub inner_at : (length lower ≡ 0 → ⊥) → InnerUnder most slots leaves lower a first number b
-    inner_at some = elim (node_under _ a _ _ b u) [ inl s ↦ absurd (some (ap length s.lower_is)) | inr s ↦ s ]
+    pub inner_at : (length n.lower ≡ 0 → ⊥) → InnerUnder n
+    inner_at some = elim node_under [ inl s ↦ absurd (some (ap length s.lower_is)) | inr s ↦ s ]

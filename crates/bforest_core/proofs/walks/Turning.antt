@@ -12,7 +12,7 @@ both low between high below above i from to = elim (cases_lt i between) [ inl le
 -- a level lower
 down : {AtEnd Moves Moves' : ℕ → Type 0} {level from size : ℕ} → TurnedBy AtEnd Moves level from size → level < from → (AtEnd from → Moves' (from - 1))
     → TurnedBy AtEnd Moves' level (from - 1) size
-down {from = from} t low goes = record {
+down {from} t low goes = record {
   height = t.height;
   within = omega arith;
   ends = λ i above below. t.ends i above (omega arith);
@@ -28,32 +28,30 @@ module _ {K V : Type 0} (slots : List (Content K V)) (path indices : _) where
 
 module _ {K V : Type 0} {slots : List (Content K V)} {path indices : _} where
   -- the rows from a higher level on
-  pub over-up : (steps : ℕ) {level size rows list place : _} (to : ℕ)
+  over-up : (steps : ℕ) {level size rows list place : _} (to : ℕ)
       → Over slots path indices level size rows list place → to ≡ level + steps → to ≤ size → HasOver slots path indices to size
-  over-up zero {size = size} {rows = rows} {list = list} {place = place} to p is low =
-      (rows, list, place, subst (λ z. Over slots path indices z size rows list place) (omega arith) p)
-  over-up (suc steps) {level = level} {size = size} to p is low =
-      over-up steps to (spot p (λ e. omega arith)).over (omega arith) low
+  over-up zero {size} {rows} {list} {place} to p is low = (rows, list, place, subst (λ z. Over slots path indices z size rows list place) (omega arith) p)
+  over-up (suc steps) to p is low = over-up steps to (spot p (λ e. omega arith)).over (omega arith) low
 
   -- the node on a level meets what the test for a child requires
   pub turn-asks : {level size rows list place : _} → Over slots path indices level size rows list place → level ≢ size → size ≤ 17 → (level ≤ 16)
       × ((entries : _) × (slice_get slots (get_or path level 0) ≡ Some (inner_content entries)))
-  turn-asks {level} {size} p other height = let s = spot p other in (omega arith, (s.entries, s.slot_is))
+  turn-asks p other height = let s = spot p other in (omega arith, (s.entries, s.slot_is))
 
   -- the rows above the node meet what a search for the turn from there requires
   pub turn-above : {level size rows list place : _} (to : ℕ)
       → Over slots path indices level size rows list place → level ≢ size → to ≡ suc level → HasOver slots path indices to size
-  turn-above {level} {size} to p other is = let s = spot p other in (s.rest, heads s.row, length s.before, rw is s.over)
+  turn-above to p other is = let s = spot p other in (s.rest, heads s.row, length s.before, rw is s.over)
 
   -- where each child up to the root is the last, the node is the last of its level
-  pub all-last : (steps : ℕ) {level : ℕ} {size rows list place : _} → Over slots path indices (suc level) size rows list place → size ≡ suc level + steps
+  all-last : (steps : ℕ) {level : ℕ} {size rows list place : _} → Over slots path indices (suc level) size rows list place → size ≡ suc level + steps
       → size ≤ 17 → AreLast slots path indices (suc level) size → suc place ≡ length list
   all-last zero p is height last = (only p (omega arith)).1
   all-last (suc steps) {level} p is height last = last_moves p refl (λ e. omega arith) height (last (suc level) (omega arith) (omega arith))
       (λ rows list place o. all-last steps o (omega arith) height (λ i from to. last i (omega arith) to))
 
   -- where each child up to the root is the first, the node is the first of its level
-  pub all-first : (steps : ℕ) {level : ℕ} {size rows list place : _} → Over slots path indices (suc level) size rows list place → size ≡ suc level + steps
+  all-first : (steps : ℕ) {level : ℕ} {size rows list place : _} → Over slots path indices (suc level) size rows list place → size ≡ suc level + steps
       → size ≤ 17 → AreFirst indices (suc level) size → place ≡ 0
   all-first zero p is height first = (only p (omega arith)).0
   all-first (suc steps) p is height first = first_moves p refl (λ e. omega arith) height (λ rows list place o. all-first steps o (omega arith) height (λ i from

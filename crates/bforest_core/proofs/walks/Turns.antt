@@ -1,5 +1,5 @@
 -- Moving a path's node to the next or the previous one of its level, once the node above it is there.
-use Rattle.bforest_core.proofs.Words.{◌≡◌, ◌≢◌, ℕ, suc, ◌+◌, ◌-◌, ◌≤◌, ◌<◌, List, ◌∷◌, length, get_or, slice_get, Some, refl, sym, ap, subst, ◌∙◌, arith}
+use Rattle.bforest_core.proofs.Words.{◌≡◌, ◌≢◌, ℕ, suc, ◌+◌, ◌-◌, ◌≤◌, ◌<◌, List, ◌∷◌, length, get_or, slice_get, Some, refl, ap, ◌∙◌, arith}
 use Rattle.bforest_core.proofs.Words.{Content, flat, heads, inner_content, entry_items, SameBelow, StandsAbove, Advances, LastAt, MoreAt, OnOver, Over, Moved}
 use Rattle.bforest_core.proofs.{Words.Retreats, table.Stored.{some_same, item_count}, walks.TopNode.{SameBut, none_flat}, walks.Reading.{LastAsked, LastRead}}
 use Rattle.bforest_core.proofs.{walks.LeafSearch.items-read, rows.Zipper.stands-same, walks.Downward.at_node}
@@ -49,28 +49,27 @@ module _ {K V : Type 0} where
       pub on : Within inner_content slots 8 path1 indices1 up here.row here.rest at
       pub nodes_below : SameBelow up path path1
       pub entries_below : SameBelow (suc up) indices indices1
-      pub low : index < length on.node.entries
-      pub to_is : to ≡ length (flat on.node.before) + index
+      pub low : index < length on.entries
+      pub to_is : to ≡ length (flat on.before) + index
 
     module _ {path1 indices1 index to : _} (t : Turn path1 indices1 index to) where
-      slot_below : slice_get slots (get_or path1 (suc level) 0) ≡ Some (inner_content t.on.node.entries)
+      slot_below : slice_get slots (get_or path1 (suc level) 0) ≡ Some (inner_content t.on.entries)
       slot_below = cc
 
       -- the node meets what going to that child requires
       pub turn_asks : ChildAt slots path1 level index
-      turn_asks = (omega arith, (omega arith, (t.on.node.entries, slot_below, t.low)))
+      turn_asks = (omega arith, (omega arith, (t.on.entries, slot_below, t.low)))
 
       -- the path that went there is at the place
       pub turn_moves : {path' indices' : _} → Went slots path1 indices1 level index path' indices' → Moved path indices path' indices' level rows list to
       turn_moves {path'} {indices'} g = let w = t.on in let e = read _ _ t.low in
           let above = stands-same _ _ _ _ _ _ _ (λ i high. g.nodes i (λ e. omega arith)) (λ i high. g.entries i (λ e. omega arith)) w.stands in
-          let at = at_node _ _ _ w.node.row_is (g.nodes up (λ e. omega arith)) (cc) t.low t.to_is in
-          let stands : StandsAbove path' indices' up (here.row ∷ here.rest) to = (at, rw w.node.at above) in
-          record {
+          let at = at_node _ _ _ w.row_is (g.nodes up (λ e. omega arith)) (cc) t.low t.to_is in
+          let stands : StandsAbove path' indices' up (here.row ∷ here.rest) to = (at, rw w.at above) in record {
             head = e.0;
-            head_is = cc (here.flat_is, entry_at w.node.before (get_or path1 up 0) w.node.entries w.node.after index w.node.row_is e.1);
-            node_is = some_same (cc (g.child w.node.entries slot_below, items-read _ _));
-            stands = rw (← up_is) (subst (λ z. StandsAbove path' indices' up z to) (sym here.rows_are) stands);
+            head_is = cc (here.flat_is, entry_at w.before (get_or path1 up 0) w.entries w.after index w.row_is e.1);
+            node_is = some_same (cc (g.child w.entries slot_below, items-read _ _));
+            stands = rw (← up_is) (rw here.rows_are stands);
             nodes_below = λ i low. g.nodes i (λ e. omega arith) ∙ t.nodes_below i (omega arith);
             entries_below = λ i low. g.entries i (λ e. omega arith) ∙ t.entries_below i (omega arith);
           }
@@ -120,13 +119,12 @@ module _ {K V : Type 0} where
     pub first_turn : {path1 indices1 : _} → LastAt slots path indices up → Advances slots path indices path1 indices1 up size
         → Turn path1 indices1 0 (suc place)
     first_turn past goes = let m = goes here.rest (heads here.row) (length here.before) here.over in
-        let on = there inner_content slots 8 4 (omega arith) here.row here.fit here.inside m in
-        record {
+        let on = there inner_content slots 8 4 (omega arith) here.row here.fit here.inside m in record {
           at = suc (length here.before);
           on = on;
           nodes_below = m.nodes_below;
           entries_below = m.entries_below;
-          low = on.node.some;
+          low = on.some;
           to_is = omega (arith, here.place_is, here.within, past here.entries here.slot_is, seam stay.node on.node refl);
         }
 

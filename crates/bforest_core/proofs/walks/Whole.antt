@@ -1,6 +1,6 @@
 -- A whole tree as the leaves and rows under its root, and a path that descended from there.
 use Rattle.bforest_core.proofs.Words.{◌≡◌, ℕ, suc, true, false, IsTrue, ◌<◌, List, [], ◌∷◌, length, get_or, ap, arith, Rows, Content, EndsIn, Reached, Table}
-use Rattle.bforest_core.proofs.Words.{place, is_present, flat, heads, Stacked, Tree, StandsAbove, Stands, root_above, StackedTo, StandsTo, Under, GoesThrough}
+use Rattle.bforest_core.proofs.Words.{place, is_present, flat, heads, Stacked, Tree, StandsAbove, Stands, root_above, NodeOver, StackedTo, StandsTo, Under, GoesThrough}
 use Rattle.bforest_core.proofs.Words.{Descended, Led, IsRooted, PlacedUnder, PointsAt, StandsUnder, is_root, tree_of}
 use Rattle.std.specs.declared.cmp.Ordering.{Ordering}
 
@@ -13,7 +13,7 @@ module _ {K : Type 0} where
   top list (row ∷ rows) s e = let t = top (heads row) rows s.2 e in (t.0, (s.0, s.1, t.1))
 
   -- a path that reaches the root stands on all rows
-  pub stands_above : (path indices : List ℕ) (level : ℕ) (rows : Rows K) (place : ℕ) → StandsTo path indices level rows place 0 → StandsAbove path indices level rows place
+  stands_above : (path indices : List ℕ) (level : ℕ) (rows : Rows K) (place : ℕ) → StandsTo path indices level rows place 0 → StandsAbove path indices level rows place
   stands_above path indices level [] place s = s
   stands_above path indices level (row ∷ rows) place s = (s.0, stands_above path indices (suc level) rows (length s.0.before) s.1)
 
@@ -24,6 +24,10 @@ module _ {K V : Type 0} {most : ℕ} {slots : List (Content K V)} {root tree : _
   -- the leaves and rows under the root are the whole tree
   pub whole_under : (first : K) × Under most slots tree.leaves tree.above ((first, root) ∷ [])
   whole_under = let t = top _ _ r.fit.stacked r.root_is in (t.0, record { leaves_fit = r.fit.leaves_fit; leaves_in = r.inside.leaves_in; stacked = t.1; rows_in = r.inside.rows_in })
+
+  -- the root, as a node over them
+  abbrev pub root-node : NodeOver most slots tree.leaves root
+  root-node = record { lower = tree.above; before = []; first = whole_under.0; after = []; under = whole_under.1 }
 
 pub all_through : {K : Type 0} (cmp : K → K → Ordering) (first key : K) → GoesThrough cmp [] first [] key
 all_through cmp first key = record { from = tt; upto = tt }
@@ -37,10 +41,10 @@ module _ {K V : Type 0} {cmp : K → K → Ordering} (slots : List (Content K V)
   abbrev points : PointsAt path' indices' size (tree_of slots root) (place cmp (flat (tree_of slots root).leaves) key)
   points = record { before = d.leaf.before; entries = d.leaf.entries; after = d.leaf.after; leaves_are = d.leaf.row_is; within = d.leaf.within; place_is = d.leaf.place_is; above = stands_above _ _ 1 _ _ d.stands; size_is = size_is }
 
-  pub stands-found : is_present cmp (flat (tree_of slots root).leaves) key ≡ true → StandsUnder slots root path' indices' size (place cmp (flat (tree_of slots root).leaves) key)
+  stands-found : is_present cmp (flat (tree_of slots root).leaves) key ≡ true → StandsUnder slots root path' indices' size (place cmp (flat (tree_of slots root).leaves) key)
   stands-found here = record { root_is = is; stands = stands-pointed points (d.leaf.found here) }
 
-  pub placed-found : is_present cmp (flat (tree_of slots root).leaves) key ≡ false → PlacedUnder slots root path' indices' size (place cmp (flat (tree_of slots root).leaves) key)
+  placed-found : is_present cmp (flat (tree_of slots root).leaves) key ≡ false → PlacedUnder slots root path' indices' size (place cmp (flat (tree_of slots root).leaves) key)
   placed-found none = record { root_is = is; at = record { points = points; first = d.leaf.first none } }
 
 -- the leaf that a search reached under a root is the one in which it ends

@@ -2,7 +2,7 @@
 ghost use Rattle.std.specs.Prelude.{◌≡◌, ℕ, ◌+◌, ◌-◌, ◌<◌, ◌≤◌, IsTrue, false, true, List, ◌∷◌, ◌++◌, length, get_or, slice_get, slice_set, Some};
 ghost use Rattle.bforest_nodes.specs.Content.{IsLeafCapacity};
 ghost use Rattle.bforest_core.specs.Levels.{LevelNode, flat, top_level};
-ghost use Rattle.bforest_core.specs.Descent.{GoesThrough, Under, Reached};
+ghost use Rattle.bforest_core.specs.Descent.{Reached, SearchThrough};
 ghost use Rattle.bforest_core.specs.Leaves.{EndsIn};
 ghost use Rattle.bforest_nodes.specs.Entries.{is_present, IsIncreasing, place, value_for};
 ghost use Rattle.bforest_core.specs.Trees.{IsUnion, is_root};
@@ -81,16 +81,12 @@ impl<K: Copy, V: Copy, const N: usize> Path<K, V, N> {
     ) -> Node
         requires capacity { IsLeafCapacity N }
         requires height { level ≤ top_level }
-        requires under { (leaves : List (LevelNode K V)) × (lower : List (List (LevelNode K ℕ)))
-            × (before : List (K × ℕ)) × (first : K) × (after : List (K × ℕ))
-            × Under N pool.now.nodes leaves lower (before ++ (first, node) ∷ after)
-            × IsIncreasing (C.order comp.now) (flat leaves) × GoesThrough (C.order comp.now) before first
-            after key × (level ≡ length lower) }
-        ensures descended { (leaves : List (LevelNode K V)) (lower : List (List (LevelNode K ℕ)))
-            (before : List (K × ℕ)) (first : K) (after : List (K × ℕ)) → Under N pool.now.nodes leaves lower
-            (before ++ (first, node) ∷ after) → IsIncreasing (C.order comp.now) (flat leaves)
-            → GoesThrough (C.order comp.now) before first after key → level ≡ length lower
-            → Reached (C.order comp.now) pool.now.nodes leaves lower key (length before) self.old.node
+        requires under { (leaves : List (LevelNode K V))
+            × (on : SearchThrough (C.order comp.now) N pool.now.nodes leaves key node 0)
+            × (level ≡ length on.lower) }
+        ensures descended { (leaves : List (LevelNode K V))
+            (on : SearchThrough (C.order comp.now) N pool.now.nodes leaves key node 0) → level ≡ length on.lower
+            → Reached (C.order comp.now) pool.now.nodes leaves on.lower key (length on.before) self.old.node
             self.old.entry self.new.node self.new.entry result }
         ensures size { self.new.size ≡ self.old.size }
     {

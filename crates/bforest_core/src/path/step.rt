@@ -1,12 +1,12 @@
 //! Steps from an entry to the next and to the previous one.
 ghost use Rattle.std.specs.Prelude.{◌≡◌, ℕ, suc, ◌+◌, ◌-◌, ◌<◌, ◌≤◌, ◌≢◌, ◌↔◌, IfSome, IsTrue, false, true, List, [], ◌∷◌, ◌++◌, length, get_or, slice_get, Some, None, if◌then◌else◌};
 ghost use Rattle.bforest_nodes.specs.Content.{IsLeafCapacity};
-ghost use Rattle.bforest_core.specs.Levels.{LevelNode, flat, Tree, IsFit, most_levels, top_level};
+ghost use Rattle.bforest_core.specs.Levels.{LevelNode, flat, most_levels, top_level};
 ghost use Rattle.bforest_core.specs.Descent.{HasBelow, IsFirst, IsLast, Led, OnBelow};
 ghost use Rattle.bforest_nodes.specs.Entries.{place};
-ghost use Rattle.bforest_core.specs.Place.{inner_content, entry_items, leaf_content, IsIn, Stands, entry_before};
+ghost use Rattle.bforest_core.specs.Place.{inner_content, entry_items, leaf_content, Stands, entry_before};
 ghost use Rattle.bforest_core.specs.Trees.{IsUnion, is_root};
-ghost use Rattle.bforest_core.specs.Steps.{Advances, AreFirst, AreLast, HasOver, MoreAt, OnOver, Retreats, Turned, TurnedBack};
+ghost use Rattle.bforest_core.specs.Steps.{Advances, AreFirst, AreLast, HasOver, MoreAt, OnOver, OnTree, Retreats, Turned, TurnedBack};
 
 use crate::access::{child, entries, last_index, leaf_entry};
 use crate::path::Path;
@@ -87,17 +87,15 @@ impl<K: Copy, V: Copy, const N: usize> Path<K, V, N> {
     fn next_entry(&mut self, pool: &NodePool<K, V, N>) -> Option<(K, V)>
         requires capacity { IsLeafCapacity N }
         requires height { self.old.size ≤ most_levels }
-        requires stands { (tree : Tree K V) × (place : ℕ) × IsFit N tree × IsIn pool.now.nodes tree
-            × Stands self.old.node self.old.entry self.old.size tree place }
-        ensures value { (tree : Tree K V) (place : ℕ) → IsFit N tree
-            → IsIn pool.now.nodes tree → Stands self.old.node self.old.entry self.old.size tree place
-            → result ≡ slice_get (flat tree.leaves) (suc place) }
-        ensures moved { IfSome result (λ entry. (tree : Tree K V) (place : ℕ) → IsFit N tree
-            → IsIn pool.now.nodes tree → Stands self.old.node self.old.entry self.old.size tree place
-            → Stands self.new.node self.new.entry self.old.size tree (suc place)) }
-        ensures last { result ≡ None → (tree : Tree K V) (place : ℕ) → IsFit N tree
-            → IsIn pool.now.nodes tree → Stands self.old.node self.old.entry self.old.size tree place
-            → suc place ≡ length (flat tree.leaves) }
+        requires stands { OnTree N pool.now.nodes self.old.node self.old.entry self.old.size }
+        ensures value { (s : OnTree N pool.now.nodes self.old.node self.old.entry self.old.size)
+            → result ≡ slice_get (flat s.tree.leaves) (suc s.place) }
+        ensures moved { IfSome result (λ entry.
+            (s : OnTree N pool.now.nodes self.old.node self.old.entry self.old.size)
+            → Stands self.new.node self.new.entry self.old.size s.tree (suc s.place)) }
+        ensures last { result ≡ None
+            → (s : OnTree N pool.now.nodes self.old.node self.old.entry self.old.size)
+            → suc s.place ≡ length (flat s.tree.leaves) }
         ensures same { result ≡ None → self.new ≡ self.old }
         ensures size { self.new.size ≡ self.old.size }
     {
@@ -371,14 +369,12 @@ impl<K: Copy, V: Copy, const N: usize> Path<K, V, N> {
     fn prev_entry(&mut self, pool: &NodePool<K, V, N>) -> bool
         requires capacity { IsLeafCapacity N }
         requires height { self.old.size ≤ most_levels }
-        requires stands { (tree : Tree K V) × (place : ℕ) × IsFit N tree × IsIn pool.now.nodes tree
-            × Stands self.old.node self.old.entry self.old.size tree place }
-        ensures moved { result ≡ true → (tree : Tree K V) (place : ℕ) → IsFit N tree
-            → IsIn pool.now.nodes tree → Stands self.old.node self.old.entry self.old.size tree place
-            → (0 < place) × Stands self.new.node self.new.entry self.old.size tree (place - 1) }
-        ensures first { result ≡ false → (tree : Tree K V) (place : ℕ) → IsFit N tree
-            → IsIn pool.now.nodes tree → Stands self.old.node self.old.entry self.old.size tree place → place
-            ≡ 0 }
+        requires stands { OnTree N pool.now.nodes self.old.node self.old.entry self.old.size }
+        ensures moved { result ≡ true
+            → (s : OnTree N pool.now.nodes self.old.node self.old.entry self.old.size)
+            → (0 < s.place) × Stands self.new.node self.new.entry self.old.size s.tree (s.place - 1) }
+        ensures first { result ≡ false
+            → (s : OnTree N pool.now.nodes self.old.node self.old.entry self.old.size) → s.place ≡ 0 }
         ensures same { result ≡ false → self.new ≡ self.old }
         ensures size { self.new.size ≡ self.old.size }
     {

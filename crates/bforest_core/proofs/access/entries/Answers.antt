@@ -1,15 +1,14 @@
-use Rattle.bforest_core.proofs.{Words.{rules, ap, ◌∙◌, slice_get_within, IsFree, entry_count}, table.Stored.{read_as, read_same}}
+use Rattle.bforest_core.proofs.{Words.{rules, ap, sym, ◌∙◌, slice_get_within, IsFree, entry_count}, table.Stored.{read_as, some_same}}
 use Rattle.bforest_core.proofs.access.entries.Goals as goal
 
 pub node-requires : goal.node-requires
-node-requires g c = (search rules, (search rules, slice_get_within c.args.pool.now.nodes c.args.node c.requires.0 c.requires.1))
+node-requires g c = (search rules, (search rules, slice_get_within _ _ c.requires.0 c.requires.1))
 
 pub entries-requires : goal.entries-requires
-entries-requires g c = (search rules, read_as c.args.pool.now.nodes c.args.node c.requires.1 c.node.ensures.value (λ z. ¬ IsFree z) c.requires.2)
+entries-requires g c = (search rules, read_as c.requires.1 c.node.ensures.value (λ z. ¬ IsFree z) c.requires.2)
 
-pub returns-clause-value : goal.returns-clause-value
-returns-clause-value g c = λ content slot.
-    c.entries.ensures.value ∙ ap entry_count (read_same c.args.pool.now.nodes c.args.node slot c.node.ensures.value)
-
-pub returns-clause-most : goal.returns-clause-most
-returns-clause-most g c = c.entries.ensures.most
+pub returns : goal.returns
+returns g c = record {
+  value = λ content slot. c.entries.ensures.value ∙ ap entry_count (some_same (sym c.node.ensures.value ∙ slot));
+  most = c.entries.ensures.most;
+}

@@ -4,7 +4,7 @@ use Rattle.bforest_nodes.specs.Content.{keys_of}
 use Rattle.bforest_core.proofs.access.leaf_entry.Goals as goal
 
 pub node-requires : goal.node-requires
-node-requires g c = (search rules, (search rules, slice_get_within c.args.pool.now.nodes c.args.node (leaf_content c.requires.0) c.requires.1))
+node-requires g c = (search rules, (search rules, slice_get_within _ _ (leaf_content c.requires.0) c.requires.1))
 
 pub get_entry-requires : goal.get_entry-requires
 get_entry-requires g c = (search rules, subst IsLeaf (some_same (sym c.requires.1 ∙ c.node.ensures.value)) tt)

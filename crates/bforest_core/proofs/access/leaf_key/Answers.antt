@@ -3,12 +3,10 @@ use Rattle.bforest_nodes.specs.Content.{keys_of}
 use Rattle.bforest_core.proofs.access.leaf_key.Goals as goal
 
 pub node-requires : goal.node-requires
-node-requires g c = (search rules, (search rules, slice_get_within c.args.pool.now.nodes c.args.node (Leaf c.requires.0 c.requires.1) c.requires.2))
+node-requires g c = (search rules, (search rules, slice_get_within _ _ (Leaf c.requires.0 c.requires.1) c.requires.2))
 
 pub leaf_crit_key-requires : goal.leaf_crit_key-requires
-leaf_crit_key-requires g c =
-    let w = c.requires in (search rules, read_as c.args.pool.now.nodes c.args.node w.2 c.node.ensures.value (λ z. IsLeaf z × (0 < entry_count z)) (tt, w.3))
+leaf_crit_key-requires g c = let w = c.requires in (search rules, read_as w.2 c.node.ensures.value (λ z. IsLeaf z × (0 < entry_count z)) (tt, w.3))
 
 pub returns : goal.returns
-returns g c = λ keys vals slot.
-    read_as c.args.pool.now.nodes c.args.node c.node.ensures.value slot (λ z. slice_get (keys_of z) 0 ≡ Some c.leaf_crit_key.result) c.leaf_crit_key.ensures.key
+returns g c = λ keys vals slot. read_as c.node.ensures.value slot (λ z. slice_get (keys_of z) 0 ≡ Some c.leaf_crit_key.result) c.leaf_crit_key.ensures.key

@@ -8,12 +8,13 @@ node_mut-requires g c = (search rules, (search rules, c.requires.used))
 
 pub put-requires : goal.put-requires
 put-requires g c = let w = c.requires.leaf in
-    (search rules, read_as c.args.pool.now.nodes c.args.node w.1 c.node_mut.ensures.value (λ z. IsLeaf z × IsStrictlySortedBy (g.C.Comparator.order c.args.comp.now) (keys_of z)) (tt, w.2))
+    (search rules, read_as w.1 c.node_mut.ensures.value (λ z. IsLeaf z × IsStrictlySortedBy (g.C.Comparator.order c.args.comp.now) (keys_of z)) (tt, w.2))
 
-pub returns-clause-answer : goal.returns-clause-answer
-returns-clause-answer g c = λ es slot.
-    read_as c.args.pool.now.nodes c.args.node c.node_mut.ensures.value slot (λ z. c.put.result ≡ put_answer g.row.N z (search_of (g.C.Comparator.order c.args.comp.now) (keys_of z) c.args.key)) c.put.ensures.answer
-
-pub returns-clause-node : goal.returns-clause-node
-returns-clause-node g c = λ es slot.
-    ap (λ z. with_node c.args.pool.now c.args.node z) (c.put.ensures.node ∙ ap (λ z. with_put g.row.N z (search_of (g.C.Comparator.order c.args.comp.now) (keys_of z) c.args.key) c.args.key c.args.value) (read_same c.args.pool.now.nodes c.args.node slot c.node_mut.ensures.value))
+pub returns : goal.returns
+returns g c = record {
+  answer = λ es slot.
+      read_as c.node_mut.ensures.value slot (λ z. c.put.result ≡ put_answer g.row.N z (search_of (g.C.Comparator.order c.args.comp.now) (keys_of z) c.args.key)) c.put.ensures.answer;
+  node = λ es slot.
+      ap (with_node c.args.pool.now c.args.node) (c.put.ensures.node ∙ ap (λ z. with_put g.row.N z (search_of (g.C.Comparator.order c.args.comp.now) (keys_of z) c.args.key) c.args.key c.args.value) (read_same c.args.pool.now.nodes c.args.node slot c.node_mut.ensures.value));
+  most = search rules;
+}

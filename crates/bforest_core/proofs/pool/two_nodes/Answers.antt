@@ -14,8 +14,7 @@ returns-then-left-right g c = let is = c.split_at_mut-front.ensures.value in
 
 pub returns-else-left-right : goal.returns-else-left-right
 returns-else-left-right g c = let is = c.split_at_mut-front-else-left-right.ensures.value in let len = c.split_at_mut-front-else-left-right.ensures.front_len in
-    let apart = c.requires.apart in
-    let below : c.args.right < c.args.left = omega arith in (
+    let apart = c.requires.apart in let below : c.args.right < c.args.left = omega arith in (
       ((refl, refl), λ x y. set-back-front _ _ _ _ x y is len below),
       record {
         writes_back = tt;

@@ -6,7 +6,7 @@ pub loop-here-init : goal.loop-here-init
 loop-here-init g c = record { capacity = c.requires.capacity; under = c.requires.under; ends = λ end leaf on. on }
 
 pub node-requires : goal.node-requires
-node-requires g c = (search rules, (search rules, node_within c.requires.capacity _ _ _ _ c.loop-here.invariant.under.8))
+node-requires g c = (search rules, (search rules, node_within c.requires.capacity c.loop-here.invariant.under.2.on))
 
 pub below-here-requires : goal.below-here-requires
 below-here-requires g c = let low = down-low c.loop-here.invariant c.node.ensures.value (c.is_inner.ensures.inner.0 c.loop-here-test.true) first-turns in
@@ -20,8 +20,7 @@ loop-here-smaller g c =
     omega (
       arith,
       c.below-here.ensures.height,
-      (down-low c.loop-here.invariant c.node.ensures.value (c.is_inner.ensures.inner.0 c.loop-here-test.true)
-          first-turns).1,
+      (down-low c.loop-here.invariant c.node.ensures.value (c.is_inner.ensures.inner.0 c.loop-here-test.true) first-turns).1,
     )
 
 pub loop-here-preserved : goal.loop-here-preserved

@@ -6,10 +6,10 @@ pub loop-index-init : goal.loop-index-init
 loop-index-init g c = record { capacity = c.requires.capacity; under = c.requires.under; ends = λ end leaf on. on }
 
 pub node-requires : goal.node-requires
-node-requires g c = (search rules, (search rules, node_within c.requires.capacity _ _ _ _ c.loop-index.invariant.under.8))
+node-requires g c = (search rules, (search rules, node_within c.requires.capacity c.loop-index.invariant.under.2.on))
 
 pub last_index-index-requires : goal.last_index-index-requires
-last_index-index-requires g c = (search rules, node_held c.requires.capacity _ _ _ _ c.loop-index.invariant.under.8)
+last_index-index-requires g c = (search rules, node_held c.requires.capacity c.loop-index.invariant.under.2.on)
 
 pub below-here-requires : goal.below-here-requires
 below-here-requires g c = let turns = last-turns c.requires.capacity c.last_index-index.ensures.last in
@@ -25,8 +25,7 @@ loop-index-smaller g c = let turns = last-turns c.requires.capacity c.last_index
     omega (
       arith,
       c.below-here.ensures.height,
-      (down-low c.loop-index.invariant c.node.ensures.value (c.is_inner.ensures.inner.0 c.loop-index-test.true)
-          turns).1,
+      (down-low c.loop-index.invariant c.node.ensures.value (c.is_inner.ensures.inner.0 c.loop-index-test.true) turns).1,
     )
 
 pub loop-index-preserved : goal.loop-index-preserved

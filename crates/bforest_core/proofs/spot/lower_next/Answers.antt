@@ -10,7 +10,7 @@ below-requires-clause-code g c = let w = c.requires.way in code-low-here c.requi
 
 pub child-requires : goal.child-requires
 child-requires g c =
-    let w = c.requires.way in (search rules, branch-asks (next-at c.requires.index w.2 c.child_count.ensures.value c.if-index-child_count.true w.1.4).branch)
+    let w = c.requires.way in (search rules, branch-asks (next-at c.requires.index w.2 c.child_count.ensures.value c.if-index-child_count.true w.1).branch)
 
 pub returns-then-index-child_count : goal.returns-then-index-child_count
 returns-then-index-child_count g c = record {
@@ -25,5 +25,5 @@ returns-then-index-child_count g c = record {
 pub returns : goal.returns
 returns g c = record {
   lower = λ root leads. let w = c.requires.way in let n = count-asked c.requires.index w.2 w.1 in
-      inr (n.0, n.1, (λ more. absurd (omega (arith, more, c.child_count.ensures.value n.0 n.1, c.if-index-child_count.false))), refl);
+      inr (n.0, n.1, (λ more. absurd (omega (arith, more, c.child_count.ensures.value n.0 n.1))), refl);
 }

@@ -1,4 +1,4 @@
-use Rattle.bforest_core.proofs.{Words.{rules, arith, refl}, walks.Following.{begun, turn-high, turn-way, turned, turning-ends, turning-none, turning-on}}
+use Rattle.bforest_core.proofs.{Words.{rules, arith}, walks.Following.{begun, turn-high, turn-way, turned, turning-ends, turning-none, turning-on}}
 use Rattle.bforest_core.proofs.{walks.OnLevel.{code-low-here, first-said, index-asked}, walks.Codes.{root-first}}
 use Rattle.bforest_core.proofs.spot.turn_back.Goals as goal
 
@@ -22,7 +22,7 @@ pub loop-left-preserved : goal.loop-left-preserved
 loop-left-preserved g c = let i = c.loop-left.invariant in (
   turned i.0 c.loop-left-test.true (search rules) c.child-node.ensures,
   turning-on i.0 c.loop-left-test.true (c.lower_prev-before.ensures.lower c.args.root i.0.leads) i.1
-      (λ content slot_is none end. first-said (omega arith) i.0.leads (omega (arith, none)) refl refl end) (search rules),
+      (λ content slot_is none end. first-said (omega arith) i.0.leads (omega (arith, none)) end) (search rules),
 )
 
 pub returns : goal.returns

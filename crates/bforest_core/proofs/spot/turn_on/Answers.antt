@@ -1,4 +1,4 @@
-use Rattle.bforest_core.proofs.{Words.{rules, arith, refl, sym, ap, ◌∙◌, entry_count}, walks.OnLevel.{code-low-here, index-asked, last-said}}
+use Rattle.bforest_core.proofs.{Words.{rules, arith, sym, ap, ◌∙◌, entry_count}, walks.OnLevel.{code-low-here, index-asked, last-said}}
 use Rattle.bforest_core.proofs.{walks.Following.{begun, turn-high, turn-way, turned, turning-ends, turning-none, turning-on}, walks.Codes.{root-last}}
 use Rattle.bforest_core.proofs.table.Stored.{some_same}
 use Rattle.bforest_core.proofs.spot.turn_on.Goals as goal
@@ -22,7 +22,7 @@ pub loop-left-preserved : goal.loop-left-preserved
 loop-left-preserved g c = let i = c.loop-left.invariant in (
   turned i.0 c.loop-left-test.true (search rules) c.child-node.ensures,
   turning-on i.0 c.loop-left-test.true (c.lower_next-next.ensures.lower c.args.root i.0.leads) i.1 (λ content slot_is none end. last-said (omega arith)
-      i.0.leads (λ other found. ap entry_count (some_same (sym slot_is ∙ found))) (omega arith) refl refl end) (search rules),
+      i.0.leads (λ other found. ap entry_count (some_same (sym slot_is ∙ found))) (omega arith) end) (search rules),
 )
 
 pub returns : goal.returns

@@ -1,10 +1,9 @@
-use Rattle.bforest_core.proofs.{Words.{ℕ, ◌<◌, List, sym, ap, subst, ◌∙◌, children_of, count}, rows.Counts.found-counts}
+use Rattle.bforest_core.proofs.{Words.{sym, ap, ◌∙◌, children_of}, rows.Counts.found-counts}
 use Rattle.bforest_core.proofs.trees.names.Goals as goal
 
 pub returns-then-is_inner : goal.returns-then-is_inner
-returns-then-is_inner g c =
-    let k = ap children_of c.unwrap_inner.ensures.value in
+returns-then-is_inner g c = let k = ap children_of c.unwrap_inner.ensures.value in
     let h = found-counts c.args.child c.unwrap_inner.result.1.now in (
-      λ found. subst (λ (z : List ℕ). 0 < count c.args.child z) (sym k) (h.0 (sym c.contains.ensures.value ∙ found)),
-      λ some. c.contains.ensures.value ∙ h.1 (subst (λ (z : List ℕ). 0 < count c.args.child z) k some),
+      λ found. rw k (h.0 (sym c.contains.ensures.value ∙ found)),
+      λ some. c.contains.ensures.value ∙ h.1 (rw (← k) some),
     )

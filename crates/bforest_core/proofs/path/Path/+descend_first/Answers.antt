@@ -10,7 +10,7 @@ child-child-requires g t c = (search rules, led-asks c.requires.capacity first-t
 
 pub descend_first-requires : goal.descend_first-requires
 descend_first-requires g t c κs within = let goes = led-goes c.requires.capacity first-turns c.if-level-eq0.false c.child-child.ensures c.requires.under in
-    (omega (arith, c.decreases, c.if-level-eq0.false), (within.0, (within.1, ((λ a m. search rules), (search rules, (search rules, (c.requires.capacity, (omega (arith, c.requires.height), goes))))))))
+    (omega arith, (within.0, (within.1, ((λ a m. search rules), (search rules, (search rules, (c.requires.capacity, (omega arith, goes))))))))
 
 pub returns-clause-led : goal.returns-clause-led
 returns-clause-led g t c = let set = c.set_level.ensures in

@@ -9,7 +9,7 @@ returns-then-has_child-clause-turns g t c = λ other entries slot. (c.has_child.
 
 pub next_turn-requires : goal.next_turn-requires
 next_turn-requires g t c κs within =
-    (omega (arith, c.decreases, c.requires.over.3.height, c.if-level-self.false), (within.0, (within.1, ((λ a m. search rules), (search rules, (search rules, (c.requires.height, turn-above (c.args.level + 1) c.requires.over.3 c.if-level-self.false (add-one _))))))))
+    (omega arith, (within.0, (within.1, ((λ a m. search rules), (search rules, (search rules, (c.requires.height, turn-above (c.args.level + 1) c.requires.over.3 c.if-level-self.false (add-one _))))))))
 
 pub returns-clause-last : goal.returns-clause-last
 returns-clause-last g t c = both c.args.level (c.args.level + 1) c.next_turn.result (here-last c.args.pool.now.nodes c.args.self.now.node c.args.self.now.entry

@@ -14,4 +14,4 @@ node-requires g c = (search rules, (search rules, slice_get_within c.args.pool.n
 pub entry-requires : goal.entry-requires
 entry-requires g c =
     let content = leaf_is c.args.pool.now.nodes c.args.self.now.node c.index-self-0.result c.requires.0 (omega arith) c.node.ensures.value c.requires.1 in
-    (search rules, (subst IsLeaf (sym content) tt, omega (arith, ap entry_count content, key_total c.requires.0, c.requires.2)))
+    (search rules, (subst IsLeaf (sym content) tt, omega (arith, ap entry_count content, key_total c.requires.0)))

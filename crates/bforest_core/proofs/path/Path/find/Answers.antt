@@ -6,8 +6,7 @@ look_up-index-requires g c = let e = c.find_leaf-leaf.ensures in (search rules, 
 
 pub returns : goal.returns
 returns g c = let e = c.find_leaf-leaf.ensures in let index = c.look_up-index.ensures.place e.entries e.slot_is in
-    let entry = c.set_index.ensures.entry ∙ ap (λ z. set c.find_leaf-leaf.new.self.entry 0 z) index in
-    record {
+    let entry = c.set_index.ensures.entry ∙ ap (λ z. set c.find_leaf-leaf.new.self.entry 0 z) index in record {
       value = c.look_up-index.ensures.value e.entries e.slot_is ∙ sym e.value_is;
       present = λ here. rw (c.set_index.ensures.node, entry, c.set_index.ensures.size) (e.present here);
       absent = λ none. rw (c.set_index.ensures.node, entry, c.set_index.ensures.size) (e.absent none);

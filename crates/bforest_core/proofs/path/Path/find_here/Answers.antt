@@ -37,8 +37,7 @@ returns-in-Equal-cmp g c = let at = c.requires.stands in
 pub returns-in-Greater-cmp : goal.returns-in-Greater-cmp
 returns-in-Greater-cmp g c =
     let order = g.C.Comparator.order c.args.comp.now in let o = g.met.C.Comparator.total c.args.comp.now in let at = c.requires.stands in
-    let set = c.set_entry.ensures in
-    let e = before-greater o c.args.pool.now c.args.key c.requires.increasing c.prev.new.self at.place
+    let set = c.set_entry.ensures in let e = before-greater o c.args.pool.now c.args.key c.requires.increasing c.prev.new.self at.place
     (c.prev.ensures.value at) (c.prev.ensures.stands at) c.in-Some.is c.set_entry.new.self c.requires.union set.nodes
     set.here set.above set.size (elim c.if-self-gt0.branch [
       | then-self-gt0+in-Less w ↦ here-greater c.requires.union (some-on c.args.pool.now

@@ -5,6 +5,5 @@ pub entry_here-requires : goal.entry_here-requires
 entry_here-requires g c = let leaf = c.first_leaf.ensures.stands in (search rules, (search rules, (leaf.0, leaf.1.leaf, leaf.1.within)))
 
 pub returns : goal.returns
-returns g c =
-    let on = subst (λ z. StandsOn c.args.pool.now c.args.root c.first_leaf.new.self z) (omega (arith, c.first_leaf.ensures.index)) c.first_leaf.ensures.stands.1.on in
+returns g c = let on = subst (λ z. StandsOn c.args.pool.now c.args.root c.first_leaf.new.self z) (omega arith) c.first_leaf.ensures.stands.1.on in
     record { value = here-entry c.requires.union on c.entry_here.ensures; stands = on }

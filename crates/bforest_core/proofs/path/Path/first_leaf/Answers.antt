@@ -1,11 +1,9 @@
-use Rattle.bforest_core.proofs.{Words.{rules, [], refl, sym, arith, get_or_default}, walks.Standing.{led-root, root-below, under-root}}
-use Rattle.bforest_core.proofs.{walks.TopNode.node_within, walks.Leaves.{leaf-front, root-leaf}}
-use Rattle.bforest_core.proofs.walks.Reading.{not_so}
+use Rattle.bforest_core.proofs.{Words.{IsFirst, rules, refl, sym, arith, get_or_default}, union.Unions.is-rooted, walks.Leaves.{leaf-front, root-leaf}}
+use Rattle.bforest_core.proofs.{walks.Reading.not_so, walks.Standing.{led-root, root-below, under-root}, walks.TopNode.node_within}
 use Rattle.bforest_core.proofs.path.Path.first_leaf.Goals as goal
 
 pub node-requires : goal.node-requires
-node-requires g c = let u = under-root c.args.root c.requires.union c.requires.root in
-    (search rules, (search rules, node_within c.requires.union.1.capacity [] u.first c.args.root [] u.under))
+node-requires g c = (search rules, (search rules, node_within c.requires.union.1.capacity (under-root c.args.root c.requires.union c.requires.root)))
 
 pub returns-then-not-is_inner : goal.returns-then-not-is_inner
 returns-then-not-is_inner g c =
@@ -16,10 +14,10 @@ pub overflow_sub-levels : goal.overflow_sub-levels
 overflow_sub-levels g c = omega arith
 
 pub descend_first-requires : goal.descend_first-requires
-descend_first-requires g c = let w = root-below _ c.requires.union c.requires.root c.levels-levels.ensures.value refl in
-    (search rules, (search rules, (c.requires.union.1.capacity, (omega (arith, w.7, (under-root _ c.requires.union c.requires.root).low), w))))
+descend_first-requires g c = let w = root-below _ c.requires.union c.requires.root c.levels-levels.ensures.value IsFirst refl in
+    (search rules, (search rules, (c.requires.union.1.capacity, (omega (arith, w.3, (is-rooted _ c.requires.union c.requires.root).low), w))))
 
 pub returns : goal.returns
 returns g c =
-    let on = led-root _ c.requires.union c.requires.root c.levels-levels.ensures.value refl (λ leaves. 0) c.descend_first.ensures.size c.descend_first.ensures.led in
+    let on = led-root _ c.requires.union c.requires.root c.levels-levels.ensures.value IsFirst refl (λ leaves. 0) c.descend_first.ensures.size c.descend_first.ensures.led in
     record { leaf = get_or_default c.descend_first.new.self.node 0 _ 0 (omega arith); index = omega arith; stands = leaf-front c.requires.union 0 _ on (omega arith) }

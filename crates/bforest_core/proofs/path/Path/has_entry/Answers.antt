@@ -4,10 +4,10 @@ use Rattle.bforest_core.proofs.path.Path.has_entry.Goals as goal
 pub entries-requires : goal.entries-requires
 entries-requires g c = (search rules, (leaf_content c.requires.0, at_index _ c.args.self.now.node c.index-self-0.result (omega arith) refl c.requires.1, λ free. free))
 
-pub returns-clause-within : goal.returns-clause-within
-returns-clause-within g c = λ entries slot.
-    let count = c.entries.ensures.value (leaf_content entries) (at_index _ c.args.self.now.node c.index-self-0.result (omega arith) refl slot) ∙ key_total entries in
-    (λ yes. omega (arith, count, ltb-true c.args.index c.entries.result yes), λ low. lt-ltb c.args.index c.entries.result (omega (arith, count, low)))
-
-pub returns-clause-most : goal.returns-clause-most
-returns-clause-most g c = λ yes. omega (arith, ltb-true c.args.index c.entries.result yes, c.entries.ensures.most)
+pub returns : goal.returns
+returns g c = record {
+  within = λ entries slot.
+      let count = c.entries.ensures.value (leaf_content entries) (at_index _ c.args.self.now.node c.index-self-0.result (omega arith) refl slot) ∙ key_total entries in
+      (λ yes. omega (arith, count, ltb-true c.args.index c.entries.result yes), λ low. lt-ltb c.args.index c.entries.result (omega (arith, count, low)));
+  most = λ yes. omega (arith, ltb-true c.args.index c.entries.result yes);
+}

@@ -3,7 +3,7 @@ use Rattle.bforest_core.proofs.{walks.Steps.{never, only}, walks.Turning.here-la
 use Rattle.bforest_core.proofs.path.Path.next_node.Goals as goal
 
 pub overflow_add-level : goal.overflow_add-level
-overflow_add-level g c = omega (arith, c.requires.height, c.requires.over.3.height)
+overflow_add-level g c = omega arith
 
 pub returns-then-level-self : goal.returns-then-level-self
 returns-then-level-self g c = record { moved = λ yes. never yes refl; last = λ no rows list place p. (only p (sym (add-one c.args.level) ∙ c.if-level-self.true)).1; same = λ no. refl; size = refl }

@@ -19,4 +19,4 @@ pub returns-else-next_node-clause-stands : goal.returns-else-next_node-clause-st
 returns-else-next_node-clause-stands g c = λ at. pointed-last c.requires.union c.args.self.now at.to c.has_entry.ensures.within c.if-has_entry.false (c.next_node.ensures.last c.if-next_node.false) _ _
 
 pub returns-then-self-eq0-clause-stands : goal.returns-then-self-eq0-clause-stands
-returns-then-self-eq0-clause-stands g c = λ at. absurd (omega (arith, c.if-self-eq0.true, at.to.points.size_is))
+returns-then-self-eq0-clause-stands g c = λ at. absurd (omega (arith, at.to.points.size_is))

@@ -1,6 +1,6 @@
-use Rattle.bforest_core.proofs.Words.{rules, ◌≡◌, ◌≢◌, ℕ, ◌-◌, ◌<◌, Some, None, slice_get, List, length, sym, ap, subst, ◌∙◌, arith, Path, Tree, IsFit}
-use Rattle.bforest_core.proofs.Words.{StandsAt, StandsOn, index_of, leaf_content, leaf_of, list_under, IsIn, Stands, entry_before, Table, IsUnion, tree_of}
-use Rattle.bforest_core.proofs.{walks.Standing.{on-asks, on-within, said}, walks.Backward.{before_is, at_end}, walks.Nearby.{here-leaf, here-entry, some-on}}
+use Rattle.bforest_core.proofs.Words.{rules, ◌≡◌, ◌≢◌, ℕ, ◌-◌, ◌<◌, Some, None, slice_get, List, length, sym, ap, subst, ◌∙◌, arith, Path, OnTree}
+use Rattle.bforest_core.proofs.Words.{StandsAt, StandsOn, index_of, leaf_content, leaf_of, list_under, Stands, entry_before, Table, IsUnion, tree_of}
+use Rattle.bforest_core.proofs.{walks.Standing.{on-asks, on-tree, on-within}, walks.Backward.{before_is, at_end}, walks.Nearby.{here-leaf, here-entry, some-on}}
 use Rattle.bforest_core.proofs.path.Path.prev.Goals as goal
 
 module _ {K V : Type 0} {n : ℕ} {table : Table K V} (union : IsUnion n table) {root : ℕ} (old new : Path K V n) {place : ℕ} (at : StandsAt table root old place) where
@@ -15,13 +15,13 @@ module _ {K V : Type 0} {n : ℕ} {table : Table K V} (union : IsUnion n table) 
 
   module _ (some : old.size ≢ 0) where
     -- the path moved to the previous entry
-    went_back : new.size ≡ old.size → ((tree : Tree K V) (place : ℕ) → IsFit n tree → IsIn table.nodes tree → Stands old.node old.entry old.size tree place → (0 < place) × Stands new.node new.entry old.size tree (place - 1)) → (0 < place) × StandsOn table root new (place - 1)
-    went_back same says = let r = said union old (some-on table old at (omega arith)) says in
+    went_back : new.size ≡ old.size → ((s : OnTree n table.nodes old.node old.entry old.size) → (0 < s.place) × Stands new.node new.entry old.size s.tree (s.place - 1)) → (0 < place) × StandsOn table root new (place - 1)
+    went_back same says = let r = says (on-tree union old (some-on table old at (omega arith))) in
         (r.0, record { root_is = at.root_is; stands = subst (λ z. Stands new.node new.entry z (tree_of table.nodes root) (place - 1)) (sym same) r.1 })
 
     -- at the first entry the path stays
-    stayed : new ≡ old → ((tree : Tree K V) (place : ℕ) → IsFit n tree → IsIn table.nodes tree → Stands old.node old.entry old.size tree place → place ≡ 0) → (None ≡ entry_before (list_under table root) place) × StandsOn table root new (place - 1)
-    stayed same says = let first = said union old (some-on table old at (omega arith)) says in
+    stayed : new ≡ old → ((s : OnTree n table.nodes old.node old.entry old.size) → s.place ≡ 0) → (None ≡ entry_before (list_under table root) place) × StandsOn table root new (place - 1)
+    stayed same says = let first = says (on-tree union old (some-on table old at (omega arith))) in
         (ap (λ z. entry_before (list_under table root) z) (sym first), rw same (subst (λ z. StandsOn table root old z) (omega (arith, first)) (some-on table old at (omega (arith, some)))))
 
 pub returns-then-self-eq0 : goal.returns-then-self-eq0

@@ -2,10 +2,10 @@ use Rattle.bforest_core.proofs.{Words.{rules, arith}, walks.Turning.{before-goes
 use Rattle.bforest_core.proofs.path.Path.prev_node.Goals as goal
 
 pub overflow_add-level : goal.overflow_add-level
-overflow_add-level g c = omega (arith, c.requires.height, c.requires.over.3.height)
+overflow_add-level g c = omega arith
 
 pub prev_turn-turn-requires : goal.prev_turn-turn-requires
-prev_turn-turn-requires g c = (search rules, (c.requires.height, omega (arith, c.requires.over.3.height)))
+prev_turn-turn-requires g c = (search rules, (c.requires.height, omega arith))
 
 pub returns-then-turn-self-clause-first : goal.returns-then-turn-self-clause-first
 returns-then-turn-self-clause-first g c = λ no. far-first c.requires.height c.prev_turn-turn.ensures.within c.prev_turn-turn.ensures.first c.if-turn-self.true

@@ -51,12 +51,11 @@ pub free_under-loop-index-preserved : goal.free_under-loop-index-preserved
 free_under-loop-index-preserved g t c = λ leaves lower apart o. let one = c.requires.capacity in let s = c.loop-index.invariant leaves lower apart o in
     let content = some_same (sym c.node.ensures.value ∙ s.slot_is) in
     let x = child_turn one s (ap (λ z. slice_get (children_of z) c.loop-index.index) (sym content) ∙ c.child-child.ensures.child) in
-    let under = subst (λ z. Under g.row.N c.loop-index.self.nodes x.3.cut.leaves_left x.3.cut.lower_left ((x.0.0, z) ∷ [])) x.1 x.3.under in
-    let gone =
+    let under = subst (λ z. Under g.row.N c.loop-index.self.nodes x.3.cut.leaves_left x.3.cut.lower_left ((x.0.0, z) ∷ [])) x.1 x.3.under in let gone =
     subst (λ z. GivesAll c.loop-index.self c.free_below.new.self (numbers_under x.3.cut.leaves_left x.3.cut.lower_left) (numbers_down c.loop-index.self.nodes (length x.3.cut.lower_left) z)) (sym x.1)
     (c.free_below.ensures x.3.cut.leaves_left x.3.cut.lower_left x.0.0 under x.3.apart) in
     let swept = sweep-next one c.args.self.now s.opened.low s.opened.rows s.opened.top x.0 s.apart x.3 gone in
-    subst (λ z. Sweeping g.row.N c.args.self.now c.free_below.new.self leaves lower c.args.node z) (omega arith) (sweeping apart s.opened swept)
+    subst (Sweeping g.row.N c.args.self.now c.free_below.new.self leaves lower c.args.node) (omega arith) (sweeping apart s.opened swept)
 
 pub free_under-free_node-requires : goal.free_under-free_node-requires
 free_under-free_node-requires g t c = let w = c.requires.under in let s = c.loop-index.invariant w.0 w.1 w.4 (under-open c.requires.capacity w.3) in
@@ -64,7 +63,6 @@ free_under-free_node-requires g t c = let w = c.requires.under in let s = c.loop
 
 pub free_under-returns : goal.free_under-returns
 free_under-returns g t c = λ leaves lower first under apart.
-    let one = c.requires.capacity in let s = c.loop-index.invariant leaves lower apart (under-open one under) in
-    let all = sweep-last one _ _ _ _
+    let one = c.requires.capacity in let s = c.loop-index.invariant leaves lower apart (under-open one under) in let all = sweep-last one _ _ _ _
     (omega (arith, c.child_count-index-end.ensures s.opened.content s.opened.slot_is, ap length s.opened.children_are, length-map s.opened.top (λ (e : g.row.K.Denot × ℕ). e.1))) s.swept in
     rw c.free_node.ensures.freed (gives-down s all)

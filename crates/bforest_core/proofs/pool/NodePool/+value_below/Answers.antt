@@ -1,6 +1,5 @@
-use Rattle.bforest_core.proofs.Words.{rules, ◌∷◌, ◌+◌, sym, ◌∙◌, arith}
-use Rattle.bforest_core.proofs.walks.Searches.{asks, deeper-low, leaf-asks, narrowed, one-down, step-leaf, within}
-use Rattle.bforest_core.proofs.walks.Reading.{not_so}
+use Rattle.bforest_core.proofs.{Words.{rules, ◌∷◌, ◌+◌, sym, ◌∙◌, arith}, walks.Reading.not_so, walks.Searches.{asks, deeper-low, down, leaf-asks, narrowed}}
+use Rattle.bforest_core.proofs.walks.Searches.{step-leaf, within}
 use Rattle.bforest_core.proofs.pool.NodePool.+value_below.Goals as goal
 
 pub node-requires : goal.node-requires
@@ -18,9 +17,8 @@ look_up-requires g t c = (
 
 pub returns-then-not-is_inner : goal.returns-then-not-is_inner
 returns-then-not-is_inner g t c = λ leaves on. let o = g.met.C.Comparator.total c.args.comp.now in
-    let other = not_so c.if-not-is_inner.true c.is_inner.ensures.inner in
-    let s = step-leaf o c.requires.capacity on c.node.ensures.value other in
-    c.look_up.ensures.value (s.here.at.e ∷ s.here.at.es) s.here.slot_is ∙ sym (narrowed o c.requires.capacity on c.node.ensures.value other).value_is
+    let other = not_so c.if-not-is_inner.true c.is_inner.ensures.inner in let s = step-leaf o c.requires.capacity on c.node.ensures.value other in
+    c.look_up.ensures.value (s.e ∷ s.es) s.slot_is ∙ sym (narrowed o c.requires.capacity on c.node.ensures.value other).value_is
 
 pub follow-child-requires : goal.follow-child-requires
 follow-child-requires g t c = (search rules, asks (g.met.C.Comparator.total c.args.comp.now) c.requires.capacity c.requires.through.1 c.node.ensures.value (c.is_inner.ensures.inner.0 c.if-not-is_inner.false))
@@ -28,10 +26,9 @@ follow-child-requires g t c = (search rules, asks (g.met.C.Comparator.total c.ar
 pub value_below-requires : goal.value_below-requires
 value_below-requires g t c κs within = let o = g.met.C.Comparator.total c.args.comp.now in let inner = c.is_inner.ensures.inner.0 c.if-not-is_inner.false in
     let on = c.requires.through.1 in let f = c.follow-child.ensures in let low = deeper-low o c.requires.capacity on c.node.ensures.value inner in
-    let down = one-down o c.requires.capacity on c.node.ensures.value inner _ f.index f.child (c.args.depth + 1) (omega arith) in
-    (omega (arith, c.decreases, low), (within.0, (within.1.0, ((λ a m. search rules), (within.1.1, (search rules, (c.requires.capacity, (_, down))))))))
+    let next = down o c.requires.capacity on c.node.ensures.value inner f.index f.child (c.args.depth + 1) (omega arith) in
+    (omega (arith, low), (within.0, (within.1.0, ((λ a m. search rules), (within.1.1, (search rules, (c.requires.capacity, (_, next.on))))))))
 
 pub returns : goal.returns
-returns g t c = λ leaves on. c.value_below.ensures leaves (one-down (g.met.C.Comparator.total c.args.comp.now) c.requires.capacity on c.node.ensures.value
-    (c.is_inner.ensures.inner.0 c.if-not-is_inner.false) c.follow-child.result.0 c.follow-child.ensures.index
-    c.follow-child.ensures.child (c.args.depth + 1) (omega arith))
+returns g t c = λ leaves on. c.value_below.ensures leaves (down (g.met.C.Comparator.total c.args.comp.now) c.requires.capacity on c.node.ensures.value
+    (c.is_inner.ensures.inner.0 c.if-not-is_inner.false) c.follow-child.ensures.index c.follow-child.ensures.child (c.args.depth + 1) (omega arith)).on

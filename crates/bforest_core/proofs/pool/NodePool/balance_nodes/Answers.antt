@@ -1,5 +1,5 @@
 use Rattle.bforest_core.proofs.{Words.{rules, arith, ◌∙◌, ◌≡◌, Some, sym, slice_get, vec_len}, table.Lists.refilled_two, table.Pools.IsPool-set_two}
-use Rattle.bforest_core.proofs.table.Stored.{read_same}
+use Rattle.bforest_core.proofs.table.Stored.{some_same}
 use Rattle.bforest_core.proofs.pool.NodePool.balance_nodes.Goals as goal
 
 pub two_nodes-lhs-requires : goal.two_nodes-lhs-requires
@@ -13,8 +13,7 @@ pub balance-requires : goal.balance-requires
 balance-requires g c =
     let left : slice_get c.args.self.now.nodes c.args.left ≡ Some c.two_nodes-lhs.result.0.now = rw (← c.self.view_is, ← c.number.ensures.value, ← c.as_mut_slice.ensures.value) c.two_nodes-lhs.ensures.left in
     let right : slice_get c.args.self.now.nodes c.args.right ≡ Some c.two_nodes-lhs.result.1.now = rw (← c.self.view_is, ← c.number-2.ensures.value, ← c.as_mut_slice.ensures.value) c.two_nodes-lhs.ensures.right in
-    let w = c.requires.balanceable in let under = read_same c.args.self.now.nodes c.args.left left w.left_is in
-    let neighbour = read_same c.args.self.now.nodes c.args.right right w.right_is in
+    let w = c.requires.balanceable in let under = some_same (sym w.left_is ∙ left) in let neighbour = some_same (sym w.right_is ∙ right) in
     (search rules, (rw (under, neighbour) at w.kind, (rw under at w.filled, (rw neighbour at w.neighbour_filled, rw under at w.underflowed))))
 
 pub invariant_of-self : goal.invariant_of-self

@@ -1,4 +1,4 @@
-use Rattle.bforest_core.proofs.{Words.{rules, ◌∙◌}, walks.AtMost.up-to-narrowed}
+use Rattle.bforest_core.proofs.{Words.{rules, ◌∙◌}, walks.LeafSearch.up-to-narrowed}
 use Rattle.bforest_core.proofs.pool.NodePool.entry_at_most.Goals as goal
 
 pub find-leaf-requires : goal.find-leaf-requires

@@ -1,4 +1,4 @@
-use Rattle.bforest_core.proofs.{Words.{rules, sym, ◌∙◌}, walks.AtMost.{entry-in-front, none-in-front, own-entry}}
+use Rattle.bforest_core.proofs.{Words.{rules, sym, ◌∙◌}, walks.LeafSearch.{entry-in-front, none-in-front, own-entry}}
 use Rattle.bforest_core.proofs.pool.NodePool.entry_in_leaf.Goals as goal
 
 pub look_up-index-requires : goal.look_up-index-requires

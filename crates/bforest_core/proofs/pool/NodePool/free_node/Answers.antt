@@ -3,7 +3,7 @@ use Rattle.bforest_core.proofs.pool.NodePool.free_node.Goals as goal
 
 pub overflow_add-self : goal.overflow_add-self
 overflow_add-self g c = let used = used_inside c.self.view_is c.number.ensures.value c.requires.used in
-    omega (arith, free_below _ _ _ _ c.number.result used.within used.off_chain c.self.invariant, c.self.invariant.slots_within, c.self.invariant.limit_within)
+    omega (arith, free_below _ _ _ _ c.number.result used.within used.off_chain c.self.invariant)
 
 pub invariant_of-self : goal.invariant_of-self
 invariant_of-self g c = let used = used_inside c.self.view_is c.number.ensures.value c.requires.used in
@@ -11,7 +11,6 @@ invariant_of-self g c = let used = used_inside c.self.view_is c.number.ensures.v
 
 pub returns : goal.returns
 returns g c = let used = used_inside c.self.view_is c.number.ensures.value c.requires.used in
-    let freed = IsPool-freed _ _ _ _ c.number.result used.within used.off_chain c.self.invariant in
-    record {
+    let freed = IsPool-freed _ _ _ _ c.number.result used.within used.off_chain c.self.invariant in record {
       freed = rw (← c.self.view_is, c.make_free.ensures, c.some-self-inside.ensures.node, ← c.number.ensures.value, freed.1, front_of-is _ _ _ c.self.invariant.linked);
     }

@@ -1,4 +1,4 @@
-use Rattle.bforest_core.proofs.{Words.{rules, refl, subst, sym, IsUsed}, removal.Healing.{alone_freed, alone_kept, counted_asks, leaf_is_root, leaf_used}}
+use Rattle.bforest_core.proofs.{Words.{rules, refl}, removal.Healing.{alone_freed, alone_kept, counted_asks, leaf_is_root, leaf_used}}
 use Rattle.bforest_core.proofs.pool.NodePool.heal_alone.Goals as goal
 
 pub entries-requires : goal.entries-requires
@@ -10,7 +10,7 @@ returns-then-entries-gt0 g c = record {
 }
 
 pub free_node-requires : goal.free_node-requires
-free_node-requires g c = let w = c.requires.taken in (search rules, subst (λ n. IsUsed c.args.self.now n) (sym (leaf_is_root w.4 refl)) (leaf_used w.4))
+free_node-requires g c = let w = c.requires.taken in (search rules, rw ((leaf_is_root w.4 refl)) (leaf_used w.4))
 
 pub returns : goal.returns
 returns g c = record {

@@ -10,7 +10,7 @@ returns-then-names g c = (
 
 pub loop-number-preserved : goal.loop-number-preserved
 loop-number-preserved g c = let k = c.loop-number.number in let slots = c.args.self.now.nodes in
-    let here : slice_get slots k ≡ Some c.node.result.now = ap (λ z. slice_get slots z) (sym c.new.ensures.number) ∙ c.node.ensures.value in
+    let here : slice_get slots k ≡ Some c.node.result.now = ap (slice_get slots) (sym c.new.ensures.number) ∙ c.node.ensures.value in
     let none : count c.args.node (children_of c.node.result.now) ≡ 0 = elim (cases_lt 0 (count c.args.node (children_of c.node.result.now))) [ inl some ↦ absurd (false≢true (sym c.if-names.false ∙ c.names.ensures.1 some)) | inr past ↦ omega (arith, past) ] in
     let next : k + 1 ≡ suc k = omega arith in
-    ap (λ z. count c.args.node (flat_map children_of (take z slots))) next ∙ omega (arith, named-more slots k c.args.node here, none, c.loop-number.invariant)
+    ap (λ z. count c.args.node (flat_map children_of (take z slots))) next ∙ omega (arith, named-more slots k c.args.node here, none)

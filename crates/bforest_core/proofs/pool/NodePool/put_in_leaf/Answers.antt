@@ -4,10 +4,10 @@ use Rattle.bforest_core.proofs.pool.NodePool.put_in_leaf.Goals as goal
 pub put-requires : goal.put-requires
 put-requires g c = let e = c.requires.leaf.4 in (search rules, (leaf-used _ c.requires.union e, (e.entries, e.slot_is, e.increasing)))
 
-pub returns-clause-put : goal.returns-clause-put
-returns-clause-put g c = λ root path indices size e.
-    puts-in-leaf _ c.requires.union e _ _ _ (c.put.ensures.answer e.entries e.slot_is) (c.put.ensures.node e.entries e.slot_is)
-
-pub returns-clause-full : goal.returns-clause-full
-returns-clause-full g c =
-    let e = c.requires.leaf.4 in is-full _ c.requires.union e _ _ _ (c.put.ensures.answer e.entries e.slot_is) (c.put.ensures.node e.entries e.slot_is)
+pub returns : goal.returns
+returns g c = record {
+  put = λ root path indices size e.
+      puts-in-leaf _ c.requires.union e _ _ _ (c.put.ensures.answer e.entries e.slot_is) (c.put.ensures.node e.entries e.slot_is);
+  full = let e = c.requires.leaf.4 in is-full _ c.requires.union e _ _ _ (c.put.ensures.answer e.entries e.slot_is) (c.put.ensures.node e.entries e.slot_is);
+  most = search rules;
+}

@@ -14,8 +14,7 @@ returns-in-Ok-clause-ok g c = let size : vec_len c.self.inside.nodes ≡ length 
     rw (← c.self.view_is, c.in-Ok.ensures.ok, c.in-Ok.ensures.first, size, c.self.invariant.counted, front_of-is _ _ _ c.self.invariant.linked, grown.1)
 
 pub returns-in-Ok-clause-full : goal.returns-in-Ok-clause-full
-returns-in-Ok-clause-full g c =
-    (λ is. absurd cc, λ short. absurd (finds_room _ c.self.invariant c.self.view_is (omega arith) c.if-missing-self.false short))
+returns-in-Ok-clause-full g c = (λ is. absurd cc, λ short. absurd (finds_room _ c.self.invariant c.self.view_is (omega arith) c.if-missing-self.false short))
 
 pub returns-in-Ok-clause-memory : goal.returns-in-Ok-clause-memory
 returns-in-Ok-clause-memory g c = λ is. absurd cc

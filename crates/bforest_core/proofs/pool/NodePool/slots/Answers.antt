@@ -10,5 +10,5 @@ returns g c = record {
     slots_within = c.self.invariant.slots_within;
     limit_within = c.self.invariant.limit_within;
   });
-  value = rw (← c.self.view_is) (omega (arith, c.len.ensures));
+  value = rw (← c.self.view_is) (omega arith);
 }

@@ -9,8 +9,7 @@ split-requires g c = let was : slice_get c.args.self.now.nodes c.args.left ≡ S
   ← c.self.view_is,
   ← c.number-2.ensures.value,
   ← c.as_mut_slice.ensures.value,
-) c.two_nodes-rhs.ensures.right in
-    let full = rw was at c.requires.full in (search rules, (full.0, full.1))
+) c.two_nodes-rhs.ensures.right in let full = rw was at c.requires.full in (search rules, (full.0, full.1))
 
 pub invariant_of-self : goal.invariant_of-self
 invariant_of-self g c =
@@ -23,8 +22,7 @@ returns g c = let refilled = refilled_two c.self.inside.nodes.items c.number.res
     (vec_len c.self.inside.nodes) (omega arith) in
     let off_left = rw (← c.take_slot-right.ensures.table) at (off-without_front c.args.self.now c.args.self.now.chain c.args.left refl c.requires.used.off_chain) in
     let pair = IsPool-set_two _ _ _ _ c.split.new.rhs c.split.new.self c.self.view_is c.number.ensures.value c.number-2.ensures.value c.take_slot-right.ensures.used.off_chain off_left c.self.invariant in
-    let within = rw (← c.self.view_is) at c.take_slot-right.ensures.used.within in
-    record {
+    let within = rw (← c.self.view_is) at c.take_slot-right.ensures.used.within in record {
       node = c.take_slot-right.ensures.node;
       split = record {
         whole = c.two_nodes-rhs.result.1.now;

@@ -1,7 +1,6 @@
 use Rattle.bforest_core.proofs.Words.{get_or, slice_get_read, rules, ◌≡◌, ℕ, ◌-◌, ◌<◌, false, List, ◌∷◌, length, slice_get, nat_eq, Option, Some, refl, sym}
-use Rattle.bforest_core.proofs.Words.{ap, ◌∙◌}
-use Rattle.bforest_core.proofs.{Words.{subst, arith, list_any, slice_get_within, Content, Free, IsFree, Table, chain_from, IsPool}, table.Chains.front_of-is}
-use Rattle.bforest_core.proofs.{table.Pools.{IsPool-taken, first_some, front_is_free}, table.Stored.read_same}
+use Rattle.bforest_core.proofs.Words.{ap, ◌∙◌, subst, arith, list_any, slice_get_within, Content, Free, IsFree, Table, chain_from, IsPool}
+use Rattle.bforest_core.proofs.{table.Chains.front_of-is, table.Pools.{IsPool-taken, first_some, front_is_free}, table.Stored.read_same}
 use Rattle.bforest_core.proofs.pool.NodePool.take_slot.Goals as goal
 
 -- the fields of a pool, and the front of its chain as read
@@ -33,7 +32,7 @@ module _ {K V : Type 0} {n : ℕ} {nodes : List (Content K V)} {first : Option �
       taken : {next : Option ℕ} → content ≡ Free next → IsPool n nodes next (free - 1) limit
           × (chain_from nodes free first ≡ number ∷ chain_from nodes (free - 1) next)
           × (list_any (nat_eq number) (chain_from nodes (free - 1) next) ≡ false)
-      taken {next} next_is = let w = IsPool-taken next free some here (found ∙ ap Some next_is) in (w.0, ap (λ z. chain_from nodes free z) first_is ∙ w.1, w.2)
+      taken {next} next_is = let w = IsPool-taken next free some here (found ∙ ap Some next_is) in (w.0, ap (chain_from nodes free) first_is ∙ w.1, w.2)
 
 pub unwrap-node-requires : goal.unwrap-node-requires
 unwrap-node-requires g c = rw c.expand.ensures.value (first_some _ _ (some c.self.invariant c.self.view_is c.requires.room) c.self.invariant)
@@ -57,8 +56,7 @@ pub returns : goal.returns
 returns g c = let s = c.self in
     let after = taken s.invariant s.view_is c.requires.room c.expand.ensures.value c.unwrap-node.ensures c.number.ensures.value c.index.ensures
     c.next_free-self-inside.ensures in
-    let inside = within s.invariant s.view_is c.requires.room c.expand.ensures.value c.unwrap-node.ensures c.number.ensures.value in
-    record {
+    let inside = within s.invariant s.view_is c.requires.room c.expand.ensures.value c.unwrap-node.ensures c.number.ensures.value in record {
       node = rw (← c.self.view_is) (front_of-is _ _ _ c.self.invariant.linked ∙ sym c.expand.ensures.value ∙ c.unwrap-node.ensures);
       table = rw (← c.self.view_is, after.1) (rw (← c.self.view_is));
       used = rw (← c.number.ensures.value) (record { within = inside; off_chain = after.2 });

@@ -7,9 +7,7 @@ pub node_mut-requires : goal.node_mut-requires
 node_mut-requires g c = (search rules, (search rules, c.requires.used))
 
 pub value_mut-requires : goal.value_mut-requires
-value_mut-requires g c =
-    let e = c.requires.entry in
-    let same : c.node_mut.result.now ≡ e.content = some_same (sym c.node_mut.ensures.value ∙ e.is) in
+value_mut-requires g c = let e = c.requires.entry in let same : c.node_mut.result.now ≡ e.content = some_same (sym c.node_mut.ensures.value ∙ e.is) in
     (search rules, (subst IsLeaf (sym same) e.leaf, (let n = ap entry_count same in omega (arith, n, e.within))))
 
 pub returns : goal.returns

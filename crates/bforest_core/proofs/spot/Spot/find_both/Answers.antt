@@ -1,5 +1,5 @@
 use Rattle.bforest_core.proofs.walks.Searches.{both-end, came-first, search-along, search-asks, search-below, search-ends, search-held, search-on}
-use Rattle.bforest_core.proofs.{Words.{is_gt, ap, arith, rules, sym, ◌∙◌}, walks.{Codes.is-below, Reading.not_so}}
+use Rattle.bforest_core.proofs.{Words.{is_gt, ap, arith, rules, sym, ◌∙◌}, walks.Reading.not_so}
 use Rattle.bforest_core.proofs.spot.Spot.find_both.Goals as goal
 
 pub loop-index-init : goal.loop-index-init
@@ -22,25 +22,22 @@ goes_along-requires g c = let f = c.follow-index.ensures in
     (search rules, search-along c.loop-index.invariant.0 c.node.ensures.value (c.is_inner.ensures.inner.0 c.loop-index-test.true) f.index f.child)
 
 pub find_below-first-requires : goal.find_below-first-requires
-find_below-first-requires g c = let f = c.follow-index.ensures in let b = c.below-next.ensures in
+find_below-first-requires g c = let f = c.follow-index.ensures in
     let d = search-on c.loop-index.invariant.0 c.node.ensures.value (c.is_inner.ensures.inner.0 c.loop-index-test.true) f.index f.child
-    (is-below b.code b.parent b.grand b.height) in
-    (search rules, (d.capacity, (_, d.above, d.numbers, d.on, d.way)))
+    {next = c.below-next.result} (search rules) in
+    (search rules, (d.capacity, (_, _, d.at)))
 
 pub find_below-requires : goal.find_below-requires
 find_below-requires g c = let a = search-asks c.loop-index.invariant.0 c.node.ensures.value (c.is_inner.ensures.inner.0 c.loop-index-test.true) in
     let w = c.loop-index.invariant.1 (c.goes_along.ensures.ordered c.if-not-goes_along.true _ _ _ a.2 (c.follow-index.ensures.index _ _ a.2)) in
-    (search rules, (w.capacity, (_, w.above, w.numbers, w.on, w.way)))
+    (search rules, (w.capacity, (_, _, w.at)))
 
 pub returns-then-not-goes_along : goal.returns-then-not-goes_along
-returns-then-not-goes_along g c = let f = c.follow-index.ensures in let b = c.below-next.ensures in
-    let inner = c.is_inner.ensures.inner.0 c.loop-index-test.true in
-    let d = search-on c.loop-index.invariant.0 c.node.ensures.value inner f.index f.child (is-below b.code b.parent b.grand b.height) in
+returns-then-not-goes_along g c = let f = c.follow-index.ensures in let inner = c.is_inner.ensures.inner.0 c.loop-index-test.true in
+    let d = search-on c.loop-index.invariant.0 c.node.ensures.value inner f.index f.child {next = c.below-next.result} (search rules) in
     let a = search-asks c.loop-index.invariant.0 c.node.ensures.value inner in
-    let u = c.loop-index.invariant.1 (c.goes_along.ensures.ordered c.if-not-goes_along.true _ _ _ a.2 (f.index _ _ a.2)) in
-    record {
-      some = both-end c.requires.root (rw (← d.join) (c.find_below-first.ensures.found _ _ _ d.on d.way))
-          (rw (← u.join) (c.find_below.ensures.found _ _ _ u.on u.way));
+    let u = c.loop-index.invariant.1 (c.goes_along.ensures.ordered c.if-not-goes_along.true _ _ _ a.2 (f.index _ _ a.2)) in record {
+      some = both-end c.requires.root (c.find_below-first.ensures.found _ _ d.at) (c.find_below.ensures.found _ _ u.at);
       none = λ bad. absurd (let no = bad in cc);
     }
 

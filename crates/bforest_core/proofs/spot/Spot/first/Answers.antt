@@ -1,5 +1,4 @@
-use Rattle.bforest_core.proofs.{Words.{refl, rules, slice_get_within}, walks.CodesDown.{first-here, first-of, root-held, root-under}}
-use Rattle.bforest_core.proofs.walks.Reading.{not_so}
+use Rattle.bforest_core.proofs.{Words.{refl, rules, slice_get_within}, walks.CodesDown.{first-here, first-of, root-held, root-under}, walks.Reading.not_so}
 use Rattle.bforest_core.proofs.spot.Spot.first.Goals as goal
 
 pub node-requires : goal.node-requires
@@ -7,8 +6,7 @@ node-requires g c = let held = root-held c.requires.union c.args.root c.requires
     (search rules, (search rules, slice_get_within c.args.pool.now.nodes c.args.root held.0 held.1))
 
 pub returns-then-not-is_inner : goal.returns-then-not-is_inner
-returns-then-not-is_inner g c =
-    let r = first-of c.requires.union c.requires.root c.root.ensures.code c.root.ensures.height
+returns-then-not-is_inner g c = let r = first-of c.requires.union c.requires.root c.root.ensures.code c.root.ensures.height
     (first-here c.requires.union.1.capacity c.node.ensures.value (not_so c.if-not-is_inner.true c.is_inner.ensures.inner) c.root.result) in
     record { spot = r.0; leaf = r.1 }
 

@@ -1,5 +1,4 @@
-use Rattle.bforest_core.proofs.{Words.{refl, rules, slice_get_within}, walks.CodesDown.{last-here, last-of, root-held, root-under}}
-use Rattle.bforest_core.proofs.walks.Reading.{not_so}
+use Rattle.bforest_core.proofs.{Words.{refl, rules, slice_get_within}, walks.CodesDown.{last-here, last-of, root-held, root-under}, walks.Reading.not_so}
 use Rattle.bforest_core.proofs.spot.Spot.last.Goals as goal
 
 pub node-requires : goal.node-requires
@@ -7,8 +6,7 @@ node-requires g c = let held = root-held c.requires.union c.args.root c.requires
     (search rules, (search rules, slice_get_within c.args.pool.now.nodes c.args.root held.0 held.1))
 
 pub returns-else-is_inner : goal.returns-else-is_inner
-returns-else-is_inner g c =
-    let r = last-of c.requires.union c.requires.root c.root-else-is_inner.ensures.code c.root-else-is_inner.ensures.height
+returns-else-is_inner g c = let r = last-of c.requires.union c.requires.root c.root-else-is_inner.ensures.code c.root-else-is_inner.ensures.height
     (last-here c.requires.union.1.capacity c.node.ensures.value (not_so c.if-is_inner.false c.is_inner.ensures.inner) c.root-else-is_inner.result) in
     record { spot = r.0; leaf = r.1 }
 

@@ -1,5 +1,5 @@
 use Rattle.bforest_core.proofs.{Words.{rules, arith}, walks.Codes.{last-leaf, spot-height, spot-low, spot-over}}
-use Rattle.bforest_core.proofs.walks.Cousins.{cousin, cousin-asks, far-behind, grand-count, parent-asks, same-spot}
+use Rattle.bforest_core.proofs.walks.Cousins.{cousin, cousin-asks, far-behind, grand-count, parent-asks}
 use Rattle.bforest_core.proofs.spot.Spot.next_cousin.Goals as goal
 
 pub child_count-requires : goal.child_count-requires
@@ -19,18 +19,17 @@ returns-then-index-child_count g c = record {
 }
 
 pub next_far-requires : goal.next_far-requires
-next_far-requires g c = (search rules, (spot-height c.requires.union c.requires.spot.1, (_, _, _, _, spot-over c.requires.union c.requires.spot.1)))
+next_far-requires g c = (search rules, (spot-height c.requires.union c.requires.spot.1, spot-over c.requires.union c.requires.spot.1))
 
 pub overflow_mul-spot : goal.overflow_mul-spot
 overflow_mul-spot g c = omega (arith, spot-low c.requires.union c.requires.spot.1)
 
 pub returns-in_err-far-clause-none : goal.returns-in_err-far-clause-none
 returns-in_err-far-clause-none g c = λ none place s. last-leaf c.requires.union _ s.root_is
-    (c.next_far.ensures.next.none c.in_err-far.was _ _ _ _ (spot-over c.requires.union s))
+    (c.next_far.ensures.next.none c.in_err-far.was (spot-over c.requires.union s))
 
 pub returns-clause-some : goal.returns-clause-some
-returns-clause-some g c = λ place s.
-    let r = far-behind c.requires.union (rw c.in_ok-far.was at c.next_far.ensures.next) place s in (same-spot s r.0, r.1)
+returns-clause-some g c = λ place s. far-behind c.requires.union (rw c.in_ok-far.was at c.next_far.ensures.next) place s
 
 pub overflow_add-index : goal.overflow_add-index
 overflow_add-index g c = omega arith

@@ -7,8 +7,8 @@ child-leaf-requires g c = (search rules, sibling-asks c.requires.union c.require
 pub overflow_add-spot : goal.overflow_add-spot
 overflow_add-spot g c = omega (arith, spot-low c.requires.union c.requires.spot.is)
 
-pub returns-clause-leaf : goal.returns-clause-leaf
-returns-clause-leaf g c = λ root place s. (sibling-behind c.requires.union s c.requires.next c.child-leaf.ensures).1
-
-pub returns-clause-spot : goal.returns-clause-spot
-returns-clause-spot g c = λ root place s. (sibling-behind c.requires.union s c.requires.next c.child-leaf.ensures).0
+pub returns : goal.returns
+returns g c = record {
+  leaf = λ root place s. (sibling-behind c.requires.union s c.requires.next c.child-leaf.ensures).1;
+  spot = λ root place s. (sibling-behind c.requires.union s c.requires.next c.child-leaf.ensures).0;
+}

@@ -1,16 +1,15 @@
 use Rattle.bforest_core.proofs.{Words.{rules, arith}, walks.Codes.{spot-height, spot-low, spot-over}}
-use Rattle.bforest_core.proofs.walks.Cousins.{cousin-before, cousin-before-asks, cousin-last-asks, far-before, parent-before-asks, same-spot}
+use Rattle.bforest_core.proofs.walks.Cousins.{cousin-before, cousin-before-asks, cousin-last-asks, far-before, parent-before-asks}
 use Rattle.bforest_core.proofs.spot.Spot.prev_cousin.Goals as goal
 
 pub prev_far-requires : goal.prev_far-requires
-prev_far-requires g c = (search rules, (spot-height c.requires.union c.requires.spot.1, (_, _, _, _, spot-over c.requires.union c.requires.spot.1)))
+prev_far-requires g c = (search rules, (spot-height c.requires.union c.requires.spot.1, spot-over c.requires.union c.requires.spot.1))
 
 pub returns-in_err-far-clause-none : goal.returns-in_err-far-clause-none
-returns-in_err-far-clause-none g c = λ none place s. c.prev_far.ensures.before.none c.in_err-far.was _ _ _ _ (spot-over c.requires.union s)
+returns-in_err-far-clause-none g c = λ none place s. c.prev_far.ensures.before.none c.in_err-far.was (spot-over c.requires.union s)
 
 pub returns-clause-some : goal.returns-clause-some
-returns-clause-some g c = λ place s.
-    let r = far-before c.requires.union (rw c.in_ok-far.was at c.prev_far.ensures.before) place s in (r.0, same-spot s r.1, r.2)
+returns-clause-some g c = λ place s. far-before c.requires.union (rw c.in_ok-far.was at c.prev_far.ensures.before) place s
 
 pub child-parent-requires : goal.child-parent-requires
 child-parent-requires g c = (search rules, parent-before-asks c.requires.union c.requires.spot.1 c.requires.deep c.requires.first c.if-index-gt0.true)
@@ -37,7 +36,7 @@ returns-then-index-gt0 g c = record {
 }
 
 pub overflow_add-spot : goal.overflow_add-spot
-overflow_add-spot g c = omega (arith, spot-low c.requires.union c.requires.spot.1, c.last_index-last.ensures.most)
+overflow_add-spot g c = omega (arith, spot-low c.requires.union c.requires.spot.1)
 
 pub overflow_sub-index : goal.overflow_sub-index
 overflow_sub-index g c = omega arith

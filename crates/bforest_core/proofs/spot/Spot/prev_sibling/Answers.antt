@@ -1,4 +1,4 @@
-use Rattle.bforest_core.proofs.{Words.{rules}, walks.Cousins.{before-asks, sibling-before}}
+use Rattle.bforest_core.proofs.{Words.rules, walks.Cousins.{before-asks, sibling-before}}
 use Rattle.bforest_core.proofs.spot.Spot.prev_sibling.Goals as goal
 
 pub child-leaf-requires : goal.child-leaf-requires

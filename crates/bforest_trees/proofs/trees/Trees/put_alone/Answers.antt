@@ -1,6 +1,6 @@
 use Rattle.bforest_trees.proofs.Entering.{ends-at-root, leaf-put, leaf-union}
 use Rattle.bforest_trees.proofs.trees.Trees.put_alone.Goals as goal
-use Rattle.bforest_core.proofs.walks.Alone.{lone, placed-alone}
+use Rattle.bforest_core.proofs.walks.Leaves.{lone, placed-alone}
 use Rattle.bforest_core.specs.Paths.{list_under}
 use Rattle.bforest_nodes.specs.Entries.{place}
 use Rattle.std.proofs.Common.{ap, get_or, rules, sym, ◌∙◌}

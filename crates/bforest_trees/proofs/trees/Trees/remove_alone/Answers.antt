@@ -1,7 +1,7 @@
 use Rattle.bforest_trees.proofs.Removing.{lost, removed-union, removes-absent, removes-present}
 use Rattle.bforest_trees.proofs.Entering.{ends-at-root}
 use Rattle.bforest_trees.proofs.trees.Trees.remove_alone.Goals as goal
-use Rattle.bforest_core.proofs.walks.Alone.{lone}
+use Rattle.bforest_core.proofs.walks.Leaves.{lone}
 use Rattle.bforest_core.specs.Paths.{list_under}
 use Rattle.bforest_nodes.specs.Entries.{place}
 use Rattle.std.proofs.Common.{rules, set}
