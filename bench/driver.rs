@@ -8,7 +8,7 @@ mod runs;
 mod sides;
 
 use runs::{Kind, Work};
-use sides::{run, SIDES};
+use sides::run;
 use std::time::Duration;
 
 // The most memory that this process has held, in bytes.
@@ -21,18 +21,16 @@ fn most_memory() -> Option<u64> {
 // Makes the run of these words, and prints what it tells.
 fn tell(words: &[String]) -> Option<()> {
     let [side, kind, numbers @ ..] = words else { return None };
-    let (_, side) = *SIDES.iter().find(|(name, _)| name == side)?;
-    let kind = Kind::named(kind)?;
     let numbers: Vec<u32> = numbers.iter().map(|word| word.parse().ok()).collect::<Option<_>>()?;
     let [size, looks, walks, turns, repeats @ ..] = numbers.as_slice() else { return None };
-    let work = Work { kind, size: *size, looks: *looks, walks: *walks, turns: *turns };
+    let work = Work { kind: Kind::named(kind)?, size: *size, looks: *looks, walks: *walks, turns: *turns };
     let Some(repeats) = repeats.first() else {
-        println!("sum {}\nmemory {}", run(side, work, true).0, most_memory()?);
+        println!("sum {}\nmemory {}", run(side, work, true)?.0, most_memory()?);
         return Some(());
     };
     let (mut sum, mut whole) = (0, Duration::ZERO);
     for _ in 0..*repeats {
-        let (found, time) = run(side, work, false);
+        let (found, time) = run(side, work, false)?;
         (sum, whole) = (found, whole + time);
     }
     println!("sum {sum}\nnanoseconds {}", whole.as_nanos() as f64 / f64::from(*repeats));

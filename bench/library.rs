@@ -1,22 +1,11 @@
 //! Runs of the static library of `bforest_bench`, which is proved: on maps and sets of `bforest`, and of the toolchain's standard library.
 
-use crate::runs::{Kind, Work};
+use crate::runs::Work;
 use std::time::{Duration, Instant};
 
-// Nothing is passed for the parameter `alloc` of these functions: a `Global` takes no bytes.
+// Nothing is passed for the parameter `alloc` of this function: a `Global` takes no bytes.
 unsafe extern "C" {
-    fn bench_mixture(maps: u32, calls: u32, looks: u32, walks: u32, is_cleared: bool) -> u64;
-    fn bench_indexed(maps: u32, calls: u32, is_cleared: bool) -> u64;
-    fn bench_large(size: u32, is_mixed: bool, looks: u32, walks: u32, is_emptied: bool) -> u64;
-    fn bench_large_cursor(size: u32, is_mixed: bool, walks: u32, turns: u32) -> u64;
-    fn bench_edges(blocks: u32, walks: u32, turns: u32) -> u64;
-    fn bench_edges_cursor(blocks: u32, walks: u32) -> u64;
-    fn bench_set_mixture(sets: u32, calls: u32, looks: u32, walks: u32, is_cleared: bool) -> u64;
-    fn bench_large_set(size: u32, is_mixed: bool, looks: u32, walks: u32, edits: u32) -> u64;
-    fn bench_ranges(size: u32, looks: u32, spans: u32, is_split: bool) -> u64;
-    fn bench_std_mixture(maps: u32, calls: u32, looks: u32, walks: u32, is_cleared: bool) -> u64;
-    fn bench_std_edges(blocks: u32, walks: u32, turns: u32) -> u64;
-    fn bench_std_set_mixture(sets: u32, calls: u32, looks: u32, walks: u32, is_cleared: bool) -> u64;
+    fn bench_run(kind: u32, size: u32, looks: u32, walks: u32, turns: u32, is_std: bool) -> u64;
 }
 
 /// Makes a run on maps and sets of `bforest`, or of the toolchain. The time includes the drop, which frees one table. Inlined like the
@@ -24,27 +13,8 @@ unsafe extern "C" {
 #[inline(always)]
 pub fn run(work: Work, is_toolchain: bool) -> (u64, Duration) {
     let start = Instant::now();
-    let Work { size, looks, walks, turns, .. } = work;
-    let calls = work.calls();
+    let Work { kind, size, looks, walks, turns } = work;
     // SAFETY: numbers alone are passed, and the program's `malloc`, `realloc` and `free` are the C library's.
-    let sum = unsafe {
-        match work.kind {
-            Kind::Edges if is_toolchain => bench_std_edges(size, walks, turns),
-            Kind::SetMixture if is_toolchain => bench_std_set_mixture(size, calls, looks, walks, turns > 0),
-            _ if is_toolchain => bench_std_mixture(size, calls, looks, walks, turns > 0),
-            Kind::Mixture => bench_mixture(size, calls, looks, walks, turns > 0),
-            Kind::Indexed => bench_indexed(size, calls, turns > 0),
-            Kind::Random => bench_large(size, true, looks, walks, turns > 0),
-            Kind::Ascending => bench_large(size, false, looks, walks, turns > 0),
-            Kind::RandomCursor => bench_large_cursor(size, true, walks, turns),
-            Kind::AscendingCursor => bench_large_cursor(size, false, walks, turns),
-            Kind::Edges => bench_edges(size, walks, turns),
-            Kind::EdgesCursor => bench_edges_cursor(size, walks),
-            Kind::SetMixture => bench_set_mixture(size, calls, looks, walks, turns > 0),
-            Kind::RandomSet => bench_large_set(size, true, looks, walks, turns),
-            Kind::AscendingSet => bench_large_set(size, false, looks, walks, turns),
-            Kind::Ranges => bench_ranges(size, looks, walks, turns > 0),
-        }
-    };
+    let sum = unsafe { bench_run(kind as u32, size, looks, walks, turns, is_toolchain) };
     (sum, start.elapsed())
 }

@@ -3,7 +3,7 @@
 use std::hint::black_box;
 use std::time::{Duration, Instant};
 
-/// The subject of a run.
+/// The subject of a run, in the order of `Kind` of `bforest_workloads_bench`: a kind is handed over by its number.
 #[derive(Clone, Copy, Debug, PartialEq)]
 pub enum Kind {
     Mixture,         // many small maps
@@ -43,35 +43,25 @@ pub struct Work {
     pub turns: u32,
 }
 
-impl Work {
-    /// The number of calls that fill the maps or sets of a mixture.
-    pub fn calls(self) -> u32 {
-        self.size.saturating_mul(30)
-    }
-}
-
 // A generator of numbers, equal to that of `bforest_workloads_bench`.
-struct Random {
-    state: u64,
-}
+struct Random(u64);
 
 impl Random {
     fn below(&mut self, bound: u32) -> u32 {
-        let mut x = self.state;
+        let mut x = self.0;
         x ^= x << 13;
         x ^= x >> 7;
         x ^= x << 17;
-        self.state = x;
-        let number = (x >> 32) as u32;
-        if bound == 0 {
-            0
-        } else {
-            number % bound
-        }
+        self.0 = x;
+        ((x >> 32) as u32).checked_rem(bound).unwrap_or(0)
     }
 }
 
-fn mixed(index: u32) -> u32 {
+// The key at an index of a large map or set.
+fn key_at(index: u32, is_mixed: bool) -> u32 {
+    if !is_mixed {
+        return index;
+    }
     let mut x = index;
     x ^= x >> 16;
     x = x.wrapping_mul(0x85eb_ca6b);
@@ -84,6 +74,41 @@ pub fn added(sum: u64, x: u32) -> u64 {
     sum.wrapping_mul(31).wrapping_add(x as u64)
 }
 
+/// The value of a map's entry, or the unit of a set's.
+pub trait Value: Copy {
+    fn new(number: u32) -> Self;
+    /// What a run adds to its checksum for an entry.
+    fn number(self, key: u32) -> u32;
+    /// And for the value that a call found. A set tells of an insertion whether the key is new.
+    fn told(found: Option<Self>, is_insertion: bool) -> u32;
+}
+
+impl Value for u32 {
+    fn new(number: u32) -> u32 {
+        number
+    }
+
+    fn number(self, key: u32) -> u32 {
+        key ^ self
+    }
+
+    fn told(found: Option<u32>, _is_insertion: bool) -> u32 {
+        found.unwrap_or(7)
+    }
+}
+
+impl Value for () {
+    fn new(_number: u32) {}
+
+    fn number(self, key: u32) -> u32 {
+        key
+    }
+
+    fn told(found: Option<()>, is_insertion: bool) -> u32 {
+        u32::from(found.is_some() != is_insertion)
+    }
+}
+
 /// Many maps, named by their numbers. A set is a map to `()`.
 pub trait Many<V> {
     fn new(count: u32) -> Self;
@@ -92,30 +117,28 @@ pub trait Many<V> {
     fn remove(&mut self, map: u32, key: u32) -> Option<V>;
     /// Empties a map, and gives its memory back.
     fn clear(&mut self, map: u32);
+    /// Adds all entries of a map to a checksum.
+    fn walk(&self, map: u32, sum: u64) -> u64;
 }
 
-/// What maps do beside. Each of these calls adds all entries of a map to a checksum.
+/// Maps that are read by a cursor. Each of these calls adds all entries of a map to a checksum.
 pub trait Maps: Many<u32> {
-    fn walk(&self, map: u32, sum: u64) -> u64;
-    /// From the first entry on, by a cursor.
+    /// From the first entry on.
     fn read_on(&self, map: u32, sum: u64) -> u64;
-    /// From the last entry back, by a cursor.
+    /// From the last entry back.
     fn read_back(&self, map: u32, sum: u64) -> u64;
 }
 
-/// What sets do beside.
+/// Sets that are edited by a cursor.
 pub trait Sets: Many<()> {
-    /// Adds each key to a checksum.
-    fn walk(&self, set: u32, sum: u64) -> u64;
     /// Inserts `EDITED` keys beside one another, removes as many from the first on, and counts both.
     fn edit(&mut self, set: u32, first: u32) -> u32;
 }
 
 pub const EDITED: u32 = 5;
 
-/// Ranges by the point where each begins.
-pub trait Ranges {
-    fn new() -> Self;
+/// Ranges by the point where each begins, in the first of the maps.
+pub trait Ranges: Maps {
     /// Inserts ranges, in order, and counts the new ones.
     fn put(&mut self, entries: &[(u32, u32)]) -> u32;
     /// The end of the last range that begins at a point or before.
@@ -144,27 +167,22 @@ macro_rules! checksum {
     }};
 }
 
-fn walk_all<M: Maps>(maps: &M, count: u32) -> u64 {
-    (0..count).fold(0, |sum, map| maps.walk(map, sum))
-}
-
-fn mixture<M: Maps>(maps: &mut M, work: Work) -> u64 {
-    let (count, calls) = (work.size, work.calls());
-    let mut random = Random { state: 88172645463325252 };
+fn mixture<V: Value, M: Many<V>>(maps: &mut M, work: Work) -> u64 {
+    let (count, calls) = (work.size, work.size.saturating_mul(30));
+    let mut random = Random(88172645463325252);
     let mut sum = checksum!(calls, |_| {
         let (map, key, choice) = (random.below(count), random.below(20), random.below(4));
-        let found = match choice {
-            0 | 1 => maps.insert(map, key, choice),
-            2 => maps.get(map, key),
-            _ => maps.remove(map, key),
-        };
-        found.unwrap_or(7)
+        match choice {
+            0 | 1 => V::told(maps.insert(map, key, V::new(choice)), true),
+            2 => V::told(maps.get(map, key), false),
+            _ => V::told(maps.remove(map, key), false),
+        }
     });
     rounds!(sum, work.looks, |_| {
-        let mut random = Random { state: 12345 };
-        checksum!(calls, |_| maps.get(random.below(count), random.below(20)).unwrap_or(7))
+        let mut random = Random(12345);
+        checksum!(calls, |_| V::told(maps.get(random.below(count), random.below(20)), false))
     });
-    rounds!(sum, work.walks, |_| walk_all(maps, count));
+    rounds!(sum, work.walks, |_| (0..count).fold(0, |sum, map| maps.walk(map, sum)));
     if work.turns > 0 {
         for map in 0..count {
             maps.clear(map);
@@ -173,39 +191,50 @@ fn mixture<M: Maps>(maps: &mut M, work: Work) -> u64 {
     sum
 }
 
-fn large<M: Maps>(maps: &mut M, work: Work, is_mixed: bool) -> u64 {
-    let key_at = |index: u32| if is_mixed { mixed(index) } else { index };
+// Fills a large map or set, looks keys up, and reads all.
+fn filled<V: Value, M: Many<V>>(maps: &mut M, work: Work, is_mixed: bool) -> u64 {
     let mut sum = 0u64;
-    for index in 0..work.size {
-        if maps.insert(0, key_at(index), index).is_some() {
-            sum = sum.wrapping_add(1);
-        }
-    }
+    rounds!(sum, work.size, |index| u64::from(maps.insert(0, key_at(index, is_mixed), V::new(index)).is_some()));
     rounds!(sum, work.looks, |_| {
-        let mut random = Random { state: 99 };
+        let mut random = Random(99);
         checksum!(work.size, |count| {
             let index = if is_mixed { random.below(work.size) } else { count };
-            maps.get(0, key_at(index)).unwrap_or(7)
+            V::told(maps.get(0, key_at(index, is_mixed)), false)
         })
     });
+    sum
+}
+
+fn large<M: Maps>(maps: &mut M, work: Work, is_mixed: bool) -> u64 {
+    let mut sum = filled(maps, work, is_mixed);
     rounds!(sum, work.walks, |_| maps.walk(0, 0));
     if work.turns > 0 {
-        sum = sum.wrapping_add(checksum!(work.size, |index| maps.remove(0, key_at(index)).unwrap_or(7)));
+        sum = sum.wrapping_add(checksum!(work.size, |index| maps.remove(0, key_at(index, is_mixed)).unwrap_or(7)));
     }
     sum
 }
 
 // A large map, read by a cursor from the first entry on and from the last one back. A checksum that starts at 1 counts a first entry of zeros too.
 fn large_cursor<M: Maps>(maps: &mut M, work: Work, is_mixed: bool) -> u64 {
-    let mut sum = large(maps, Work { walks: 0, turns: 0, ..work }, is_mixed);
+    let mut sum = filled(maps, work, is_mixed);
     rounds!(sum, work.walks, |_| maps.read_on(0, 1));
     rounds!(sum, work.turns, |_| maps.read_back(0, 1));
     sum
 }
 
+fn large_set<S: Sets>(sets: &mut S, work: Work, is_mixed: bool) -> u64 {
+    let mut sum = filled(sets, work, is_mixed);
+    rounds!(sum, work.walks, |_| sets.walk(0, 0));
+    rounds!(sum, work.turns, |_| {
+        let mut random = Random(3141);
+        checksum!(work.size / 10, |_| sets.edit(0, key_at(random.below(work.size), is_mixed)))
+    });
+    sum
+}
+
 fn edges<M: Maps>(maps: &mut M, work: Work) -> u64 {
     let blocks = work.size;
-    let start = || Random { state: 2718281828 };
+    let start = || Random(2718281828);
     let edge = |block: u32, count: u32| block.wrapping_mul(4).wrapping_add(count);
     let behind = |block: u32, count: u32| block.wrapping_add(count) % blocks;
     let mut random = start();
@@ -215,7 +244,7 @@ fn edges<M: Maps>(maps: &mut M, work: Work) -> u64 {
         }
     }
     let mut sum = 0u64;
-    rounds!(sum, work.walks, |_| walk_all(maps, blocks));
+    rounds!(sum, work.walks, |_| (0..blocks).fold(0, |sum, map| maps.walk(map, sum)));
     rounds!(sum, work.turns, |turn| {
         let (mut random, mut round) = (start(), 0);
         for block in 0..blocks {
@@ -238,51 +267,6 @@ fn edges_cursor<M: Maps>(maps: &mut M, work: Work) -> u64 {
     sum
 }
 
-fn set_mixture<S: Sets>(sets: &mut S, work: Work) -> u64 {
-    let (count, calls) = (work.size, work.calls());
-    let mut random = Random { state: 88172645463325252 };
-    let mut sum = checksum!(calls, |_| {
-        let (set, key, choice) = (random.below(count), random.below(20), random.below(4));
-        let told = match choice {
-            0 | 1 => sets.insert(set, key, ()).is_none(),
-            2 => sets.get(set, key).is_some(),
-            _ => sets.remove(set, key).is_some(),
-        };
-        u32::from(told)
-    });
-    rounds!(sum, work.looks, |_| {
-        let mut random = Random { state: 12345 };
-        checksum!(calls, |_| u32::from(sets.get(random.below(count), random.below(20)).is_some()))
-    });
-    rounds!(sum, work.walks, |_| (0..count).fold(0, |sum, set| sets.walk(set, sum)));
-    if work.turns > 0 {
-        for set in 0..count {
-            sets.clear(set);
-        }
-    }
-    sum
-}
-
-fn large_set<S: Sets>(sets: &mut S, work: Work) -> u64 {
-    let is_mixed = work.kind == Kind::RandomSet;
-    let key_at = |index: u32| if is_mixed { mixed(index) } else { index };
-    let mut sum = 0u64;
-    rounds!(sum, work.size, |index| u64::from(sets.insert(0, key_at(index), ()).is_some()));
-    rounds!(sum, work.looks, |_| {
-        let mut random = Random { state: 99 };
-        checksum!(work.size, |count| {
-            let index = if is_mixed { random.below(work.size) } else { count };
-            u32::from(sets.get(0, key_at(index)).is_some())
-        })
-    });
-    rounds!(sum, work.walks, |_| sets.walk(0, 0));
-    rounds!(sum, work.turns, |_| {
-        let mut random = Random { state: 3141 };
-        checksum!(work.size / 10, |_| sets.edit(0, key_at(random.below(work.size))))
-    });
-    sum
-}
-
 // The number of ranges that one cursor inserts, and the number of points from the beginning of one to that of the next.
 const BATCH: u32 = 8;
 const STEP: u32 = 4;
@@ -302,11 +286,11 @@ fn put_all<R: Ranges>(ranges: &mut R, size: u32, offset: u32) -> u64 {
 fn live_ranges<R: Ranges>(ranges: &mut R, work: Work) -> u64 {
     let mut sum = put_all(ranges, work.size, 0);
     rounds!(sum, work.looks, |_| {
-        let mut random = Random { state: 99 };
+        let mut random = Random(99);
         checksum!(work.size, |_| ranges.end_at(random.below(work.size.wrapping_mul(STEP))).unwrap_or(7))
     });
     rounds!(sum, work.walks, |_| {
-        let (mut random, mut round) = (Random { state: 4711 }, 0);
+        let (mut random, mut round) = (Random(4711), 0);
         for _ in 0..work.size {
             let from = random.below(work.size.wrapping_mul(STEP));
             let found = ranges.ends(from, from.saturating_add(BATCH * STEP));
@@ -335,18 +319,28 @@ fn timed<M>(new: impl FnOnce() -> M, run: impl FnOnce(&mut M) -> u64, is_kept: b
 }
 
 /// Makes a run on maps, sets and ranges of one side.
-pub fn run_on<M: Maps, S: Sets, R: Ranges>(work: Work, is_kept: bool) -> (u64, Duration) {
-    let size = work.size;
+pub fn run_on<M: Ranges, S: Sets>(work: Work, is_kept: bool) -> (u64, Duration) {
     match work.kind {
-        Kind::Mixture | Kind::Indexed => timed(|| M::new(size), |maps| mixture(maps, work), is_kept),
         Kind::Random => timed(|| M::new(1), |maps| large(maps, work, true), is_kept),
         Kind::Ascending => timed(|| M::new(1), |maps| large(maps, work, false), is_kept),
         Kind::RandomCursor => timed(|| M::new(1), |maps| large_cursor(maps, work, true), is_kept),
         Kind::AscendingCursor => timed(|| M::new(1), |maps| large_cursor(maps, work, false), is_kept),
+        Kind::RandomSet => timed(|| S::new(1), |sets| large_set(sets, work, true), is_kept),
+        Kind::AscendingSet => timed(|| S::new(1), |sets| large_set(sets, work, false), is_kept),
+        Kind::Ranges => timed(|| M::new(1), |ranges| live_ranges(ranges, work), is_kept),
+        _ => run_small::<M, S>(work, is_kept),
+    }
+}
+
+/// Makes a run on many small maps or sets of one side.
+#[inline(always)]
+pub fn run_small<M: Maps, S: Many<()>>(work: Work, is_kept: bool) -> (u64, Duration) {
+    let size = work.size;
+    match work.kind {
+        Kind::Mixture | Kind::Indexed => timed(|| M::new(size), |maps| mixture(maps, work), is_kept),
         Kind::Edges => timed(|| M::new(size), |maps| edges(maps, work), is_kept),
         Kind::EdgesCursor => timed(|| M::new(size), |maps| edges_cursor(maps, work), is_kept),
-        Kind::SetMixture => timed(|| S::new(size), |sets| set_mixture(sets, work), is_kept),
-        Kind::RandomSet | Kind::AscendingSet => timed(|| S::new(1), |sets| large_set(sets, work), is_kept),
-        Kind::Ranges => timed(R::new, |ranges| live_ranges(ranges, work), is_kept),
+        Kind::SetMixture => timed(|| S::new(size), |sets| mixture(sets, work), is_kept),
+        kind => unimplemented!("{kind:?}"),
     }
 }

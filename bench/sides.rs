@@ -3,57 +3,32 @@
 #[cfg(library)]
 use crate::library;
 use crate::others::{OneMap, Vecs};
-use crate::runs::{added, run_on, Many, Maps, Ranges, Sets, Work, EDITED};
+use crate::runs::{added, run_on, run_small, Many, Maps, Ranges, Sets, Work, EDITED};
 #[cfg(original)]
 use cranelift_bforest::{Map, MapForest, Set, SetForest};
 use std::collections::{BTreeMap, BTreeSet};
 use std::hint::black_box;
 use std::time::Duration;
 
-/// The implementation that a run uses.
-#[derive(Clone, Copy)]
-pub enum Side {
-    #[cfg(library)]
-    Bforest,
-    Std,
-    #[cfg(original)]
-    Original,
-    Vecs,
-    OneMap,
-    #[cfg(library)]
-    Toolchain, // maps and sets of the toolchain's standard library, which are proved too
-}
-
-/// The sides by their names in a table.
-pub const SIDES: &[(&str, Side)] = &[
-    #[cfg(library)]
-    ("bforest", Side::Bforest),
-    ("BTreeMap", Side::Std),
-    #[cfg(original)]
-    ("original", Side::Original),
-    ("Vec", Side::Vecs),
-    ("one-map", Side::OneMap),
-    #[cfg(library)]
-    ("toolchain", Side::Toolchain),
-];
-
-/// Makes a run, and returns its checksum and its time.
+/// Makes a run of a side, named as in a table, and returns its checksum and its time.
 #[inline(never)]
-pub fn run(side: Side, work: Work, is_kept: bool) -> (u64, Duration) {
-    match side {
+pub fn run(side: &str, work: Work, is_kept: bool) -> Option<(u64, Duration)> {
+    Some(match side {
         #[cfg(library)]
-        Side::Bforest => library::run(black_box(work), false),
-        Side::Std => run_on::<StdMaps, StdSets, BTreeMap<u32, u32>>(black_box(work), is_kept),
+        "bforest" => library::run(black_box(work), false),
+        "BTreeMap" => run_on::<StdMaps, StdSets>(black_box(work), is_kept),
         #[cfg(original)]
-        Side::Original => run_on::<OriginalMaps, OriginalSets, OriginalRanges>(black_box(work), is_kept),
-        Side::Vecs => run_on::<Vecs<u32>, Vecs<()>, Vecs<u32>>(black_box(work), is_kept),
-        Side::OneMap => run_on::<OneMap<u32>, OneMap<()>, OneMap<u32>>(black_box(work), is_kept),
+        "original" => run_on::<OriginalMaps, OriginalSets>(black_box(work), is_kept),
+        "Vec" => run_small::<Vecs<u32>, Vecs<()>>(black_box(work), is_kept),
+        "one-map" => run_small::<OneMap<u32>, OneMap<()>>(black_box(work), is_kept),
+        // Maps and sets of the toolchain's standard library, which are proved too.
         #[cfg(library)]
-        Side::Toolchain => library::run(black_box(work), true),
-    }
+        "toolchain" => library::run(black_box(work), true),
+        _ => return None,
+    })
 }
 
-/// Maps, sets or one map of a side, and the forest that they lie in.
+/// Maps or sets of a side, and the forest that they lie in.
 pub struct Held<F, M> {
     pub forest: F,
     pub maps: M,
@@ -65,15 +40,14 @@ type StdSets = Held<(), Vec<BTreeSet<u32>>>;
 type OriginalMaps = Held<MapForest<u32, u32>, Vec<Map<u32, u32>>>;
 #[cfg(original)]
 type OriginalSets = Held<SetForest<u32>, Vec<Set<u32>>>;
-#[cfg(original)]
-type OriginalRanges = Held<MapForest<u32, u32>, Map<u32, u32>>;
 
-/// Implements `Many` for maps with values `$value` in a forest `$new`: what each call does with the forest and with the map that it names.
+/// Implements `Many` for maps with values `$value` in a forest `$new`: what each call does with the forest and with the map that it names, and which
+/// numbers a walk adds to its checksum.
 macro_rules! many {
-    ($held:ty, $value:ty, $new:expr, $(where $v:ident: Copy,)?
+    ($held:ty, $value:ty, $new:expr, $(where $v:ident: $bound:path,)?
      |$forest:pat_param, $map:ident, $key:ident, $given:pat_param|
-     insert => $insert:expr, get => $get:expr, remove => $remove:expr, clear => $clear:expr $(,)?) => {
-        impl$(<$v: Copy>)? Many<$value> for $held {
+     insert => $insert:expr, get => $get:expr, remove => $remove:expr, clear => $clear:expr, walk => $numbers:expr $(,)?) => {
+        impl$(<$v: $bound>)? Many<$value> for $held {
             fn new(count: u32) -> Self {
                 Held { forest: $new, maps: (0..count).map(|_| Default::default()).collect() }
             }
@@ -98,6 +72,11 @@ macro_rules! many {
                     $clear
                 }
             }
+
+            fn walk(&self, map: u32, sum: u64) -> u64 {
+                let (Some($map), $forest) = (self.maps.get(map as usize), &self.forest) else { return sum };
+                $numbers.fold(sum, added)
+            }
         }
     };
 }
@@ -108,6 +87,7 @@ many! { StdMaps, u32, (), |_, map, key, value|
     get => map.get(&key).copied(),
     remove => map.remove(&key),
     clear => map.clear(),
+    walk => map.iter().map(|(key, value)| key ^ value),
 }
 
 many! { StdSets, (), (), |_, set, key, _|
@@ -115,6 +95,7 @@ many! { StdSets, (), (), |_, set, key, _|
     get => set.contains(&key).then_some(()),
     remove => set.remove(&key).then_some(()),
     clear => set.clear(),
+    walk => set.iter().map(|key| *key),
 }
 
 #[cfg(original)]
@@ -123,6 +104,7 @@ many! { OriginalMaps, u32, MapForest::new(), |forest, map, key, value|
     get => map.get(key, forest, &()),
     remove => map.remove(key, forest, &()),
     clear => map.clear(forest),
+    walk => map.iter(forest).map(|(key, value)| key ^ value),
 }
 
 #[cfg(original)]
@@ -131,6 +113,7 @@ many! { OriginalSets, (), SetForest::new(), |forest, set, key, _|
     get => set.contains(key, forest, &()).then_some(()),
     remove => set.remove(key, forest, &()).then_some(()),
     clear => set.clear(forest),
+    walk => set.iter(forest),
 }
 
 // The checksum `$sum` with a number of each entry of a map, if there is this map.
@@ -147,10 +130,6 @@ macro_rules! add_all {
 }
 
 impl Maps for StdMaps {
-    fn walk(&self, map: u32, sum: u64) -> u64 {
-        add_all!(sum, self.maps.get(map as usize), |map| map, |(key, value)| key ^ value)
-    }
-
     fn read_on(&self, map: u32, sum: u64) -> u64 {
         add_all!(sum, self.maps.get(map as usize), |map| map.range(..), |(key, value)| key.wrapping_add(*value))
     }
@@ -162,10 +141,6 @@ impl Maps for StdMaps {
 
 #[cfg(original)]
 impl Maps for OriginalMaps {
-    fn walk(&self, map: u32, sum: u64) -> u64 {
-        add_all!(sum, self.maps.get(map as usize), |map| map.iter(&self.forest), |(key, value)| key ^ value)
-    }
-
     fn read_on(&self, map: u32, sum: u64) -> u64 {
         let Some(map) = self.maps.get(map as usize) else { return sum };
         let mut cursor = map.cursor(&self.forest, &());
@@ -188,10 +163,6 @@ impl Maps for OriginalMaps {
 }
 
 impl Sets for StdSets {
-    fn walk(&self, set: u32, sum: u64) -> u64 {
-        self.maps.get(set as usize).map_or(sum, |set| set.iter().fold(sum, |sum, key| added(sum, *key)))
-    }
-
     fn edit(&mut self, set: u32, first: u32) -> u32 {
         let Some(set) = self.maps.get_mut(set as usize) else { return 0 };
         let new = (0..EDITED).filter(|step| set.insert(first.wrapping_add(*step))).count();
@@ -207,10 +178,6 @@ impl Sets for StdSets {
 
 #[cfg(original)]
 impl Sets for OriginalSets {
-    fn walk(&self, set: u32, sum: u64) -> u64 {
-        self.maps.get(set as usize).map_or(sum, |set| set.iter(&self.forest).fold(sum, added))
-    }
-
     fn edit(&mut self, set: u32, first: u32) -> u32 {
         let Some(set) = self.maps.get_mut(set as usize) else { return 0 };
         let mut cursor = set.cursor(&mut self.forest, &());
@@ -227,33 +194,25 @@ impl Sets for OriginalSets {
     }
 }
 
-impl Ranges for BTreeMap<u32, u32> {
-    fn new() -> Self {
-        BTreeMap::new()
-    }
-
+impl Ranges for StdMaps {
     fn put(&mut self, entries: &[(u32, u32)]) -> u32 {
-        entries.iter().filter(|entry| self.insert(entry.0, entry.1).is_none()).count() as u32
+        entries.iter().filter(|entry| self.maps[0].insert(entry.0, entry.1).is_none()).count() as u32
     }
 
     fn end_at(&self, point: u32) -> Option<u32> {
-        self.range(..=point).next_back().map(|entry| *entry.1)
+        self.maps[0].range(..=point).next_back().map(|entry| *entry.1)
     }
 
     fn ends(&self, from: u32, to: u32) -> [Option<(u32, u32)>; 2] {
-        let mut range = self.range(from..=to).map(|entry| (*entry.0, *entry.1));
+        let mut range = self.maps[0].range(from..=to).map(|entry| (*entry.0, *entry.1));
         [range.next(), range.next_back()]
     }
 }
 
 #[cfg(original)]
-impl Ranges for OriginalRanges {
-    fn new() -> Self {
-        Held { maps: Map::new(), forest: MapForest::new() }
-    }
-
+impl Ranges for OriginalMaps {
     fn put(&mut self, entries: &[(u32, u32)]) -> u32 {
-        let mut cursor = self.maps.cursor_mut(&mut self.forest, &());
+        let mut cursor = self.maps[0].cursor_mut(&mut self.forest, &());
         let mut count = 0;
         for entry in entries {
             count += u32::from(cursor.insert(entry.0, entry.1).is_none());
@@ -263,11 +222,11 @@ impl Ranges for OriginalRanges {
     }
 
     fn end_at(&self, point: u32) -> Option<u32> {
-        self.maps.get_or_less(point, &self.forest, &()).map(|entry| entry.1)
+        self.maps[0].get_or_less(point, &self.forest, &()).map(|entry| entry.1)
     }
 
     fn ends(&self, from: u32, to: u32) -> [Option<(u32, u32)>; 2] {
-        let mut range = self.maps.range(from..=to, &self.forest, &());
+        let mut range = self.maps[0].range(from..=to, &self.forest, &());
         [range.next(), range.next_back()]
     }
 }

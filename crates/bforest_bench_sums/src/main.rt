@@ -2,46 +2,24 @@
 //! reads and of removals, and the checksum. `bench/run --quick` compares the checksums with those of Rust's own maps.
 #![tactic(auto)]
 
-use bforest_workloads_bench::{
-    Rounds, run_edges, run_edges_cursor, run_indexed, run_large, run_large_cursor, run_large_set,
-    run_mixture, run_ranges, run_set_mixture,
-};
+use bforest_workloads_bench::{Kind, Rounds, run};
 use std::io;
 
-/// The subject of a run.
-#[derive(Clone, Copy)]
-enum Kind {
-    Mixture,
-    Indexed,
-    Random,
-    Ascending,
-    RandomCursor,
-    AscendingCursor,
-    Edges,
-    EdgesCursor,
-    SetMixture,
-    RandomSet,
-    AscendingSet,
-    Ranges,
-}
-
-impl Kind {
-    /// The name of a kind in a line.
-    fn name(self) -> &'static str {
-        match self {
-            Kind::Mixture => "Mixture",
-            Kind::Indexed => "Indexed",
-            Kind::Random => "Random",
-            Kind::Ascending => "Ascending",
-            Kind::RandomCursor => "RandomCursor",
-            Kind::AscendingCursor => "AscendingCursor",
-            Kind::Edges => "Edges",
-            Kind::EdgesCursor => "EdgesCursor",
-            Kind::SetMixture => "SetMixture",
-            Kind::RandomSet => "RandomSet",
-            Kind::AscendingSet => "AscendingSet",
-            Kind::Ranges => "Ranges",
-        }
+/// The name of a kind in a line.
+fn name(kind: Kind) -> &'static str {
+    match kind {
+        Kind::Mixture => "Mixture",
+        Kind::Indexed => "Indexed",
+        Kind::Random => "Random",
+        Kind::Ascending => "Ascending",
+        Kind::RandomCursor => "RandomCursor",
+        Kind::AscendingCursor => "AscendingCursor",
+        Kind::Edges => "Edges",
+        Kind::EdgesCursor => "EdgesCursor",
+        Kind::SetMixture => "SetMixture",
+        Kind::RandomSet => "RandomSet",
+        Kind::AscendingSet => "AscendingSet",
+        Kind::Ranges => "Ranges",
     }
 }
 
@@ -72,21 +50,7 @@ const TAKEN: Rounds = Rounds {
 
 /// Makes a run and writes its line.
 fn show(rt: HostRuntime, kind: Kind, size: u32, rounds: Rounds) -> io::Result<()> {
-    let alloc = rt.alloc();
-    let sum = match kind {
-        Kind::Mixture => run_mixture(alloc, size, size.saturating_mul(30), rounds),
-        Kind::Indexed => run_indexed(alloc, size, size.saturating_mul(30), rounds),
-        Kind::Random => run_large(alloc, size, true, rounds),
-        Kind::Ascending => run_large(alloc, size, false, rounds),
-        Kind::RandomCursor => run_large_cursor(alloc, size, true, rounds),
-        Kind::AscendingCursor => run_large_cursor(alloc, size, false, rounds),
-        Kind::Edges => run_edges(alloc, size, rounds),
-        Kind::EdgesCursor => run_edges_cursor(alloc, size, rounds),
-        Kind::SetMixture => run_set_mixture(alloc, size, size.saturating_mul(30), rounds),
-        Kind::RandomSet => run_large_set(alloc, size, true, rounds),
-        Kind::AscendingSet => run_large_set(alloc, size, false, rounds),
-        Kind::Ranges => run_ranges(alloc, size, rounds),
-    };
+    let sum = run(rt.alloc(), kind, size, rounds);
     let Rounds {
         looks,
         walks,
@@ -94,7 +58,7 @@ fn show(rt: HostRuntime, kind: Kind, size: u32, rounds: Rounds) -> io::Result<()
     } = rounds;
     println!(rt;
         "{} {} {} {} {} {}",
-        kind.name(),
+        name(kind),
         size,
         looks,
         walks,

@@ -1,7 +1,10 @@
 //! Random calls on maps and sets, cursors, ranges and iterators beside `BTreeMap`, under five orders and some limits; and the counts of slots and
 //! of levels beside what their definitions say. `BFOREST_CALLS` is how many calls are made.
 
+mod random;
+
 use bforest::{Comparator, Map, MapForest, OutOfMemory, Set, SetCursor, SetForest};
+use random::Random;
 use std::cmp::{Ordering, Reverse};
 use std::collections::BTreeMap;
 use std::ops::Bound;
@@ -159,18 +162,6 @@ pub trait Subject {
 
     /// How many slots there are, how many of them lie free, and how many levels the tree of a handle has.
     fn counts(&self, at: usize) -> [usize; 3];
-}
-
-/// Numbers without an order, by a shift register.
-pub struct Random(pub u64);
-
-impl Random {
-    pub fn below(&mut self, most: u32) -> u32 {
-        self.0 ^= self.0 << 13;
-        self.0 ^= self.0 >> 7;
-        self.0 ^= self.0 << 17;
-        ((self.0 >> 32) % u64::from(most)) as u32
-    }
 }
 
 // The definitions.

@@ -1,6 +1,9 @@
 //! Which calls take memory or give it back: those by which the table grows, once for each, and no other.
 
+mod random;
+
 use bforest::{Map, MapForest, Set, SetForest};
+use random::Random;
 use std::alloc::{GlobalAlloc, Layout, System};
 use std::cell::Cell;
 
@@ -41,18 +44,6 @@ fn calls_of<T>(made: impl FnOnce() -> T) -> u32 {
     let before = CALLS.get();
     made();
     CALLS.get() - before
-}
-
-/// Pseudo-random numbers (xorshift).
-struct Random(u64);
-
-impl Random {
-    fn below(&mut self, bound: u32) -> u32 {
-        self.0 ^= self.0 << 13;
-        self.0 ^= self.0 >> 7;
-        self.0 ^= self.0 << 17;
-        (self.0 >> 33) as u32 % bound
-    }
 }
 
 const HANDLES: usize = 40;

@@ -1,24 +1,15 @@
 //! Random calls on `Maps` and `Sets` beside a vector of `BTreeMap`s and one of `BTreeSet`s, with refusals, and indices that are not there.
 
+mod random;
+
 use bforest::{Maps, OutOfMemory, Sets};
+use random::Random;
 use std::collections::{BTreeMap, BTreeSet};
 use std::panic::{AssertUnwindSafe, catch_unwind};
 
 /// How many keys there are.
 const KEYS: u32 = 60;
 const STEPS: u32 = 300_000;
-
-/// Pseudo-random numbers (xorshift).
-struct Random(u64);
-
-impl Random {
-    fn below(&mut self, bound: u32) -> u32 {
-        self.0 ^= self.0 << 13;
-        self.0 ^= self.0 >> 7;
-        self.0 ^= self.0 << 17;
-        (self.0 >> 33) as u32 % bound
-    }
-}
 
 type Model = Vec<BTreeMap<u32, u32>>;
 

@@ -1,6 +1,9 @@
 //! Room that is promised ahead: the most nodes of so many entries, and a million calls with each request for memory refused.
 
+mod random;
+
 use bforest::{Map, MapForest, Maps, OutOfMemory, Set, SetForest, Sets};
+use random::Random;
 use std::alloc::{GlobalAlloc, Layout, System};
 use std::cell::Cell;
 use std::ptr;
@@ -47,18 +50,6 @@ fn while_refused(calls: impl FnOnce()) -> u32 {
     calls();
     REFUSES.set(false);
     REFUSED.get() - before
-}
-
-/// Pseudo-random numbers (xorshift).
-struct Random(u64);
-
-impl Random {
-    fn below(&mut self, bound: u32) -> u32 {
-        self.0 ^= self.0 << 13;
-        self.0 ^= self.0 >> 7;
-        self.0 ^= self.0 << 17;
-        (self.0 >> 33) as u32 % bound
-    }
 }
 
 const CALLS: u32 = 1_000_000;
