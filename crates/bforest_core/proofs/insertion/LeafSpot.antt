@@ -16,7 +16,7 @@ module _ {K V : Type 0} {t : Table K V} {path indices : List ℕ} {size : ℕ} w
       Above t path indices up size rows (a ++ x ∷ b) (length a) →
       Rekeyed t t path indices up size rows (a ++ (key, x.1) ∷ b) (length a)
   first_rekeyed zero up rows a x b key none front p =
-      rebuilt_same (above_top rows (a ++ (key, x.1) ∷ b) (omega (arith, p.height)) (omega (arith, length-append a (x ∷ b), length-append a ((key, x.1) ∷ b))) p)
+      rebuilt_same (above_top p _ (omega (arith, p.height)) (simp length-append))
   first_rekeyed (suc count) up rows a x b key some front p = let d = spot a x b p (omega (arith, p.height)) in let q = d.q in
       let few = ap length q.a_is in let parts = length-append (flat q.before) q.l in let l_is = nil_from_length q.l (omega arith) in
       rekey_first d t key (omega (arith, q.entry_is)) (first_rekeyed count (suc up) q.rest (heads q.before) (x.0, get_or path up 0) (heads q.after) key
