@@ -148,7 +148,8 @@ pub from-first : {K V : Type 0} {table : Table K V} {handle : Option ℕ} {root 
 from-first {root = root} is on leaf = record { root = root; handle_is = is; place = 0; on = on; leaf = leaf; start_is = refl }
 
 -- the only leaf of a tree, whose root is no inner node
-pub from-only : {K V : Type 0} {n : ℕ} {table : Table K V} {root : ℕ} {content : Content K V} → IsUnion n table → IsTrue (is_root table.nodes root) → slice_get table.nodes root ≡ Some content → (IsInner content → ⊥) → (spot : Spot) → spot.code ≡ 0 → spot.height ≡ 0 → LeafFrom table (Some root) spot root 0
+pub from-only : {K V : Type 0} {n : ℕ} {table : Table K V} {root : ℕ} {content : Content K V} → IsUnion n table →
+    IsTrue (is_root table.nodes root) → slice_get table.nodes root ≡ Some content → (IsInner content → ⊥) → (spot : Spot) → spot.code ≡ 0 → spot.height ≡ 0 → LeafFrom table (Some root) spot root 0
 from-only union is read other spot code height =
     let alone = first-of union is code height (first-here union.1.capacity read other spot) in
     from-first refl alone.0 alone.1

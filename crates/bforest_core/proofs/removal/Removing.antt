@@ -194,7 +194,8 @@ module _ {K V : Type 0} {most : ℕ} {old mid : Table K V} {path indices size tr
   -- the leaf was merged into its neighbour
   module _ {mid2 path1 indices1 : _} (j : Joined leaf_content (half_of most) most mid mid2 path indices path1 indices1 0 size l.before n l.entries l.after l.rest) {size1 : ℕ} (size_is : size1 ≡ size) where
     -- the rows above after the leaf's entry was removed
-    module _ {new path' indices' : _} (merged : (w : TwoAbove mid2 path1 indices1 1 size1) → (levels : ℕ) × Rebuilt mid2 new path1 indices1 path' indices' 1 size1 w.rows (w.before ++ (w.x.0, w.y.1) ∷ w.after) (length w.before) (loss_above (Some (length w.before)) (map sizes w.rows)) (nodes_up path1 1 levels)) {size2 : ℕ} (size2_is : size2 ≡ size) where
+    module _ {new path' indices' : _} (merged : (w : TwoAbove mid2 path1 indices1 1 size1) → (levels : ℕ)
+        × Rebuilt mid2 new path1 indices1 path' indices' 1 size1 w.rows (w.before ++ (w.x.0, w.y.1) ∷ w.after) (length w.before) (loss_above (Some (length w.before)) (map sizes w.rows)) (nodes_up path1 1 levels)) {size2 : ℕ} (size2_is : size2 ≡ size) where
       joined : (levels : ℕ) × Stays l.loss new path' indices' (nodes_up path 0 (suc levels))
       joined = let m = merged (merge_asks l.loss j refl size_is) in (m.0, joined_restored l.loss j refl size_is m.0 m.1 half)
 

@@ -96,7 +96,11 @@ module _ {K V : Type 0} where
             t.cut.counted m,
           )) (frees-wider _ (λ m z. omega (arith, n m)) t.swept.frees) g.frees;
           order =
-              cc (down-same now.nodes old.nodes (length t.cut.lower_left) x.1 (λ m some. sym (t.swept.frees.others m (omega (arith, g.counted m, apart m, count-append, t.swept.split m, t.cut.counted m)))), last_taken (entry_items top) index x.1 (simp (items-read top index, t.found)), reverse-append (take index (entry_items top)) (x.1 ∷ []));
+              cc (
+                down-same now.nodes old.nodes (length t.cut.lower_left) x.1 (λ m some. sym (t.swept.frees.others m (omega (arith, g.counted m, apart m, count-append, t.swept.split m, t.cut.counted m)))),
+                last_taken (entry_items top) index x.1 (simp (items-read top index, t.found)),
+                reverse-append (take index (entry_items top)) (x.1 ∷ []),
+              );
           counted = λ m. omega (arith, count-append, n m, g.counted m, t.swept.counted m);
           split = λ m. omega (arith, n m, t.swept.split m, t.cut.counted m);
         }

@@ -52,7 +52,9 @@ module _ {K V : Type 0} {most : ℕ} {table : Table K V} (root : ℕ) (union : I
   pub root-below : HasBelow most table.nodes Side root (levels - 1)
   root-below = ((tree_of table.nodes root).leaves, under-root root union is, side, root-level (tree_of table.nodes root) levels_is)
 
-  pub led-root : (place : Row K V → ℕ) {size path indices path' indices' : _} → size ≡ levels → OnBelow most table.nodes Side root (levels - 1) (λ leaves lower top. Led leaves lower (place leaves) top path indices path' indices') → StandsUnder table.nodes root path' indices' size (place (tree_of table.nodes root).leaves)
+  pub led-root : (place : Row K V → ℕ) {size path indices path' indices' : _} → size ≡ levels →
+      OnBelow most table.nodes Side root (levels - 1) (λ leaves lower top. Led leaves lower (place leaves) top path indices path' indices') →
+      StandsUnder table.nodes root path' indices' size (place (tree_of table.nodes root).leaves)
   led-root place size_is leads = let tree = tree_of table.nodes root in let d = leads tree.leaves (under-root root union is) side (root-level tree levels_is) in
       record { root_is = is; stands = led_stands _ _ d (path-levels tree levels_is size_is) }
 

@@ -37,7 +37,8 @@ pub stands-pointed : {K V : Type 0} {path indices size place : _} {tree : Tree K
 stands-pointed p low = record { leaf = record { before = p.before; entries = p.entries; after = p.after; row_is = p.leaves_are; within = low; place_is = p.place_is }; above = p.above; size_is = p.size_is }
 
 -- where a search ended: at the key's entry where the key is present, else where it may be inserted
-module _ {K V : Type 0} {cmp : K → K → Ordering} (slots : List (Content K V)) (root : ℕ) (is : IsTrue (is_root slots root)) {key path indices path' indices' : _} {size : ℕ} (d : Descended cmp (tree_of slots root).leaves (tree_of slots root).above key 0 path indices path' indices') (size_is : size ≡ suc (length (tree_of slots root).above)) where
+module _ {K V : Type 0} {cmp : K → K → Ordering} (slots : List (Content K V)) (root : ℕ) (is : IsTrue (is_root slots root)) {key path indices path' indices' : _} {size : ℕ}
+    (d : Descended cmp (tree_of slots root).leaves (tree_of slots root).above key 0 path indices path' indices') (size_is : size ≡ suc (length (tree_of slots root).above)) where
   abbrev points : PointsAt path' indices' size (tree_of slots root) (place cmp (flat (tree_of slots root).leaves) key)
   points = record { before = d.leaf.before; entries = d.leaf.entries; after = d.leaf.after; leaves_are = d.leaf.row_is; within = d.leaf.within; place_is = d.leaf.place_is; above = stands_above _ _ 1 _ _ d.stands; size_is = size_is }
 

@@ -12,7 +12,12 @@ returns-clause-stands g c = λ at. let s = c.in-Some.ensures.moved (on-tree c.re
     record { root_is = at.on.root_is; at = path-on _ _ _ _ _ (record { leaf = s.leaf; above = s.above; size_is = c.next_entry.ensures.size ∙ s.size_is }) }
 
 pub returns-in_default : goal.returns-in_default
-returns-in_default g c = record { value = λ at. c.in_default.ensures.value (on-tree c.requires.union c.args.self.now at.on); stands = λ at. record { root_is = at.on.root_is; at = c.in_default.ensures.last refl (on-tree c.requires.union c.args.self.now at.on) }; end = λ none. refl; stays = λ end. refl }
+returns-in_default g c = record {
+  value = λ at. c.in_default.ensures.value (on-tree c.requires.union c.args.self.now at.on);
+  stands = λ at. record { root_is = at.on.root_is; at = c.in_default.ensures.last refl (on-tree c.requires.union c.args.self.now at.on) };
+  end = λ none. refl;
+  stays = λ end. refl;
+}
 
 pub returns-then-self-eq0 : goal.returns-then-self-eq0
 returns-then-self-eq0 g c = record { value = λ at. absurd (omega arith); stands = λ at. absurd (omega arith); end = λ none. c.if-self-eq0.true; stays = λ end. refl }

@@ -18,7 +18,14 @@ pub overflow_add-entry-then-has_child : goal.overflow_add-entry-then-has_child
 overflow_add-entry-then-has_child g c = omega (arith, index_low c.requires.over.3 (add-one _) c.if-level-self.false c.requires.height)
 
 pub go_to_child-requires : goal.go_to_child-requires
-go_to_child-requires g c = (search rules, (search rules, turn_asks c.requires.over.3 (add-one _) c.if-level-self.false c.requires.height (next_turn c.requires.over.3 (add-one _) c.if-level-self.false c.requires.height (λ entries slot. (c.has_child.ensures.within entries slot).0 c.if-has_child.true))))
+go_to_child-requires g c = (
+  search rules,
+  (
+    search rules,
+    turn_asks c.requires.over.3 (add-one _) c.if-level-self.false c.requires.height
+        (next_turn c.requires.over.3 (add-one _) c.if-level-self.false c.requires.height (λ entries slot. (c.has_child.ensures.within entries slot).0 c.if-has_child.true)),
+  ),
+)
 
 pub returns-then-has_child : goal.returns-then-has_child
 returns-then-has_child g c = record {
