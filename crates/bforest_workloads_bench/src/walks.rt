@@ -6,7 +6,8 @@ ghost use Rattle.std.specs.Ordering.{nat_cmp};
 use crate::random::added;
 use bforest::{Map, MapForest};
 
-/// Adds each entry to a checksum, from the first on.
+/// Adds each entry to a checksum, from the first on. It is inlined into the loop over the maps, as `rustc` does with that of `BTreeMap`.
+#[inline(always)]
 pub(crate) fn read_on(map: &Map<u32, u32>, forest: &MapForest<u32, u32>, sum: u64) -> u64
     requires live { IsLive forest.now map.now }
     requires increasing { IsIncreasing nat_cmp (list_of forest.now map.now) }
