@@ -79,7 +79,7 @@ pub trait Value: Copy {
     fn new(number: u32) -> Self;
     /// What a run adds to its checksum for an entry.
     fn number(self, key: u32) -> u32;
-    /// And for the value that a call found. A set tells of an insertion whether the key is new.
+    /// What a run adds for the value that a call found, if it found one. For an insertion into a set it is whether the key is new.
     fn told(found: Option<Self>, is_insertion: bool) -> u32;
 }
 
@@ -191,7 +191,7 @@ fn mixture<V: Value, M: Many<V>>(maps: &mut M, work: Work) -> u64 {
     sum
 }
 
-// Fills a large map or set, looks keys up, and reads all.
+// Fills a large map or set, and looks its keys up.
 fn filled<V: Value, M: Many<V>>(maps: &mut M, work: Work, is_mixed: bool) -> u64 {
     let mut sum = 0u64;
     rounds!(sum, work.size, |index| u64::from(maps.insert(0, key_at(index, is_mixed), V::new(index)).is_some()));
@@ -341,6 +341,6 @@ pub fn run_small<M: Maps, S: Many<()>>(work: Work, is_kept: bool) -> (u64, Durat
         Kind::Edges => timed(|| M::new(size), |maps| edges(maps, work), is_kept),
         Kind::EdgesCursor => timed(|| M::new(size), |maps| edges_cursor(maps, work), is_kept),
         Kind::SetMixture => timed(|| S::new(size), |sets| mixture(sets, work), is_kept),
-        kind => unimplemented!("{kind:?}"),
+        kind => panic!("{kind:?} is no run on many small maps or sets"),
     }
 }
