@@ -1,12 +1,12 @@
 -- Re-exports the definitions of the specs that proofs cite. Declares nothing.
 pub use Rattle.bforest_core.proofs.rows.Shapes.{Heads, Row, Rows}
 pub use Rattle.bforest_core.specs.Change.{AtUnder, Changes, EntryTaken, KeepsTrees, PlacedUnder, Plants, Shrinks}
-pub use Rattle.bforest_core.specs.Climb.{Above, Draws, Grown, GrownBy, Halved, HalvedBy, Inserted, LastAbove, LeafHalved, NextIs, OneAbove, Placed, Raised, SameBelow}
+pub use Rattle.bforest_core.specs.Climb.{Above, Grown, GrownBy, Halved, HalvedBy, Inserted, LastAbove, LeafHalved, NextIs, OneAbove, Placed, Raised, SameBelow}
 pub use Rattle.bforest_core.specs.Descent.{Descended, GoesThrough, HasBelow, IsFirst, IsFrom, IsLast, IsRooted, IsUpTo, Led, LedUp, NodeOver, OnBelow, Reached}
 pub use Rattle.bforest_core.specs.Levels.{FitRow, IsFit, LevelNode, Solid, Stacked, Topped, Tree, flat, half_of, head_of, heads, least, node, numbers, sizes}
 pub use Rattle.bforest_core.specs.Paths.{InsertsHere, OnEntry, OnLeaf, Placing, PointsTo, Standing, StandsAt, StandsOn, index_of, leaf_of, list_under, path_root, place_in}
 pub use Rattle.bforest_core.specs.Place.{Distinct, IsAt, IsIn, IsPathAt, PointsAt, RowIn, RowsIn, Stands, StandsAbove, count, entry_before, entry_items}
-pub use Rattle.bforest_core.specs.Removal.{Dropped, Emptied, Frees, GivesAll, HasOthers, Healed, Heals, IsSingle, Item, Joined, Joins, Keeps, LeafLoss, Loosened, LoosenedRows}
+pub use Rattle.bforest_core.specs.Removal.{Dropped, Emptied, HasOthers, Healed, Heals, IsSingle, Item, Joined, Joins, Keeps, LeafLoss, Loosened, LoosenedRows}
 pub use Rattle.bforest_core.specs.Spots.{Coded, CodedOver, Direction, EndsAt, Followed, HasNext, HasPrev, HasUnder, IsBesideOf, IsLeafAt, IsLower, IsSpotAt, IsTurn}
 pub use Rattle.bforest_core.specs.Spots.{IsWay, Leads, NumberAt, SearchAt, Sided, Way, backwards, onwards}
 pub use Rattle.bforest_core.specs.Steps.{Advances, AreFirst, AreLast, HasOver, LastAt, MoreAt, Moved, OnLevels, OnOver, OnTree, Over, Retreats, Turned, TurnedBack}
@@ -20,6 +20,7 @@ pub use Rattle.bforest_core.specs.{Climb.{TwoAbove, nodes_up, top_of}, Leaves.{E
 pub use Rattle.bforest_core.specs.{Levels.sizes_of, Steps.TurnedBy, Table.{with_node, with_slots, with_value_at, without_front}, declared.path.Path.Path}
 pub use Rattle.bforest_core.specs.{Paths.{RemovesHere, spot}, Place.{entry_keys, first_number, inner_content, leaf_content, numbers_of, root_above, root_of}}
 pub use Rattle.bforest_core.specs.Removal.{Loses, OnLevel, Rebuilt, Rekeyed, Removed, StandsIn, Trimmed, Unbalanced, UpTo, content_at, half_at, most_at, numbers_under}
+pub use Rattle.bforest_core.specs.Trades.{Draws, Frees, Trades}
 pub use Rattle.bforest_core.specs.Sizes.{gain_above, growth, inner_gain, leaf_gain, loss, loss_above, need, need_above, past, rebalanced, shrink, trimmed}
 pub use Rattle.bforest_nodes.proofs.Found.{absent_at, place-present, present_at, search_of-keys_of, value_for-absent, value_for-present}
 pub use Rattle.bforest_nodes.proofs.{Ordered.{place-here, place-later}, Searched.{all_greater_behind, count_up_to-no, count_up_to-none, count_up_to-yes}}

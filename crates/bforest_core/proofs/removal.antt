@@ -1,5 +1,4 @@
 -- Lemmas on removal.
-pub mod Frees
 pub mod Removal
 pub mod Healing
 pub mod Balance

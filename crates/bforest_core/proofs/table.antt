@@ -4,5 +4,6 @@ pub mod Chains
 pub mod Pools
 pub mod Allocating
 pub mod Tables
+pub mod Trading
 pub mod Stored
 pub mod Read

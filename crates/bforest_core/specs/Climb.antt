@@ -1,5 +1,5 @@
 -- What the calls of a path state of the rows above a level, and of a whole tree.
-use Rattle.std.specs.Prelude.{◌≡◌, ◌≢◌, ℕ, zero, suc, ◌+◌, ◌-◌, ◌≤◌, ◌<◌, Bool, if◌then◌else◌, List, [], ◌∷◌, ◌++◌, map, length, insert, get_or, slice_get, Some, None, Option}
+use Rattle.std.specs.Prelude.{◌≡◌, ◌≢◌, ℕ, zero, suc, ◌+◌, ◌-◌, ◌≤◌, ◌<◌, Bool, if◌then◌else◌, List, [], ◌∷◌, ◌++◌, map, length, insert, get_or, Some, None, Option}
 use Rattle.std.specs.List.{flat_map}
 use Rattle.bforest_nodes.specs.Content.{Content}
 use Rattle.bforest_core.specs.Table.{Table}
@@ -7,6 +7,7 @@ use Rattle.bforest_core.specs.Levels.{LevelNode, node, flat, heads, sizes, numbe
 use Rattle.bforest_core.specs.Sizes.{gain_above, inner_gain, leaf_gain, growth, need, need_above}
 use Rattle.bforest_core.specs.Descent.{SameAbove}
 use Rattle.bforest_core.specs.Place.{RowIn, RowsIn, IsIn, leaf_content, inner_content, count, Distinct, numbers_of, IsAt, StandsAbove, PlacedAt}
+use Rattle.bforest_core.specs.Trades.{Draws}
 
 -- the two paths agree below a level
 abbrev pub SameBelow : ℕ → List ℕ → List ℕ → Type 0
@@ -67,16 +68,6 @@ module _ {K V : Type 0} where
     pub y : K × ℕ
     pub x : K × ℕ
     pub above : Above table path indices level size rows (before ++ y ∷ x ∷ []) (suc (length before))
-
-  -- the nodes with the numbers `was` became those with the numbers `are`: the new ones are `taken` from the front of the chain, and no other
-  -- slot changed
-  pub record Draws (old new : Table K V) (was are taken : List ℕ) : Type 0 where
-    pub numbers_are : (number : ℕ) → count number are ≡ count number was + count number taken
-    pub others : (number : ℕ) → count number was + count number taken ≡ 0 → slice_get new.nodes number ≡ slice_get old.nodes number
-    pub chain_is : old.chain ≡ taken ++ new.chain
-    pub slots_are : length new.nodes ≡ length old.nodes
-    pub limit_is : new.limit ≡ old.limit
-    pub memory_is : new.memory ≡ old.memory
 
   -- the rows from a level up after the level gained a node: `list` is its nodes, and the path leads to the place
   pub record Grown (old new : Table K V) (path indices path' indices' : List ℕ) (level size size' : ℕ) (rows : List (List (LevelNode K ℕ))) (list : List (K × ℕ)) (place : ℕ) (sizes_after : List (List ℕ)) (taken : List ℕ) : Type 0 where

@@ -6,6 +6,7 @@ pub mod Sizes
 pub mod Place
 pub mod Climb
 pub mod Trees
+pub mod Trades
 pub mod Descent
 pub mod Steps
 pub mod Change

@@ -1,14 +1,14 @@
 -- What the calls of a path state of the rows above a level, and of a whole tree, when an entry is removed.
 use Rattle.std.specs.Prelude.{Some, remove, ◌≡◌, ◌≢◌, ℕ, suc, ◌+◌, ◌-◌, ◌≤◌, ◌<◌, Bool, true, false, List, [], ◌∷◌, ◌++◌, map, length, get_or, slice_get}
 use Rattle.std.specs.List.{flat_map}
-use Rattle.bforest_nodes.specs.Content.{Content, IsFree, IsLeafCapacity, without_entry}
+use Rattle.bforest_nodes.specs.Content.{Content, IsLeafCapacity, without_entry}
 use Rattle.bforest_core.specs.Table.{Table, with_freed, with_node}
 use Rattle.bforest_core.specs.Levels.{LevelNode, node, flat, heads, sizes, numbers, FitRow, Solid, Stacked, Topped, least, Tree, IsFit, half_of, sizes_of, top_level}
 use Rattle.bforest_core.specs.Sizes.{rebalanced, shrink}
 use Rattle.bforest_core.specs.Place.{RowIn, RowsIn, IsIn, leaf_content, inner_content, count, Distinct, root_above, root_of, numbers_of, Stands}
 use Rattle.bforest_core.specs.Descent.{SameAbove}
 use Rattle.bforest_core.specs.Climb.{Above, SameBelow, nodes_up, top_of}
-use Rattle.bforest_core.specs.Trees.{slot, Every}
+use Rattle.bforest_core.specs.Trades.{Frees}
 
 -- the numbers of some leaves and of the inner nodes over them
 abbrev pub numbers_under : {K V : Type 0} → List (LevelNode K V) → List (List (LevelNode K ℕ)) → List ℕ
@@ -48,28 +48,13 @@ pub record Keeps (path indices path' indices' : List ℕ) (level size : ℕ) : T
   pub same_top : top_of path' size ≡ top_of path size
 
 module _ {K V : Type 0} where
-  -- only slots of the numbers `own` change; the freed ones are free and in front of the chain
-  pub record Frees (old new : Table K V) (own freed : List ℕ) : Type 0 where
-    pub others : (number : ℕ) → count number own ≡ 0 → slice_get new.nodes number ≡ slice_get old.nodes number
-    pub freed_are : Every (λ (number : ℕ). IsFree (slot new.nodes number)) freed
-    pub chain_is : new.chain ≡ freed ++ old.chain
-    pub slots_are : length new.nodes ≡ length old.nodes
-    pub limit_is : new.limit ≡ old.limit
-    pub memory_is : new.memory ≡ old.memory
-
-  -- all nodes of `own` are free, in front of the chain in the given order, and nothing else changes
-  pub record GivesAll (old new : Table K V) (own given : List ℕ) : Type 0 where
-    pub frees : Frees old new own given
-    pub counted : (number : ℕ) → count number given ≡ count number own
-
   -- the rows from a level up after a change of the level: `list` is its nodes, the path leads to the place,
   -- the rows have these sizes, and they have lost the freed numbers
   pub record Rebuilt (old new : Table K V) (path indices path' indices' : List ℕ) (level size : ℕ) (rows : List (List (LevelNode K ℕ))) (list : List (K × ℕ)) (place : ℕ) (sizes_after : List (List ℕ)) (freed : List ℕ) : Type 0 where
     pub rows' : List (List (LevelNode K ℕ))
     pub above : Above new path' indices' level size rows' list place
     pub sizes_are : map sizes rows' ≡ sizes_after
-    pub numbers_are : (number : ℕ) → count number (flat_map numbers rows') + count number freed ≡ count number (flat_map numbers rows)
-    pub frees : Frees old new (flat_map numbers rows) freed
+    pub frees : Frees old new (flat_map numbers rows) (flat_map numbers rows') freed
     pub keeps : Keeps path indices path' indices' level size
     pub open keeps use *
 
@@ -108,8 +93,7 @@ module _ {K V : Type 0} where
     pub place_is : place ≡ length (flat before) + get_or indices level 0
     pub was : (es : List (K × X)) → slice_get old.nodes (get_or path level 0) ≡ Some (content es) → length es ≡ suc (length entries)
     pub sizes_were : were ≡ (sizes before ++ suc (length entries) ∷ sizes after) ∷ map sizes rest
-    pub numbers_are : (number : ℕ) → count number (numbers (before ++ node (get_or path level 0) entries ∷ after) ++ flat_map numbers rest) ≡ count number own
-    pub frees : Frees old new own []
+    pub frees : Frees old new own (numbers (before ++ node (get_or path level 0) entries ∷ after) ++ flat_map numbers rest) []
 
   -- rows of inner nodes, after an entry of the lowest was removed
   abbrev pub LoosenedRows : Table K V → Table K V → List ℕ → List ℕ → ℕ → ℕ → List (List (LevelNode K ℕ)) → List (K × ℕ) → ℕ → Type 0
@@ -135,8 +119,7 @@ module _ {K V : Type 0} where
     pub sizes_are : sizes (before' ++ node number' entries' ∷ after') ≡ sizes before ++ (rebalanced most (length entries) (sizes after)).1
     pub rest_sizes : map sizes rest' ≡ map sizes rest
     pub row_numbers : numbers (before' ++ node number' entries' ∷ after') ≡ numbers (before ++ node number entries ∷ after)
-    pub rest_numbers : (m : ℕ) → count m (flat_map numbers rest') ≡ count m (flat_map numbers rest)
-    pub frees : Frees old new (numbers (before ++ node number entries ∷ after) ++ flat_map numbers rest) []
+    pub frees : Frees old new (numbers (before ++ node number entries ∷ after) ++ flat_map numbers rest) (numbers (before' ++ node number' entries' ∷ after') ++ flat_map numbers rest') []
     pub keeps : Keeps path indices path' indices' level size
     pub open keeps use *
 
@@ -157,7 +140,7 @@ module _ {K V : Type 0} where
     pub above : Above new path' indices' (suc level) size rest (heads before ++ (first.0, number) ∷ (key, right) ∷ heads after') (length (heads before))
     pub number_is : get_or path' level 0 ≡ right
     pub entry_is : get_or indices' level 0 ≡ get_or indices level 0
-    pub frees : Frees old new (numbers (before ++ node number entries ∷ after)) (number ∷ [])
+    pub frees : Frees old new (numbers (before ++ node number entries ∷ after)) (numbers (before ++ node right (entries ++ right_entries) ∷ after')) (number ∷ [])
     pub nodes_above : SameAbove level path path'
     pub keeps : Keeps path indices path' indices' level size
     pub open keeps use *
@@ -193,9 +176,8 @@ module _ {K V : Type 0} where
     pub inside : RowsIn new.nodes rows'
     pub height : length rows' ≡ length rows
     pub sizes_are : map sizes rows' ≡ sizes_after
-    pub numbers_are : (number : ℕ) → count number (flat_map numbers rows') + count number freed ≡ count number (flat_map numbers rows)
     pub root_is : root_above list rows' ≡ top_of path size
-    pub frees : Frees old new (flat_map numbers rows) freed
+    pub frees : Frees old new (flat_map numbers rows) (flat_map numbers rows') freed
 
   -- the rows over a level up to this root, with this many levels on the path: they are in the table, off its
   -- chain
@@ -215,12 +197,11 @@ module _ {K V : Type 0} where
     pub stacked : Stacked list rows'
     pub topped : Topped list rows'
     pub size_is : suc (length rows') ≡ size'
-    pub freed_is : (number : ℕ) → count number freed ≡ count number (flat_map numbers discarded)
     pub one_each : length freed ≡ length discarded
     pub root_is : root_above list rows' ≡ root'
     pub same_root : size' ≡ size → root' ≡ root
     pub old_root : size' ≢ size → 0 < count root freed
-    pub frees : Frees old new (flat_map numbers discarded) freed
+    pub frees : Frees old new (flat_map numbers discarded) [] freed
 
   -- the path stands at an entry of a fit tree, which is in the table, off its chain
   pub record StandsIn (most : ℕ) (table : Table K V) (path indices : List ℕ) (size : ℕ) (tree : Tree K V) (place : ℕ) : Type 0 where
@@ -270,13 +251,12 @@ module _ {K V : Type 0} where
     pub fit : IsFit most tree'
     pub inside : IsIn new.nodes tree'
     pub some : 1 ≤ length (flat tree'.leaves)
-    pub numbers_are : (number : ℕ) → count number (numbers_of tree') + count number freed ≡ count number (numbers_of tree)
     pub root_is : root_of tree' ≡ root'
     pub same_root : length tree'.above ≡ length tree.above → root' ≡ root_of tree
     pub old_root : length tree'.above ≢ length tree.above → 0 < count (root_of tree) freed
     pub low : length tree'.above ≤ length tree.above
     pub order : InOrder path (length tree.above - length tree'.above) freed
-    pub frees : Frees old new (numbers_of tree) freed
+    pub frees : Frees old new (numbers_of tree) (numbers_of tree') freed
 
   -- the entry is removed, and the tree that is left satisfies `Now`
   pub record Removed (most : ℕ) (old new : Table K V) (path : List ℕ) (Now : Tree K V → Type 0) (tree : Tree K V) (place root' : ℕ) : Type 0 where
@@ -290,6 +270,5 @@ module _ {K V : Type 0} where
     pub none_left : shrink most place (sizes_of tree) ≡ []
     pub levels_are : sizes_of tree ≡ (1 ∷ []) ∷ []
     pub freed : List ℕ
-    pub freed_is : (number : ℕ) → count number freed ≡ count number (numbers_of tree)
     pub one : length freed ≡ 1
-    pub frees : Frees old new (numbers_of tree) freed
+    pub frees : Frees old new (numbers_of tree) [] freed

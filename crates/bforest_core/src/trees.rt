@@ -6,8 +6,9 @@ ghost use Rattle.bforest_core.specs.Change.{Ends, GivesNodes};
 ghost use Rattle.bforest_core.specs.Levels.{LevelNode, flat, half_of, sizes_of, most_levels, top_level};
 ghost use Rattle.bforest_core.specs.Descent.{NodeOver, Under};
 ghost use Rattle.bforest_core.specs.Place.{count, Distinct};
-ghost use Rattle.bforest_core.specs.Removal.{GivesAll, numbers_under};
+ghost use Rattle.bforest_core.specs.Removal.{numbers_under};
 ghost use Rattle.bforest_core.specs.Table.{slot_count};
+ghost use Rattle.bforest_core.specs.Trades.{Frees};
 ghost use Rattle.bforest_core.specs.Trees.{IsUnion, is_root, numbers_down, tree_of};
 
 use crate::pool::NodePool;
@@ -45,7 +46,7 @@ impl<K: Copy, V: Copy, const N: usize> NodePool<K, V, N> {
         ensures { (leaves : List (LevelNode K V)) (lower : List (List (LevelNode K ℕ))) (first : K)
             → Under N self.old.nodes leaves lower ((first, node) ∷ [])
             → Distinct (numbers_under leaves lower ++ self.old.chain)
-            → GivesAll self.old self.new (numbers_under leaves lower)
+            → Frees self.old self.new (numbers_under leaves lower) []
             (numbers_down self.old.nodes (length lower) node) }
     {
         if self.node(node).is_inner() {
@@ -65,7 +66,7 @@ impl<K: Copy, V: Copy, const N: usize> NodePool<K, V, N> {
         ensures { (leaves : List (LevelNode K V)) (lower : List (List (LevelNode K ℕ))) (first : K)
             → Under N self.old.nodes leaves lower ((first, node) ∷ [])
             → Distinct (numbers_under leaves lower ++ self.old.chain)
-            → GivesAll self.old self.new (numbers_under leaves lower)
+            → Frees self.old self.new (numbers_under leaves lower) []
             (numbers_down self.old.nodes (length lower) node) }
     {
         for index in 0..self.child_count(node) {

@@ -109,7 +109,8 @@ pub fn run(alloc: Global, kind: Kind, size: u32, rounds: Rounds) -> u64 {
     }
 }
 
-/// Makes a run on maps and sets of the toolchain's standard library, of a kind that has small maps or sets; else returns 0.
+/// Makes a run of small maps, of edges read by `iter`, or of small sets, on maps and sets of the toolchain's standard library. Of any other kind
+/// returns 0.
 pub fn run_std(alloc: Global, kind: Kind, size: u32, rounds: Rounds) -> u64 {
     match kind {
         Kind::Mixture | Kind::Indexed => run_std_mixture(alloc, size, calls(size), rounds),

@@ -1,8 +1,8 @@
 -- Splitting a full node, with a new entry in one half.
 use Rattle.bforest_core.proofs.Words.{◌≡◌, ℕ, suc, ◌-◌, ◌≤◌, ◌<◌, ◌≢◌, Some, List, [], ◌∷◌, ◌++◌, length, refl, sym, ap, ◌∙◌, append_assoc, length-append}
 use Rattle.bforest_core.proofs.Words.{arith, head_of, slice_get, subst, length-set, Content, IsCut, left_half, Table, with_node, with_front, front_of}
-use Rattle.bforest_core.proofs.Words.{IsSplitAt, count}
-use Rattle.bforest_core.proofs.{table.Tables.{Puts, count-same, puts, takes, length-with_front}, table.Stored.{Parts, some_same}, rows.Zipper.cut}
+use Rattle.bforest_core.proofs.{Words.{IsSplitAt, count, Draws}, table.Tables.{count-append, count-same, length-with_front}, table.Stored.{Parts, some_same}}
+use Rattle.bforest_core.proofs.{rows.Zipper.cut, table.Trading.{Puts, apart_from, draws-after, puts, takes}}
 use Rattle.bforest_nodes.specs.declared.node.SplitOff.{SplitOff}
 
 -- if a list is cut twice, the later cut is in the second part of the earlier one
@@ -24,11 +24,8 @@ module _ {K V X : Type 0} (content : List (K × X) → Content K V) where
     pub ne : n ≢ right
     pub here : slice_get u.nodes n ≡ Some (content lefts)
     pub there : slice_get u.nodes right ≡ Some (content rights)
-    pub same : (m : ℕ) → m ≢ n → m ≢ right → slice_get u.nodes m ≡ slice_get t.nodes m
-    pub chain_is : t.chain ≡ right ∷ u.chain
-    pub slots_are : length u.nodes ≡ length t.nodes
-    pub limit_is : u.limit ≡ t.limit
-    pub memory_is : u.memory ≡ t.memory
+    pub draws : Draws t u (n ∷ []) (n ∷ right ∷ []) (right ∷ [])
+    pub open draws use *
 
   -- a full node split over two slots
   pub record Split (t s : Table K V) (n right left_count : ℕ) (es : List (K × X)) (key : K) : Type 0 where
@@ -77,7 +74,7 @@ module _ {K V X : Type 0} (content : List (K × X) → Content K V) where
         let mid = with_front t t.chain sp.right_half_is in let size = ap (λ v. length v.nodes) sp.after ∙ length-set _ n _ ∙ length-with_front t _ _ in
         let w = takes t mid right sp.right_half_is front refl (omega arith) in
         let ne : n ≢ right = λ v. let h = ap (λ k. count k t.chain) v in omega (arith, ap (λ k. count right k) w.chain_is, count-same right mid.chain) in
-        let put = puts _ s n _ _ (w.same n ne ∙ was) sp.after in
+        let put = puts _ s n _ _ (w.others n (apart_from n right ne) ∙ was) sp.after in
         record {
           zs = c.l;
           y = c.x;
@@ -88,28 +85,20 @@ module _ {K V X : Type 0} (content : List (K × X) → Content K V) where
           two = record {
             ne = ne;
             here = cc;
-            there = cc (put.same right (λ e. ne (sym e)));
-            same = λ m a b. put.same m a ∙ w.same m b;
-            chain_is = cc;
-            slots_are = cc;
-            limit_is = cc;
-            memory_is = cc;
+            there = cc (put.others right (apart_from right n (λ e. ne (sym e))));
+            draws = draws-after _ _ (λ m. omega (arith, count-append m (n ∷ []) (right ∷ []))) w.draws put.frees;
           };
         }
 
   module _ {t s : _} (u : Table K V) {n right lefts rights : _} (w : Two t s n right lefts rights) where
     -- one of the two nodes was written
     two_put : {m c : _} (xs ys : _) → Puts s u m c → slice_get u.nodes n ≡ Some (content xs) → slice_get u.nodes right ≡ Some (content ys) →
-        ((k : ℕ) → k ≢ n → k ≢ right → k ≢ m) → Two t u n right xs ys
-    two_put xs ys put here there apart = record {
+        ((k : ℕ) → count k (m ∷ []) ≤ count k (n ∷ right ∷ [])) → Two t u n right xs ys
+    two_put xs ys put here there one = record {
       ne = w.ne;
       here = here;
       there = there;
-      same = λ k a b. put.same k (apart k a b) ∙ w.same k a b;
-      chain_is = cc;
-      slots_are = cc;
-      limit_is = cc;
-      memory_is = cc;
+      draws = draws-after _ _ (λ k. omega (arith, one k)) w.draws put.frees;
     }
 
   -- two nodes whose sizes are those of halves are halves
@@ -132,7 +121,8 @@ module _ {K V X : Type 0} (content : List (K × X) → Content K V) where
         two_halves _ _ _ _ _ _ (cc (append_assoc l (new ∷ w.0) (sp.y ∷ sp.ys)))
         (omega (arith, length-append l (new ∷ w.0), length-append l w.0, ap length w.1, sp.count_is))
         (omega (arith, ap length sp.es_is, length-append sp.zs (sp.y ∷ sp.ys), sp.count_is)) (omega arith) (ap (λ v. (v, right) ∷ []) (sym sp.key_is))
-        (two_put u sp.two (l ++ new ∷ w.0) (sp.y ∷ sp.ys) put put.here (put.same right (λ v. sp.two.ne (sym v)) ∙ sp.two.there) (λ k a b. a))
+        (two_put u sp.two (l ++ new ∷ w.0) (sp.y ∷ sp.ys) put put.here (put.others right (apart_from right n (λ v. sp.two.ne (sym v))) ∙ sp.two.there)
+        (λ k. omega (arith, count-append k (n ∷ []) (right ∷ []))))
 
     -- the entry was inserted into the right half, whose first key it may be
     pub into_right : (first : K) → es ≡ l ++ r → q ≤ length l → 1 ≤ q → (length l - q ≡ 0 → first ≡ new.0) → (0 < length l - q → first ≡ middle) →
@@ -146,4 +136,5 @@ module _ {K V X : Type 0} (content : List (K × X) → Content K V) where
         (omega (arith, length-append w.0 (new ∷ r), length-append w.0 r, ap length w.2, ap length sp.es_is, length-append sp.zs (sp.y ∷ sp.ys), sp.count_is))
         (omega (arith, some)) (middle_key right w.0 new r sp.y sp.ys first w.2 (λ none. zero (omega (arith, none)))
         (λ few. more (omega (arith, few)) ∙ sp.key_is))
-        (two_put u sp.two sp.zs (w.0 ++ new ∷ r) put (put.same n sp.two.ne ∙ sp.two.here) put.here (λ k a b. b))
+        (two_put u sp.two sp.zs (w.0 ++ new ∷ r) put (put.others n (apart_from n right sp.two.ne) ∙ sp.two.here) put.here
+        (λ k. omega (arith, count-append k (n ∷ []) (right ∷ []))))

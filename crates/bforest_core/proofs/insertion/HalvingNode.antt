@@ -1,13 +1,11 @@
 -- Inserting a child into the path's inner node, or splitting the node and inserting it into one half, and a new root.
 use Rattle.bforest_core.proofs.Words.{◌≡◌, ℕ, suc, ◌+◌, ◌-◌, ◌≤◌, ◌<◌, if◌then◌else◌, Bool, true, List, [], ◌∷◌, ◌++◌, length, refl, sym, ap, ◌∙◌}
-use Rattle.bforest_core.proofs.Words.{append_assoc, length-append, arith, Row, node, flat, heads, sizes, Table, map, get_or}
-use Rattle.bforest_core.proofs.Words.{IsFullAt, inner_gain, need_above, GrownBy, HalvedBy, OneAbove, PutsChild}
-use Rattle.bforest_core.proofs.{rows.Zipper.{Spot, spot}, table.Tables.{Takes, absent_ne, count-same}}
-use Rattle.bforest_core.proofs.insertion.{Level.{draws-apart, next_takes}, Grow.{Moves, gain_full, gain_room, inner_kind, need_some, step_is, step_most}}
-use Rattle.bforest_core.proofs.{Words.{Heads, Rows, Above, Grown, Raised, Inner, inner_content, set, get_or-set_same, get_or-set_other}}
-use Rattle.bforest_core.proofs.{insertion.Nodes.{Inserting, full_is, put_raises}}
-use Rattle.bforest_core.proofs.{Words.{Some, gain_above}, Words.count, removal.Lifted.{head-other, heads-put, place_at, rows_above}}
-use Rattle.bforest_core.proofs.{rows.LevelRows.{Solid-full, sizes-append}}
+use Rattle.bforest_core.proofs.Words.{append_assoc, length-append, arith, Row, node, flat, heads, sizes, Table, map, get_or, IsFullAt, inner_gain, need_above}
+use Rattle.bforest_core.proofs.Words.{GrownBy, HalvedBy, OneAbove, PutsChild, Heads, Rows, Above, Grown, Raised, Inner, inner_content, set, get_or-set_same}
+use Rattle.bforest_core.proofs.{Words.{get_or-set_other, Some, gain_above, count}, rows.Zipper.{Spot, spot}, table.Tables.count-same}
+use Rattle.bforest_core.proofs.{insertion.Level.next_takes, insertion.Grow.{Moves, gain_full, gain_room, inner_kind, need_some, step_is, step_most}}
+use Rattle.bforest_core.proofs.{insertion.Nodes.{Inserting, full_is, put_raises}, removal.Lifted.{head-other, heads-put, place_at, rows_above}}
+use Rattle.bforest_core.proofs.{rows.LevelRows.{Solid-full, sizes-append}, table.Trading.{Takes, takes, trades-apart}}
 
 -- a split of the root takes a node for the new root too
 pub need_top : {K : Type 0} (p : ℕ) (rows : Rows K) → length rows ≡ 0 → need_above (Some p) (map sizes rows) ≡ 2
@@ -27,7 +25,7 @@ module _ {K V : Type 0} where
       inside = (g.inside, g.above.inside);
       stands = (g.at, g.above.stands);
       height = omega (arith, g.above.height);
-      apart = draws-apart g.draws (rw is at ab.apart);
+      apart = trades-apart g.draws (rw is at ab.apart);
     };
     topped = λ old le top. (omega (arith, top.0), g.topped top.1);
     sizes_are = g.sizes_are;
@@ -62,14 +60,7 @@ module _ {K V : Type 0} where
             };
             topped = λ old le top. (omega arith, tt);
             sizes_are = refl;
-            draws = record {
-              numbers_are = λ m. omega arith;
-              others = λ m z. w.same m (absent_ne m root [] (omega arith));
-              chain_is = w.chain_is;
-              slots_are = w.slots_are;
-              limit_is = w.limit_is;
-              memory_is = w.memory_is;
-            };
+            draws = w.draws;
             climbs = record {
               nodes_below = λ i low. get_or-set_other ms size i root 0 (λ e. omega arith);
               entries_below = λ i low. get_or-set_other js size i index 0 (λ e. omega arith);

@@ -1,16 +1,14 @@
 -- The effect of an insertion into the tree under a root on the table, where nodes were reserved for it.
-use Rattle.bforest_core.proofs.Words.{drop-append_seam, ◌≡◌, ℕ, ◌-◌, ◌^◌, ◌≤◌, ◌<◌, ◌≢◌, ◌↔◌, IsTrue, Option, Some, None, List, [], ◌∷◌, ◌++◌, map}
-use Rattle.bforest_core.proofs.Words.{length, insert, slice_get, sym, ap, ◌∙◌, subst, inl, inr, length-append, arith, Heads, Row, Rows, flat_map, cases_lt}
-use Rattle.bforest_core.proofs.Words.{eqb_tells, length-map, Table, fresh_nodes, front_of, free_count, slot_count, room, reserved, IsFullAt, node}
-use Rattle.bforest_core.proofs.Words.{IsFit, heads, sizes, numbers, Stacked, Topped, Tree, sizes_of, leaf_gain, gain_above, growth, need, Stands, count}
-use Rattle.bforest_core.proofs.Words.{root_of}
-use Rattle.bforest_core.proofs.Words.{numbers_of, top_of, Placed, Inserted, GrowsFor, tree_of, is_root, IsUnion, Changes, TakesNodes, PlacedUnder, StandsUnder}
-use Rattle.bforest_core.proofs.{Words.{InsertsHere, list_under, Ok, Path, Placing, refl, place}, union.Reserved.{reserved-union, reserved-roots, reserved-then}}
-use Rattle.bforest_core.proofs.{rows.Counts.{once_below, below-one, few-below}, table.Allocating.{reserved-enough, reserved-free}}
-use Rattle.bforest_core.proofs.{table.Lists.slice_get-append_left, table.Chains.length-fresh_nodes, rows.Bounds.climb-seventeen, union.Unions.Rooted}
-use Rattle.bforest_core.proofs.{union.Unions.rooted, table.Tables.count-append, rows.Tops.{root-points, root-stands}, union.Forests.root-among}
-use Rattle.bforest_core.proofs.{union.Exchange.IsPlanted}
-use Rattle.bforest_core.proofs.{union.Roots.exchanged, removal.Removal.place_low}
+use Rattle.bforest_core.proofs.Words.{drop-append_seam, ◌≡◌, ℕ, ◌-◌, ◌^◌, ◌≤◌, ◌<◌, ◌≢◌, ◌↔◌, IsTrue, Option, Some, None, List, [], ◌∷◌, ◌++◌, map, length}
+use Rattle.bforest_core.proofs.Words.{insert, slice_get, sym, ap, ◌∙◌, subst, inl, inr, length-append, arith, Heads, Row, Rows, flat_map, cases_lt, eqb_tells}
+use Rattle.bforest_core.proofs.Words.{length-map, Table, fresh_nodes, front_of, free_count, slot_count, room, reserved, IsFullAt, node, IsFit, heads, sizes}
+use Rattle.bforest_core.proofs.Words.{numbers, Stacked, Topped, Tree, sizes_of, leaf_gain, gain_above, growth, need, Stands, count, root_of, numbers_of}
+use Rattle.bforest_core.proofs.Words.{top_of, Placed, Inserted, GrowsFor, tree_of, is_root, IsUnion, Changes, TakesNodes, PlacedUnder, StandsUnder}
+use Rattle.bforest_core.proofs.Words.{InsertsHere, list_under, Ok, Path, Placing, refl, place}
+use Rattle.bforest_core.proofs.{union.Reserved.{reserved-union, reserved-roots, reserved-then}, rows.Counts.{once_below, below-one, few-below}}
+use Rattle.bforest_core.proofs.{table.Allocating.{reserved-enough, reserved-free}, table.Lists.slice_get-append_left, table.Chains.length-fresh_nodes}
+use Rattle.bforest_core.proofs.{rows.Bounds.climb-seventeen, union.Unions.{Rooted, rooted}, table.Tables.count-append, rows.Tops.{root-points, root-stands}}
+use Rattle.bforest_core.proofs.{union.Forests.root-among, union.Exchange.IsPlanted, union.Roots.exchanged, removal.Removal.place_low}
 use Rattle.bforest_core.specs.Paths.{sizes_under}
 
 -- a row has no more heads than nodes
@@ -80,14 +78,13 @@ module _ {K V : Type 0} where
   insertion {most} old {new} root memory {place} {size = size} {path'} {indices'} {size'} union p low enough held i =
       let tree = tree_of old.nodes root in let n = need most place (sizes_of tree) in let mid = reserved old n memory in
       let roots = reserved-roots most old n memory union root in let same = roots.1 p.root_is in let union_mid = reserved-union most old n memory union in
-      let r = rw same at (rooted most mid root union_mid (roots.0 ∙ p.root_is)) in let nums = λ (m : ℕ). ap (λ z. count m (numbers_of z)) same in
+      let r = rw same at (rooted most mid root union_mid (roots.0 ∙ p.root_is)) in
       let tree' : Tree K V = record { leaves = i.row'; above = i.rows' } in
       let fit : IsFit most tree' = record { leaves_fit = i.fit; stacked = i.above.stacked; topped = i.topped r.fit.topped } in
       let stands : Stands path' indices' size' tree' place = record { leaf = i.at; above = i.above.stands; size_is = omega (arith, i.above.height) } in
       let planted : IsPlanted most new.nodes tree' =
       record { fit = fit; inside = record { leaves_in = i.inside; rows_in = i.above.inside }; some = omega (arith, place_low path' indices' size' tree' place stands); low = omega (arith, low, i.above.height) } in
-      let e = exchanged root i.taken union_mid (roots.0 ∙ p.root_is) planted i.chain_is i.slots_are (λ m. omega (arith, i.numbers_are m, nums m))
-      (λ m none. i.others m (omega (arith, nums m))) in
+      let e = exchanged root {taken = i.taken} union_mid (roots.0 ∙ p.root_is) planted (rw same i.draws) in
       let levels : length (growth most place (sizes_of tree)) ≡ size' = omega (arith, ap length i.sizes_are, length-map i.rows' sizes, i.above.height) in
       let root_is = root-stands fit stands in
       record {
@@ -114,7 +111,7 @@ module _ {K V : Type 0} where
         same_root = (
           λ same. elim (eqb_tells size' size) [
             | inl w ↦ omega (arith, length-map tree.above sizes, levels)
-            | inr w ↦ absurd (new_ne new (top_of path' size') i.taken r i.chain_is (i.new_top w.1) same)
+            | inr w ↦ absurd (new_ne new (top_of path' size') i.taken r (sym i.chain_is) (i.new_top w.1) same)
           ],
           λ same. i.same_top (omega (arith, length-map tree.above sizes, levels)) ∙ sym (root-points _ _ _ _ _ _ (omega arith) r.fit p.at.points) ∙ r.root_is,
         );

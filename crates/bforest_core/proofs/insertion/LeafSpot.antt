@@ -1,14 +1,12 @@
 -- The leaf where an entry may be inserted: the insertion where the leaf has room, or its split.
 use Rattle.bforest_core.proofs.Words.{◌≡◌, ◌⊎◌, ℕ, zero, suc, ◌+◌, ◌≤◌, ◌<◌, Bool, true, List, [], ◌∷◌, ◌++◌, map, length, take, drop, insert, get_or, Some}
-use Rattle.bforest_core.proofs.Words.{None, inl, inr}
-use Rattle.bforest_core.proofs.Words.{refl, sym, ap, append_assoc, length-append, arith, cases_lt, nil_from_length, Heads, Row, Rows, LevelNode, node}
-use Rattle.bforest_core.proofs.Words.{flat, heads}
-use Rattle.bforest_core.proofs.Words.{sizes, FitRow, Tree, half_of, leaf_gain, need_above, Table, PutsEntry, Above, Rekeyed, Placed, Inserted}
-use Rattle.bforest_core.proofs.{rows.LevelRows.{Solid-full, flat-append, heads-append, least-pos, sizes-append}}
-use Rattle.bforest_core.proofs.{insertion.Grow.{here, leaf_full, leaf_kind, leaf_room}}
-use Rattle.bforest_core.proofs.{insertion.Nodes.{Inserting, put_raises}, table.Tables.{count-append, counts}, removal.LeafAt.as_many_heads}
-use Rattle.bforest_core.proofs.{rows.Zipper.{LeafCut, cut_leaf, spot}, removal.Lifted.{above_top, heads-put, rebuilt_same, rekey_first, rows_above}}
-use Rattle.bforest_core.proofs.removal.{Asked.some_first, Collapse.{heads-flat, topped-sizes}}
+use Rattle.bforest_core.proofs.Words.{None, inl, inr, refl, sym, ap, append_assoc, length-append, arith, cases_lt, nil_from_length, Heads, Row, Rows}
+use Rattle.bforest_core.proofs.Words.{LevelNode, node, flat, heads, sizes, FitRow, Tree, half_of, leaf_gain, need_above, Table, PutsEntry, Above, Rekeyed}
+use Rattle.bforest_core.proofs.{Words.{Placed, Inserted, count}, rows.LevelRows.{Solid-full, flat-append, heads-append, least-pos, sizes-append}}
+use Rattle.bforest_core.proofs.{insertion.Grow.{here, leaf_full, leaf_kind, leaf_room}, insertion.Nodes.{Inserting, put_raises}}
+use Rattle.bforest_core.proofs.{table.Tables.{count-append, counts}, removal.LeafAt.as_many_heads, rows.Zipper.{LeafCut, cut_leaf, spot}}
+use Rattle.bforest_core.proofs.{removal.Lifted.{above_top, heads-put, rebuilt_same, rekey_first, rows_above}, removal.Asked.some_first}
+use Rattle.bforest_core.proofs.removal.Collapse.{heads-flat, topped-sizes}
 
 module _ {K V : Type 0} {t : Table K V} {path indices : List ℕ} {size : ℕ} where
   -- the rows above a level, under another first key of its first node
@@ -128,12 +126,12 @@ module _ {K V : Type 0} where
             inside = d.inside;
             fit = d.fit.leaves_fit;
             apart = λ m. (let c = λ (rows : Rows K). counts m before n (l ++ r) after rows t.chain in
-                omega (arith, d.apart m, up.numbers_are m, c up.rows', c tree.above));
+                omega (arith, d.apart m, up.frees.numbers_are m, c up.rows', c tree.above));
             above = up.above;
             topped = λ top. topped-sizes _ _ _ _ d.fit.stacked up.above.stacked
                 (as_many_heads before n (l ++ r) (l ++ entry ∷ r) after some new) up.sizes_are d.fit.topped;
             sizes_above = up.sizes_are;
-            numbers_above = λ m. omega (arith, up.numbers_are m);
+            numbers_above = λ m. omega (arith, up.frees.numbers_are m);
           };
         }
 

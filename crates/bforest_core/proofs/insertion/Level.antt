@@ -1,35 +1,14 @@
 -- A level whose node gained an entry or was split, for leaves and inner nodes alike, and what the levels above do to it.
-use Rattle.bforest_core.proofs.Words.{◌≡◌, ℕ, suc, ◌+◌, ◌-◌, ◌≤◌, ◌<◌, if◌then◌else◌, Bool, Option, Some, None, List, [], ◌∷◌, ◌++◌, length, refl}
-use Rattle.bforest_core.proofs.Words.{sym, ap, ◌∙◌, append_assoc, arith, length-append, length-map, get_or, slice_get, map, flat_map, Row, Rows, node, flat}
-use Rattle.bforest_core.proofs.Words.{heads, sizes, numbers, FitRow, Topped, Content, Table, RowIn, Distinct, count, Above}
-use Rattle.bforest_core.proofs.Words.{gain_above, need_above, OneAbove, Grown, GrownBy, Halved, Raised, Draws, add-one}
-use Rattle.bforest_core.proofs.{insertion.Grow.{InHalf, gain_some}, insertion.Halving.Halves}
-use Rattle.bforest_core.proofs.{table.Tables.{Puts, count-append, count-row, count-same, counts, ne_from_count, absent_ne, row-changed, row-put, row-same}}
-use Rattle.bforest_core.proofs.{table.Tables.rows-same}
-use Rattle.bforest_core.proofs.{rows.LevelRows.{flat-append, sizes-append, heads-append, least-le, FitRow-join, FitRow-split, Solid-full}}
-use Rattle.bforest_core.proofs.walks.TopNode.{SameBut}
-use Rattle.bforest_core.proofs.rows.Zipper.{apart_here, stands-same}
+use Rattle.bforest_core.proofs.Words.{◌≡◌, ℕ, suc, ◌+◌, ◌-◌, ◌≤◌, ◌<◌, if◌then◌else◌, Bool, Option, Some, None, List, [], ◌∷◌, ◌++◌, length, refl, sym, ap}
+use Rattle.bforest_core.proofs.Words.{◌∙◌, append_assoc, arith, length-append, length-map, get_or, slice_get, map, flat_map, Row, Rows, node, flat, heads}
+use Rattle.bforest_core.proofs.Words.{sizes, numbers, FitRow, Topped, Content, Table, RowIn, Distinct, count, Above, gain_above, need_above, OneAbove, Grown}
+use Rattle.bforest_core.proofs.{Words.{GrownBy, Halved, Raised, add-one}, insertion.Grow.{InHalf, gain_some}, insertion.Halving.Halves}
+use Rattle.bforest_core.proofs.table.Tables.{count-append, count-row, count-same, counts, row-changed, row-same, rows-same}
+use Rattle.bforest_core.proofs.table.Trading.{Puts, draws-then, not_there, row-put, trades-wider, takes}
+use Rattle.bforest_core.proofs.rows.LevelRows.{flat-append, sizes-append, heads-append, least-le, FitRow-join, FitRow-split, Solid-full}
+use Rattle.bforest_core.proofs.{walks.TopNode.SameBut, rows.Zipper.{apart_here, stands-same}}
 
 module _ {K V : Type 0} where
-  -- the numbers are on the chain or in one node, as before
-  pub draws-apart : {t u : Table K V} {was are taken : _} → Draws t u was are taken → Distinct (was ++ t.chain) → Distinct (are ++ u.chain)
-  draws-apart {t} {u} {was} {are} {taken} d apart m = let c = ap (λ z. count m z) d.chain_is in
-      omega (arith, apart m, d.numbers_are m, count-append m was t.chain, count-append m are u.chain, count-append m taken u.chain)
-
-  -- a split of one of the nodes `row`, and then a change of those above them
-  draws-then : {t u v : Table K V} {was : List ℕ} (row mid : List ℕ) {are taken : List ℕ} {right : ℕ} → Draws t u was (row ++ mid) (right ∷ []) →
-      Draws u v mid are taken →
-      Draws t v was (row ++ are) (right ∷ taken)
-  draws-then row mid {are} {taken} d e = record {
-    numbers_are = λ m. omega (arith, d.numbers_are m, e.numbers_are m, count-append m row mid, count-append m row are);
-    others = λ m none. (let none_above : count m mid + count m taken ≡ 0 = omega (arith, d.numbers_are m, count-append m row mid) in
-        e.others m none_above ∙ d.others m (omega arith));
-    chain_is = cc;
-    slots_are = cc;
-    limit_is = cc;
-    memory_is = cc;
-  }
-
   -- the rows above a level, after a change of the table and of the path on that level
   above-moved : {t : Table K V} (u : Table K V) {ms js : List ℕ} (ms' js' : List ℕ) {up size rows list p : _} →
       ((m : ℕ) → 0 < count m (flat_map numbers rows) → slice_get u.nodes m ≡ slice_get t.nodes m) →
@@ -84,20 +63,13 @@ module _ {K V X : Type 0} {content : List (K × X) → Content K V} {half most :
     flat_is = flat-append before _ ∙ w.list_is;
     fit = let f = FitRow-split half most before (node n es) after w.fit in
         FitRow-join half most before (node n fs) after f.0 (omega (arith, f.1.0), omega arith, f.1.2);
-    inside = row-put content t.nodes u.nodes before n es fs after w.inside s.same s.here alone.0;
+    inside = row-put content before es fs after w.inside s alone.0;
     at = record { before = before; entries = fs; after = after; row_is = refl; within = within; place_is = place };
-    above = rw seen at (above-moved u ms js' (λ m some. s.same m (ne_from_count m n _ some alone.1))
+    above = rw seen at (above-moved u ms js' (λ m some. s.others m (not_there m n _ some alone.1))
         (λ m. omega (arith, w.apart m, c m, ap (λ z. count m z) s.chain_is, count-append m (flat_map numbers rest) u.chain)) (λ i other. refl) far w.above);
     topped = w.topped;
     sizes_are = rw gain_is (cc (more, w.sizes_above, sizes-append before (node n fs ∷ after)));
-    draws = record {
-      numbers_are = λ m. omega (arith, was m, counts m before n fs after rest t.chain);
-      others = λ m none. s.same m (absent_ne m n (numbers after) (omega (arith, was m)));
-      chain_is = sym s.chain_is;
-      slots_are = s.slots_are;
-      limit_is = s.limit_is;
-      memory_is = s.memory_is;
-    };
+    draws = trades-wider _ _ (λ m. omega (arith, was m, count-append m (n ∷ []) (numbers after), counts m before n fs after rest t.chain)) s.frees;
     climbs = record { nodes_below = λ i low. refl; entries_below = λ i low. far i (λ e. omega arith); same_top = λ e. refl; new_top = λ ne. absurd (ne refl) };
   }
 
@@ -116,6 +88,8 @@ module _ {K V X : Type 0} {content : List (K × X) → Content K V} {half most :
       let none = alone in let f = FitRow-split half most before (node n es) after w.fit in
       let none_right : count right (numbers before) + count right (numbers after) ≡ 0 = omega (arith, w.apart right, c right, c4 right) in
       let none_above : count right (flat_map numbers rest) ≡ 0 = omega (arith, w.apart right, c right, c4 right) in
+      let both : (m : ℕ) (ms : List ℕ) → 0 < count m ms → count n ms ≡ 0 → count right ms ≡ 0 → count m (right ∷ n ∷ []) ≡ 0 =
+      λ m ms some a b. omega (arith, not_there m n ms some a, not_there m right ms some b, count-append m (right ∷ []) (n ∷ [])) in
       record {
         before = before;
         after = after;
@@ -129,8 +103,9 @@ module _ {K V X : Type 0} {content : List (K × X) → Content K V} {half most :
         fit = FitRow-join half most before (node n (h.z ∷ h.xs)) (node right (h.y ∷ h.ys) ∷ after) f.0
             (omega arith, omega arith, (omega (arith, least-le half w.half_some after), omega arith, f.1.2));
         inside = row-changed content t.nodes u.nodes before (node n es ∷ [])
-            (node n (h.z ∷ h.xs) ∷ node right (h.y ∷ h.ys) ∷ []) after n right w.inside h.two.same (h.two.here, (h.two.there, tt)) none.0 none_right;
-        above = rw hs at (above-moved u ms' js' (λ m some. h.two.same m (ne_from_count m n _ some none.1) (ne_from_count m right _ some none_above))
+            (node n (h.z ∷ h.xs) ∷ node right (h.y ∷ h.ys) ∷ []) after (right ∷ n ∷ []) w.inside h.two.others (h.two.here, (h.two.there, tt))
+            (λ m some. both m (numbers before ++ numbers after) (omega (arith, count-append)) (omega (arith, count-append)) (omega (arith, count-append)));
+        above = rw hs at (above-moved u ms' js' (λ m some. h.two.others m (both m _ some none.1 none_above))
             (λ m. omega (arith, w.apart m, c m, c4 m, count-append m (flat_map numbers rest) u.chain)) far_m far_j w.above);
         topped = rw hs at w.topped;
         sizes_above = w.sizes_above;
@@ -138,14 +113,7 @@ module _ {K V X : Type 0} {content : List (K × X) → Content K V} {half most :
         at = at.0;
         at_is = at.1;
         apart = λ m. omega (arith, w.apart m, c m, c2 m, c4 m);
-        draws = record {
-          numbers_are = λ m. omega (arith, was m, c2 m);
-          others = λ m none. h.two.same m (absent_ne m n (numbers after) (omega (arith, was m))) (absent_ne m right [] (omega arith));
-          chain_is = h.two.chain_is;
-          slots_are = h.two.slots_are;
-          limit_is = h.two.limit_is;
-          memory_is = h.two.memory_is;
-        };
+        draws = trades-wider _ _ (λ m. omega (arith, was m, c2 m, count-append m (n ∷ []) (numbers after), count-append m (n ∷ right ∷ []) (numbers after))) h.two.draws;
         nodes_below = λ i low. far_m i (λ e. omega arith);
         entries_below = λ i low. far_j i (λ e. omega arith);
         nodes_above = λ i high. far_m i (λ e. omega arith);
@@ -177,13 +145,12 @@ module _ {K V X : Type 0} {content : List (K × X) → Content K V} {half most :
         flat_is = h.flat_is;
         fit = h.fit;
         inside = row-same content u.nodes v.nodes halves (λ m some.
-            (let chain = ap (λ z. count m z) g.chain_is in let above = count-append m (numbers halves) (flat_map numbers rest) in
-            g.others m (omega (arith, h.apart m, count-append m (numbers halves ++ flat_map numbers rest) u.chain, count-append m taken v.chain)))) h.inside;
+            (let chain = ap (λ z. count m z) g.chain_is in g.others m (omega (arith, h.apart m, count-append)))) h.inside;
         at = let a = h.at in record { before = a.before; entries = a.entries; after = a.after; row_is = rw here_m a.row_is; within = rw here_j a.within; place_is = rw here_j a.place_is };
         above = above;
         topped = λ top. rw hs (g.topped _ (omega (arith, length-append {A = K × ℕ})) (h.topped top));
         sizes_are = cc;
-        draws = draws-then (numbers halves) (flat_map numbers rest) h.draws g.draws;
+        draws = draws-then _ _ (λ m. omega (arith, count-append m (numbers halves) (flat_map numbers rest), count-append m (numbers halves) (flat_map numbers g.rows'))) h.draws g.draws;
         climbs = record {
           nodes_below = λ i low. g.nodes_below i (omega arith) ∙ h.nodes_below i low;
           entries_below = λ i low. g.entries_below i (omega arith) ∙ h.entries_below i low;

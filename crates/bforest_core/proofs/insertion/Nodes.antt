@@ -1,16 +1,12 @@
 -- A new entry in the path's node on a level, or in one half of it, for leaves and inner nodes alike.
-use Rattle.bforest_core.proofs.Words.{◌≡◌, ℕ, suc, ◌+◌, ◌-◌, ◌≤◌, ◌<◌, Bool, true, false, Some, None, List, [], ◌∷◌}
-use Rattle.bforest_core.proofs.Words.{◌++◌, length, map, refl, sym, ap, ◌∙◌, length-append, arith, node, heads, sizes}
-use Rattle.bforest_core.proofs.Words.{get_or, set, slice_get, get_or_default, get_or-set_same, false≢true, Content, IsFree, Table}
-use Rattle.bforest_core.proofs.Words.{entry_count, entry_capacity, entry_items, with_node}
-use Rattle.bforest_core.proofs.Words.{front_of, IsUsed, IsFullAt, IsSplitAt, PutsIn, Halved, Raised, gain_above}
-use Rattle.bforest_core.proofs.{insertion.Halving.{Split, counted, split_at, into_left, into_right}, insertion.Level.{Growing, alone, halved, put_level, seen}}
-use Rattle.bforest_core.proofs.{Words.{IsTrue, OneAbove, need_above, slice_get_within, ◌↔◌, add-one}, removal.Asked.some_first, removal.Lifted.headed}
-use Rattle.bforest_core.proofs.{Words.{IsLeafCapacity, count}, rows.LevelRows.FitRow-split}
-use Rattle.bforest_core.proofs.{Words.{Option, Row, Rows, flat}, insertion.Grow.{Kind, Moves, PutAsks, in_left, in_right}}
-use Rattle.bforest_core.proofs.{table.Tables.{is_used, puts, row-split}, table.Lists.set-kept}
-use Rattle.bforest_core.proofs.table.Stored.{some_same}
-use Rattle.bforest_core.proofs.walks.TopNode.{set_but}
+use Rattle.bforest_core.proofs.Words.{◌≡◌, ℕ, suc, ◌+◌, ◌-◌, ◌≤◌, ◌<◌, Bool, true, false, Some, None, List, [], ◌∷◌, ◌++◌, length, map, refl, sym, ap, ◌∙◌}
+use Rattle.bforest_core.proofs.Words.{length-append, arith, node, heads, sizes, get_or, set, slice_get, get_or_default, get_or-set_same, false≢true, Content}
+use Rattle.bforest_core.proofs.Words.{IsFree, Table, entry_count, entry_capacity, entry_items, with_node, front_of, IsUsed, IsFullAt, IsSplitAt, PutsIn}
+use Rattle.bforest_core.proofs.Words.{Halved, Raised, gain_above, IsTrue, OneAbove, need_above, slice_get_within, ◌↔◌, add-one, IsLeafCapacity, count, Option}
+use Rattle.bforest_core.proofs.{Words.{Row, Rows, flat}, insertion.Halving.{Split, counted, split_at, into_left, into_right}}
+use Rattle.bforest_core.proofs.{insertion.Level.{Growing, alone, halved, put_level, seen}, removal.Asked.some_first, removal.Lifted.headed}
+use Rattle.bforest_core.proofs.{rows.LevelRows.FitRow-split, insertion.Grow.{Kind, Moves, PutAsks, in_left, in_right}, table.Tables.{is_used, row-split}}
+use Rattle.bforest_core.proofs.{table.Lists.set-kept, table.Stored.some_same, walks.TopNode.set_but, table.Trading.puts}
 use Rattle.bforest_nodes.specs.declared.node.SplitOff.{SplitOff}
 
 -- the path's node on a level, which is to hold the entry `y` behind the entries `l`. The path's place on the level is `place`

@@ -1,9 +1,10 @@
 -- Leaves and inner nodes as stored, for the calls on two neighbours.
+use Rattle.bforest_core.proofs.table.Tables.{count-append}
 use Rattle.bforest_core.proofs.Words.{true, ◌≡◌, ℕ, suc, ◌+◌, ◌-◌, ◌/◌, ◌≤◌, ◌<◌, ◌≢◌, List, [], ◌∷◌, ◌++◌, length, slice_get, Option, Some, None, refl, sym}
 use Rattle.bforest_core.proofs.Words.{ap, ◌∙◌, subst, inl, inr, length-append, arith, length-map, map-append, cases_lt, Content, IsFree, IsSameKind}
 use Rattle.bforest_core.proofs.Words.{entry_count, entry_capacity, joined, IsCut, Balances, left_share, Table, with_node, IsBalancedAt, Frees, Bool, false}
 use Rattle.bforest_core.proofs.{Words.{IsLeafCapacity, content_at, half_at, most_at}, table.Stored.{some_same, Parts, inner_cuts, leaf_cuts}}
-use Rattle.bforest_core.proofs.{table.Tables.{count-same, puts}, removal.{Frees.{frees-after, frees-puts}, Asked.some_first}, rows.Zipper.cut}
+use Rattle.bforest_core.proofs.{removal.Asked.some_first, rows.Zipper.cut, table.Trading.{apart_from, frees-after, puts}}
 
 -- half of a node's capacity and the whole of it
 pub record IsHalf (half most : ℕ) : Type 0 where
@@ -49,18 +50,17 @@ module _ {K V X : Type 0} (content : List (K × X) → Content K V) where
   pub record PutsTwo (t u : Table K V) (n q : ℕ) (c d : Content K V) : Type 0 where
     pub here : slice_get u.nodes n ≡ Some c
     pub there : slice_get u.nodes q ≡ Some d
-    pub same : (m : ℕ) → m ≢ n → m ≢ q → slice_get u.nodes m ≡ slice_get t.nodes m
-    pub frees : Frees t u (n ∷ q ∷ []) []
+    pub frees : Frees t u (n ∷ q ∷ []) (n ∷ q ∷ []) []
+    pub open frees use *
 
   -- two writes in sequence write two slots
   puts_two : (t u : Table K V) (n q c d old_n old_q : _) → slice_get t.nodes n ≡ Some old_n → slice_get t.nodes q ≡ Some old_q → n ≢ q → u ≡ with_node (with_node t n c) q d → PutsTwo t u n q c d
-  puts_two t u n q c d old_n old_q fn fq ne is = let v = with_node t n c in let own = n ∷ q ∷ [] in let one = puts _ _ _ c old_n fn refl in
-      let two = puts _ _ _ d old_q (one.same q (λ e. ne (sym e)) ∙ fq) is in
+  puts_two t u n q c d old_n old_q fn fq ne is = let v = with_node t n c in let one = puts _ _ _ c old_n fn refl in
+      let two = puts _ _ _ d old_q (one.others q (apart_from q n (λ e. ne (sym e))) ∙ fq) is in
       record {
-        here = two.same n ne ∙ one.here;
+        here = two.others n (apart_from n q ne) ∙ one.here;
         there = two.here;
-        same = λ m a b. two.same m b ∙ one.same m a;
-        frees = frees-after (λ m none. none) (frees-puts own (omega (arith, count-same n (q ∷ []))) one) (frees-puts own (omega (arith, count-same q [])) two);
+        frees = frees-after _ _ (λ m. omega (arith, count-append m (n ∷ []) (q ∷ []))) one.frees two.frees;
       }
 
   -- both nodes were merged into the right one

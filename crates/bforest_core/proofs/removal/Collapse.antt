@@ -2,10 +2,10 @@
 use Rattle.bforest_core.proofs.Words.{◌≡◌, ◌≢◌, ℕ, suc, ◌+◌, ◌-◌, ◌≤◌, ◌<◌, Some, List, [], ◌∷◌, ◌++◌, map, length, drop, get_or, slice_get, refl, sym, ap}
 use Rattle.bforest_core.proofs.Words.{◌∙◌, append_assoc, append-nil, length-append, arith, Heads, Row, Rows, nil_from_length, flat_map, flat_map-append}
 use Rattle.bforest_core.proofs.Words.{Content, IsUsed, Table, with_freed, node, flat, heads, sizes, numbers, Stacked, Topped, trimmed, RowsIn, inner_content}
-use Rattle.bforest_core.proofs.{Words.{entry_keys, entry_items, count, root_above, first_number, StandsAbove, UpTo, Trimmed}, table.Tables.count-append}
-use Rattle.bforest_core.proofs.{table.Tables.{count-same, ne_from_count, rows-same, is_used}, removal.Asked.{NodeAt, ChildAt, ReadsChild, Counts, some_first}}
-use Rattle.bforest_core.proofs.{removal.Frees.{frees-refl, freed_other, frees-first}, table.Stored.{item_count, some_same}, rows.LevelRows.least-pos}
-use Rattle.bforest_core.proofs.walks.RowNodes.{fit_full}
+use Rattle.bforest_core.proofs.Words.{entry_keys, entry_items, count, root_above, first_number, StandsAbove, UpTo, Trimmed}
+use Rattle.bforest_core.proofs.{table.Tables.{count-append, count-same, rows-same, is_used}, removal.Asked.{NodeAt, ChildAt, ReadsChild, Counts, some_first}}
+use Rattle.bforest_core.proofs.{table.Stored.{item_count, some_same}, rows.LevelRows.least-pos, walks.RowNodes.fit_full}
+use Rattle.bforest_core.proofs.table.Trading.{not_there, trades-none, frees-then, freed_other, frees-one}
 
 -- a row has one size per node
 pub length-sizes : {K X : Type 0} (row : Row K X) → length (sizes row) ≡ length row
@@ -93,12 +93,11 @@ module _ {K V : Type 0} where
     stacked = u.stacked;
     topped = topped;
     size_is = u.height;
-    freed_is = λ m. refl;
     one_each = refl;
     root_is = u.root_is;
     same_root = λ e. refl;
     old_root = λ ne. absurd (ne refl);
-    frees = frees-refl t [];
+    frees = trades-none t [];
   }
 
   -- a leaf that is the root stays
@@ -152,7 +151,7 @@ module _ {K V : Type 0} where
           pub trim_down : UpTo v (size - 1) root_row.init list only
           trim_down = record {
             stacked = below.0;
-            inside = rows-same _ _ _ (λ m some. freed_other _ _ _ freed m (ne_from_count _ _ _ some none_else.0)) inside.0;
+            inside = rows-same _ _ _ (λ m some. freed_other _ _ _ freed m (not_there m root _ some none_else.0)) inside.0;
             height = omega (arith, simp length-append at rows_up.height);
             root_is = below.1 ∙ some_same
                 (ap (λ z. slice_get (entry_items z) 0) (sym child.1) ∙ reads (drop 1 (entry_keys root_row.entries)) (entry_items root_row.entries) slot_is);
@@ -163,7 +162,7 @@ module _ {K V : Type 0} where
           pub trim_then : {w size' root' gone : _} → Trimmed v w (size - 1) size' root_row.init list only root' gone →
               Trimmed t w size size' rows list root root' (gone ++ root ∷ [])
           trim_then {size'} {gone} r = let row = node root root_row.entries ∷ [] in let c = λ (m : ℕ). count_top m r.discarded root root_row.entries in
-              let parts = ap (λ z. count root z) (ap (flat_map numbers) r.rows_are ∙ flat_map-append numbers r.rows' r.discarded) in
+              let parts = λ (m : ℕ). ap (λ z. count m z) (ap (flat_map numbers) r.rows_are ∙ flat_map-append numbers r.rows' r.discarded) in
               let less : size' < size = omega (arith, simp length-append at rows_up.height, simp length-append at (ap length r.rows_are)) in
               record {
                 rows' = r.rows';
@@ -172,11 +171,11 @@ module _ {K V : Type 0} where
                 stacked = r.stacked;
                 topped = r.topped;
                 size_is = r.size_is;
-                freed_is = λ m. omega (arith, c m, count-append);
                 one_each = simp length-append (omega arith);
                 root_is = r.root_is;
                 same_root = λ same. absurd (omega arith);
                 old_root = λ ne. omega (arith, count-append, count-same root []);
-                frees = frees-first _ _ _ _ slot_is freed (omega (arith, c root, count-same root [])) (omega (arith, none_else.0, count-append))
-                    (λ m none. omega (arith, c m)) r.frees;
+                frees = frees-then _ _ (λ m. omega (arith, c m, count-append m (flat_map numbers r.discarded) (root ∷ [])))
+                    (λ m. omega (arith, rows_up.apart m, c m, count_top m root_row.init root root_row.entries, parts m, count-append))
+                    (frees-one _ _ _ slot_is freed) r.frees;
               }

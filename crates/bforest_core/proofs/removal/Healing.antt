@@ -4,10 +4,11 @@ use Rattle.bforest_core.proofs.Words.{Option, Some, None, Ok, Err, List, option_
 use Rattle.bforest_core.proofs.Words.{TakesFromLeaf, IsUnion, entry_keys, flat, is_present, leaf_content, place, search_of, tree_of, value_for, with_node}
 use Rattle.bforest_core.proofs.Words.{set-set, length-remove, ◌≢◌, ◌+◌, ◌/◌, ◌≤◌, ◌<◌, ◌∷◌, ◌++◌, arith, get_or, inl, inr, length, length-append, slice_get}
 use Rattle.bforest_core.proofs.Words.{nil_from_length, Content, Free, HasOthers, IsSingle, IsUsed, LeafLoss, Removed, Shrinks, StandsIn, Unbalanced, Table}
-use Rattle.bforest_core.proofs.{Words.{Tree, front_of, root_of, with_freed, without_entry}, table.{Lists.set-kept, Tables.{is_used, puts}, Stored.keys_count}}
-use Rattle.bforest_core.proofs.{insertion.LeafPut.{index_is, slot, stands, valued}, walks.LeafSearch.items-read, removal.LeafAt.{alone_last, LeafAt, leaf_at}}
-use Rattle.bforest_core.proofs.removal.{LeafAt.leaf_count, Removal.{outcome, removal, stands_in}, Asked.{Counts, NodeAt, some_first}, LeafEmptied.emptied_tree}
-use Rattle.bforest_core.proofs.{removal.{Removing.kept_removed, Taking.alone_loss}, rows.Tops.root-stands, union.Unions.rooted}
+use Rattle.bforest_core.proofs.{Words.{Tree, front_of, root_of, with_freed, without_entry}, table.Lists.set-kept, table.Tables.is_used}
+use Rattle.bforest_core.proofs.{table.Stored.keys_count, insertion.LeafPut.{index_is, slot, stands, valued}, walks.LeafSearch.items-read}
+use Rattle.bforest_core.proofs.{removal.LeafAt.{alone_last, LeafAt, leaf_at, leaf_count}, removal.Removal.{outcome, removal, stands_in}}
+use Rattle.bforest_core.proofs.{removal.Asked.{Counts, NodeAt, some_first}, removal.LeafEmptied.emptied_tree, removal.Removing.kept_removed}
+use Rattle.bforest_core.proofs.{removal.Taking.alone_loss, rows.Tops.root-stands, union.Unions.rooted, table.Trading.puts}
 use Rattle.std.specs.declared.cmp.Ordering.{Ordering}
 
 module _ {V : Type 0} (index : ℕ) where

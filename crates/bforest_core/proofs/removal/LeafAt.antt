@@ -1,12 +1,12 @@
 -- The leaf where a path stands, cut at the path's entry, the leaf without it, and whether the path is past all entries then.
 use Rattle.bforest_core.proofs.Words.{◌≡◌, ℕ, suc, ◌+◌, ◌≤◌, ◌<◌, Some, Option, List, [], ◌∷◌, ◌++◌, length, get_or, slice_get, refl, sym, ap, ◌∙◌}
-use Rattle.bforest_core.proofs.Words.{append_assoc, length-append, arith, Row, remove, Content, without_entry, Table, node, flat, heads, numbers}
-use Rattle.bforest_core.proofs.Words.{Tree, half_of, leaf_content, entry_keys, count, numbers_of, Above, StandsIn, LeafLoss, None, Bool, true, false, not}
-use Rattle.bforest_core.proofs.Words.{is_some, nil_from_length, OneAbove, NextIs, get_or_default, entry_count, Rekeyed, drop, take, length-drop}
-use Rattle.bforest_core.proofs.table.{Tables.{count-append, counts, count-same, row-split, row-put, row-same, Puts}, Stored.keys_count}
-use Rattle.bforest_core.proofs.removal.{Asked.{remove_at, remove_map, NodeAt, Beside, some_first, no_nodes, First}, Frees.{frees-after, frees-puts}}
-use Rattle.bforest_core.proofs.{removal.{Lifted.{headed, top_one}, Collapse.heads-flat}, rows.LevelRows.{flat-append, sizes-append, Solid-full, heads-append}}
-use Rattle.bforest_core.proofs.rows.Zipper.{LeafCut, cut_leaf}
+use Rattle.bforest_core.proofs.Words.{append_assoc, length-append, arith, Row, remove, Content, without_entry, Table, node, flat, heads, numbers, Tree}
+use Rattle.bforest_core.proofs.Words.{half_of, leaf_content, entry_keys, Above, StandsIn, LeafLoss, None, Bool, true, false, not, is_some, nil_from_length}
+use Rattle.bforest_core.proofs.Words.{OneAbove, NextIs, get_or_default, entry_count, Rekeyed, drop, take, length-drop, flat_map}
+use Rattle.bforest_core.proofs.{table.Tables.{count-append, counts, row-split, row-same}, table.Stored.keys_count}
+use Rattle.bforest_core.proofs.{removal.Asked.{remove_at, remove_map, NodeAt, Beside, some_first, no_nodes, First}, removal.Lifted.{headed, top_one}}
+use Rattle.bforest_core.proofs.{removal.Collapse.heads-flat, rows.LevelRows.{flat-append, sizes-append, Solid-full, heads-append}}
+use Rattle.bforest_core.proofs.{rows.Zipper.{LeafCut, cut_leaf}, table.Trading.{frees-after, Puts, row-put, trades-apart}}
 
 -- removing an entry of a node removes it from the list of the row
 pub remove_flat : {K V : Type 0} (before : Row K V) (n l x r after : _) →
@@ -61,9 +61,10 @@ module _ {K V : Type 0} where
   leaf_loss {t} {u} {v} {path} {tree} d more w b =
       let n = get_or path 0 0 in let old = d.l ++ d.x ∷ d.r in let es = d.l ++ d.r in let row2 = d.before ++ node n es ∷ d.after in
       let len : length old ≡ suc (length es) = simp length-append (omega arith) in
-      let c0 = λ (m : ℕ). ap (λ z. count m (numbers z)) d.leaves_are in let c1 = λ (m : ℕ). counts m d.before n old d.after tree.above t.chain in
-      let c2 = λ (m : ℕ). counts m d.before n es d.after b.rows' v.chain in let c7 = λ (m : ℕ). ap (λ z. count m z) (b.frees.chain_is ∙ w.chain_is) in
-      let in_u = row-put _ _ _ _ _ _ _ _ d.inside w.same w.here d.none in
+      let c1 = λ (m : ℕ). counts m d.before n old d.after tree.above t.chain in let c2 = λ (m : ℕ). counts m d.before n es d.after b.rows' v.chain in
+      let in_u = row-put leaf_content d.before old es d.after d.inside w d.none in
+      let frees = frees-after (numbers (d.before ++ node n old ∷ d.after) ++ flat_map numbers tree.above) (numbers row2 ++ flat_map numbers b.rows')
+      (λ m. omega (arith, c1 m, c2 m, count-append m (n ∷ []) (numbers d.after))) w.frees b.frees in
       record {
         loss = record {
           before = d.before;
@@ -80,15 +81,13 @@ module _ {K V : Type 0} where
             above = b.above;
             number_is = refl;
             entry_was = omega (arith, length-append d.l d.r);
-            apart = λ m. omega (arith, c1 m, c2 m, c7 m);
+            apart = trades-apart frees d.apart;
           };
           list_is = sym (cc (remove_flat d.before n d.l d.x d.r d.after));
           place_is = omega arith;
           was = λ fs slot. leaf_count _ _ (slice_get t.nodes n) slot d.slot_is ∙ len;
           sizes_were = cc (sizes-append d.before (node n old ∷ d.after));
-          numbers_are = λ m. omega (arith, c0 m, c1 m, c2 m, count-append);
-          frees = frees-after (λ m none. omega (arith, count-append))
-              (frees-puts (numbers_of tree) (omega (arith, c0 n, c1 n, count-append, count-same n (numbers d.after))) w) b.frees;
+          frees = rw d.leaves_are frees;
         };
       }
 

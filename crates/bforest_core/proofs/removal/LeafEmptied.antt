@@ -1,12 +1,13 @@
 -- Removing the only entry of a leaf together with the leaf, which is the rightmost.
 use Rattle.bforest_core.proofs.Words.{sizes_of, ◌≡◌, ℕ, suc, ◌+◌, ◌≤◌, ◌<◌, List, [], ◌∷◌, ◌++◌, map, length, get_or, slice_get, refl, sym, ap, ◌∙◌}
-use Rattle.bforest_core.proofs.Words.{length-append, arith, flat_map, Table, node, flat, heads, numbers, FitRow, Tree, half_of, count, Distinct}
-use Rattle.bforest_core.proofs.Words.{numbers_of, StandsIn, nil_from_length, get_or_default, ◌≢◌, IsSingle, IsUsed, Heads, Rows, append-nil, with_freed, sizes}
-use Rattle.bforest_core.proofs.Words.{LastAbove, nodes_up, IsLeafCapacity, Topped, root_of, IsPathAt, UpTo, Trimmed, Removed, Emptied}
-use Rattle.bforest_core.proofs.{table.Tables.{count-append, counts, count-same, row-split, row-same, ne_from_count}, removal.RemovingEmptied.{Drops, LastOf}}
-use Rattle.bforest_core.proofs.removal.{RemovingEmptied.{above_freed, fit_solid, last_of}, LeafAt.{LeafAt, leaf_at, leaf_count, remove_flat}, Frees.freed_other}
-use Rattle.bforest_core.proofs.removal.{Frees.{frees-first, frees-one}, Removing.{Untrimmed, up_to, trimmed_removed}, Collapse.heads-flat, Merge.loss_level}
-use Rattle.bforest_core.proofs.rows.{LevelRows.{flat-append, sizes-append, Solid-full, heads-append}, Tops.root-stands}
+use Rattle.bforest_core.proofs.Words.{length-append, arith, flat_map, Table, node, flat, heads, numbers, FitRow, Tree, half_of, count, Distinct, numbers_of}
+use Rattle.bforest_core.proofs.Words.{StandsIn, nil_from_length, get_or_default, ◌≢◌, IsSingle, IsUsed, Heads, Rows, append-nil, with_freed, sizes, LastAbove}
+use Rattle.bforest_core.proofs.Words.{nodes_up, IsLeafCapacity, Topped, root_of, IsPathAt, UpTo, Trimmed, Removed, Emptied}
+use Rattle.bforest_core.proofs.table.Tables.{count-append, counts, row-split, row-same}
+use Rattle.bforest_core.proofs.removal.RemovingEmptied.{Drops, LastOf, above_freed, fit_solid, last_of}
+use Rattle.bforest_core.proofs.{removal.LeafAt.{LeafAt, leaf_at, leaf_count, remove_flat}, removal.Removing.{Untrimmed, up_to, trimmed_removed}}
+use Rattle.bforest_core.proofs.{removal.Collapse.heads-flat, removal.Merge.loss_level, rows.LevelRows.{flat-append, sizes-append, Solid-full, heads-append}}
+use Rattle.bforest_core.proofs.{rows.Tops.root-stands, table.Trading.{not_there, trades-wider, frees-then, freed_other, frees-one}}
 
 -- no node follows a node of one entry
 none_after : {K X : Type 0} (half most m : ℕ) (es : List (K × X)) (after : _) → 2 ≤ half → length es ≡ 1 → FitRow half most (node m es ∷ after) → after ≡ []
@@ -64,9 +65,8 @@ module _ {K V : Type 0} {most : ℕ} {t : Table K V} {path indices size : _} (ca
         none_left = cc (place_is);
         levels_are = levels;
         freed = leaf ∷ [];
-        freed_is = nums;
         one = refl;
-        frees = frees-one _ _ _ _ _ f.slot_is freed_is (omega (arith, nums leaf, count-same leaf []));
+        frees = trades-wider _ _ (λ m. omega (arith, nums m)) (frees-one _ _ _ f.slot_is freed_is);
       }
 
   -- the leaf as the code reads it
@@ -102,7 +102,7 @@ module _ {K V : Type 0} {most : ℕ} {t : Table K V} {path indices size : _} (ca
               let said = dropped.1 in let hs = last_leaf.is in let full = Solid-full (half_of most) most f.half before f.solid in
               let len : suc (length last_leaf.init) ≡ length before = omega (arith, ap length hs, length-append last_leaf.init (last_leaf.last ∷ [])) in
               let first : place ≡ length (flat before) + 0 = omega (arith, place_is) in
-              let in_v = row-same _ _ _ _ (λ m some. freed_other _ _ _ freed_is m (ne_from_count _ _ (numbers before) some (omega (arith, f.none))))
+              let in_v = row-same _ _ _ _ (λ m some. freed_other _ _ _ freed_is m (not_there m leaf (numbers before) some (omega (arith, f.none))))
               (row-split _ _ _ _ f.inside).0 in
               let c = λ (m : ℕ). ap (λ z. count m (numbers z)) leaves_are in let c1 = λ (m : ℕ). counts m before leaf (x ∷ []) [] tree.above t.chain in
               record {
@@ -115,10 +115,8 @@ module _ {K V : Type 0} {most : ℕ} {t : Table K V} {path indices size : _} (ca
                 stacked = rw hs said.stacked;
                 rows_in = said.inside;
                 height = said.height;
-                numbers_are = λ m. omega (arith, c m, c1 m, count-append);
                 root_is = cc (root-stands s.fit s.stands);
-                frees = frees-first _ _ _ _ f.slot_is freed_is (omega (arith, c leaf, c1 leaf, count-append, count-same leaf [])) f.none_rows
-                    (λ m none. omega (arith, count-append)) said.frees;
+                frees = frees-then _ _ (λ m. omega (arith, c m, c1 m, count-append m (numbers tree.leaves) (flat_map numbers tree.above), count-append m (numbers before) (flat_map numbers said.rows'))) s.apart (frees-one _ _ _ f.slot_is freed_is) said.frees;
               }
 
           module _ (root : ℕ) (root_is : root_of tree ≡ root) where

@@ -2,9 +2,10 @@
 use Rattle.bforest_core.proofs.Words.{◌≡◌, ℕ, suc, ◌-◌, ◌≤◌, List, [], ◌∷◌, ◌++◌, length, set, slice_get, refl, sym, ◌∙◌, append_assoc, length-append, arith}
 use Rattle.bforest_core.proofs.Words.{Heads, inner_content, entry_keys, entry_items, ◌+◌, ◌<◌, get_or, ap, with_key, Table, with_node, sizes, count, Above}
 use Rattle.bforest_core.proofs.Words.{subst, Row, flat_map, node, flat, heads, head_of, numbers, FitRow, RowIn, Distinct, Frees, nil_from_length, Rekeyed}
-use Rattle.bforest_core.proofs.{Words.least, table.Tables.{count-append, count-same, count-row, counts, row-put, row-same, rows-same, ne_from_count, Puts}}
-use Rattle.bforest_core.proofs.{table.Tables.{puts, row-split, row-join}, rows.LevelRows.{least-pos, flat-append, heads-append, sizes-append, FitRow-join}}
-use Rattle.bforest_core.proofs.{rows.Zipper.{Spot, stands_here}, removal.{Frees.{frees-puts, frees-refl, frees-wider}, Asked.{First, keeps-refl, some_first}}}
+use Rattle.bforest_core.proofs.{Words.least, table.Tables.{count-append, counts, row-same, rows-same, row-split, row-join}}
+use Rattle.bforest_core.proofs.table.Trading.{Puts, not_there, puts, row-put, trades-none, trades-wider, trades-apart}
+use Rattle.bforest_core.proofs.{rows.LevelRows.{least-pos, flat-append, heads-append, sizes-append, FitRow-join}, rows.Zipper.{Spot, stands_here}}
+use Rattle.bforest_core.proofs.removal.Asked.{First, keeps-refl, some_first}
 
 -- a node's first key does not change with a later entry's item
 pub head-other : {K X : Type 0} (n : ℕ) (l : List (K × X)) (k : K) (x y : X) (r s : List (K × X)) → head_of n (l ++ (k, x) ∷ r) ≡ head_of n (l ++ (k, y) ∷ s)
@@ -74,13 +75,13 @@ module _ {K V : Type 0} where
 
     -- the rows above, unchanged
     pub rebuilt_same : Rekeyed t t path indices up size rows list p
-    rebuilt_same = record { rows' = rows; above = a; sizes_are = refl; numbers_are = λ m. omega arith; frees = frees-refl t _; keeps = keeps-refl }
+    rebuilt_same = record { rows' = rows; above = a; sizes_are = refl; frees = trades-none t _; keeps = keeps-refl }
 
   -- the rows above, after a write to a slot that is not theirs
   pub above_written : {t u : Table K V} {n c path indices up size rows list p : _} → Puts t u n c → count n (flat_map numbers rows) ≡ 0 →
       Above t path indices up size rows list p → Above u path indices up size rows list p
   above_written {u} {n} w none a =
-      above_same a u (λ m some. w.same m (ne_from_count _ _ _ some none)) (λ m. omega (arith, a.apart m, ap (λ z. count m z) w.chain_is, count-append))
+      above_same a u (λ m some. w.others m (not_there m n _ some none)) (λ m. omega (arith, a.apart m, ap (λ z. count m z) w.chain_is, count-append))
 
   module _ {t : Table K V} {path indices up size rows a x b : _} (d : Spot t path indices up size rows a x b) where
     open d use {f, whole, q.{before, l, r, after, rest}}
@@ -110,47 +111,41 @@ module _ {K V : Type 0} where
 
     -- the row with other keys, under rows above that have those keys
     lifted : {v u : Table K V} (es ns : _) {list : _} (hs : _) → length es ≡ length old → Other es ns hs list → FitRow 4 8 (node n es ∷ ns) →
-        RowIn inner_content u.nodes (before ++ node n es ∷ ns) →
-        Frees t u (numbers (before ++ node n old ∷ after) ++ flat_map numbers rest) [] →
-        Rekeyed v u path indices (suc up) size rest list (length (heads before)) → Rekeyed t u path indices up size rows (a ++ hs) (length a)
-    lifted {u} es ns hs len o fits inside frees above =
-        let c = λ (m : ℕ). counts m before n old after rest t.chain in let c2 = λ (m : ℕ). counts m before n es ns above.rows' u.chain in
-        let c3 = λ (m : ℕ). ap (λ z. count m (n ∷ z)) o.1 in let c4 = λ (m : ℕ). ap (λ z. count m z) frees.chain_is in
-        record {
-          rows' = (before ++ node n es ∷ ns) ∷ above.rows';
-          above = record {
-            stacked = (flat_at _ _ _ o.2, FitRow-join 4 8 before (node n es) ns f.solid fits, rw (← o.3) above.above.stacked);
-            inside = (inside, above.above.inside);
-            stands = stands_here _ _ _ _ _ _ _ _ _ _ _ f.solid refl refl refl (omega arith) place_at above.above.stands;
-            height = omega arith;
-            apart = λ m. omega (arith, above.numbers_are m, c m, c2 m, c3 m, c4 m);
-          };
-          sizes_are = let same = o.0 in cc (sizes-append _ _, sizes-append _ _);
-          numbers_are = λ m. omega (arith, c m, c2 m, c3 m, above.numbers_are m, ap (λ z. count m (flat_map numbers z)) d.q.rows_are);
-          frees = rw d.q.rows_are frees;
-          keeps = keeps-refl;
-        }
+        RowIn inner_content u.nodes (before ++ node n es ∷ ns) → (above : Rekeyed v u path indices (suc up) size rest list (length (heads before))) →
+        Frees t u (numbers (before ++ node n old ∷ after) ++ flat_map numbers rest) (numbers (before ++ node n es ∷ ns) ++ flat_map numbers above.rows') [] →
+        Rekeyed t u path indices up size rows (a ++ hs) (length a)
+    lifted es ns hs len o fits inside above frees = record {
+      rows' = (before ++ node n es ∷ ns) ∷ above.rows';
+      above = record {
+        stacked = (flat_at _ _ _ o.2, FitRow-join 4 8 before (node n es) ns f.solid fits, rw (← o.3) above.above.stacked);
+        inside = (inside, above.above.inside);
+        stands = stands_here _ _ _ _ _ _ _ _ _ _ _ f.solid refl refl refl (omega arith) place_at above.above.stands;
+        height = omega arith;
+        apart = trades-apart frees whole.apart;
+      };
+      sizes_are = let same = o.0 in cc (sizes-append _ _, sizes-append _ _);
+      frees = rw d.q.rows_are frees;
+      keeps = keeps-refl;
+    }
 
     -- the row after writes to the rows above it alone
     pub lifted_above : {u : Table K V} (es ns : _) {list : _} (hs : _) → length es ≡ length old → Other es ns hs list → FitRow 4 8 (node n es ∷ ns) →
         RowIn inner_content t.nodes (before ++ node n es ∷ ns) →
         Rekeyed t u path indices (suc up) size rest list (length (heads before)) → Rekeyed t u path indices up size rows (a ++ hs) (length a)
-    lifted_above es ns hs len o fits inside above =
-        let c = λ (m : ℕ). counts m before n old after rest t.chain in let c2 = λ (m : ℕ). count-row m before n es ns in
+    lifted_above {u} es ns hs len o fits inside above = let c = λ (m : ℕ). counts m before n old after rest t.chain in let c2 = λ (m : ℕ). counts m before n es ns above.rows' u.chain in
         let c3 = λ (m : ℕ). ap (λ z. count m (n ∷ z)) o.1 in
-        lifted es ns hs len o fits (row-same _ _ _ _ (λ m some. above.frees.others m (omega (arith, c m, c2 m, c3 m))) inside)
-        (frees-wider _ (λ m none. omega (arith, c m)) above.frees) above
+        lifted es ns hs len o fits (row-same _ _ _ _ (λ m some. above.frees.others m (omega (arith, c m, c2 m, c3 m))) inside) above
+        (trades-wider _ _ (λ m. omega (arith, c m, c2 m, c3 m)) above.frees)
 
     -- the row after a write of the key before an entry of the node
     pub renamed : (u : Table K V) (p y s e key hs : _) → old ≡ p ++ y ∷ s → suc e ≡ length p → u ≡ with_node t n (with_key (inner_content old) e key) →
         (p ++ (key, y.1) ∷ s) ++ flat after ≡ l ++ hs → Rekeyed t u path indices up size rows (a ++ hs) (length a)
     renamed u p y s e key hs es_is p_is u_is flat_is = let es = p ++ (key, y.1) ∷ s in let w = puts _ _ _ _ _ f.slot_is (cc (with_key_is p y s e key p_is)) in
         let len : length es ≡ length old = rw es_is (simp length-append) in
+        let above = rebuilt_same (above_written w f.none_rest rows_above) in
         lifted es after hs len (refl, refl, flat_is, heads-put before n old es after (rw (es_is, (some_first p (omega arith)).2)))
-        (omega arith, omega arith, f.fit.2)
-        (row-put _ _ _ _ _ _ _ _ f.inside w.same w.here f.none)
-        (frees-puts _ (let c = counts n before n old after rest t.chain in omega (arith, count-same n (numbers after))) w)
-        (rebuilt_same (above_written w f.none_rest rows_above))
+        (omega arith, omega arith, f.fit.2) (row-put inner_content before old es after f.inside w f.none) above
+        (trades-wider _ _ (λ m. omega (arith, counts m before n old after rest t.chain, counts m before n es after above.rows' t.chain, above.frees.numbers_are m, count-append m (n ∷ []) (numbers after))) w.frees)
 
     module _ (u : Table K V) (key : K) where
       -- updating the key where it is a separator in the path's parent

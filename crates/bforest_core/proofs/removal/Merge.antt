@@ -1,11 +1,11 @@
 -- Removing an entry from a level of leaves or inner nodes, and from the levels of sizes: its row is rebalanced, then those above.
 use Rattle.bforest_core.proofs.Words.{◌≡◌, ℕ, suc, ◌+◌, ◌-◌, ◌≤◌, ◌<◌, Some, List, [], ◌∷◌, ◌++◌, map, length, get_or, refl, sym, ap, ◌∙◌, append_assoc}
-use Rattle.bforest_core.proofs.Words.{length-append, arith, Heads, Row, Rows, flat_map, Content, Table, node, flat, heads, sizes, numbers, inner_content, count}
-use Rattle.bforest_core.proofs.Words.{lt-ltb, le-ltb, zero, Option, None, true, false, Bool, if◌then◌else◌, option_map, loss, rebalanced, loss_above, nodes_up}
-use Rattle.bforest_core.proofs.Words.{subst, FitRow, RowIn, Above, TwoAbove, Frees, Rebuilt, Loosened, Healed, Joined, Loses, least, false≢true, Keeps}
-use Rattle.bforest_core.proofs.{removal.{Asked.keeps-refl, Frees.{only_here, frees-then, frees-after, frees-wider}}, rows.LevelRows.{least-pos, flat-append}}
-use Rattle.bforest_core.proofs.rows.{LevelRows.{heads-append, sizes-append, FitRow-join, FitRow-split, Solid-full}, Zipper.stands_here}
-use Rattle.bforest_core.proofs.table.Tables.{count-append, count-same, count-row, counts, row-same}
+use Rattle.bforest_core.proofs.Words.{length-append, arith, Heads, Row, Rows, flat_map, Content, Table, node, flat, heads, sizes, numbers, inner_content}
+use Rattle.bforest_core.proofs.Words.{count, lt-ltb, le-ltb, zero, Option, None, true, false, Bool, if◌then◌else◌, option_map, loss, rebalanced, loss_above}
+use Rattle.bforest_core.proofs.Words.{nodes_up, subst, FitRow, RowIn, Above, TwoAbove, Frees, Rebuilt, Loosened, Healed, Joined, Loses, least, false≢true}
+use Rattle.bforest_core.proofs.{Words.Keeps, removal.Asked.keeps-refl}
+use Rattle.bforest_core.proofs.rows.LevelRows.{least-pos, flat-append, heads-append, sizes-append, FitRow-join, FitRow-split, Solid-full}
+use Rattle.bforest_core.proofs.{rows.Zipper.stands_here, table.Tables.{count-append, count-row, counts, row-same}, table.Trading.{frees-after, frees-then}}
 
 -- the index of the node after `k` others, if it is removed
 abbrev pub placed : ℕ → Bool → Option ℕ
@@ -60,8 +60,7 @@ pub record Restored {K V X : Type 0} (content : List (K × X) → Content K V) (
   pub inside : RowIn content new.nodes row
   pub above : Above new path indices (suc level) size rows (heads row) (length (heads front))
   pub sizes_are : sizes row ∷ map sizes rows ≡ lost most place were
-  pub numbers_are : (m : ℕ) → count m (numbers row ++ flat_map numbers rows) + count m freed ≡ count m own
-  pub frees : Frees old new own freed
+  pub frees : Frees old new own (numbers row ++ flat_map numbers rows) freed
   pub place_is : place ≡ length (flat front) + get_or indices level 0
 
 module _ {K V X : Type 0} {content : List (K × X) → Content K V} {half most old mid path indices level size : _}
@@ -103,7 +102,6 @@ module _ {K V X : Type 0} {content : List (K × X) → Content K V} {half most o
       inside = l.on_level.inside;
       above = l.on_level.above;
       sizes_are = cc (rw stays.1 at lost_is, sizes-append _ _);
-      numbers_are = λ m. omega arith;
       frees = l.frees;
       place_is = l.place_is;
     },
@@ -127,9 +125,7 @@ module _ {K V X : Type 0} {content : List (K × X) → Content K V} {half most o
         inside = h.inside;
         above = h.above;
         sizes_are = cc (lost_is);
-        numbers_are = λ m. omega
-            (arith, counts m l.before num l.entries l.after l.rest mid.chain, counts m h.before' h.number' h.entries' h.after' h.rest' new.chain, ap (λ z. count m z) h.row_numbers, h.rest_numbers m, l.numbers_are m);
-        frees = frees-after (λ m none. omega arith) l.frees h.frees;
+        frees = frees-after _ _ (λ m. omega arith) l.frees h.frees;
         place_is = omega arith;
       },
       h.keeps,
@@ -154,8 +150,8 @@ module _ {K V X : Type 0} {content : List (K × X) → Content K V} {half most o
         let full = Solid-full half most one l.before p.solid in let c = λ (m : ℕ). counts m l.before num l.entries l.after l.rest mid.chain in
         let c0 = λ (m : ℕ). ap (λ z. count m (num ∷ numbers z)) j.after_is in let list_is = sym (cc (heads-append _ _)) in
         let fits = subst (λ z. FitRow half most z) j.after_is p.fits in
-        let left = frees-then (λ m none. omega (arith, c m)) (λ m here. only_here m num _ here (omega (arith, p.apart num, c num, count-same num (numbers l.after))))
-        (frees-wider own1 (λ m none. omega (arith, c m)) j.frees) r.frees in (
+        let left = frees-then own1 (numbers row ++ flat_map numbers r.rows')
+        (λ m. omega (arith, c m, count-append m (numbers row) (flat_map numbers r.rows'))) p.apart j.frees r.frees in (
           (
             record {
               row = row;
@@ -169,9 +165,7 @@ module _ {K V X : Type 0} {content : List (K × X) → Content K V} {half most o
               inside = row-same _ _ _ _ (λ m more. r.frees.others m (omega (arith, c0 m, c m, count-row m l.before j.right both j.after'))) j.inside;
               above = subst (λ z. Above new path' indices' (suc level) size r.rows' z (length (heads l.before))) list_is r.above;
               sizes_are = cc (rw j.outcome at lost_is, sizes-append _ _);
-              numbers_are = λ m. omega
-                  (arith, r.numbers_are m, c0 m, c m, counts m l.before j.right both j.after' r.rows' new.chain, count-append m freed (num ∷ []), l.numbers_are m);
-              frees = frees-after (λ m none. omega arith) l.frees left;
+              frees = frees-after _ _ (λ m. omega arith) l.frees left;
               place_is = omega arith;
             },
             record {
@@ -201,10 +195,9 @@ module _ {K V : Type 0} {t u : Table K V} {path indices : List ℕ} {up size : �
           inside = (r.inside, r.above.inside);
           stands = stands_here _ _ _ _ _ _ _ _ _ _ p solid r.row_is refl refl (restored.1 at) r.place_is r.above.stands;
           height = omega arith;
-          apart = λ i. omega (arith, l.on_level.apart i, l.numbers_are i, r.numbers_are i, ap (λ z. count i z) r.frees.chain_is, ap (λ z. count i z) l.frees.chain_is, count-append);
+          apart = λ i. omega (arith, l.on_level.apart i, l.frees.numbers_are i, r.frees.numbers_are i, ap (λ z. count i z) r.frees.chain_is, ap (λ z. count i z) l.frees.chain_is, count-append);
         };
         sizes_are = cc (lost_above p _);
-        numbers_are = r.numbers_are;
         frees = r.frees;
         keeps = restored.0.1;
       }

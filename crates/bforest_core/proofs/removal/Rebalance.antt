@@ -1,12 +1,12 @@
 -- A node that lost an entry: it stays, or is balanced with its right neighbour.
+use Rattle.bforest_core.proofs.table.Tables.{row-changed, count-same, count-append, counts, count-row, row-same, rows-same}
 use Rattle.bforest_core.proofs.Words.{◌≡◌, ℕ, suc, ◌+◌, ◌-◌, ◌/◌, ◌≤◌, ◌<◌, ◌≢◌, List, [], ◌∷◌, ◌++◌, length, refl, sym, ap, ◌∙◌, inl, inr, length-append}
-use Rattle.bforest_core.proofs.Words.{arith, Content, Table, Frees, false, le-leb, lt-leb, lt-ltb, le-ltb, zero, ◌*◌, ◌⊎◌, map, set, get_or, append_assoc, Row}
-use Rattle.bforest_core.proofs.Words.{flat_map, append-nil, get_or-set_other, get_or-set_same, with_freed, node, flat, heads, sizes, numbers, least, rebalanced}
-use Rattle.bforest_core.proofs.{Words.{count, Above, Rebuilt, OnLevel, Healed, Joined, Keeps}, table.Tables.{count-same, count-append, counts, count-row}}
-use Rattle.bforest_core.proofs.{table.Tables.{row-same, row-put_two, row-drop_put, rows-same}, rows.LevelRows.{flat-append, heads-append, sizes-append}}
-use Rattle.bforest_core.proofs.{rows.{LevelRows.{numbers-append, FitRow-join, least-le}, Zipper.{above_two, stands-same}}, removal.Frees.frees-after}
-use Rattle.bforest_core.proofs.removal.{Frees.{frees-refl, frees-wider, frees-one, freed_other}, Balance.{AllRight, IsHalf, PutsTwo, Spread}, Lifted.above_same}
-use Rattle.bforest_core.proofs.removal.Asked.{keeps-refl}
+use Rattle.bforest_core.proofs.Words.{arith, Content, Table, false, le-leb, lt-leb, lt-ltb, le-ltb, zero, ◌*◌, ◌⊎◌, map, set, get_or, append_assoc, Row}
+use Rattle.bforest_core.proofs.Words.{flat_map, append-nil, get_or-set_other, get_or-set_same, with_freed, node, flat, heads, sizes, numbers, least}
+use Rattle.bforest_core.proofs.Words.{rebalanced, count, Above, Rebuilt, OnLevel, Healed, Joined, Keeps}
+use Rattle.bforest_core.proofs.rows.LevelRows.{flat-append, heads-append, sizes-append, numbers-append, FitRow-join, least-le}
+use Rattle.bforest_core.proofs.{rows.Zipper.{above_two, stands-same}, removal.Balance.{AllRight, IsHalf, PutsTwo, Spread}, removal.Lifted.above_same}
+use Rattle.bforest_core.proofs.{removal.Asked.keeps-refl, table.Trading.{apart_from, trades-none, trades-wider, frees-after, frees-one}}
 
 -- the last node, if not empty, stays
 pub rebalanced_last : (q m : ℕ) → 1 ≤ m → rebalanced q m [] ≡ (false, m ∷ [])
@@ -46,8 +46,7 @@ module _ {K V X : Type 0} {content : List (K × X) → Content K V} {half most :
           sizes_are = cc (sizes-append before (node n es ∷ after), stays.1);
           rest_sizes = refl;
           row_numbers = cc;
-          rest_numbers = λ m. refl;
-          frees = frees-refl t _;
+          frees = rw same (trades-none t _);
           keeps = kept;
         }
 
@@ -85,15 +84,19 @@ module _ {K V X : Type 0} {content : List (K × X) → Content K V} {half most :
           omega (arith, c q),
         )
 
-    -- writing the two slots changes only slots of the row
-    two_frees : {u c d : _} → PutsTwo content t u n q c d → Frees t u (numbers row) []
-    two_frees {c} w = frees-wider _ (λ m none. let c = count-row m before n (e ∷ es) (node q (f ∷ fs) ∷ after) in omega arith) w.frees
+    -- the numbers of the two nodes among those of the row and of the rows above
+    pair : (m : ℕ) → (count m (numbers row) ≡ count m (numbers before) + (count m (n ∷ q ∷ []) + count m (numbers after)))
+        × (count m (numbers row ++ flat_map numbers rest) ≡ count m (numbers row) + count m (flat_map numbers rest))
+    pair m = (count-row m before n (e ∷ es) _ ∙ ap (λ z. count m (numbers before) + z) (count-append m (n ∷ q ∷ []) (numbers after)), count-append m (numbers row) _)
+
+    -- the two nodes are no others of the row
+    pair_apart : (m : ℕ) → 0 < count m (numbers before) + count m (numbers after) → count m (n ∷ q ∷ []) ≡ 0
+    pair_apart m some = omega (arith, p.apart m, pair m, count-append)
 
     -- the rows above, after a write of the two slots
     pub above_two_put : {u c d : _} → PutsTwo content t u n q c d → Above u path indices (suc up) size rest (heads before ++ (e.0, n) ∷ (f.0, q) ∷ heads after) (length (heads before))
-    above_two_put {u} w = let k = λ (m : ℕ). counts m before n (e ∷ es) (node q (f ∷ fs) ∷ after) rest t.chain in let b = above_both in
-        above_same b u (λ m some. (two_frees w).others m (omega (arith, k m)))
-        (λ m. omega (arith, b.apart m, ap (λ z. count m z) w.frees.chain_is, count-append))
+    above_two_put {u} w = let b = above_both in above_same b u (λ m some. w.others m (omega (arith, p.apart m, pair m, count-append)))
+        (λ m. omega (arith, b.apart m, ap (λ z. count m z) w.chain_is, count-append))
 
     module _ {u : Table K V} (v : Table K V) (under : length (e ∷ es) < half) where
       -- the node takes entries of its right neighbour, and the key between the two was updated above
@@ -105,7 +108,8 @@ module _ {K V X : Type 0} {content : List (K × X) → Content K V} {half most :
           let x_is : e ≡ s.x = (let w = s.whole in cc) in let lo : half ≤ suc (length s.xs) = omega arith in let hi : suc (length s.xs) ≤ most = omega arith in
           let hi_q : suc (length s.ys) ≤ most = omega arith in let c = λ (m : ℕ). counts m before n (e ∷ es) (node q (f ∷ fs) ∷ after) rest t.chain in
           let c2 = λ (m : ℕ). count-row m before n (s.x ∷ s.xs) (node q (s.y ∷ s.ys) ∷ after) in
-          let in_u = row-put_two _ _ _ _ _ _ _ _ _ _ after p.inside s.two.same s.two.here s.two.there apart.1 apart.2 in
+          let in_u = row-changed content _ _ before (node n (e ∷ es) ∷ node q (f ∷ fs) ∷ []) (node n (s.x ∷ s.xs) ∷ node q (s.y ∷ s.ys) ∷ []) after (n ∷ q ∷ []) p.inside
+          s.two.others (s.two.here, (s.two.there, tt)) pair_apart in
           let hs : heads before ++ (e.0, n) ∷ (key, q) ∷ heads after ≡ heads row2 = cc (heads-append _ _) in
           record {
             before' = before;
@@ -125,8 +129,7 @@ module _ {K V X : Type 0} {content : List (K × X) → Content K V} {half most :
             sizes_are = rw outcome (cc (sizes-append _ _));
             rest_sizes = b.sizes_are;
             row_numbers = simp numbers-append;
-            rest_numbers = λ m. omega arith;
-            frees = frees-after (λ m none. omega (arith, c m)) (frees-wider (numbers row ++ flat_map numbers rest) (λ m none. omega (arith, c m)) (two_frees s.two)) b.frees;
+            frees = frees-after _ _ (λ m. omega (arith, pair m, c m, c2 m, count-append m (numbers row2) (flat_map numbers b.rows'))) s.two.frees b.frees;
             keeps = keeps-refl;
           }
 
@@ -136,10 +139,11 @@ module _ {K V X : Type 0} {content : List (K × X) → Content K V} {half most :
           let both : List (K × X) = (e ∷ es) ++ f ∷ fs in
           let few = lt-ltb (2 * suc (length es)) most (omega arith) in let fits = le-leb (suc (length es) + suc (length fs)) most s.fits in
           let len = length-append (e ∷ es) (f ∷ fs) in let fit_q = p.fits in let a = above_both in
-          let high = above_two _ (heads before) (e.0, n) (f.0, q) (heads after) a in let other = freed_other _ _ _ v_is in
+          let high = above_two _ (heads before) (e.0, n) (f.0, q) (heads after) a in let one = frees-one u v n s.two.here v_is in
           let c = λ (m : ℕ). counts m before n (e ∷ es) (node q (f ∷ fs) ∷ after) rest t.chain in
-          let frees = frees-after (λ m none. omega (arith, c m)) (two_frees s.two)
-          (frees-one _ _ _ _ (n ∷ []) s.two.here v_is (omega (arith, count-same n []))) in
+          let joined = frees-after (n ∷ q ∷ []) (q ∷ []) (λ m. omega (arith, count-append m (n ∷ []) (q ∷ []))) s.two.frees one in
+          let frees = trades-wider (numbers row) (numbers (before ++ node q both ∷ after))
+          (λ m. omega (arith, pair m, count-row m before q both after, count-append m (q ∷ []) (numbers after), count-append m (n ∷ []) (q ∷ []))) joined in
           record {
             first = e;
             others = es;
@@ -150,8 +154,8 @@ module _ {K V X : Type 0} {content : List (K × X) → Content K V} {half most :
             entries_are = refl;
             after_is = refl;
             outcome = rw (few, fits) cc;
-            inside = row-drop_put _ _ _ _ _ _ (e ∷ es) (f ∷ fs) both after p.inside (λ m x y. other m x ∙ s.two.same m x y)
-                (cc (other q (λ w. apart.0 (sym w)))) apart.1 apart.2;
+            inside = row-changed content _ _ before (node n (e ∷ es) ∷ node q (f ∷ fs) ∷ []) (node q both ∷ []) after (n ∷ q ∷ []) p.inside joined.others
+                (one.others q (apart_from q n (λ w. apart.0 (sym w))) ∙ s.two.there, tt) pair_apart;
             fit = FitRow-join _ _ _ (node q both) after p.solid (omega arith, omega arith, fit_q.2);
             above = record {
               stacked = a.stacked;

@@ -1,10 +1,10 @@
 -- The effect of a removal from the tree under a root on the table.
-use Rattle.bforest_core.proofs.Words.{length-remove, IsTrue, ◌≡◌, ℕ, suc, ◌<◌, Option, Some, None, IfSome, List, ◌++◌, length, refl, sym, ap, ◌∙◌, subst, inl}
-use Rattle.bforest_core.proofs.Words.{inr, append_assoc, length-append, arith, eqb_tells, length-map, Table, flat, sizes, Tree, sizes_of, shrink, count}
+use Rattle.bforest_core.proofs.Words.{[], length-remove, IsTrue, ◌≡◌, ℕ, suc, ◌<◌, Option, Some, None, IfSome, List, ◌++◌, length, refl, sym, ap, ◌∙◌, subst}
+use Rattle.bforest_core.proofs.Words.{inl, inr, append_assoc, length-append, arith, eqb_tells, length-map, Table, flat, sizes, Tree, sizes_of, shrink, count}
 use Rattle.bforest_core.proofs.Words.{root_of, numbers_of, Stands, tree_of, IsUnion, is_root, Shrinks, StandsUnder, node_count, StandsIn, Removed, Emptied}
-use Rattle.bforest_core.proofs.{Words.{IsPathAt, OnEntry, Path, RemovesHere}, union.{Roots.{exchanged-freed, uprooted-union}, Account.length-same}}
-use Rattle.bforest_core.proofs.{union.{Account.nodes-count, Forests.root-among, Exchange.IsPlanted, Unions.rooted}, rows.LevelRows.flat-append}
-use Rattle.bforest_core.proofs.table.Tables.{count-append}
+use Rattle.bforest_core.proofs.{Words.{IsPathAt, OnEntry, Path, RemovesHere}, union.Roots.{exchanged-freed, uprooted-union}}
+use Rattle.bforest_core.proofs.{union.Account.{length-same, nodes-count}, union.Forests.root-among, union.Exchange.IsPlanted, union.Unions.rooted}
+use Rattle.bforest_core.proofs.{rows.LevelRows.flat-append, table.Tables.count-append}
 
 -- an implication, applied to the value of an option, if any
 pub if_some : {A : Type 0} (P Q : A → Type 0) (found : Option A) → ((x : A) → P x → Q x) → IfSome found P → IfSome found Q
@@ -31,7 +31,7 @@ module _ {K V : Type 0} where
     pub removal : {root' : ℕ} → Removed most old new path Now (tree_of old.nodes root) place root' → Said most old new path root place Now (Some root')
     removal i = let tree = tree_of old.nodes root in let r = rooted most old root union s.root_is in
         let planted : IsPlanted most new.nodes i.tree' = record { fit = i.fit; inside = i.inside; some = i.some; low = omega arith } in
-        let e = exchanged-freed root union s.root_is planted i.frees i.numbers_are in
+        let e = exchanged-freed root union s.root_is planted i.frees in
         let levels : length (shrink most place (sizes_of tree)) ≡ suc (length i.tree'.above) = omega (arith, ap length i.sizes_are, length-map i.tree'.above sizes) in
         let levels_were : length (sizes_of tree) ≡ suc (length tree.above) = omega (arith, length-map tree.above sizes) in
         let among = root-among most new.nodes i.tree' i.fit i.inside i.some in
@@ -52,7 +52,7 @@ module _ {K V : Type 0} where
             same_root = (
               λ same. elim (eqb_tells (length i.tree'.above) (length tree.above)) [
                 | inl w ↦ omega arith
-                | inr w ↦ absurd (omega (arith, rooted_is same, i.numbers_are (root_of i.tree'), r.apart (root_of i.tree'), count-append))
+                | inr w ↦ absurd (omega (arith, rooted_is same, i.frees.numbers_are (root_of i.tree'), r.apart (root_of i.tree'), count-append))
               ],
               λ same. cc (i.same_root (omega arith)),
             );
@@ -61,7 +61,7 @@ module _ {K V : Type 0} where
               chain_is = i.frees.chain_is;
               slots = i.frees.slots_are;
               memory_is = i.frees.memory_is;
-              count_is = omega (arith, length-same (numbers_of i.tree' ++ i.freed) (numbers_of tree) (λ m. count-append m (numbers_of i.tree') i.freed ∙ i.numbers_are m), length-append (numbers_of i.tree') i.freed, nodes-count tree, nodes-count i.tree' ∙ ap (λ z. node_count z) i.sizes_are);
+              count_is = omega (arith, length-same (i.freed ++ numbers_of i.tree') (numbers_of tree) i.frees.numbers_are, length-append i.freed (numbers_of i.tree'), nodes-count tree, nodes-count i.tree' ∙ ap (λ z. node_count z) i.sizes_are);
             };
             order = record {
               roots = i.order.roots;
@@ -83,7 +83,7 @@ module _ {K V : Type 0} where
     pub outcome : (found : _) → IfSome found (λ root'. Removed most old new path Now (tree_of old.nodes root) place root') →
         (found ≡ None → Emptied most old new (tree_of old.nodes root) place) → Said most old new path root place Now found
     outcome None removed emptied = let i = emptied refl in let tree = tree_of old.nodes root in let r = rooted _ _ _ union s.root_is in let u =
-        uprooted-union _ _ union s.root_is i.frees i.freed_is in
+        uprooted-union _ _ union s.root_is i.frees in
         let among = root-among _ _ _ r.fit r.inside r.some in
         record {
           at = tt;
@@ -95,13 +95,13 @@ module _ {K V : Type 0} where
               chain_is = i.frees.chain_is;
               slots = i.frees.slots_are;
               memory_is = i.frees.memory_is;
-              count_is = omega (arith, length-same _ _ i.freed_is, nodes-count tree, ap (λ z. node_count z) i.none_left);
+              count_is = omega (arith, length-same (i.freed ++ []) _ i.frees.numbers_are, length-append i.freed [], nodes-count tree, ap (λ z. node_count z) i.none_left);
             };
             order = record { roots = i.freed; up = 0; chain_is = i.frees.chain_is; roots_are = omega (arith, ap length i.levels_are, ap length i.none_left) };
             last = (λ is. i.single, λ is. refl);
             ended = λ is. record { union = u.0; root_gone = u.1; others = u.2; limit_is = i.frees.limit_is };
             none_left = λ is. i.none_left;
-            freed_root = λ ne. omega (arith, ap (λ z. count z (numbers_of tree)) r.root_is, ap (λ z. count root z) i.frees.chain_is, count-append root i.freed old.chain);
+            freed_root = λ ne. omega (arith, ap (λ z. count z (numbers_of tree)) r.root_is, i.frees.numbers_are root, ap (λ z. count root z) i.frees.chain_is, count-append);
           };
         }
     outcome (Some root') removed emptied = removal removed

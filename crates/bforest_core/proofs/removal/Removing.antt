@@ -3,10 +3,10 @@ use Rattle.bforest_core.proofs.Words.{◌≡◌, ℕ, suc, ◌+◌, ◌≤◌, L
 use Rattle.bforest_core.proofs.Words.{flat_map-append, Table, node, flat, heads, sizes, numbers, Stacked, RowsIn, count, root_above, UpTo, Trimmed, zero}
 use Rattle.bforest_core.proofs.Words.{nodes_up, FitRow, RowIn, Frees, remove, Tree, half_of, leaf_content, root_of, numbers_of, Stands, IsPathAt, StandsIn}
 use Rattle.bforest_core.proofs.Words.{Removed, sizes_of, ◌<◌, Some, get_or, loss_above, TwoAbove, Rebuilt, Healed, Joined, ◌⊎◌, inr, LeafLoss, Solid}
-use Rattle.bforest_core.proofs.removal.{Collapse.{length-sizes, rows-parts, trimmed-is, trim_none, stands-below, topped-sizes}, Frees.frees-then, Merge.lost}
-use Rattle.bforest_core.proofs.removal.{Merge.{Restores, Stays, healed_restored, joined_restored, kept_restored, low, merge_asks}, Rebalance.judged}
-use Rattle.bforest_core.proofs.{table.Tables.{count-append, rows-same, row-same}, rows.{Tops.{root-stands, top_tree}, LevelRows.{least-pos, flat-append}}}
-use Rattle.bforest_core.proofs.{rows.LevelRows.{FitRow-split, Solid-full}, walks.RowNodes.fit_full}
+use Rattle.bforest_core.proofs.removal.Collapse.{length-sizes, rows-parts, trimmed-is, trim_none, stands-below, topped-sizes}
+use Rattle.bforest_core.proofs.removal.Merge.{lost, Restores, Stays, healed_restored, joined_restored, kept_restored, low, merge_asks}
+use Rattle.bforest_core.proofs.{removal.Rebalance.judged, table.Tables.{count-append, rows-same, row-same}, rows.Tops.{root-stands, top_tree}}
+use Rattle.bforest_core.proofs.{rows.LevelRows.{least-pos, flat-append, FitRow-split, Solid-full}, walks.RowNodes.fit_full, table.Trading.frees-then}
 
 -- a row has one number per node
 pub length-numbers : {K X : Type 0} (row : Row K X) → length (numbers row) ≡ length row
@@ -41,9 +41,8 @@ module _ {K V : Type 0} where
     pub stacked : Stacked (heads leaves) rows
     pub rows_in : RowsIn new.nodes rows
     pub height : length rows ≡ length tree.above
-    pub numbers_are : (m : ℕ) → count m (numbers leaves ++ flat_map numbers rows) + count m freed ≡ count m (numbers_of tree)
     pub root_is : root_above (heads leaves) rows ≡ root_of tree
-    pub frees : Frees old new (numbers_of tree) freed
+    pub frees : Frees old new (numbers_of tree) (numbers leaves ++ flat_map numbers rows) freed
 
   -- the rows of the tree meet what discarding roots requires
   pub up_to : {most old new path indices size : _} (size1 : ℕ) {tree place : _} (root : ℕ) {leaves rows freed : _} →
@@ -54,7 +53,7 @@ module _ {K V : Type 0} where
     inside = u.rows_in;
     height = omega arith;
     root_is = u.root_is ∙ root_is;
-    apart = λ m. omega (arith, s.apart m, u.numbers_are m, ap (λ z. count m z) u.frees.chain_is, count-append);
+    apart = λ m. omega (arith, s.apart m, u.frees.numbers_are m, ap (λ z. count m z) u.frees.chain_is, count-append);
   }
 
   -- the tree after roots were discarded
@@ -75,18 +74,16 @@ module _ {K V : Type 0} where
           sizes_are = sym (cc (trimmed-is (sizes leaves) (heads leaves) t.rows' t.discarded len (rw (← t.rows_are) u.stacked) t.stacked t.topped));
           fit = record { leaves_fit = u.leaves_fit; stacked = t.stacked; topped = t.topped };
           inside = record {
-            leaves_in = row-same _ _ _ _ (λ m some. t.frees.others m (omega (arith, u.numbers_are m, parts m, s.apart m, count-append))) u.leaves_in;
-            rows_in = rows-same _ _ _ (λ m some. t.frees.others m (omega (arith, u.numbers_are m, parts m, s.apart m, count-append))) rows_in.0;
+            leaves_in = row-same _ _ _ _ (λ m some. t.frees.others m (omega (arith, u.frees.numbers_are m, parts m, s.apart m, count-append))) u.leaves_in;
+            rows_in = rows-same _ _ _ (λ m some. t.frees.others m (omega (arith, u.frees.numbers_are m, parts m, s.apart m, count-append))) rows_in.0;
           };
           some = u.some;
-          numbers_are = λ m. omega (arith, u.numbers_are m, parts m, t.freed_is m, count-append);
           root_is = t.root_is;
           same_root = λ same. t.same_root (omega arith) ∙ sym root_is;
           old_root = λ ne. omega (arith, count-append, ap (λ z. count z gone) root_is);
           low = omega arith;
           order = record { roots = gone; up = up; freed_is = refl; roots_are = omega arith };
-          frees = frees-then (λ m none. omega (arith, u.numbers_are m, parts m, count-append))
-              (λ m some. omega (arith, u.numbers_are m, parts m, s.apart m, count-append)) u.frees t.frees;
+          frees = frees-then _ _ (λ m. omega (arith, parts m, count-append m (numbers leaves) (flat_map numbers t.rows'), count-append m (flat_map numbers t.rows') (flat_map numbers t.discarded), count-append)) s.apart u.frees t.frees;
         };
         at = at;
       }
@@ -130,7 +127,6 @@ module _ {K V : Type 0} {most : ℕ} {old mid : Table K V} {path indices size tr
       stacked = r.0.above.stacked;
       rows_in = r.0.above.inside;
       height = omega arith;
-      numbers_are = r.0.numbers_are;
       root_is = top_tree _ _ _ _ _ _ _ _ _ r.0.row_is some r.0.above.stacked r.0.above.stands (omega arith) ∙ r.1.same_top ∙ sym (root-stands s.fit s.stands);
       frees = r.0.frees;
     }

@@ -1,12 +1,14 @@
 -- Removing the entry of a level's rightmost node, which was removed, and the nodes that this empties: the answers of `remove_emptied`.
 use Rattle.bforest_core.proofs.Words.{◌≡◌, ℕ, suc, ◌+◌, ◌≤◌, Some, List, [], ◌∷◌, ◌++◌, map, length, get_or, refl, sym, ap, ◌∙◌, append_assoc, length-append}
-use Rattle.bforest_core.proofs.Words.{arith, Row, flat_map, Table, node, flat, heads, numbers, FitRow, Solid, entry_keys, count, Distinct, Above}
+use Rattle.bforest_core.proofs.Words.{arith, inner_content, Row, flat_map, Table, node, flat, heads, numbers, FitRow, Solid, entry_keys, count, Distinct, Above}
 use Rattle.bforest_core.proofs.Words.{nil_from_length, ◌≢◌, entry_items, ◌-◌, drop, Heads, Rows, append-nil, with_freed, sizes, loss_above, root_above}
-use Rattle.bforest_core.proofs.{Words.{LastAbove, nodes_up, Dropped, rebalanced, add-one}, table.Tables.{count-append, counts, count-same, row-split, row-put}}
-use Rattle.bforest_core.proofs.{table.Tables.{row-same, puts, rows-same, ne_from_count}, rows.LevelRows.{flat-append, sizes-append, Solid-full, heads-append}}
-use Rattle.bforest_core.proofs.{rows.{LevelRows.FitRow-join, Zipper.{Cut_above, Facts, facts}, Tops.top_rows}, removal.Asked.{some_first, no_nodes, Counts}}
-use Rattle.bforest_core.proofs.removal.{Asked.{Removes, Seen, last_low, seen, removed_last}, Frees.{frees-puts, freed_other, frees-first}, Lifted.heads-put}
-use Rattle.bforest_core.proofs.removal.{Lifted.{above_same, rows_above}, Merge.{placed, loss_level, lost_above}, Rebalance.rebalanced_last, Collapse.heads-flat}
+use Rattle.bforest_core.proofs.Words.{LastAbove, nodes_up, Dropped, rebalanced, add-one}
+use Rattle.bforest_core.proofs.table.Tables.{count-append, counts, count-same, row-split, row-same, rows-same}
+use Rattle.bforest_core.proofs.{rows.LevelRows.{flat-append, sizes-append, Solid-full, heads-append, FitRow-join}, rows.Zipper.{Cut_above, Facts, facts}}
+use Rattle.bforest_core.proofs.{rows.Tops.top_rows, removal.Asked.{some_first, no_nodes, Counts, Removes, Seen, last_low, seen, removed_last}}
+use Rattle.bforest_core.proofs.{removal.Lifted.{heads-put, above_same, rows_above}, removal.Merge.{placed, loss_level, lost_above}}
+use Rattle.bforest_core.proofs.{removal.Rebalance.rebalanced_last, removal.Collapse.heads-flat}
+use Rattle.bforest_core.proofs.table.Trading.{not_there, trades-wider, frees-then, puts, freed_other, frees-one, row-put}
 
 -- solid nodes fit as a row
 pub fit_solid : {K X : Type 0} (half most : ℕ) → 1 ≤ half → (row : Row K X) → Solid half most row → FitRow half most row
@@ -42,7 +44,7 @@ module _ {K V : Type 0} where
       let none : count num (flat_map numbers rest) ≡ 0 = omega (arith, c num, count-same num []) in
       let list = heads-append before (node num (x ∷ []) ∷ []) ∙ ap (λ z. z ++ (x.0, num) ∷ []) o.is ∙ append_assoc o.init (o.last ∷ []) ((x.0, num) ∷ []) in
       let len : length (heads before) ≡ suc (length o.init) = omega (arith, ap length o.is, length-append o.init (o.last ∷ [])) in
-      above_same (rw (list, len) at p) v (λ m some. freed_other _ _ _ is m (ne_from_count _ _ _ some none))
+      above_same (rw (list, len) at p) v (λ m some. freed_other _ _ _ is m (not_there m num _ some none))
       (λ m. omega (arith, c m, count-append m (flat_map numbers rest) v.chain, ap (λ z. count m z.chain) is))
 
   -- what the call ensures
@@ -98,12 +100,11 @@ module _ {K V : Type 0} where
             record {
               rows' = row ∷ rest;
               stacked = (cc (flat-append _ _, append-nil _, d.q.a_is), FitRow-join 4 8 before (node num l) [] f.solid (some, omega (arith, known.fit.1), tt), rw (← hs) p.stacked.2);
-              inside = (row-put _ _ _ _ _ _ _ _ known.inside put.same put.here known.none, rows-same _ _ _ (λ m some. put.same m (ne_from_count _ _ (flat_map numbers rest) some f.none_rest)) p.inside.1);
+              inside = (row-put inner_content before old l [] known.inside put known.none, rows-same _ _ _ (λ m some. put.others m (not_there m num (flat_map numbers rest) some f.none_rest)) p.inside.1);
               height = cc (d.q.rows_are);
               sizes_are = cc (sizes-append _ _, lost, rebalanced_last 8 (length l) some);
-              numbers_are = λ m. omega (arith, own_is m, counts m before num l [] rest u.chain);
               root_is = ap (λ z. root_above z rest) (sym hs) ∙ top_rows _ _ _ _ _ _ _ p.stacked p.stands ∙ ap (λ z. get_or path z 0) high;
-              frees = frees-puts (flat_map numbers rows) (omega (arith, own_is num, count-same num [])) put;
+              frees = trades-wider _ _ (λ m. omega (arith, own_is m, counts m before num l [] rest u.chain)) put.frees;
             },
           )
 
@@ -133,7 +134,7 @@ module _ {K V : Type 0} where
           empties = let below = said.1 in let hs = front.is in let p = whole in
               let len : length before ≡ suc (length front.init) =
               omega (arith, Solid-full 4 8 (omega arith) before f.solid, ap length hs, length-append front.init (front.last ∷ [])) in
-              let in_v = row-same _ _ _ _ (λ m some. freed_other _ _ _ v_is m (ne_from_count _ _ (numbers before) some (omega arith)))
+              let in_v = row-same _ _ _ _ (λ m some. freed_other _ _ _ v_is m (not_there m num (numbers before) some (omega arith)))
               (row-split _ _ _ _ known.inside).0 in let c = λ (m : ℕ). counts m before num (l ++ x ∷ []) [] rest t.chain in (
                 suc said.0,
                 record {
@@ -142,10 +143,9 @@ module _ {K V : Type 0} where
                   inside = (row-same _ _ _ _ (λ m some. below.frees.others m (omega (arith, p.apart m, c m))) in_v, below.inside);
                   height = cc (d.q.rows_are, below.height);
                   sizes_are = simp (below.sizes_are, len, append-nil, lost, l_none);
-                  numbers_are = λ m. omega (arith, own_is m, below.numbers_are m, ap (λ z. count m (nodes_up path z said.0)) (add-one up), count-append);
                   root_is = cc (below.root_is);
-                  frees = rw (← add-one up)
-                      (frees-first _ _ _ _ known.slot_is v_is (omega (arith, own_is num, count-same num [])) f.none_rest (λ m none. omega (arith, own_is m)) below.frees);
+                  frees = rw (← add-one up) (frees-then _ _ (λ m. omega (arith, own_is m, count-append m (numbers before) (flat_map numbers below.rows')))
+                      w.above.apart (frees-one _ _ _ known.slot_is v_is) below.frees);
                 },
               )
 

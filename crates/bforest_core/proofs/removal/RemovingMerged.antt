@@ -1,13 +1,14 @@
 -- Removing an entry from the row above a level, whose key passes to the next entry: the answers of `remove_merged`.
+use Rattle.bforest_core.proofs.table.Tables.{count-append, is_used, count-row, counts, row-same, row-split, row-join}
 use Rattle.bforest_core.proofs.Words.{◌≡◌, ℕ, suc, ◌-◌, ◌≤◌, List, [], ◌∷◌, ◌++◌, length, drop, set, slice_get, Some, refl, sym, ◌∙◌, append_assoc}
-use Rattle.bforest_core.proofs.Words.{length-append, arith, Heads, inner_content, entry_keys, entry_items, ◌+◌, ◌<◌, get_or, ap, IsUsed, entry_count, with_key}
-use Rattle.bforest_core.proofs.Words.{Table, sizes, count, OneAbove, TwoAbove, Row, flat_map, node, flat, heads, head_of, numbers, FitRow, RowIn, add-one}
-use Rattle.bforest_core.proofs.{Words.{LoosenedRows, Rekeyed}, removal.Lifted.{Across, Other, above_top, above_written, across, flat_at, head-other, heads-put}}
-use Rattle.bforest_core.proofs.{removal.Lifted.{lifted_above, n, next_in, old, place_at, rebuilt_same, renamed, rows_above}, removal.Asked.{ChildAt, Counts}}
-use Rattle.bforest_core.proofs.removal.Asked.{KeyAt, ReadsKey, Rekeys, Removes, Seen, Writes, last_key, removed_last, removed_same, seen, two_low}
-use Rattle.bforest_core.proofs.table.Tables.{is_used, count-same, count-row, counts, row-put, row-same, Puts, puts, row-split, row-join, puts-then}
-use Rattle.bforest_core.proofs.{removal.Frees.{frees-puts, frees-wider, frees-after}, table.Stored.{some_same, item_count, read_same}}
-use Rattle.bforest_core.proofs.rows.LevelRows.{heads-append, sizes-append}
+use Rattle.bforest_core.proofs.Words.{length-append, arith, Heads, inner_content, entry_keys, entry_items, ◌+◌, ◌<◌, get_or, ap, IsUsed, entry_count}
+use Rattle.bforest_core.proofs.Words.{with_key, Table, sizes, count, OneAbove, TwoAbove, Row, flat_map, node, flat, heads, head_of, numbers, FitRow, RowIn}
+use Rattle.bforest_core.proofs.Words.{add-one, LoosenedRows, Rekeyed}
+use Rattle.bforest_core.proofs.removal.Lifted.{Across, Other, above_top, above_written, across, flat_at, head-other, heads-put, lifted_above, n, next_in, old}
+use Rattle.bforest_core.proofs.removal.Lifted.{place_at, rebuilt_same, renamed, rows_above}
+use Rattle.bforest_core.proofs.removal.Asked.{ChildAt, Counts, KeyAt, ReadsKey, Rekeys, Removes, Seen, Writes, last_key, removed_last, removed_same, seen}
+use Rattle.bforest_core.proofs.{removal.Asked.two_low, table.Stored.{some_same, item_count, read_same}, rows.LevelRows.{heads-append, sizes-append}}
+use Rattle.bforest_core.proofs.table.Trading.{frees-after, Puts, puts, puts-then, row-put, trades-apart}
 
 module _ {K V : Type 0} where
   -- without a row above there is no key to update
@@ -42,18 +43,18 @@ module _ {K V : Type 0} where
         RowIn inner_content t.nodes (before ++ node (n d) (old d) ∷ ns) → Rekeyed t v path indices (suc up) size rest list (length (heads before)) →
         Puts v u (n d) (inner_content es) → Passed u
     loosened {v} {u} es ns len some low o fits inside above w =
-        let num = n d in let was = old d in let own = numbers (before ++ node num was ∷ after) ++ flat_map numbers rest in
-        let c = λ (i : ℕ). counts i before num was after rest t.chain in let c2 = λ (i : ℕ). counts i before num es ns above.rows' u.chain in
-        let c3 = λ (i : ℕ). ap (λ z. count i (num ∷ z)) o.1 in let c4 = λ (i : ℕ). ap (λ z. count i z) (w.chain_is ∙ above.frees.chain_is) in
+        let num = n d in let was = old d in let c = λ (i : ℕ). counts i before num was after rest t.chain in let c3 = λ (i : ℕ). ap (λ z. count i (num ∷ z)) o.1 in
         let row_v = row-same inner_content t.nodes v.nodes (before ++ node num was ∷ ns)
         (λ i some. above.frees.others i (omega (arith, c i, c3 i, count-row i before num was ns))) inside in
+        let frees = frees-after (numbers (before ++ node num was ∷ after) ++ flat_map numbers rest) (numbers (before ++ node num es ∷ ns) ++ flat_map numbers above.rows')
+        (λ i. omega (arith, c i, counts i before num es ns above.rows' u.chain, c3 i, above.frees.numbers_are i, count-append i (num ∷ []) (numbers after))) above.frees w.frees in
         record {
           before = before;
           entries = es;
           after = ns;
           rest = above.rows';
           on_level = record {
-            inside = row-put _ _ _ _ _ _ _ ns row_v w.same w.here (omega (arith, ap (λ z. count num z) o.1));
+            inside = row-put inner_content before was es ns row_v w (omega (arith, ap (λ z. count num z) o.1));
             solid = f.solid;
             fits = fits.2;
             some = some;
@@ -62,14 +63,13 @@ module _ {K V : Type 0} where
             above = above_written w (omega arith) (rw (← o.3) above.above);
             number_is = refl;
             entry_was = omega arith;
-            apart = λ i. omega (arith, above.numbers_are i, c i, c2 i, c3 i, c4 i);
+            apart = trades-apart frees whole.apart;
           };
           list_is = flat_at d es ((x.0, y.1) ∷ b) ns o.2;
           place_is = place_at d;
           was = λ fs slot. omega (arith, item_count fs, item_count was, ap entry_count (read_same t.nodes num f.slot_is slot));
           sizes_were = let same = o.0 in cc (sizes-append _ _);
-          numbers_are = λ i. omega (arith, c i, c2 i, c3 i, above.numbers_are i, ap (λ z. count i (flat_map numbers z)) d.q.rows_are);
-          frees = rw d.q.rows_are (frees-after (λ i none. none) (frees-wider own (λ i none. omega (arith, c i)) above.frees) (frees-puts own (omega (arith, c num, count-same num (numbers after))) w));
+          frees = rw d.q.rows_are frees;
         }
 
     module _ (m : ℕ) (value : Counts t (get_or path up i) m) where

@@ -1,10 +1,11 @@
 -- Removing the entry where a path stands from its leaf, which has others: the answers of `remove`.
-use Rattle.bforest_core.proofs.Words.{◌≡◌, ℕ, ◌≤◌, ◌<◌, Some, List, [], ◌∷◌, ◌++◌, length, get_or, slice_get, refl, sym, ap, ◌∙◌, length-append, arith, Content}
-use Rattle.bforest_core.proofs.Words.{without_entry, Table, node, heads, leaf_content, entry_keys, Above, StandsIn, LeafLoss, nil_from_length, OneAbove}
-use Rattle.bforest_core.proofs.Words.{get_or_default, entry_count, ◌≢◌, Leaf, HasOthers, IsSingle, IsUsed, with_node, head_of, entry_items, Rekeyed}
-use Rattle.bforest_core.proofs.removal.{LeafAt.{LeafAt, as_many_heads, leaf_at, leaf_count, leaf_loss, without_entry_is}, Lifted.{above_top, above_written}}
-use Rattle.bforest_core.proofs.{removal.{Lifted.rebuilt_same, Asked.{NodeAt, some_first}}, table.{Stored.{keys_count, read_same, some_same}, Tables.Puts}}
-use Rattle.bforest_core.proofs.{table.Tables.{is_used, puts}, rows.LevelRows.heads-append}
+use Rattle.bforest_core.proofs.Words.{◌≡◌, ℕ, ◌≤◌, ◌<◌, Some, List, [], ◌∷◌, ◌++◌, length, get_or, slice_get, refl, sym, ap, ◌∙◌, length-append, arith}
+use Rattle.bforest_core.proofs.Words.{Content, without_entry, Table, node, heads, leaf_content, entry_keys, Above, StandsIn, LeafLoss, nil_from_length}
+use Rattle.bforest_core.proofs.Words.{OneAbove, get_or_default, entry_count, ◌≢◌, Leaf, HasOthers, IsSingle, IsUsed, with_node, head_of, entry_items, Rekeyed}
+use Rattle.bforest_core.proofs.removal.LeafAt.{LeafAt, as_many_heads, leaf_at, leaf_count, leaf_loss, without_entry_is}
+use Rattle.bforest_core.proofs.{removal.Lifted.{above_top, above_written, rebuilt_same}, removal.Asked.{NodeAt, some_first}}
+use Rattle.bforest_core.proofs.{table.Stored.{keys_count, read_same, some_same}, table.Tables.is_used, rows.LevelRows.heads-append}
+use Rattle.bforest_core.proofs.table.Trading.{Puts, puts, takes}
 
 module _ {K V : Type 0} where
   -- a leaf with a key of this index

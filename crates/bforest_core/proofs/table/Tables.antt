@@ -1,7 +1,7 @@
 -- Counting numbers, and rows that a change of the table leaves unchanged.
-use Rattle.bforest_core.proofs.Words.{◌≡◌, ℕ, suc, ◌+◌, ◌<◌, ◌≢◌, false, nat_eq, List, [], ◌∷◌, ◌++◌, length, slice_get, Some, refl, ap, ◌∙◌}
-use Rattle.bforest_core.proofs.Words.{inl, inr, length-set, arith, Row, Rows, flat_map, list_any, eqb_tells, Content, Table, with_node, with_front, front_of}
-use Rattle.bforest_core.proofs.{Words.{IsUsed, slice_get_within, node, numbers, RowIn, RowsIn, count}, rows.LevelRows.numbers-append}
+use Rattle.bforest_core.proofs.Words.{◌≡◌, ℕ, suc, ◌+◌, ◌<◌, ◌≢◌, false, nat_eq, List, [], ◌∷◌, ◌++◌, length, slice_get, Some, refl, ap, ◌∙◌, inl, inr}
+use Rattle.bforest_core.proofs.Words.{length-set, arith, Row, Rows, flat_map, list_any, eqb_tells, Content, Table, with_front, IsUsed, slice_get_within, node}
+use Rattle.bforest_core.proofs.{Words.{numbers, RowIn, RowsIn, count}, rows.LevelRows.numbers-append}
 pub use Rattle.bforest_core.proofs.table.Lists.{slice_get-set_apart, slice_get-set_same}
 
 pub count-append : (n xs ys : _) → count n (xs ++ ys) ≡ count n xs + count n ys
@@ -57,33 +57,12 @@ module _ {K V : Type 0} where
     row-join t [] ys i j = j
     row-join t (node m es ∷ xs) ys i j = (i.0, row-join t xs ys i.1 j)
 
-    -- nodes of a row are replaced, where only two slots change
-    pub row-changed : (t u before old new after n q : _) → RowIn content t (before ++ (old ++ after)) → ((m : ℕ) → m ≢ n → m ≢ q → slice_get u m ≡ slice_get t m) → RowIn content u new →
-        count n (numbers before) + count n (numbers after) ≡ 0 → count q (numbers before) + count q (numbers after) ≡ 0 → RowIn content u (before ++ (new ++ after))
-    row-changed t u before old new after n q i same here none none_q = let s = row-split t _ _ i in
-        let kept = λ (m : ℕ) (ms : List ℕ) (some : 0 < count m ms) (a : count n ms ≡ 0) (b : count q ms ≡ 0). same m (ne_from_count m n ms some a) (ne_from_count m q ms some b) in
-        row-join u _ _ (row-same t u before (λ m some. kept m (numbers before) some (omega arith) (omega arith)) s.0)
-        (row-join u _ _ here (row-same t u after (λ m some. kept m (numbers after) some (omega arith) (omega arith)) (row-split t _ _ s.1).1))
-
-    -- one node of a row is written
-    pub row-put : (t u before n es fs after : _) → RowIn content t (before ++ node n es ∷ after) →
-        ((m : ℕ) → m ≢ n → slice_get u m ≡ slice_get t m) → slice_get u n ≡ Some (content fs) → count n (numbers before) + count n (numbers after) ≡ 0 → RowIn content u (before ++ node n fs ∷ after)
-    row-put t u before n es fs after i same here none =
-        row-changed t u before (node n es ∷ []) (node n fs ∷ []) after n n i (λ m a b. same m a) (here, tt) none none
-
-    -- two neighbours of a row are written
-    pub row-put_two : (t u before n q es fs xs ys after : _) → RowIn content t (before ++ node n es ∷ node q fs ∷ after) →
-        ((m : ℕ) → m ≢ n → m ≢ q → slice_get u m ≡ slice_get t m) → slice_get u n ≡ Some (content xs) → slice_get u q ≡ Some (content ys) →
-        count n (numbers before) + count n (numbers after) ≡ 0 → count q (numbers before) + count q (numbers after) ≡ 0 → RowIn content u (before ++ node n xs ∷ node q ys ∷ after)
-    row-put_two t u before n q es fs xs ys after i same here there none none_q =
-        row-changed t u before (node n es ∷ node q fs ∷ []) (node n xs ∷ node q ys ∷ []) after n q i same (here, (there, tt)) none none_q
-
-    -- the first of two neighbours of a row is removed, the second written
-    pub row-drop_put : (t u before n q es fs ys after : _) → RowIn content t (before ++ node n es ∷ node q fs ∷ after) →
-        ((m : ℕ) → m ≢ n → m ≢ q → slice_get u m ≡ slice_get t m) → slice_get u q ≡ Some (content ys) →
-        count n (numbers before) + count n (numbers after) ≡ 0 → count q (numbers before) + count q (numbers after) ≡ 0 → RowIn content u (before ++ node q ys ∷ after)
-    row-drop_put t u before n q es fs ys after i same there none none_q =
-        row-changed t u before (node n es ∷ node q fs ∷ []) (node q ys ∷ []) after n q i same (there, tt) none none_q
+    -- nodes of a row are replaced, where no slot of its other nodes changes
+    pub row-changed : (t u before old new after : _) (own : List ℕ) → RowIn content t (before ++ (old ++ after)) → ((m : ℕ) → count m own ≡ 0 → slice_get u m ≡ slice_get t m) → RowIn content u new →
+        ((m : ℕ) → 0 < count m (numbers before) + count m (numbers after) → count m own ≡ 0) → RowIn content u (before ++ (new ++ after))
+    row-changed t u before old new after own i same here apart = let s = row-split t _ _ i in
+        row-join u _ _ (row-same t u before (λ m some. same m (apart m (omega arith))) s.0)
+        (row-join u _ _ here (row-same t u after (λ m some. same m (apart m (omega arith))) (row-split t _ _ s.1).1))
 
   pub rows-same : (t u : List (Content K V)) (rows : _) → ((m : ℕ) → 0 < count m (flat_map numbers rows) → slice_get u m ≡ slice_get t m) → RowsIn t rows → RowsIn u rows
   rows-same t u [] same i = tt
@@ -91,52 +70,6 @@ module _ {K V : Type 0} where
     row-same _ t u row (λ m some. same m (omega (arith, count-append))) i.0,
     rows-same t u rows (λ m some. same m (omega (arith, count-append))) i.1,
   )
-
-  -- one slot was written
-  pub record Puts (t u : Table K V) (n : ℕ) (c : Content K V) : Type 0 where
-    pub here : slice_get u.nodes n ≡ Some c
-    pub same : (m : ℕ) → m ≢ n → slice_get u.nodes m ≡ slice_get t.nodes m
-    pub chain_is : u.chain ≡ t.chain
-    pub slots_are : length u.nodes ≡ length t.nodes
-    pub limit_is : u.limit ≡ t.limit
-    pub memory_is : u.memory ≡ t.memory
-
-  pub puts : (t u : Table K V) (n c old : _) → slice_get t.nodes n ≡ Some old → u ≡ with_node t n c → Puts t u n c
-  puts t u n c old found is = record {
-    here = cc (slice_get-set_same _ n c (slice_get_within _ n _ found));
-    same = λ m ne. cc (slice_get-set_apart _ n m c ne);
-    chain_is = cc;
-    slots_are = cc (length-set _ n c);
-    limit_is = cc;
-    memory_is = cc;
-  }
-
-  pub puts-then : {t u v n c d : _} → Puts t u n c → Puts u v n d → Puts t v n d
-  puts-then p q = record { here = q.here; same = λ m ne. q.same m ne ∙ p.same m ne; chain_is = cc; slots_are = cc; limit_is = cc; memory_is = cc }
-
-  -- the front of the chain was written, and taken off it
-  pub record Takes (t u : Table K V) (n : ℕ) (c : Content K V) : Type 0 where
-    pub here : slice_get u.nodes n ≡ Some c
-    pub same : (m : ℕ) → m ≢ n → slice_get u.nodes m ≡ slice_get t.nodes m
-    pub chain_is : t.chain ≡ n ∷ u.chain
-    pub slots_are : length u.nodes ≡ length t.nodes
-    pub limit_is : u.limit ≡ t.limit
-    pub memory_is : u.memory ≡ t.memory
-
-  takes_at : (t u : Table K V) (n c chain : _) → t.chain ≡ chain → front_of chain ≡ Some n → u ≡ with_front t chain c → n < length t.nodes → Takes t u n c
-  takes_at t u n c [] is front after low = absurd cc
-  takes_at t u n c (m ∷ rest) is front after low = let same : m ≡ n = cc in let after2 = after ∙ ap (λ z. with_front t (z ∷ rest) c) same in
-      record {
-        here = cc (slice_get-set_same _ n c low);
-        same = λ k ne. cc (slice_get-set_apart _ n k c ne);
-        chain_is = cc;
-        slots_are = cc (length-set _ n c);
-        limit_is = cc;
-        memory_is = cc;
-      }
-
-  pub takes : (t u : Table K V) (n c : _) → front_of t.chain ≡ Some n → u ≡ with_front t t.chain c → n < length t.nodes → Takes t u n c
-  takes t u n c front after low = takes_at t u n c _ refl front after low
 
   -- writing the front of the chain keeps the number of slots
   pub length-with_front : (t : Table K V) (chain c : _) → length (with_front t chain c).nodes ≡ length t.nodes

@@ -1,8 +1,9 @@
 -- Replacing trees of a table by others, with nodes from or to the chain: all other roots keep their trees.
 use Rattle.bforest_core.proofs.Words.{◌≡◌, ℕ, ◌+◌, ◌≤◌, ◌<◌, ◌↔◌, IsTrue, List, [], ◌∷◌, ◌++◌, map, length, slice_get, sym, ap, ◌∙◌, inl, inr, append_assoc}
-use Rattle.bforest_core.proofs.Words.{arith, flat_map, map-append, flat_map-append, cases_lt, Content, IsFree, Table, flat, Tree, IsFit, IsIn}
-use Rattle.bforest_core.proofs.{Words.{Distinct, count, root_of, numbers_of, slot, tree_of, is_root, Every, IsForest}, union.FreeSlots.free-same}
-use Rattle.bforest_core.proofs.{rows.Counts.{once_below, at-most-one}, union.Forests.{every-append, every-join, roots-once, root-counts, tree-with, tree-back}}
+use Rattle.bforest_core.proofs.Words.{arith, flat_map, map-append, flat_map-append, cases_lt, Content, IsFree, Table, flat, Tree, IsFit, IsIn, Distinct}
+use Rattle.bforest_core.proofs.{Words.{count, root_of, numbers_of, slot, tree_of, is_root, Every, IsForest, Trades}, union.FreeSlots.free-same}
+use Rattle.bforest_core.proofs.rows.Counts.{once_below, at-most-one}
+use Rattle.bforest_core.proofs.union.Forests.{every-append, every-join, roots-once, root-counts, tree-with, tree-back}
 use Rattle.bforest_core.proofs.table.Tables.{count-append, row-same, rows-same}
 
 -- what holds of every element of a list holds of those before and after a part of it
@@ -49,18 +50,15 @@ module _ {K V : Type 0} where
     pub others : (m : ℕ) → count m gone + count m old.chain ≡ 0 → slice_get new.nodes m ≡ slice_get old.nodes m
 
   -- the numbers are traded where the chain loses its first ones, or gains others in front
-  pub traded : (old new : Table K V) (gone come taken freed rest : _)
-      → Every (λ number. IsFree (slot old.nodes number)) old.chain → Distinct (gone ++ old.chain) → old.chain ≡ taken ++ rest
-      → new.chain ≡ freed ++ rest → Every (λ number. IsFree (slot new.nodes number)) freed → length new.nodes ≡ length old.nodes →
-      ((m : ℕ) → count m come + count m freed ≡ count m gone + count m taken) → ((m : ℕ) → count m gone + count m taken ≡ 0 → slice_get new.nodes m ≡ slice_get old.nodes m) → Traded old new gone come
-  traded old new gone come taken freed rest free apart old_is new_is freed_are slots nums others =
-      let c = λ (m : ℕ). ap (count m) old_is ∙ count-append m taken rest in
+  pub traded : {old new : Table K V} {gone come taken freed : List ℕ} (rest : List ℕ) → Every (λ number. IsFree (slot old.nodes number)) old.chain → Distinct (gone ++ old.chain) →
+      old.chain ≡ taken ++ rest → new.chain ≡ freed ++ rest → Trades old new gone come taken freed → Traded old new gone come
+  traded {old} {new} {taken = taken} {freed} rest free apart old_is new_is d = let c = λ (m : ℕ). ap (count m) old_is in
       let left = (every-append (λ number. IsFree (slot old.nodes number)) taken rest (rw (← old_is) free)).1 in
-      let still = free-same old.nodes new.nodes rest (λ m here. others m (omega (arith, c m, apart m, count-append))) left in record {
-        free = rw new_is (every-join _ _ _ freed_are still);
-        slots_are = slots;
-        nums = λ m. omega (arith, nums m, c m, ap (count m) new_is, count-append);
-        others = λ m none. others m (omega (arith, c m));
+      let still = free-same old.nodes new.nodes rest (λ m here. d.others m (omega (arith, c m, apart m, count-append))) left in record {
+        free = rw new_is (every-join _ _ _ d.freed_are still);
+        slots_are = d.slots_are;
+        nums = λ m. omega (arith, d.numbers_are m, c m, ap (count m) new_is, count-append);
+        others = λ m none. d.others m (omega (arith, c m, count-append));
       }
 
   -- a fit tree that is not empty, at most 17 levels high and in these slots

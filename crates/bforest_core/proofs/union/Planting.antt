@@ -1,10 +1,10 @@
 -- A table without trees, the first entry of a tree, and the properties of the tree under a root.
-use Rattle.bforest_core.proofs.Words.{◌≡◌, ℕ, ◌-◌, IsTrue, Some, [], ◌∷◌, length, refl, sym, ap, ◌∙◌, subst, length-append, arith, IsLeafCapacity, Leaf, Table}
-use Rattle.bforest_core.proofs.Words.{front_of, free_count, slot_count, fresh_nodes, down_from, with_front, reserved, node, Tree, count, numbers_of, is_root}
-use Rattle.bforest_core.proofs.{Words.{GrowsFor, IsUnion, Plants}, table.Tables.{count-same, absent_ne, takes}, union.Forests.{once, tree-back, within-slots}}
+use Rattle.bforest_core.proofs.Words.{◌≡◌, ℕ, ◌-◌, IsTrue, Some, [], ◌∷◌, length, refl, sym, ap, ◌∙◌, subst, length-append, arith, IsLeafCapacity, Leaf}
+use Rattle.bforest_core.proofs.Words.{Table, front_of, free_count, slot_count, fresh_nodes, down_from, with_front, reserved, node, Tree, count, is_root}
+use Rattle.bforest_core.proofs.{Words.{GrowsFor, IsUnion, Plants}, table.Tables.count-same, union.Forests.{once, tree-back, within-slots}}
 use Rattle.bforest_core.proofs.{table.Chains.{length-fresh_nodes, length-down_from}, union.Reserved.{reserved-union, reserved-then, reserved-roots}}
-use Rattle.bforest_core.proofs.rows.Counts.{past-none}
-use Rattle.bforest_core.proofs.{union.Roots.{not-root, one_root, one_tree}, union.Exchange.{IsPlanted, Traded, exchange-trees, others-keep, roots-gone, traded}}
+use Rattle.bforest_core.proofs.{rows.Counts.past-none, union.Roots.{not-root, one_root, one_tree}}
+use Rattle.bforest_core.proofs.{union.Exchange.{IsPlanted, Traded, exchange-trees, others-keep, roots-gone, traded}, table.Trading.takes}
 
 -- a chain with a front is not empty
 front_rest : {m : ℕ} (chain : _) → front_of chain ≡ Some m → (rest : _) × (chain ≡ m ∷ rest)
@@ -36,7 +36,7 @@ module _ {K V : Type 0} where
         some = omega arith;
         low = omega arith;
       } in
-      let moved = traded mid new [] (numbers_of tree) (number ∷ []) [] new.chain u.1.free (λ m. omega (arith, once u.1 m)) t.chain_is refl tt t.slots_are (λ m. omega arith) (λ m none. t.same m (absent_ne m number [] (omega arith))) in
+      let moved = traded new.chain u.1.free (λ m. omega (arith, once u.1 m)) (sym t.chain_is) refl t.draws in
       let g = exchange-trees [] [] (tree ∷ []) u.0 u.1 (p, tt) (subst (λ z. Traded mid new [] z) (one_tree tree) moved) in
       let back = tree-back [] tree u.0 number g refl refl in let made = length-fresh_nodes K V (slot_count old) (1 - free_count old) (front_of old.chain) in
       let slots = length-append old.nodes (fresh_nodes (slot_count old) (1 - free_count old) (front_of old.chain)) in

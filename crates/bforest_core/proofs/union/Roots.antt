@@ -1,6 +1,6 @@
 -- A change of the tree under a root, stated without a witness: by roots and the trees computed from them.
-use Rattle.bforest_core.proofs.Words.{◌≡◌, ℕ, ◌+◌, ◌<◌, ◌≢◌, IsTrue, [], ◌∷◌, ◌++◌, length, slice_get, refl, sym, subst, append-nil, arith, Changes, flat}
-use Rattle.bforest_core.proofs.Words.{sizes_of, flat_map, Table, Tree, count, root_of, numbers_of, tree_of, is_root, IsUnion, OthersKeep, Frees}
+use Rattle.bforest_core.proofs.Words.{◌≡◌, ℕ, ◌+◌, ◌<◌, ◌≢◌, IsTrue, List, [], ◌∷◌, ◌++◌, refl, sym, subst, append-nil, arith, Changes, flat, sizes_of, flat_map}
+use Rattle.bforest_core.proofs.Words.{Table, Tree, count, root_of, numbers_of, tree_of, is_root, IsUnion, OthersKeep, Frees, Draws}
 use Rattle.bforest_core.proofs.{table.Tables.{count-same, count-other}, union.Exchange.{IsPlanted, Traded, traded, exchange-trees, others-keep, roots-gone}}
 use Rattle.bforest_core.proofs.{union.Forests.tree-back, union.Unions.rooted}
 
@@ -40,19 +40,14 @@ module _ {K V : Type 0} where
       })
 
   -- the tree after an insertion under a root
-  pub exchanged : {most : ℕ} {old new : Table K V} (root : ℕ) {tree' : Tree K V} (taken : _) → IsUnion most old → IsTrue (is_root old.nodes root) → IsPlanted
-      most new.nodes tree' → old.chain ≡ taken ++ new.chain → length new.nodes ≡ length old.nodes → ((m : ℕ) → count m (numbers_of tree') ≡ count m (numbers_of
-      (tree_of old.nodes root)) + count m taken) → ((m : ℕ) → count m (numbers_of (tree_of old.nodes root)) + count m taken ≡ 0 → slice_get new.nodes m ≡
-      slice_get old.nodes m) → Exchanged most old new root tree'
-  exchanged {old} {new} root {tree'} taken union is p chain_is slots nums others =
-      exchanged_by old new root union is p (traded old new (numbers_of (tree_of old.nodes root)) (numbers_of tree') taken [] new.chain union.1.free (rooted _ old root union is).apart chain_is refl tt slots (λ m. omega arith) others)
+  pub exchanged : {most : ℕ} {old new : Table K V} (root : ℕ) {tree' : Tree K V} {taken : List ℕ} → IsUnion most old → IsTrue (is_root old.nodes root) → IsPlanted most new.nodes tree' →
+      Draws old new (numbers_of (tree_of old.nodes root)) (numbers_of tree') taken → Exchanged most old new root tree'
+  exchanged {old = old} {new} root union is p d = exchanged_by old new root union is p (traded new.chain union.1.free (rooted _ old root union is).apart (sym d.chain_is) refl d)
 
   -- the tree after a removal under a root
-  pub exchanged-freed : {most : ℕ} {old new : Table K V} (root : ℕ) {tree' : Tree K V} {freed : _} → IsUnion most old → IsTrue (is_root old.nodes root) → IsPlanted most new.nodes tree' → Frees old new (numbers_of (tree_of old.nodes root)) freed →
-      ((m : ℕ) → count m (numbers_of tree') + count m freed ≡ count m (numbers_of (tree_of old.nodes root))) → Exchanged most old new root tree'
-  exchanged-freed {old} {new} root {tree'} {freed} union is p frees nums = exchanged_by old new root union is p (traded old new
-      (numbers_of (tree_of old.nodes root)) (numbers_of tree') [] freed old.chain union.1.free (rooted _ old root union is).apart refl frees.chain_is
-      frees.freed_are frees.slots_are (λ m. omega arith) (λ m none. frees.others m (omega arith)))
+  pub exchanged-freed : {most : ℕ} {old new : Table K V} (root : ℕ) {tree' : Tree K V} {freed : List ℕ} → IsUnion most old → IsTrue (is_root old.nodes root) → IsPlanted most new.nodes tree' →
+      Frees old new (numbers_of (tree_of old.nodes root)) (numbers_of tree') freed → Exchanged most old new root tree'
+  exchanged-freed {old = old} {new} root union is p d = exchanged_by old new root union is p (traded old.chain union.1.free (rooted _ old root union is).apart refl d.chain_is d)
 
   -- a replaced tree as a change of the table
   pub exchanged-changes : {most old new root root' tree' : _} → Exchanged most old new root tree' → root_of tree' ≡ root' → new.limit ≡ old.limit → Changes most old new root root' (flat tree'.leaves) (sizes_of tree')
@@ -68,10 +63,10 @@ module _ {K V : Type 0} where
   })
 
   -- the root whose tree lost all its entries is no root
-  pub uprooted-union : (most : ℕ) {old new : Table K V} (root : ℕ) {freed : _} → IsUnion most old → IsTrue (is_root old.nodes root) → Frees old new (numbers_of (tree_of old.nodes root)) freed → ((m : ℕ) → count m freed ≡ count m (numbers_of (tree_of old.nodes root))) →
+  pub uprooted-union : (most : ℕ) {old new : Table K V} (root : ℕ) {freed : _} → IsUnion most old → IsTrue (is_root old.nodes root) → Frees old new (numbers_of (tree_of old.nodes root)) [] freed →
       IsUnion most new × (¬ IsTrue (is_root new.nodes root)) × OthersKeep old.nodes new.nodes root root
-  uprooted-union most {old} {new} root {freed} union is frees nums = let r = rooted most old root union is in let tree = tree_of old.nodes root in
-      let t = traded old new (numbers_of tree) [] [] freed old.chain union.1.free r.apart refl frees.chain_is frees.freed_are frees.slots_are (λ m. omega arith) (λ m none. frees.others m (omega arith)) in
+  uprooted-union most {old} {new} root union is frees = let r = rooted most old root union is in let tree = tree_of old.nodes root in
+      let t = traded old.chain union.1.free r.apart refl frees.chain_is frees in
       let g = exchange-trees r.before (tree ∷ []) [] r.after r.forest tt (rw (← one_tree tree) t) in (
         (r.before ++ r.after, g),
         rw (← r.root_is) (roots-gone r.before (tree ∷ []) [] r.after r.forest g (root_of tree) (one_root (root_of tree)) refl),

@@ -1,11 +1,12 @@
 -- Freeing everything below a node, child by child.
 use Rattle.bforest_core.proofs.Words.{last_taken, ◌≡◌, ℕ, zero, suc, ◌+◌, ◌≤◌, ◌<◌, List, [], ◌∷◌, ◌++◌, length, drop, take, reverse, slice_get, Some, refl}
-use Rattle.bforest_core.proofs.Words.{sym, ap, subst, ◌∙◌, inl, inr, arith, Heads, Row, Rows, flat_map, cases_lt, Content, IsInner, children_of, Table}
-use Rattle.bforest_core.proofs.Words.{with_freed, heads, numbers, entry_items, count, Distinct, StackedTo, Under, numbers_down, slot, Frees, GivesAll}
-use Rattle.bforest_core.proofs.{Words.{numbers_under, drop_all, length-map, reverse-append, take_all, slice_get_within, IsLeafCapacity}, table.Lists.drop-read}
-use Rattle.bforest_core.proofs.{removal.Frees.{frees-one, frees-refl, frees-then, frees-wider, only_here}, table.Tables.{count-append, count-same}}
-use Rattle.bforest_core.proofs.{walks.LeafSearch.items-read, walks.RowNodes.no_heads, table.Stored.{childless, some_same}, union.Opened.{UnderCut, under-cut}}
-use Rattle.bforest_core.proofs.{walks.Steps.read, rows.LevelRows.some_leaf, union.Exchange.tree-same, union.Opened.Opened, union.FreeSlots.slot_same}
+use Rattle.bforest_core.proofs.Words.{sym, ap, subst, ◌∙◌, arith, Heads, Row, Rows, flat_map, Content, IsInner, children_of, Table, with_freed, heads}
+use Rattle.bforest_core.proofs.Words.{numbers, entry_items, count, Distinct, StackedTo, Under, numbers_down, slot, Frees, numbers_under, drop_all, length-map}
+use Rattle.bforest_core.proofs.{Words.{reverse-append, take_all, slice_get_within, IsLeafCapacity}, table.Lists.drop-read}
+use Rattle.bforest_core.proofs.{table.Trading.{frees-one, frees-then, trades-none, trades-wider}, table.Tables.{count-append, count-same}}
+use Rattle.bforest_core.proofs.{walks.LeafSearch.items-read, walks.RowNodes.no_heads, table.Stored.{childless, some_same}}
+use Rattle.bforest_core.proofs.{union.Opened.{UnderCut, under-cut, Opened}, walks.Steps.read, rows.LevelRows.some_leaf, union.Exchange.tree-same}
+use Rattle.bforest_core.proofs.union.FreeSlots.{slot_same}
 
 -- rows below no nodes have no nodes
 rows_none : {K : Type 0} (list : Heads K) (rows : Rows K) → StackedTo list rows [] → (list ≡ []) × ((m : ℕ) → count m (flat_map numbers rows) ≡ 0)
@@ -47,15 +48,14 @@ module _ {K V : Type 0} where
     pub given : List ℕ
     pub under : Under most old.nodes left_leaves left_rows (drop index top)
     pub height : length left_rows ≡ length rows
-    pub frees : Frees old now own given
+    pub frees : Frees old now own [] given
     pub order : given ≡ flat_map (numbers_down old.nodes (length rows)) (reverse (take index (entry_items top)))
-    pub counted : (m : ℕ) → count m given ≡ count m own
     pub split : (m : ℕ) → count m (numbers_under leaves rows) ≡ count m own + count m (numbers_under left_leaves left_rows)
 
   module _ {most : ℕ} (capacity : IsLeafCapacity most) (old : Table K V) (leaves : Row K V) (rows : Rows K) (top : Heads K) where
     -- at first nothing is freed
     pub sweep-first : Under most old.nodes leaves rows top → Swept most old old leaves rows top 0
-    sweep-first u = record { left_leaves = leaves; left_rows = rows; own = []; given = []; under = u; height = refl; frees = frees-refl old []; order = refl; counted = λ m. refl; split = λ m. omega arith }
+    sweep-first u = record { left_leaves = leaves; left_rows = rows; own = []; given = []; under = u; height = refl; frees = trades-none old []; order = refl; split = λ m. omega arith }
 
     -- the next child of the top, and everything below it
     pub record Turn (now : Table K V) (index : ℕ) (x : K × ℕ) : Type 0 where
@@ -73,12 +73,12 @@ module _ {K V : Type 0} where
           found = found;
           cut = cut;
           under = under-same _ (λ m some. s.frees.others m (omega (arith, apart m, count-append, s.split m, cut.counted m))) cut.left;
-          apart = λ m. omega (arith, apart m, s.split m, cut.counted m, s.counted m, ap (count m) s.frees.chain_is, count-append);
+          apart = λ m. omega (arith, apart m, s.split m, cut.counted m, s.frees.numbers_are m, ap (count m) s.frees.chain_is, count-append);
         }
 
     -- the next child is freed with everything below it
-    pub sweep-next : {now new index : _} (x : _) → Distinct (numbers_under leaves rows ++ old.chain) → (t : Turn now index x) → GivesAll now new (numbers_under
-        t.cut.leaves_left t.cut.lower_left) (numbers_down now.nodes (length t.cut.lower_left) x.1) → Swept most old new leaves rows top (suc index)
+    pub sweep-next : {now new index : _} (x : _) → Distinct (numbers_under leaves rows ++ old.chain) → (t : Turn now index x) → Frees now new (numbers_under
+        t.cut.leaves_left t.cut.lower_left) [] (numbers_down now.nodes (length t.cut.lower_left) x.1) → Swept most old new leaves rows top (suc index)
     sweep-next {now} {index} x apart t g = let own = numbers_under t.cut.leaves_left t.cut.lower_left in let n = λ (m : ℕ). count-append m t.swept.own own in
         record {
           left_leaves = t.cut.leaves_right;
@@ -87,30 +87,23 @@ module _ {K V : Type 0} where
           given = numbers_down now.nodes (length t.cut.lower_left) x.1 ++ t.swept.given;
           under = t.cut.right;
           height = cc;
-          frees = frees-then (λ m z. omega (arith, n m)) (λ m some. omega (
-            arith,
-            apart m,
-            t.swept.counted m,
-            count-append m (numbers_under leaves rows) old.chain,
-            t.swept.split m,
-            t.cut.counted m,
-          )) (frees-wider _ (λ m z. omega (arith, n m)) t.swept.frees) g.frees;
+          frees = frees-then _ _ (λ m. omega (arith, n m))
+              (λ m. omega (arith, apart m, t.swept.split m, t.cut.counted m, count-append)) t.swept.frees g;
           order =
               cc (
-                down-same now.nodes old.nodes (length t.cut.lower_left) x.1 (λ m some. sym (t.swept.frees.others m (omega (arith, g.counted m, apart m, count-append, t.swept.split m, t.cut.counted m)))),
+                down-same now.nodes old.nodes (length t.cut.lower_left) x.1 (λ m some. sym (t.swept.frees.others m (omega (arith, g.numbers_are m, apart m, count-append, t.swept.split m, t.cut.counted m)))),
                 last_taken (entry_items top) index x.1 (simp (items-read top index, t.found)),
                 reverse-append (take index (entry_items top)) (x.1 ∷ []),
               );
-          counted = λ m. omega (arith, count-append, n m, g.counted m, t.swept.counted m);
           split = λ m. omega (arith, n m, t.swept.split m, t.cut.counted m);
         }
 
     -- at last everything below the top is freed
-    pub sweep-last : {now : Table K V} {index : ℕ} → length top ≤ index → Swept most old now leaves rows top index → GivesAll old now (numbers_under leaves rows) (flat_map (numbers_down old.nodes (length rows)) (reverse (entry_items top)))
+    pub sweep-last : {now : Table K V} {index : ℕ} → length top ≤ index → Swept most old now leaves rows top index → Frees old now (numbers_under leaves rows) [] (flat_map (numbers_down old.nodes (length rows)) (reverse (entry_items top)))
     sweep-last {index} past s =
         let left = under_none most capacity (subst (Under most old.nodes s.left_leaves s.left_rows) (drop_all _ _ past) s.under) in
         let whole = s.order ∙ ap (λ z. flat_map (numbers_down old.nodes (length rows)) (reverse z)) (take_all index _ (omega (arith, length-map top (λ e. e.1)))) in
-        rw (← whole) (record { frees = frees-wider _ (λ m zero. omega arith) s.frees; counted = λ m. omega arith })
+        rw (← whole) (trades-wider _ _ (λ m. omega (arith, s.split m, left m)) s.frees)
 
 -- the entry whose item is at an index
 item_at : {K : Type 0} (top : Heads K) (index child : ℕ) → slice_get (entry_items top) index ≡ Some child → (x : K × ℕ) × (slice_get top index ≡ Some x) × (x.1 ≡ child)
@@ -122,40 +115,34 @@ module _ {K V : Type 0} where
   pub record Sweeping (most : ℕ) (old now : Table K V) (leaves : Row K V) (lower : Rows K) (number index : ℕ) : Type 0 where
     pub opened : Opened most old.nodes leaves lower number
     pub swept : Swept most old now opened.low opened.rows opened.top index
-    pub alone : count number (numbers_under opened.low opened.rows) ≡ 0
+    pub whole : Distinct (numbers_under leaves lower ++ old.chain)
     pub apart : Distinct (numbers_under opened.low opened.rows ++ old.chain)
     pub slot_is : slice_get now.nodes number ≡ Some opened.content
     pub off_chain : count number now.chain ≡ 0
 
   pub sweeping : {most : ℕ} {old now : Table K V} {leaves lower number index : _} → Distinct (numbers_under leaves lower ++ old.chain) → (o : Opened most
       old.nodes leaves lower number) → Swept most old now o.low o.rows o.top index → Sweeping most old now leaves lower number index
-  sweeping {number} apart o s = let one = count-same number [] in let a = apart number in
+  sweeping {number} apart o s = let one = count-same number [] in
       record {
         opened = o;
         swept = s;
-        alone = omega (arith, o.counted number, count-append);
+        whole = apart;
         apart = λ m. omega (arith, apart m, o.counted m, count-append);
-        slot_is = s.frees.others number (omega (arith, o.counted number, s.split number, count-append)) ∙ o.slot_is;
-        off_chain = omega (arith, o.counted number, s.split number, s.counted number, ap (count number) s.frees.chain_is, count-append);
+        slot_is = s.frees.others number (omega (arith, apart number, o.counted number, s.split number, count-append)) ∙ o.slot_is;
+        off_chain = omega (arith, apart number, o.counted number, s.split number, s.frees.numbers_are number, ap (count number) s.frees.chain_is, count-append);
       }
 
   -- the node is freed after its children
   pub gives-down : {most : _} {old now : _} {leaves lower number index : _} → (s : Sweeping most old now leaves lower number index) →
-      GivesAll old now (numbers_under s.opened.low s.opened.rows) (flat_map (numbers_down old.nodes (length s.opened.rows)) (reverse (entry_items s.opened.top))) → GivesAll old (with_freed now number) (numbers_under leaves lower) (numbers_down old.nodes (length lower) number)
-  gives-down {old} {now} {number} s all = let own = numbers_under s.opened.low s.opened.rows in
-      let below = flat_map (numbers_down old.nodes (length s.opened.rows)) (reverse (entry_items s.opened.top)) in
-      let apart : (m : ℕ) → 0 < count m below → count m (number ∷ []) ≡ 0 =
-      λ m some. elim (cases_lt 0 (count m (number ∷ []))) [ inl here ↦ absurd (omega (arith, all.counted m, only_here m _ _ here s.alone)) | inr past ↦ omega arith ] in
-      rw s.opened.down (record {
-        frees = frees-then (λ m zero. omega arith) apart (frees-wider _ (λ m zero. omega arith) all.frees)
-            (frees-one now (with_freed now number) number s.opened.content (number ∷ []) s.slot_is refl (omega (arith, count-same number [])));
-        counted = λ m. omega (arith, s.opened.counted m, all.counted m);
-      })
+      Frees old now (numbers_under s.opened.low s.opened.rows) [] (flat_map (numbers_down old.nodes (length s.opened.rows)) (reverse (entry_items s.opened.top))) →
+      Frees old (with_freed now number) (numbers_under leaves lower) [] (numbers_down old.nodes (length lower) number)
+  gives-down {old} {now} {number} s all = rw s.opened.down (frees-then _ _ (λ m. omega (arith, s.opened.counted m)) s.whole all
+      (frees-one now (with_freed now number) number s.slot_is refl))
 
   -- a leaf has nothing below it and is freed alone
   pub gives-leaf : {most : ℕ} (capacity : IsLeafCapacity most) (old : Table K V) {leaves : Row K V}
       {lower number : _} → Distinct (numbers_under leaves lower ++ old.chain) → (o : Opened most old.nodes leaves lower number) → (IsInner o.content → ⊥)
-      → GivesAll old (with_freed old number) (numbers_under leaves lower) (numbers_down old.nodes (length lower) number)
+      → Frees old (with_freed old number) (numbers_under leaves lower) [] (numbers_down old.nodes (length lower) number)
   unfolding sweeping
   gives-leaf capacity old apart o other = let first = sweep-first capacity old o.low o.rows o.top o.under in
       let all = sweep-last capacity old o.low o.rows o.top (omega (arith, childless _ other, ap length o.children_are, length-map o.top (λ e. e.1))) first in

@@ -1,12 +1,12 @@
 -- Writing the value of an entry of a tree, which keeps its nodes and keys.
 use Rattle.bforest_core.proofs.Words.{◌≡◌, ℕ, zero, suc, ◌+◌, ◌<◌, List, [], ◌∷◌, ◌++◌, map, length, get_or, set, slice_get, Some, refl, sym, ap, ◌∙◌}
 use Rattle.bforest_core.proofs.Words.{length-set, arith, flat_map, Table, IsUsed, IsEntryAt, value_at, with_node, with_value_at, value_at_place, node, flat}
-use Rattle.bforest_core.proofs.Words.{head_of, heads, sizes, sizes_of, numbers, Tree, half_of, leaf_content, entry_keys, entry_items, count, IsAt, numbers_of}
-use Rattle.bforest_core.proofs.{Words.{root_above, tree_of, IsUnion, Changes, StandsUnder}, union.Roots.{exchanged, exchanged-changes}}
-use Rattle.bforest_core.proofs.{walks.Entered.leaf_here, rows.LevelRows.{flat-append, heads-append, sizes-append, numbers-append, FitRow-split, FitRow-join}}
-use Rattle.bforest_core.proofs.{walks.RowNodes.entry_at, table.Stored.{keys_count, item_count}, walks.LeafSearch.items-read, union.Unions.{Rooted, rooted}}
-use Rattle.bforest_core.proofs.table.Tables.{count-append, count-same, count-row, row-put, rows-same, ne_from_count, is_used, puts}
-use Rattle.bforest_core.proofs.{union.Exchange.IsPlanted, rows.Zipper.apart_here, walks.Steps.read, table.Read.slot-is}
+use Rattle.bforest_core.proofs.Words.{head_of, heads, sizes, sizes_of, numbers, Tree, half_of, leaf_content, entry_keys, entry_items, count, IsAt, root_above}
+use Rattle.bforest_core.proofs.{Words.{tree_of, IsUnion, Changes, StandsUnder}, union.Roots.{exchanged, exchanged-changes}, walks.Entered.leaf_here}
+use Rattle.bforest_core.proofs.{rows.LevelRows.{flat-append, heads-append, sizes-append, numbers-append, FitRow-split, FitRow-join}, walks.RowNodes.entry_at}
+use Rattle.bforest_core.proofs.{table.Stored.{keys_count, item_count}, walks.LeafSearch.items-read, union.Unions.{Rooted, rooted}}
+use Rattle.bforest_core.proofs.{table.Tables.{count-append, count-row, rows-same, is_used}, union.Exchange.IsPlanted, rows.Zipper.apart_here}
+use Rattle.bforest_core.proofs.{walks.Steps.read, table.Read.slot-is, table.Trading.{not_there, trades-wider, puts, row-put}}
 use Rattle.bforest_nodes.specs.Entries.{with_value}
 
 module _ {K X : Type 0} where
@@ -85,17 +85,14 @@ module _ {K V : Type 0} {most : ℕ} {table : Table K V} {root place path indice
           topped = rw hs r.fit.topped;
         };
         inside = record {
-          leaves_in = row-put leaf_content table.nodes new.nodes at.before n at.entries (with_value at.entries i v) at.after (rw (← at.row_is) r.inside.leaves_in) w.same w.here once_here.0;
-          rows_in = rows-same table.nodes new.nodes tree.above (λ m some. w.same m (ne_from_count m n (flat_map numbers tree.above) some once_here.1)) r.inside.rows_in;
+          leaves_in = row-put leaf_content at.before at.entries (with_value at.entries i v) at.after (rw (← at.row_is) r.inside.leaves_in) w once_here.0;
+          rows_in = rows-same table.nodes new.nodes tree.above (λ m some. w.others m (not_there m n (flat_map numbers tree.above) some once_here.1)) r.inside.rows_in;
         };
         some = omega (arith, r.some, ap length fl, length-written (flat tree.leaves) place v);
         low = r.low;
       } in
       let same_root = ap (λ z. root_above z tree.above) hs ∙ r.root_is in
-      let c = ap (λ z. count n (numbers z)) at.row_is ∙ count-row n at.before n at.entries at.after in
-      let e = exchanged root [] union s.root_is p (sym w.chain_is) w.slots_are
-      (λ m. (let d = ap (λ z. count m (z ++ flat_map numbers tree.above)) ns in omega arith))
-      (λ m zero_is. w.same m (λ is. (let d = ap (λ z. count z (numbers_of tree)) is in omega (arith, count-append, count-same n (numbers at.after))))) in
+      let e = exchanged root union s.root_is p (trades-wider _ _ (λ m. omega (arith, ap (λ z. count m (numbers z)) at.row_is, count-row m at.before n at.entries at.after, ap (λ z. count m (z ++ flat_map numbers tree.above)) ns, count-append m (n ∷ []) (numbers at.after), count-append m (numbers tree.leaves) (flat_map numbers tree.above))) w.frees) in
       let changes = exchanged-changes e same_root w.limit_is in let tree_is = ap (tree_of new.nodes) (sym same_root) ∙ e.tree_is in (
         rw (← ss) (rw (← fl) changes),
         record {

@@ -1,5 +1,5 @@
-use Rattle.bforest_core.proofs.Words.{◌<◌, [], ◌∷◌, length, ap, arith, Inner}
-use Rattle.bforest_core.proofs.{table.Tables.{length-with_front, takes}, insertion.HalvingNode.settle_root}
+use Rattle.bforest_core.proofs.{Words.{◌<◌, [], ◌∷◌, length, ap, arith, Inner}, table.Tables.length-with_front, insertion.HalvingNode.settle_root}
+use Rattle.bforest_core.proofs.table.Trading.{takes}
 use Rattle.bforest_core.proofs.path.Path.push_root.Goals as goal
 
 pub returns : goal.returns

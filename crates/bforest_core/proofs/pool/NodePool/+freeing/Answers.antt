@@ -1,5 +1,5 @@
-use Rattle.bforest_core.proofs.Words.{false≢true, length-map, slice_get_within, IsInner, children_of, entry_count, numbers_down, Under, GivesAll}
-use Rattle.bforest_core.proofs.Words.{numbers_under, rules, ◌≡◌, ℕ, ◌+◌, [], ◌∷◌, length, slice_get, suc, ◌≤◌, sym, ap, subst, ◌∙◌, arith}
+use Rattle.bforest_core.proofs.Words.{false≢true, length-map, slice_get_within, IsInner, children_of, entry_count, numbers_down, Under, Frees, numbers_under}
+use Rattle.bforest_core.proofs.Words.{rules, ◌≡◌, ℕ, ◌+◌, [], ◌∷◌, length, slice_get, suc, ◌≤◌, sym, ap, subst, ◌∙◌, arith}
 use Rattle.bforest_core.proofs.union.Sweep.{Sweeping, child_turn, gives-down, gives-leaf, sweep-first, sweep-last, sweep-next, sweeping}
 use Rattle.bforest_core.proofs.{union.Opened.{inner-children, under-open}, table.Stored.some_same, table.Tables.is_used}
 use Rattle.bforest_core.proofs.pool.NodePool.+freeing.Goals as goal
@@ -52,7 +52,7 @@ free_under-loop-index-preserved g t c = λ leaves lower apart o. let one = c.req
     let content = some_same (sym c.node.ensures.value ∙ s.slot_is) in
     let x = child_turn one s (ap (λ z. slice_get (children_of z) c.loop-index.index) (sym content) ∙ c.child-child.ensures.child) in
     let under = subst (λ z. Under g.row.N c.loop-index.self.nodes x.3.cut.leaves_left x.3.cut.lower_left ((x.0.0, z) ∷ [])) x.1 x.3.under in let gone =
-    subst (λ z. GivesAll c.loop-index.self c.free_below.new.self (numbers_under x.3.cut.leaves_left x.3.cut.lower_left) (numbers_down c.loop-index.self.nodes (length x.3.cut.lower_left) z)) (sym x.1)
+    subst (λ z. Frees c.loop-index.self c.free_below.new.self (numbers_under x.3.cut.leaves_left x.3.cut.lower_left) [] (numbers_down c.loop-index.self.nodes (length x.3.cut.lower_left) z)) (sym x.1)
     (c.free_below.ensures x.3.cut.leaves_left x.3.cut.lower_left x.0.0 under x.3.apart) in
     let swept = sweep-next one c.args.self.now s.opened.low s.opened.rows s.opened.top x.0 s.apart x.3 gone in
     subst (Sweeping g.row.N c.args.self.now c.free_below.new.self leaves lower c.args.node) (omega arith) (sweeping apart s.opened swept)
