@@ -1,7 +1,7 @@
 -- Re-exports the definitions of the specs that proofs cite. Declares nothing.
 pub use Rattle.bforest_core.proofs.rows.Shapes.{Heads, Row, Rows}
 pub use Rattle.bforest_core.specs.Change.{AtUnder, Changes, EntryTaken, KeepsTrees, PlacedUnder, Plants, Shrinks}
-pub use Rattle.bforest_core.specs.Climb.{Above, Grown, GrownBy, Halved, HalvedBy, Inserted, LastAbove, LeafHalved, NextIs, OneAbove, Placed, Raised, SameBelow}
+pub use Rattle.bforest_core.specs.Climb.{Above, Over, Grown, GrownBy, Halved, HalvedBy, Inserted, LastAbove, LeafHalved, NextIs, OneAbove, Placed, Raised, SameBelow}
 pub use Rattle.bforest_core.specs.Descent.{Descended, GoesThrough, HasBelow, IsFirst, IsFrom, IsLast, IsRooted, IsUpTo, Led, LedUp, NodeOver, OnBelow, Reached}
 pub use Rattle.bforest_core.specs.Levels.{FitRow, IsFit, LevelNode, Solid, Stacked, Topped, Tree, flat, half_of, head_of, heads, least, node, numbers, sizes}
 pub use Rattle.bforest_core.specs.Paths.{InsertsHere, OnEntry, OnLeaf, Placing, PointsTo, Standing, StandsAt, StandsOn, index_of, leaf_of, list_under, path_root, place_in}
@@ -9,7 +9,7 @@ pub use Rattle.bforest_core.specs.Place.{Distinct, IsAt, IsIn, IsPathAt, PointsA
 pub use Rattle.bforest_core.specs.Removal.{Dropped, Emptied, HasOthers, Healed, Heals, IsSingle, Item, Joined, Joins, Keeps, LeafLoss, Loosened, LoosenedRows}
 pub use Rattle.bforest_core.specs.Spots.{Coded, CodedOver, Direction, EndsAt, Followed, HasNext, HasPrev, HasUnder, IsBesideOf, IsLeafAt, IsLower, IsSpotAt, IsTurn}
 pub use Rattle.bforest_core.specs.Spots.{IsWay, Leads, NumberAt, SearchAt, Sided, Way, backwards, onwards}
-pub use Rattle.bforest_core.specs.Steps.{Advances, AreFirst, AreLast, HasOver, LastAt, MoreAt, Moved, OnLevels, OnOver, OnTree, Over, Retreats, Turned, TurnedBack}
+pub use Rattle.bforest_core.specs.Steps.{Advances, AreFirst, AreLast, HasOver, LastAt, MoreAt, Moved, OnLevels, OnOver, OnTree, Retreats, Turned, TurnedBack}
 pub use Rattle.bforest_core.specs.Table.{IsBalancedAt, IsEntryAt, IsFreeAt, IsFullAt, IsSplitAt, IsUnderflowedAt, IsUsed}
 pub use Rattle.bforest_core.specs.Table.{GrowsFor, NeedsGrowth, PutsChild, PutsEntry, PutsIn, Table, down_from}
 pub use Rattle.bforest_core.specs.Table.{free_count, fresh_nodes, front_of, front_of_new, reserved, room, slot_count, value_at, with_freed, with_front}

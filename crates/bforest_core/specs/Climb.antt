@@ -35,13 +35,17 @@ pub record Climbs (path indices path' indices' : List ℕ) (level size size' : �
   pub new_top : size' ≢ size → 0 < count (top_of path' size') taken
 
 module _ {K V : Type 0} where
-  -- the rows from a level up stand over these nodes and are in the table, off its chain, and the path leads
-  -- through them to one of the nodes
-  pub record Above (table : Table K V) (path indices : List ℕ) (level size : ℕ) (rows : List (List (LevelNode K ℕ))) (list : List (K × ℕ)) (place : ℕ) : Type 0 where
+  -- the rows from a level up stand over these nodes and are in the slots, and the path leads through them to the node at this place
+  pub record Over (slots : List (Content K V)) (path indices : List ℕ) (level size : ℕ) (rows : List (List (LevelNode K ℕ))) (list : List (K × ℕ)) (place : ℕ) : Type 0 where
     pub stacked : Stacked list rows
-    pub inside : RowsIn table.nodes rows
+    pub inside : RowsIn slots rows
     pub stands : StandsAbove path indices level rows place
     pub height : level + length rows ≡ size
+
+  -- these rows are off the chain of the table
+  pub record Above (table : Table K V) (path indices : List ℕ) (level size : ℕ) (rows : List (List (LevelNode K ℕ))) (list : List (K × ℕ)) (place : ℕ) : Type 0 where
+    pub over : Over table.nodes path indices level size rows list place
+    pub open over use *
     pub apart : Distinct (flat_map numbers rows ++ table.chain)
 
   -- the rows from a level up, with the path at this one of the nodes below them

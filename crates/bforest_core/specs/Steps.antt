@@ -1,18 +1,9 @@
 -- Steps of a path from node to node.
 use Rattle.std.specs.Prelude.{◌≡◌, ℕ, suc, ◌+◌, ◌-◌, ◌≤◌, ◌<◌, List, length, get_or, slice_get, Some}
 use Rattle.bforest_nodes.specs.Content.{Content}
-use Rattle.bforest_core.specs.Levels.{IsFit, LevelNode, Stacked, Tree, most_levels}
-use Rattle.bforest_core.specs.Place.{IsIn, RowsIn, Stands, StandsAbove, inner_content}
-use Rattle.bforest_core.specs.Climb.{SameBelow}
-
--- the rows from a level up stand over these nodes and are in the slots, and the path leads through them to
--- the node at this place
-pub record Over {K V : Type 0} (slots : List (Content K V)) (path indices : List ℕ) (level size : ℕ) (rows : List (List (LevelNode K ℕ))) (list : List (K × ℕ))
-    (place : ℕ) : Type 0 where
-  pub stacked : Stacked list rows
-  pub inside : RowsIn slots rows
-  pub stands : StandsAbove path indices level rows place
-  pub height : level + length rows ≡ size
+use Rattle.bforest_core.specs.Levels.{IsFit, LevelNode, Tree, most_levels}
+use Rattle.bforest_core.specs.Place.{IsIn, Stands, StandsAbove, inner_content}
+use Rattle.bforest_core.specs.Climb.{Over, SameBelow}
 
 -- the path leads to the node at this place of a level through the rows above; below, and in its index on that
 -- level, it is unchanged

@@ -21,10 +21,7 @@ module _ {K V : Type 0} where
   grown was ab is g = rw is (record {
     rows' = g.row' ∷ g.rows';
     above = record {
-      stacked = (g.flat_is, g.fit, g.above.stacked);
-      inside = (g.inside, g.above.inside);
-      stands = (g.at, g.above.stands);
-      height = omega (arith, g.above.height);
+      over = record { stacked = (g.flat_is, g.fit, g.above.stacked); inside = (g.inside, g.above.inside); stands = (g.at, g.above.stands); height = omega (arith, g.above.height) };
       apart = trades-apart g.draws (rw is at ab.apart);
     };
     topped = λ old le top. (omega (arith, top.0), g.topped top.1);
@@ -52,10 +49,12 @@ module _ {K V : Type 0} where
           record {
             rows' = (node root (x ∷ y ∷ []) ∷ []) ∷ [];
             above = record {
-              stacked = (refl, (omega arith, omega arith, tt), refl);
-              inside = ((w.here, tt), tt);
-              stands = (record { before = []; entries = x ∷ y ∷ []; after = []; row_is = rw m_is refl; within = omega (arith, j_is, is, step_is moved 0, step_most moved); place_is = omega (arith, j_is, is) }, refl);
-              height = omega arith;
+              over = record {
+                stacked = (refl, (omega arith, omega arith, tt), refl);
+                inside = ((w.here, tt), tt);
+                stands = (record { before = []; entries = x ∷ y ∷ []; after = []; row_is = rw m_is refl; within = omega (arith, j_is, is, step_is moved 0, step_most moved); place_is = omega (arith, j_is, is) }, refl);
+                height = omega arith;
+              };
               apart = λ m. omega (arith, p.apart m, ap (λ z. count m z) w.chain_is);
             };
             topped = λ old le top. (omega arith, tt);

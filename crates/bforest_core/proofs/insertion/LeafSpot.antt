@@ -92,7 +92,7 @@ module _ {K V : Type 0} where
     -- the rows above the leaf
     above : Above t ms js 1 size tree.above (heads (before ++ node n (l ++ r) ∷ after)) (length (heads before))
     above = let size_is = p.at.points.size_is in let stacked = d.fit.stacked in let inside = p.inside.rows_in in
-        record { stacked = stacked; inside = inside; stands = rw seen d.stands; height = omega arith; apart = λ m. omega (arith, d.apart m, count-append) }
+        record { over = record { stacked = stacked; inside = inside; stands = rw seen d.stands; height = omega arith }; apart = λ m. omega (arith, d.apart m, count-append) }
 
     -- the leaf has an entry
     some : 1 ≤ length (l ++ r)

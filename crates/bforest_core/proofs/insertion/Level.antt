@@ -15,10 +15,12 @@ module _ {K V : Type 0} where
       Distinct (flat_map numbers rows ++ u.chain) → SameBut up ms ms' → SameBut up js js' →
       Above t ms js (suc up) size rows list p → Above u ms' js' (suc up) size rows list p
   above-moved u ms' js' {rows = rows} same apart far_m far_j a = record {
-    stacked = a.stacked;
-    inside = rows-same _ u.nodes rows same a.inside;
-    stands = stands-same _ _ _ _ _ _ _ (λ i high. far_m i (λ e. omega arith)) (λ i high. far_j i (λ e. omega arith)) a.stands;
-    height = a.height;
+    over = record {
+      stacked = a.stacked;
+      inside = rows-same _ u.nodes rows same a.inside;
+      stands = stands-same _ _ _ _ _ _ _ (λ i high. far_m i (λ e. omega arith)) (λ i high. far_j i (λ e. omega arith)) a.stands;
+      height = a.height;
+    };
     apart = apart;
   }
 

@@ -51,7 +51,7 @@ module _ {K V : Type 0} where
         r = more.1;
         cut = c;
         half = half;
-        above = record { stacked = c.fit.stacked; inside = s.inside.rows_in; stands = rw full c.stands; height = omega arith; apart = λ m. omega (arith, c.apart m, count-append) };
+        above = record { over = record { stacked = c.fit.stacked; inside = s.inside.rows_in; stands = rw full c.stands; height = omega arith }; apart = λ m. omega (arith, c.apart m, count-append) };
       }
 
   -- the leaf without the entry, under rows that have its first key

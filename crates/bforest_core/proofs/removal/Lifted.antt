@@ -62,7 +62,7 @@ module _ {K V : Type 0} where
     -- the rows above, in a table that agrees on their slots
     pub above_same : (u : Table K V) → ((m : ℕ) → 0 < count m (flat_map numbers rows) → slice_get u.nodes m ≡ slice_get t.nodes m) →
         Distinct (flat_map numbers rows ++ u.chain) → Above u path indices up size rows list p
-    above_same u same apart = record { stacked = a.stacked; inside = rows-same _ _ _ same a.inside; stands = a.stands; height = a.height; apart = apart }
+    above_same u same apart = record { over = record { stacked = a.stacked; inside = rows-same _ _ _ same a.inside; stands = a.stands; height = a.height }; apart = apart }
 
     -- without a row above, the list has one element
     pub top_one : size ≤ up → length list ≡ 1
@@ -71,7 +71,7 @@ module _ {K V : Type 0} where
     -- without a row above, only the length of the list matters
     pub above_top : (list' : _) → size ≤ up → length list' ≡ length list → Above t path indices up size rows list' p
     above_top list' high same =
-        record { stacked = rw (nil_from_length rows (omega arith)) (same ∙ top_one high); inside = a.inside; stands = a.stands; height = a.height; apart = a.apart }
+        record { over = record { stacked = rw (nil_from_length rows (omega arith)) (same ∙ top_one high); inside = a.inside; stands = a.stands; height = a.height }; apart = a.apart }
 
     -- the rows above, unchanged
     pub rebuilt_same : Rekeyed t t path indices up size rows list p
@@ -95,7 +95,7 @@ module _ {K V : Type 0} where
     -- the rows above the path's row
     pub rows_above : Above t path indices (suc up) size rest (heads (before ++ node n old ∷ after)) (length (heads before))
     rows_above = let p = whole in let c = λ (m : ℕ). counts m before n old after rest t.chain in
-        record { stacked = p.stacked.2; inside = p.inside.1; stands = d.q.stands; height = omega arith; apart = λ m. omega (arith, c m, count-append m (flat_map numbers rest) t.chain) }
+        record { over = record { stacked = p.stacked.2; inside = p.inside.1; stands = d.q.stands; height = omega arith }; apart = λ m. omega (arith, c m, count-append m (flat_map numbers rest) t.chain) }
 
     -- the list of a level's nodes, with other nodes from the path's on
     pub flat_at : (es hs ns : _) → es ++ flat ns ≡ l ++ hs → flat (before ++ node n es ∷ ns) ≡ a ++ hs
@@ -117,10 +117,12 @@ module _ {K V : Type 0} where
     lifted es ns hs len o fits inside above frees = record {
       rows' = (before ++ node n es ∷ ns) ∷ above.rows';
       above = record {
-        stacked = (flat_at _ _ _ o.2, FitRow-join 4 8 before (node n es) ns f.solid fits, rw (← o.3) above.above.stacked);
-        inside = (inside, above.above.inside);
-        stands = stands_here _ _ _ _ _ _ _ _ _ _ _ f.solid refl refl refl (omega arith) place_at above.above.stands;
-        height = omega arith;
+        over = record {
+          stacked = (flat_at _ _ _ o.2, FitRow-join 4 8 before (node n es) ns f.solid fits, rw (← o.3) above.above.stacked);
+          inside = (inside, above.above.inside);
+          stands = stands_here _ _ _ _ _ _ _ _ _ _ _ f.solid refl refl refl (omega arith) place_at above.above.stands;
+          height = omega arith;
+        };
         apart = trades-apart frees whole.apart;
       };
       sizes_are = let same = o.0 in cc (sizes-append _ _, sizes-append _ _);

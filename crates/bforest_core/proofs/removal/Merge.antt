@@ -191,10 +191,12 @@ module _ {K V : Type 0} {t u : Table K V} {path indices : List ℕ} {up size : �
       record {
         rows' = r.row ∷ r.rows;
         above = record {
-          stacked = (r.list_is, r.fit, r.above.stacked);
-          inside = (r.inside, r.above.inside);
-          stands = stands_here _ _ _ _ _ _ _ _ _ _ p solid r.row_is refl refl (restored.1 at) r.place_is r.above.stands;
-          height = omega arith;
+          over = record {
+            stacked = (r.list_is, r.fit, r.above.stacked);
+            inside = (r.inside, r.above.inside);
+            stands = stands_here _ _ _ _ _ _ _ _ _ _ p solid r.row_is refl refl (restored.1 at) r.place_is r.above.stands;
+            height = omega arith;
+          };
           apart = λ i. omega (arith, l.on_level.apart i, l.frees.numbers_are i, r.frees.numbers_are i, ap (λ z. count i z) r.frees.chain_is, ap (λ z. count i z) l.frees.chain_is, count-append);
         };
         sizes_are = cc (lost_above p _);

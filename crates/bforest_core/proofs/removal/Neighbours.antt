@@ -1,10 +1,10 @@
 -- The right neighbour of a node, under the same parent or another: the answers of `right_sibling`, and the move of a path there.
-use Rattle.bforest_core.proofs.Words.{◌≡◌, ℕ, suc, ◌-◌, ◌≤◌, List, [], ◌∷◌, ◌++◌, length, drop, slice_get, Some, refl, sym, ◌∙◌, append_assoc, length-append}
+use Rattle.bforest_core.proofs.Words.{◌≡◌, ℕ, suc, ◌≤◌, List, [], ◌∷◌, ◌++◌, length, drop, slice_get, Some, refl, sym, ◌∙◌, append_assoc, length-append}
 use Rattle.bforest_core.proofs.Words.{arith, Heads, inner_content, entry_keys, entry_items, ◌+◌, ◌<◌, Option, get_or, ap, Table, Above, NextIs, OneAbove}
-use Rattle.bforest_core.proofs.Words.{subst, node, flat, heads, RowIn, add-one, nil_from_length, ◌≢◌, true, false, map, None, Bool, Over, Moved}
-use Rattle.bforest_core.proofs.removal.{Asked.{Beside, ChildAt, Counts, ReadsChild, ReadsKey, Seen, no_nodes, seen, some_first}, Lifted.{NextNode, headed}}
-use Rattle.bforest_core.proofs.{removal.Lifted.{next_of, rows_above}, table.{Stored.{slice_get_at, some_same, item_count}, Tables.row-split}, rows.Zipper.Spot}
-use Rattle.bforest_core.proofs.rows.Zipper.{stands-same}
+use Rattle.bforest_core.proofs.Words.{subst, node, flat, heads, RowIn, add-one, nil_from_length, ◌≢◌, true, false, map, None, Bool, Moved}
+use Rattle.bforest_core.proofs.removal.Asked.{Beside, ChildAt, Counts, ReadsChild, ReadsKey, Seen, no_nodes, seen, some_first}
+use Rattle.bforest_core.proofs.{removal.Lifted.{NextNode, headed, next_of, rows_above}, table.Stored.{slice_get_at, some_same, item_count}}
+use Rattle.bforest_core.proofs.{table.Tables.row-split, rows.Zipper.{Spot, stands-same}}
 
 second : {X Y : Type 0} (f : X → Y) (l : List X) (x y : X) (r : List X) → slice_get (map f (l ++ x ∷ y ∷ r)) (suc (length l)) ≡ Some (f y)
 second f [] x y r = refl
@@ -26,17 +26,13 @@ module _ {K V : Type 0} where
   up_asks {path = path} {up = up} {x = x} d = let h = some_first (d.q.l ++ x ∷ d.q.r) (omega arith) in
       record { rows = d.q.rest; before = heads d.q.before; x = (h.0.0, get_or path up 0); after = heads d.q.after; above = rw add-one (headed d.q.before (get_or path up 0) d.q.after h (rows_above d)) }
 
-  -- the rows above a level, as a step on it requires them
-  pub over-above : {t : Table K V} {path indices level size rows list place : _} → Above t path indices level size rows list place → Over t.nodes path indices level size rows list place
-  over-above p = record { stacked = p.stacked; inside = p.inside; stands = p.stands; height = p.height }
-
   -- the rows after a step, with another index below them
   pub entered_next : {t : Table K V} {path indices path' indices' : _} (indices2 : _) {level size rows : _} (a x y b : _) → Above t path indices (suc level) size rows (a ++ x ∷ y ∷ b) (length a) →
       Moved path indices path' indices' level rows (a ++ x ∷ y ∷ b) (suc (length a)) → ((i : ℕ) → suc level ≤ i → get_or indices2 i 0 ≡ get_or indices' i 0) → Above t path' indices2 (suc level) size rows (a ++ x ∷ y ∷ b) (suc (length a)) × (get_or path' level 0 ≡ y.1)
   entered_next indices2 a x y b p m same = let len : length (a ++ x ∷ []) ≡ suc (length a) = length-append a _ ∙ omega arith in
       let found = ap (λ z. slice_get z (suc (length a))) (sym (append_assoc a _ _)) ∙ slice_get_at _ y b _ len in
       let head_is = some_same {x = m.head} {y = y} (cc) in (
-        record { stacked = p.stacked; inside = p.inside; stands = stands-same _ _ _ _ _ _ _ (λ i high. refl) same m.stands; height = p.height; apart = p.apart },
+        record { over = record { stacked = p.stacked; inside = p.inside; stands = stands-same _ _ _ _ _ _ _ (λ i high. refl) same m.stands; height = p.height }; apart = p.apart },
         cc,
       )
 

@@ -158,10 +158,12 @@ module _ {K V X : Type 0} {content : List (K × X) → Content K V} {half most :
                 (one.others q (apart_from q n (λ w. apart.0 (sym w))) ∙ s.two.there, tt) pair_apart;
             fit = FitRow-join _ _ _ (node q both) after p.solid (omega arith, omega arith, fit_q.2);
             above = record {
-              stacked = a.stacked;
-              inside = rows-same _ _ _ (λ m some. frees.others m (omega (arith, c m))) a.inside;
-              stands = stands-same _ _ _ _ _ _ _ (λ i high. get_or-set_other path up i q 0 (λ w. omega arith)) (λ i high. refl) a.stands;
-              height = a.height;
+              over = record {
+                stacked = a.stacked;
+                inside = rows-same _ _ _ (λ m some. frees.others m (omega (arith, c m))) a.inside;
+                stands = stands-same _ _ _ _ _ _ _ (λ i high. get_or-set_other path up i q 0 (λ w. omega arith)) (λ i high. refl) a.stands;
+                height = a.height;
+              };
               apart = λ m. omega (arith, c m, count-append m (flat_map numbers rest) v.chain, ap (λ z. count m z) frees.chain_is);
             };
             number_is = get_or-set_same _ _ _ 0 low;

@@ -1,5 +1,5 @@
 -- A change of the tree under a root, stated without a witness: by roots and the trees computed from them.
-use Rattle.bforest_core.proofs.Words.{◌≡◌, ℕ, ◌+◌, ◌<◌, ◌≢◌, IsTrue, List, [], ◌∷◌, ◌++◌, refl, sym, subst, append-nil, arith, Changes, flat, sizes_of, flat_map}
+use Rattle.bforest_core.proofs.Words.{◌≡◌, ℕ, ◌<◌, ◌≢◌, IsTrue, List, [], ◌∷◌, ◌++◌, refl, sym, subst, append-nil, arith, Changes, flat, sizes_of, flat_map}
 use Rattle.bforest_core.proofs.Words.{Table, Tree, count, root_of, numbers_of, tree_of, is_root, IsUnion, OthersKeep, Frees, Draws}
 use Rattle.bforest_core.proofs.{table.Tables.{count-same, count-other}, union.Exchange.{IsPlanted, Traded, traded, exchange-trees, others-keep, roots-gone}}
 use Rattle.bforest_core.proofs.{union.Forests.tree-back, union.Unions.rooted}

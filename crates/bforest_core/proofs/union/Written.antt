@@ -1,10 +1,10 @@
 -- Writing the value of an entry of a tree, which keeps its nodes and keys.
-use Rattle.bforest_core.proofs.Words.{◌≡◌, ℕ, zero, suc, ◌+◌, ◌<◌, List, [], ◌∷◌, ◌++◌, map, length, get_or, set, slice_get, Some, refl, sym, ap, ◌∙◌}
-use Rattle.bforest_core.proofs.Words.{length-set, arith, flat_map, Table, IsUsed, IsEntryAt, value_at, with_node, with_value_at, value_at_place, node, flat}
-use Rattle.bforest_core.proofs.Words.{head_of, heads, sizes, sizes_of, numbers, Tree, half_of, leaf_content, entry_keys, entry_items, count, IsAt, root_above}
-use Rattle.bforest_core.proofs.{Words.{tree_of, IsUnion, Changes, StandsUnder}, union.Roots.{exchanged, exchanged-changes}, walks.Entered.leaf_here}
-use Rattle.bforest_core.proofs.{rows.LevelRows.{flat-append, heads-append, sizes-append, numbers-append, FitRow-split, FitRow-join}, walks.RowNodes.entry_at}
-use Rattle.bforest_core.proofs.{table.Stored.{keys_count, item_count}, walks.LeafSearch.items-read, union.Unions.{Rooted, rooted}}
+use Rattle.bforest_core.proofs.Words.{numbers_of, ◌≡◌, ℕ, zero, suc, ◌+◌, ◌<◌, List, [], ◌∷◌, ◌++◌, map, length, get_or, set, slice_get, Some, refl, sym, ap}
+use Rattle.bforest_core.proofs.Words.{◌∙◌, length-set, arith, flat_map, Table, IsUsed, IsEntryAt, value_at, with_node, with_value_at, value_at_place, node}
+use Rattle.bforest_core.proofs.Words.{flat, head_of, heads, sizes, sizes_of, numbers, Tree, half_of, leaf_content, entry_keys, entry_items, count, IsAt}
+use Rattle.bforest_core.proofs.{Words.{root_above, tree_of, IsUnion, Changes, StandsUnder}, union.Roots.{exchanged, exchanged-changes}}
+use Rattle.bforest_core.proofs.{walks.Entered.leaf_here, rows.LevelRows.{flat-append, heads-append, sizes-append, numbers-append, FitRow-split, FitRow-join}}
+use Rattle.bforest_core.proofs.{walks.RowNodes.entry_at, table.Stored.{keys_count, item_count}, walks.LeafSearch.items-read, union.Unions.{Rooted, rooted}}
 use Rattle.bforest_core.proofs.{table.Tables.{count-append, count-row, rows-same, is_used}, union.Exchange.IsPlanted, rows.Zipper.apart_here}
 use Rattle.bforest_core.proofs.{walks.Steps.read, table.Read.slot-is, table.Trading.{not_there, trades-wider, puts, row-put}}
 use Rattle.bforest_nodes.specs.Entries.{with_value}
@@ -92,7 +92,16 @@ module _ {K V : Type 0} {most : ℕ} {table : Table K V} {root place path indice
         low = r.low;
       } in
       let same_root = ap (λ z. root_above z tree.above) hs ∙ r.root_is in
-      let e = exchanged root union s.root_is p (trades-wider _ _ (λ m. omega (arith, ap (λ z. count m (numbers z)) at.row_is, count-row m at.before n at.entries at.after, ap (λ z. count m (z ++ flat_map numbers tree.above)) ns, count-append m (n ∷ []) (numbers at.after), count-append m (numbers tree.leaves) (flat_map numbers tree.above))) w.frees) in
+      let frees = trades-wider (numbers_of tree) (numbers_of tree')
+      (λ m. omega (
+        arith,
+        ap (λ z. count m (numbers z)) at.row_is,
+        count-row m at.before n at.entries at.after,
+        count-append m (n ∷ []) (numbers at.after),
+        count-append m (numbers tree.leaves) (flat_map numbers tree.above),
+        ap (λ z. count m (z ++ flat_map numbers tree.above)) ns,
+      )) w.frees in
+      let e = exchanged root union s.root_is p frees in
       let changes = exchanged-changes e same_root w.limit_is in let tree_is = ap (tree_of new.nodes) (sym same_root) ∙ e.tree_is in (
         rw (← ss) (rw (← fl) changes),
         record {

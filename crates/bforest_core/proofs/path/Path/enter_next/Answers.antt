@@ -1,17 +1,17 @@
 use Rattle.bforest_core.proofs.Words.{rules, suc, ◌∷◌, ◌++◌, length, set, refl, ◌∙◌, arith, get_or-set_same, get_or-set_other, Moved, TwoAbove}
-use Rattle.bforest_core.proofs.{removal.{Neighbours.{over-above, must_move, entered_next}, Asked.two_low}, rows.Tops.top-same}
+use Rattle.bforest_core.proofs.{removal.{Neighbours.{must_move, entered_next}, Asked.two_low}, rows.Tops.top-same}
 use Rattle.bforest_core.proofs.path.Path.enter_next.Given.{Over}
 use Rattle.bforest_core.proofs.path.Path.enter_next.Goals as goal
 
 pub next_node-moved-requires : goal.next_node-moved-requires
 next_node-moved-requires g c = let w = c.requires.pending in
-    (search rules, (search rules, (c.requires.height, (w.rows, w.before ++ w.x ∷ w.y ∷ w.after, length w.before, over-above w.above))))
+    (search rules, (search rules, (c.requires.height, (w.rows, w.before ++ w.x ∷ w.y ∷ w.after, length w.before, w.above.over))))
 
 -- the path moved to the next node on the level above
 moved : (g : Over) (c : goal.After-way_told-1 g) (w : TwoAbove c.args.pool.now c.args.self.now.node c.args.self.now.entry (suc c.args.level) c.args.self.now.size) →
     Moved c.args.self.now.node c.args.self.now.entry c.next_node-moved.new.self.node c.next_node-moved.new.self.entry
     c.args.level w.rows (w.before ++ w.x ∷ w.y ∷ w.after) (suc (length w.before))
-moved g c w = let o = over-above w.above in let list = w.before ++ w.x ∷ w.y ∷ w.after in
+moved g c w = let o = w.above.over in let list = w.before ++ w.x ∷ w.y ∷ w.after in
     let yes = must_move w.before w.x w.y w.after c.next_node-moved.result (λ no. c.next_node-moved.ensures.last no w.rows list (length w.before) o) in
     c.next_node-moved.ensures.moved yes w.rows list (length w.before) o
 
