@@ -76,7 +76,7 @@ module _ {K V : Type 0} {t : Table K V} {ms js up size : _} (w : OneAbove t ms j
   pub d : Spot t ms js up size rows a x b
   d = spot a x b p within
 
-  open d use {f, whole, q.{before, l, r, after, rest}}
+  open d use {before, l, r, after, rest, whole}
 
   abbrev n : ℕ
   n = get_or ms up 0
@@ -89,7 +89,7 @@ module _ {K V : Type 0} {t : Table K V} {ms js up size : _} (w : OneAbove t ms j
 
   -- the node where the child is inserted
   pub site : (y : K × ℕ) → Inserting (inner_kind cap) t ms js up size row rest (a ++ x ∷ y ∷ b) (length a) (inner_gain (length a) (sizes row)) y
-  site y = let q = d.q in let es = l ++ x ∷ r in let hs = heads-put before n es (l ++ x ∷ y ∷ r) after (head-other n l x.0 x.1 x.1 r (y ∷ r)) in
+  site y = let es = l ++ x ∷ r in let hs = heads-put before n es (l ++ x ∷ y ∷ r) after (head-other n l x.0 x.1 x.1 r (y ∷ r)) in
       let row_is = sizes-append before (node n es ∷ after) in let flat_is = length-append (flat before) l in
       let low : length l < length es = omega (arith, length-append l (x ∷ r)) in
       record {
@@ -100,15 +100,15 @@ module _ {K V : Type 0} {t : Table K V} {ms js up size : _} (w : OneAbove t ms j
         after = after;
         rest = rest;
         es_is = sym (append_assoc l (x ∷ []) r);
-        index_is = omega (arith, length-append l (x ∷ []), q.entry_is);
+        index_is = omega (arith, length-append l (x ∷ []), d.entry_is);
         place_is = place_at d;
-        room_gain = λ room. cc (q.a_is, gain_room before (length es) (length l) (sizes after) low room);
-        full_gain = λ all. cc (q.a_is, q.entry_is, Solid-full 4 8 (omega arith) before f.solid, gain_full before (length es) (length l) (sizes after) low all);
+        room_gain = λ room. cc (d.a_is, gain_room before (length es) (length l) (sizes after) low room);
+        full_gain = λ all. cc (d.a_is, d.entry_is, Solid-full 4 8 (omega arith) before d.solid, gain_full before (length es) (length l) (sizes after) low all);
         grow = rw (append_assoc l (x ∷ []) (y ∷ r)) (record {
           half_some = omega arith;
           row_is = refl;
-          list_is = cc (append_assoc l (x ∷ y ∷ r) (flat after), append_assoc (flat before) l (x ∷ y ∷ r ++ flat after), q.a_is, q.b_is);
-          inside = f.inside;
+          list_is = cc (append_assoc l (x ∷ y ∷ r) (flat after), append_assoc (flat before) l (x ∷ y ∷ r ++ flat after), d.a_is, d.b_is);
+          inside = d.inside;
           fit = whole.stacked.1;
           apart = whole.apart;
           above = rw hs at (rows_above d);
@@ -120,20 +120,20 @@ module _ {K V : Type 0} {t : Table K V} {ms js up size : _} (w : OneAbove t ms j
 
   -- the level needs one node more than those above it
   pub needs_one : need_above (Some (length a)) (map sizes rows) ≡ suc (need_above (inner_gain (length a) (sizes row)).0 (map sizes rest))
-  needs_one = ap (λ z. need_above (Some (length a)) (map sizes z)) d.q.rows_are
+  needs_one = ap (λ z. need_above (Some (length a)) (map sizes z)) d.rows_are
 
   -- a successful insertion needs one node in all and leaves the rows grown
   pub put_grows : (i : ℕ) → up < length ms → {u : Table K V} {key : K} {child : ℕ} {put : Bool} → PutsChild t u (get_or ms up i) e key child put → put ≡ true →
       {js' : List ℕ} (moved : Bool) →
       Moves js js' up 1 e (length a) (if moved then suc (length a) else length a) → GrownBy w (key, child) moved u ms js' size []
   put_grows i low {key = key} {child} said done moved m = let g = put_raises (site (key, child)) i low said done m in
-      (sym (needs_one ∙ ap (λ z. suc (need_above z (map sizes rest))) g.0), grown (length a) p d.q.rows_are g.1)
+      (sym (needs_one ∙ ap (λ z. suc (need_above z (map sizes rest))) g.0), grown (length a) p d.rows_are g.1)
 
 module _ {K V : Type 0} where
   -- a node is free for the split of a full node
   pub room_then : (cap : ℕ) {t : Table K V} {ms js : List ℕ} {up size : ℕ} (w : OneAbove t ms js up size) (within : up < size) → up < length ms →
       IsFullAt cap t.nodes (get_or ms up 0) → need_above (Some (length w.before)) (map sizes w.rows) ≤ suc (length t.chain) → 0 < length t.chain
-  room_then cap {t} {ms} {up} w within low full enough = let s = site w within cap w.x in let rest = (d w within cap).q.rest in
+  room_then cap {t} {ms} {up} w within low full enough = let s = site w within cap w.x in let rest = (d w within cap).rest in
       let gain = ap (λ z. need_above z.0 (map sizes rest)) (s.full_gain (full_is s 0 low t full)) in
       omega (arith, need_some (length (heads s.before)) (map sizes rest), needs_one w within cap)
 

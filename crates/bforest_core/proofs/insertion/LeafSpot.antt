@@ -15,10 +15,10 @@ module _ {K V : Type 0} {t : Table K V} {path indices : List ℕ} {size : ℕ} w
       Rekeyed t t path indices up size rows (a ++ (key, x.1) ∷ b) (length a)
   first_rekeyed zero up rows a x b key none front p =
       rebuilt_same (above_top p _ (omega (arith, p.height)) (simp length-append))
-  first_rekeyed (suc count) up rows a x b key some front p = let d = spot a x b p (omega (arith, p.height)) in let q = d.q in
-      let few = ap length q.a_is in let parts = length-append (flat q.before) q.l in let l_is = nil_from_length q.l (omega arith) in
-      rekey_first d t key (omega (arith, q.entry_is)) (first_rekeyed count (suc up) q.rest (heads q.before) (x.0, get_or path up 0) (heads q.after) key
-      (omega (arith, ap length q.rows_are)) (omega (arith, heads-flat q.before)) (rw (heads-append q.before _, l_is) at (rows_above d)))
+  first_rekeyed (suc count) up rows a x b key some front p = let d = spot a x b p (omega (arith, p.height)) in
+      let few = ap length d.a_is in let parts = length-append (flat d.before) d.l in let l_is = nil_from_length d.l (omega arith) in
+      rekey_first d t key (omega (arith, d.entry_is)) (first_rekeyed count (suc up) d.rest (heads d.before) (x.0, get_or path up 0) (heads d.after) key
+      (omega (arith, ap length d.rows_are)) (omega (arith, heads-flat d.before)) (rw (heads-append d.before _, l_is) at (rows_above d)))
 
   -- the rows over the leaves after an insertion into one, at the front of the first leaf only
   renewed : (rows : Rows K) (before : Row K V) (n : ℕ) (l : List (K × V)) (entry : K × V) (r : List (K × V)) (after : Row K V) →

@@ -3,7 +3,7 @@ use Rattle.bforest_core.proofs.Words.{◌≡◌, ℕ, suc, ◌-◌, ◌≤◌, L
 use Rattle.bforest_core.proofs.Words.{length-append, arith, Heads, remove, append-nil, length-map, map-append, eqb_tells, Inner, without_child, inner_content}
 use Rattle.bforest_core.proofs.Words.{entry_keys, entry_items, ◌+◌, ◌<◌, Option, get_or, ap, Rows, IsFree, IsUsed, entry_count, with_key, Table, with_node}
 use Rattle.bforest_core.proofs.Words.{count, Above, LastAbove, NextIs, OneAbove, TwoAbove, get_or_default, Row, node, heads, FitRow, Rekeyed, Keeps}
-use Rattle.bforest_core.proofs.{table.{Stored.{slice_get_at, some_same, key_count, item_count}, Tables.is_used}, rows.Zipper.{Spot, spot, above_two}}
+use Rattle.bforest_core.proofs.{table.Stored.{slice_get_at, some_same, key_count, item_count}, table.Tables.is_used, rows.Zipper.{Spot, spot, above_two}}
 use Rattle.bforest_core.proofs.rows.LevelRows.{least-pos}
 
 -- removing the element between two lists
@@ -140,20 +140,20 @@ module _ {K V : Type 0} where
   pub record Seen (t : Table K V) (path indices : List ℕ) (up size : ℕ) (rows : Rows K) (a : Heads K) (x : K × ℕ) (b : Heads K) (r : ℕ) : Type 0 where
     pub d : Spot t path indices up size rows a x b
     pub num_is : get_or path up r ≡ get_or path up 0
-    pub slot_is : slice_get t.nodes (get_or path up r) ≡ Some (inner_content (d.q.l ++ x ∷ d.q.r))
+    pub slot_is : slice_get t.nodes (get_or path up r) ≡ Some (inner_content (d.l ++ x ∷ d.r))
     pub none_chain : count (get_or path up r) t.chain ≡ 0
     pub used : IsUsed t (get_or path up r)
     pub node_asks : NodeAt t (get_or path up r)
     pub child_asks : ChildAt t (get_or path up r) (get_or indices up 0)
-    pub counted : (m : ℕ) → Counts t (get_or path up r) m → m ≡ length (d.q.l ++ x ∷ d.q.r)
+    pub counted : (m : ℕ) → Counts t (get_or path up r) m → m ≡ length (d.l ++ x ∷ d.r)
     pub low_key_asks : (i : ℕ) → i < get_or indices up 0 → KeyAt t (get_or path up r) i
     pub key_asks : (m i : ℕ) → Counts t (get_or path up r) m → i + 1 < m → KeyAt t (get_or path up r) i
 
   pub seen : {t path indices up size rows : _} (a x : _) (b : _) → Above t path indices up size rows (a ++ x ∷ b) (length a) → up < size → (r : ℕ) → length path
       ≡ 17 → size ≤ 17 → Seen t path indices up size rows a x b r
   seen {t} {path} {up} a x b p low r wide height =
-      let d = spot _ _ _ p low in let es = d.q.l ++ x ∷ d.q.r in let num_is = get_or_default path up r 0 (omega arith) in
-      let slot = ap (λ z. slice_get t.nodes z) num_is ∙ d.f.slot_is in let none = ap (λ z. count z t.chain) num_is ∙ d.f.none_chain in
+      let d = spot _ _ _ p low in let es = d.l ++ x ∷ d.r in let num_is = get_or_default path up r 0 (omega arith) in
+      let slot = ap (λ z. slice_get t.nodes z) num_is ∙ d.slot_is in let none = ap (λ z. count z t.chain) num_is ∙ d.none_chain in
       let counted : (m : ℕ) → Counts t (get_or path up r) m → m ≡ length es = λ m value. value (inner_content es) slot ∙ item_count es in
       record {
         d = d;

@@ -84,7 +84,7 @@ module _ {K V : Type 0} where
       above_same a u (λ m some. w.others m (not_there m n _ some none)) (λ m. omega (arith, a.apart m, ap (λ z. count m z) w.chain_is, count-append))
 
   module _ {t : Table K V} {path indices up size rows a x b : _} (d : Spot t path indices up size rows a x b) where
-    open d use {f, whole, q.{before, l, r, after, rest}}
+    open d use {before, l, r, after, rest, whole}
 
     abbrev pub n : ℕ
     n = get_or path up 0
@@ -95,7 +95,7 @@ module _ {K V : Type 0} where
     -- the rows above the path's row
     pub rows_above : Above t path indices (suc up) size rest (heads (before ++ node n old ∷ after)) (length (heads before))
     rows_above = let p = whole in let c = λ (m : ℕ). counts m before n old after rest t.chain in
-        record { over = record { stacked = p.stacked.2; inside = p.inside.1; stands = d.q.stands; height = omega arith }; apart = λ m. omega (arith, c m, count-append m (flat_map numbers rest) t.chain) }
+        record { over = record { stacked = p.stacked.2; inside = p.inside.1; stands = d.stands; height = omega arith }; apart = λ m. omega (arith, c m, count-append m (flat_map numbers rest) t.chain) }
 
     -- the list of a level's nodes, with other nodes from the path's on
     pub flat_at : (es hs ns : _) → es ++ flat ns ≡ l ++ hs → flat (before ++ node n es ∷ ns) ≡ a ++ hs
@@ -103,7 +103,7 @@ module _ {K V : Type 0} where
 
     -- the path's place in the list of nodes
     pub place_at : length a ≡ length (flat before) + get_or indices up 0
-    place_at = omega (arith, ap length d.q.a_is, length-append (flat before) l)
+    place_at = omega (arith, ap length d.a_is, length-append (flat before) l)
 
     -- with other entries in the path's node and other first keys behind it, the level below has `hs` from the path's place on, and this one `list`
     abbrev pub Other : Heads K → Row K ℕ → Heads K → Heads K → Type 0
@@ -118,15 +118,15 @@ module _ {K V : Type 0} where
       rows' = (before ++ node n es ∷ ns) ∷ above.rows';
       above = record {
         over = record {
-          stacked = (flat_at _ _ _ o.2, FitRow-join 4 8 before (node n es) ns f.solid fits, rw (← o.3) above.above.stacked);
+          stacked = (flat_at _ _ _ o.2, FitRow-join 4 8 before (node n es) ns d.solid fits, rw (← o.3) above.above.stacked);
           inside = (inside, above.above.inside);
-          stands = stands_here _ _ _ _ _ _ _ _ _ _ _ f.solid refl refl refl (omega arith) place_at above.above.stands;
+          stands = stands_here _ _ _ _ _ _ _ _ _ _ _ d.solid refl refl refl (omega arith) place_at above.above.stands;
           height = omega arith;
         };
         apart = trades-apart frees whole.apart;
       };
       sizes_are = let same = o.0 in cc (sizes-append _ _, sizes-append _ _);
-      frees = rw d.q.rows_are frees;
+      frees = rw d.rows_are frees;
       keeps = keeps-refl;
     }
 
@@ -142,11 +142,11 @@ module _ {K V : Type 0} where
     -- the row after a write of the key before an entry of the node
     pub renamed : (u : Table K V) (p y s e key hs : _) → old ≡ p ++ y ∷ s → suc e ≡ length p → u ≡ with_node t n (with_key (inner_content old) e key) →
         (p ++ (key, y.1) ∷ s) ++ flat after ≡ l ++ hs → Rekeyed t u path indices up size rows (a ++ hs) (length a)
-    renamed u p y s e key hs es_is p_is u_is flat_is = let es = p ++ (key, y.1) ∷ s in let w = puts _ _ _ _ _ f.slot_is (cc (with_key_is p y s e key p_is)) in
+    renamed u p y s e key hs es_is p_is u_is flat_is = let es = p ++ (key, y.1) ∷ s in let w = puts _ _ _ _ _ d.slot_is (cc (with_key_is p y s e key p_is)) in
         let len : length es ≡ length old = rw es_is (simp length-append) in
-        let above = rebuilt_same (above_written w f.none_rest rows_above) in
+        let above = rebuilt_same (above_written w d.none_rest rows_above) in
         lifted es after hs len (refl, refl, flat_is, heads-put before n old es after (rw (es_is, (some_first p (omega arith)).2)))
-        (omega arith, omega arith, f.fit.2) (row-put inner_content before old es after f.inside w f.none) above
+        (omega arith, omega arith, d.fit.2) (row-put inner_content before old es after d.inside w d.none) above
         (trades-wider _ _ (λ m. omega (arith, counts m before n old after rest t.chain, counts m before n es after above.rows' t.chain, above.frees.numbers_are m, count-append m (n ∷ []) (numbers after))) w.frees)
 
     module _ (u : Table K V) (key : K) where
@@ -157,9 +157,9 @@ module _ {K V : Type 0} where
 
       -- updating the key where it is the parent's first, in the rows above
       pub rekey_first : get_or indices up 0 ≤ 0 → Rekeyed t u path indices (suc up) size rest (heads before ++ (key, n) ∷ heads after) (length (heads before)) → Rekeyed t u path indices up size rows (a ++ (key, x.1) ∷ b) (length a)
-      rekey_first none above = let l_is = nil_from_length l (omega arith) in let s = row-split _ _ _ _ f.inside in
+      rekey_first none above = let l_is = nil_from_length l (omega arith) in let s = row-split _ _ _ _ d.inside in
           lifted_above ((key, x.1) ∷ r) after ((key, x.1) ∷ b) (ap (λ z. length (z ++ x ∷ r)) (sym l_is))
-          (refl, refl, cc (d.q.b_is, l_is), sym (heads-append before (node n ((key, x.1) ∷ r) ∷ after))) (rw l_is at f.fit)
+          (refl, refl, cc (d.b_is, l_is), sym (heads-append before (node n ((key, x.1) ∷ r) ∷ after))) (rw l_is at d.fit)
           (row-join _ _ _ (node n ((key, x.1) ∷ r) ∷ after) s.0 (rw l_is at s.1)) above
 
 -- the next node has the same parent

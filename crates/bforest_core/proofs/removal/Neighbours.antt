@@ -23,8 +23,8 @@ must_move a x y b false last = absurd (omega (arith, last refl, length-append a 
 module _ {K V : Type 0} where
   -- the rows one level up, as a call there requires them
   abbrev pub up_asks : {t : Table K V} {path indices up size rows a x b : _} → Spot t path indices up size rows a x b → OneAbove t path indices (up + 1) size
-  up_asks {path = path} {up = up} {x = x} d = let h = some_first (d.q.l ++ x ∷ d.q.r) (omega arith) in
-      record { rows = d.q.rest; before = heads d.q.before; x = (h.0.0, get_or path up 0); after = heads d.q.after; above = rw add-one (headed d.q.before (get_or path up 0) d.q.after h (rows_above d)) }
+  up_asks {path = path} {up = up} {x = x} d = let h = some_first (d.l ++ x ∷ d.r) (omega arith) in
+      record { rows = d.rest; before = heads d.before; x = (h.0.0, get_or path up 0); after = heads d.after; above = rw add-one (headed d.before (get_or path up 0) d.after h (rows_above d)) }
 
   -- the rows after a step, with another index below them
   pub entered_next : {t : Table K V} {path indices path' indices' : _} (indices2 : _) {level size rows : _} (a x y b : _) → Above t path indices (suc level) size rows (a ++ x ∷ y ∷ b) (length a) →
@@ -45,7 +45,7 @@ module _ {K V : Type 0} where
     one_seen i wide height = seen _ w.x w.after w.above is_low i wide height
 
   module _ {t : Table K V} {path indices up size rows a x b i : _} (s : Seen t path indices up size rows a x b i) where
-    open s use {d, d.q.{before, l, r, after}}
+    open s use {d, d.{before, l, r, after}}
 
     abbrev index : ℕ
     index = get_or indices up 0
@@ -58,10 +58,10 @@ module _ {K V : Type 0} where
 
     module _ (o : Option (K × ℕ)) (next : _) (is : o ≡ Some next) (beside : Beside t path indices (up + 1) size o) where
       next_one : NextNode after next.0 next.1
-      next_one = next_of 4 8 (omega arith) _ _ _ _ d.f.fit.2 (subst (λ z. NextIs z (heads after)) is (beside (up_asks d))).1
+      next_one = next_of 4 8 (omega arith) _ _ _ _ d.fit.2 (subst (λ z. NextIs z (heads after)) is (beside (up_asks d))).1
 
       n_slot : slice_get t.nodes next.1 ≡ Some (inner_content (next_one.f ∷ next_one.fs))
-      n_slot = let rest = (row-split _ _ _ (node (get_or path up 0) (l ++ x ∷ r) ∷ after) d.f.inside).1.1 in
+      n_slot = let rest = (row-split _ _ _ (node (get_or path up 0) (l ++ x ∷ r) ∷ after) d.inside).1.1 in
           (subst (λ z. RowIn inner_content t.nodes z) next_one.after_is rest).0
 
       -- the next parent meets what reading its first child requires
@@ -77,17 +77,17 @@ module _ {K V : Type 0} where
           NextIs (Some (key, child)) b
       beside_same key child more reads_key reads_child = let w = some_first r (omega (arith, s.counted m value)) in
           let high : suc (length l) ≡ index + 1 = omega arith in
-          let key_is = some_same (cc (second_key l x w.0 w.1, d.q.entry_is, reads_key keys items s.slot_is)) in
+          let key_is = some_same (cc (second_key l x w.0 w.1, d.entry_is, reads_key keys items s.slot_is)) in
           let child_is = some_same (cc (second (λ z. z.1) _ x _ _, reads_child keys items s.slot_is)) in
-          (w.1 ++ flat after, d.q.b_is ∙ ap (λ z. z ++ flat after) w.2 ∙ ap (λ z. (z, w.0.1) ∷ (w.1 ++ flat after)) key_is ∙ ap (λ z. (key, z) ∷ (w.1 ++ flat after)) child_is)
+          (w.1 ++ flat after, d.b_is ∙ ap (λ z. z ++ flat after) w.2 ∙ ap (λ z. (z, w.0.1) ∷ (w.1 ++ flat after)) key_is ∙ ap (λ z. (key, z) ∷ (w.1 ++ flat after)) child_is)
 
       module _ (less : m ≤ index + 1) where
         behind : b ≡ flat after
-        behind = cc (d.q.b_is, nil_from_length r (omega (arith, s.counted m value)))
+        behind = cc (d.b_is, nil_from_length r (omega (arith, s.counted m value)))
 
         -- there is no right neighbour
         pub none_right : (o : Option (K × ℕ)) → o ≡ None → Beside t path indices (up + 1) size o → NextIs None b
-        none_right o is beside = cc (behind, no_nodes 4 8 (omega arith) _ d.f.fit.2 (subst (λ z. NextIs z (heads after)) is (beside (up_asks d))))
+        none_right o is beside = cc (behind, no_nodes 4 8 (omega arith) _ d.fit.2 (subst (λ z. NextIs z (heads after)) is (beside (up_asks d))))
 
         -- the right neighbour has another parent
         pub beside_next : (o : Option (K × ℕ)) (next : _) (is : o ≡ Some next) (beside : Beside t path indices (up + 1) size o) (child : ℕ) →

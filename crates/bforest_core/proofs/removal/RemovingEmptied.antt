@@ -1,11 +1,11 @@
 -- Removing the entry of a level's rightmost node, which was removed, and the nodes that this empties: the answers of `remove_emptied`.
-use Rattle.bforest_core.proofs.Words.{◌≡◌, ℕ, suc, ◌+◌, ◌≤◌, Some, List, [], ◌∷◌, ◌++◌, map, length, get_or, refl, sym, ap, ◌∙◌, append_assoc, length-append}
-use Rattle.bforest_core.proofs.Words.{arith, inner_content, Row, flat_map, Table, node, flat, heads, numbers, FitRow, Solid, entry_keys, count, Distinct, Above}
-use Rattle.bforest_core.proofs.Words.{nil_from_length, ◌≢◌, entry_items, ◌-◌, drop, Heads, Rows, append-nil, with_freed, sizes, loss_above, root_above}
-use Rattle.bforest_core.proofs.Words.{LastAbove, nodes_up, Dropped, rebalanced, add-one}
+use Rattle.bforest_core.proofs.Words.{slice_get, ◌≡◌, ℕ, suc, ◌+◌, ◌≤◌, Some, List, [], ◌∷◌, ◌++◌, map, length, get_or, refl, sym, ap, ◌∙◌, append_assoc}
+use Rattle.bforest_core.proofs.Words.{length-append, arith, inner_content, Row, flat_map, Table, node, flat, heads, numbers, FitRow, Solid, entry_keys, count}
+use Rattle.bforest_core.proofs.Words.{Distinct, Above, nil_from_length, ◌≢◌, entry_items, ◌-◌, drop, Heads, Rows, append-nil, with_freed, sizes, loss_above}
+use Rattle.bforest_core.proofs.Words.{root_above, LastAbove, nodes_up, Dropped, rebalanced, add-one}
 use Rattle.bforest_core.proofs.table.Tables.{count-append, counts, count-same, row-split, row-same, rows-same}
-use Rattle.bforest_core.proofs.{rows.LevelRows.{flat-append, sizes-append, Solid-full, heads-append, FitRow-join}, rows.Zipper.{Cut_above, Facts, facts}}
-use Rattle.bforest_core.proofs.{rows.Tops.top_rows, removal.Asked.{some_first, no_nodes, Counts, Removes, Seen, last_low, seen, removed_last}}
+use Rattle.bforest_core.proofs.{rows.LevelRows.{flat-append, sizes-append, Solid-full, heads-append, FitRow-join}, rows.Tops.top_rows}
+use Rattle.bforest_core.proofs.removal.Asked.{some_first, no_nodes, Counts, Removes, Seen, last_low, seen, removed_last}
 use Rattle.bforest_core.proofs.{removal.Lifted.{heads-put, above_same, rows_above}, removal.Merge.{placed, loss_level, lost_above}}
 use Rattle.bforest_core.proofs.{removal.Rebalance.rebalanced_last, removal.Collapse.heads-flat}
 use Rattle.bforest_core.proofs.table.Trading.{not_there, trades-wider, frees-then, puts, freed_other, frees-one, row-put}
@@ -55,7 +55,7 @@ module _ {K V : Type 0} where
   module _ {t : Table K V} {path indices up size i : _} (w : LastAbove t path indices up size)
       (s : Seen t path indices up size w.rows (w.before ++ w.y ∷ []) w.x [] i) where
     open w use {rows, before as a, y, x}
-    open s use {d, d.{f, q.{before, l, r, after, rest}}}
+    open s use {d, d.{before, l, r, after, rest}}
 
     abbrev num : ℕ
     num = get_or path up 0
@@ -65,26 +65,26 @@ module _ {K V : Type 0} where
     left = loss_above (Some (suc (length a))) (map sizes rows)
 
     pub ends : (r ≡ []) × (after ≡ [])
-    ends = let len = length-append r (flat after) in let none = ap length d.q.b_is in
-        (nil_from_length r (omega arith), no_nodes 4 8 (omega arith) after f.fit.2 (nil_from_length (heads after) (omega (arith, heads-flat after))))
+    ends = let len = length-append r (flat after) in let none = ap length d.b_is in
+        (nil_from_length r (omega arith), no_nodes 4 8 (omega arith) after d.fit.2 (nil_from_length (heads after) (omega (arith, heads-flat after))))
 
     -- the path's row ends with the entry
-    pub whole : Cut_above t path indices up size before num l x [] [] rest
+    pub whole : Above t path indices up size ((before ++ node num (l ++ x ∷ []) ∷ []) ∷ rest) ((flat before ++ l) ++ x ∷ []) (length (flat before ++ l))
     whole = let e = ends in rw (e.0, e.1) at d.whole
 
-    known : Facts t path indices up size before num l x [] [] rest
-    known = facts _ _ _ _ _ _ _ _ _ _ _ _ whole
+    slot_is : slice_get t.nodes num ≡ Some (inner_content (l ++ x ∷ []))
+    slot_is = rw ends.0 at d.slot_is
 
     lost : left ≡ (sizes before ++ (rebalanced 8 (length l) []).1) ∷ loss_above (placed (length before) (rebalanced 8 (length l) []).0) (map sizes rest)
     lost =
-        let e = ends in let row = rw (e.0, e.1) at d.q.rows_are in
+        let e = ends in let row = rw (e.0, e.1) at d.rows_are in
         let len : length (l ++ x ∷ []) ≡ suc (length l) = length-append l (x ∷ []) ∙ omega arith in
         sym (lost_above _ _) ∙ loss_level 8 before (length l) (length l) (suc (length a)) [] (map sizes rest) (map sizes rows)
         (cc (sizes-append _ _)) (omega arith)
-        (omega (arith, ap length d.q.a_is, length-append (flat before) l, length-append a (y ∷ [])))
+        (omega (arith, ap length d.a_is, length-append (flat before) l, length-append a (y ∷ [])))
 
     own_is : (m : ℕ) → count m (flat_map numbers rows) ≡ count m (numbers before) + count m (num ∷ []) + count m (flat_map numbers rest)
-    own_is m = omega (arith, ap (λ z. count m (flat_map numbers z)) d.q.rows_are, ap (λ z. count m (num ∷ numbers z)) ends.1, counts m before num (l ++ x ∷ r) after rest t.chain)
+    own_is m = omega (arith, ap (λ z. count m (flat_map numbers z)) d.rows_are, ap (λ z. count m (num ∷ numbers z)) ends.1, counts m before num (l ++ x ∷ r) after rest t.chain)
 
     module _ (cnt : ℕ) (value : Counts t (get_or path up i) cnt) where
       -- the node keeps other entries
@@ -93,15 +93,15 @@ module _ {K V : Type 0} where
           let len : length old ≡ suc (length l) = length-append l (x ∷ []) ∙ omega arith in
           let some : 1 ≤ length l = omega (arith, s.counted cnt value, ap (λ z. length (l ++ x ∷ z)) ends.0) in
           let u_is = removes (drop 1 (entry_keys (l ++ x ∷ r))) (entry_items (l ++ x ∷ r)) s.slot_is in
-          let put = puts _ _ _ _ _ known.slot_is (cc (removed_last V l x some, ends.0, s.num_is, d.q.entry_is)) in
+          let put = puts _ _ _ _ _ slot_is (cc (removed_last V l x some, ends.0, s.num_is, d.entry_is)) in
           let high : up + length rest ≡ size - 1 = omega (arith, p.height) in
           let first = some_first l some in let hs = heads-put before num old l [] (simp first.2) in (
             0,
             record {
               rows' = row ∷ rest;
-              stacked = (cc (flat-append _ _, append-nil _, d.q.a_is), FitRow-join 4 8 before (node num l) [] f.solid (some, omega (arith, known.fit.1), tt), rw (← hs) p.stacked.2);
-              inside = (row-put inner_content before old l [] known.inside put known.none, rows-same _ _ _ (λ m some. put.others m (not_there m num (flat_map numbers rest) some f.none_rest)) p.inside.1);
-              height = cc (d.q.rows_are);
+              stacked = (cc (flat-append _ _, append-nil _, d.a_is), FitRow-join 4 8 before (node num l) [] d.solid (some, omega (arith, d.most_is), tt), rw (← hs) p.stacked.2);
+              inside = (row-put inner_content before old l [] whole.inside.0 put (rw ends.1 at d.none), rows-same _ _ _ (λ m some. put.others m (not_there m num (flat_map numbers rest) some d.none_rest)) p.inside.1);
+              height = cc (d.rows_are);
               sizes_are = cc (sizes-append _ _, lost, rebalanced_last 8 (length l) some);
               root_is = ap (λ z. root_above z rest) (sym hs) ∙ top_rows _ _ _ _ _ _ _ p.stacked p.stands ∙ ap (λ z. get_or path z 0) high;
               frees = trades-wider _ _ (λ m. omega (arith, own_is m, counts m before num l [] rest u.chain)) put.frees;
@@ -117,7 +117,7 @@ module _ {K V : Type 0} where
         l_none = nil_from_length l (omega (arith, s.counted cnt value))
 
         a_front : flat before ≡ a ++ y ∷ []
-        a_front = cc (append-nil _, l_none, d.q.a_is)
+        a_front = cc (append-nil _, l_none, d.a_is)
 
         pub front : LastOf (heads before)
         front = last_of _ (some_heads before (omega (arith, ap length a_front, length-append a (y ∷ []))))
@@ -133,19 +133,19 @@ module _ {K V : Type 0} where
           pub empties : Drops t u path up size rows a y
           empties = let below = said.1 in let hs = front.is in let p = whole in
               let len : length before ≡ suc (length front.init) =
-              omega (arith, Solid-full 4 8 (omega arith) before f.solid, ap length hs, length-append front.init (front.last ∷ [])) in
+              omega (arith, Solid-full 4 8 (omega arith) before d.solid, ap length hs, length-append front.init (front.last ∷ [])) in
               let in_v = row-same _ _ _ _ (λ m some. freed_other _ _ _ v_is m (not_there m num (numbers before) some (omega arith)))
-              (row-split _ _ _ _ known.inside).0 in let c = λ (m : ℕ). counts m before num (l ++ x ∷ []) [] rest t.chain in (
+              (row-split _ _ _ _ whole.inside.0).0 in let c = λ (m : ℕ). counts m before num (l ++ x ∷ []) [] rest t.chain in (
                 suc said.0,
                 record {
                   rows' = before ∷ below.rows';
-                  stacked = (a_front, fit_solid 4 8 (omega arith) _ f.solid, rw hs below.stacked);
+                  stacked = (a_front, fit_solid 4 8 (omega arith) _ d.solid, rw hs below.stacked);
                   inside = (row-same _ _ _ _ (λ m some. below.frees.others m (omega (arith, p.apart m, c m))) in_v, below.inside);
-                  height = cc (d.q.rows_are, below.height);
+                  height = cc (d.rows_are, below.height);
                   sizes_are = simp (below.sizes_are, len, append-nil, lost, l_none);
                   root_is = cc (below.root_is);
                   frees = rw (← add-one up) (frees-then _ _ (λ m. omega (arith, own_is m, count-append m (numbers before) (flat_map numbers below.rows')))
-                      w.above.apart (frees-one _ _ _ known.slot_is v_is) below.frees);
+                      w.above.apart (frees-one _ _ _ slot_is v_is) below.frees);
                 },
               )
 

@@ -18,7 +18,7 @@ module _ {K V : Type 0} where
 
   -- the level above the path's node and the next one
   module _ {t : Table K V} {path indices up size rows a x y b i : _} (s : Seen t path indices up size rows a x (y ∷ b) i) where
-    open s use {d, d.{f, whole, q.{before, l, r, after, rest}}}
+    open s use {d, d.{before, l, r, after, rest, whole}}
 
     abbrev index : ℕ
     index = get_or indices up 0
@@ -55,7 +55,7 @@ module _ {K V : Type 0} where
           rest = above.rows';
           on_level = record {
             inside = row-put inner_content before was es ns row_v w (omega (arith, ap (λ z. count num z) o.1));
-            solid = f.solid;
+            solid = d.solid;
             fits = fits.2;
             some = some;
             lost_one = omega arith;
@@ -67,9 +67,9 @@ module _ {K V : Type 0} where
           };
           list_is = flat_at d es ((x.0, y.1) ∷ b) ns o.2;
           place_is = place_at d;
-          was = λ fs slot. omega (arith, item_count fs, item_count was, ap entry_count (read_same t.nodes num f.slot_is slot));
+          was = λ fs slot. omega (arith, item_count fs, item_count was, ap entry_count (read_same t.nodes num d.slot_is slot));
           sizes_were = let same = o.0 in cc (sizes-append _ _);
-          frees = rw d.q.rows_are frees;
+          frees = rw d.rows_are frees;
         }
 
     module _ (m : ℕ) (value : Counts t (get_or path up i) m) where
@@ -79,7 +79,7 @@ module _ {K V : Type 0} where
         one = puts _ _ _ _ _ s.slot_is (writes keys items s.slot_is)
 
         behind : (ys : Heads K) × (r ≡ y ∷ ys) × (b ≡ ys ++ flat after)
-        behind = next_in l x r index y b (flat after) d.q.b_is d.q.entry_is (omega (arith, s.counted m value))
+        behind = next_in l x r index y b (flat after) d.b_is d.entry_is (omega (arith, s.counted m value))
 
         pub same_parent : Renamed u key
         same_parent = let w = behind in let es_is = ap (λ z. l ++ x ∷ z) w.1 ∙ sym (append_assoc l (x ∷ []) (y ∷ w.0)) in
@@ -92,16 +92,16 @@ module _ {K V : Type 0} where
         pub merge_same : (v j : _) → j ≡ index - 1 → ReadsKey t (get_or path up i) j key → Removes u v (get_or path up i) index → Passed v
         merge_same v j j_is reads removes = let w = behind in let es = l ++ (x.0, y.1) ∷ w.0 in let len = length-append l ((x.0, y.1) ∷ w.0) in
             let key_is = reads keys items s.slot_is in let v_is = removes (set keys index key) items one.here in
-            let gone = removed_same V l x y w.0 key (cc (w.1, d.q.entry_is)) in let two =
-            puts u v _ (inner_content es) _ one.here (cc (gone, w.1, d.q.entry_is)) in
+            let gone = removed_same V l x y w.0 key (cc (w.1, d.entry_is)) in let two =
+            puts u v _ (inner_content es) _ one.here (cc (gone, w.1, d.entry_is)) in
             loosened es after (omega (arith, ap length w.1)) (omega arith) (omega arith)
-            (refl, refl, simp (append_assoc, w.2), heads-put before (n d) (old d) es after (head-other (n d) l x.0 x.1 y.1 r w.0)) f.fit f.inside
+            (refl, refl, simp (append_assoc, w.2), heads-put before (n d) (old d) es after (head-other (n d) l x.0 x.1 y.1 r w.0)) d.fit d.inside
             (rebuilt_same (rows_above d)) (rw s.num_is at (puts-then one two))
 
       -- the next node has the next parent
       module _ (less : m ≤ index + 1) where
         pub o : Across l r after y b
-        o = across (n d) l x r after y b f.fit d.q.b_is (omega (arith, s.counted m value))
+        o = across (n d) l x r after y b d.fit d.b_is (omega (arith, s.counted m value))
 
         l_some : 1 ≤ length l
         l_some = omega (arith, ap length o.l_is)
@@ -115,7 +115,7 @@ module _ {K V : Type 0} where
 
         -- the first key of the next parent is in no slot of its row
         across_in : (key : K) → RowIn inner_content t.nodes (before ++ node (n d) (old d) ∷ others key)
-        across_in key = let s = row-split _ _ _ _ f.inside in row-join _ _ _ (node (n d) (old d) ∷ others key) s.0 (s.1.0, rw o.after_is at s.1.1)
+        across_in key = let s = row-split _ _ _ _ d.inside in row-join _ _ _ (node (n d) (old d) ∷ others key) s.0 (s.1.0, rw o.after_is at s.1.1)
 
         across_other : (key es hs : _) → es ++ flat (others key) ≡ l ++ hs → head_of (n d) es ≡ (o.z.0, n d) ∷ [] → Other d es (others key) hs (names key)
         across_other key es hs flat_is head = (ap (λ z. sizes z) (sym o.after_is), ap (λ z. numbers z) (sym o.after_is), flat_is, simp (heads-append, head))
@@ -142,20 +142,20 @@ module _ {K V : Type 0} where
           pub next_parent : Renamed v key
           next_parent =
               lifted_above d _ _ (x ∷ (key, y.1) ∷ b) refl
-              (across_other key _ _ (append_assoc l (x ∷ r) (flat (others key)) ∙ ap (λ z. l ++ x ∷ (z ++ flat (others key))) o.r_is ∙ ap (λ z. l ++ x ∷ (key, y.1) ∷ z) (sym o.b_is)) (ap (λ z. head_of (n d) (z ++ x ∷ r)) o.l_is)) (rw o.after_is at f.fit) (across_in key) rebuilt
+              (across_other key _ _ (append_assoc l (x ∷ r) (flat (others key)) ∙ ap (λ z. l ++ x ∷ (z ++ flat (others key))) o.r_is ∙ ap (λ z. l ++ x ∷ (key, y.1) ∷ z) (sym o.b_is)) (ap (λ z. head_of (n d) (z ++ x ∷ r)) o.l_is)) (rw o.after_is at d.fit) (across_in key) rebuilt
 
           slot_then : slice_get v.nodes (n d) ≡ Some (inner_content (old d))
-          slot_then = rebuilt.frees.others (n d) f.none_rest ∙ f.slot_is
+          slot_then = rebuilt.frees.others (n d) d.none_rest ∙ d.slot_is
 
           pub remove_last_asks : IsUsed v (get_or path up i) × ChildAt v (get_or path up i) index
-          remove_last_asks = (rw s.num_is (is_used _ _ _ slot_then (cc (rebuilt.frees.chain_is, f.none_chain))), (keys, items, cc (s.num_is, slot_then), omega (arith, item_count (old d))))
+          remove_last_asks = (rw s.num_is (is_used _ _ _ slot_then (cc (rebuilt.frees.chain_is, d.none_chain))), (keys, items, cc (s.num_is, slot_then), omega (arith, item_count (old d))))
 
           pub merge_next : (u : _) → ReadsKey t (get_or path up i) (index - 1) key → Removes v u (get_or path up i) index → Passed u
           merge_next u reads removes = let num_is = s.num_is in let u_is = removes keys items (cc (slot_then)) in
-              let key_is : key ≡ x.0 = some_same (cc (last_key l x l_some, o.r_is, d.q.entry_is, reads keys items s.slot_is)) in
+              let key_is : key ≡ x.0 = some_same (cc (last_key l x l_some, o.r_is, d.entry_is, reads keys items s.slot_is)) in
               loosened l (others x.0) (omega (arith, ap length o.r_is)) l_some (omega arith)
-              (across_other x.0 l _ (ap (λ z. l ++ (x.0, y.1) ∷ z) (sym o.b_is)) (ap (λ z. head_of (n d) z) o.l_is)) (rw o.after_is at f.fit) (across_in x.0)
-              (rw key_is at rebuilt) (puts _ _ _ _ _ slot_then (cc (removed_last V l x l_some, o.r_is, d.q.entry_is)))
+              (across_other x.0 l _ (ap (λ z. l ++ (x.0, y.1) ∷ z) (sym o.b_is)) (ap (λ z. head_of (n d) z) o.l_is)) (rw o.after_is at d.fit) (across_in x.0)
+              (rw key_is at rebuilt) (puts _ _ _ _ _ slot_then (cc (removed_last V l x l_some, o.r_is, d.entry_is)))
 
   -- the parent of the path's node
   pub here : {t : Table K V} {path indices up size : _} (w : TwoAbove t path indices up size) (i : ℕ) → length path ≡ 17 → size ≤ 17 →

@@ -1,9 +1,9 @@
--- The parent of a level's entry on the path: the rows above the level, cut there.
+-- The row above a level where a path stands, cut at the path's entry there, and a tree, cut at the path's index in its leaf.
 use Rattle.bforest_core.proofs.Words.{◌≡◌, ℕ, zero, suc, ◌+◌, ◌≤◌, ◌<◌, List, [], ◌∷◌, ◌++◌, length, get_or, slice_get, Some, refl, sym, ap, ◌∙◌}
 use Rattle.bforest_core.proofs.Words.{append_assoc, length-append, arith, Heads, Row, Rows, flat_map, Table, node, flat, heads, numbers, FitRow, Solid, RowIn}
-use Rattle.bforest_core.proofs.Words.{inner_content, count, Distinct, StandsAbove, Above, IsFit, Tree, half_of, IsIn, numbers_of, leaf_content, take, drop}
-use Rattle.bforest_core.proofs.{Words.{length-take-le, take-append-drop}, table.Tables.{count-append, count-same, count-row, row-split}}
-use Rattle.bforest_core.proofs.rows.LevelRows.{flat-append, FitRow-split, Solid-full}
+use Rattle.bforest_core.proofs.Words.{◌≢◌, Content, Over, inner_content, count, Distinct, StandsAbove, Above, IsFit, Tree, half_of, IsIn, numbers_of}
+use Rattle.bforest_core.proofs.Words.{leaf_content, take, drop, length-take-le, take-append-drop}
+use Rattle.bforest_core.proofs.{table.Tables.{count-append, count-same, count-row, row-split}, rows.LevelRows.{flat-append, FitRow-split, Solid-full}}
 
 -- two ways to cut one list at one place are the same
 pub cut_same : {A : Type 0} (p q : List A) (x y : A) (s t : List A) → p ++ x ∷ s ≡ q ++ y ∷ t → length p ≡ length q → (p ≡ q) × (x ≡ y) × (s ≡ t)
@@ -25,23 +25,6 @@ cut [] j h = absurd (omega arith)
 cut (e ∷ es) zero h = record { l = []; x = e; r = es; es_is = refl; place_is = refl }
 cut (e ∷ es) (suc j) h = let c = cut es j (omega arith) in record { l = e ∷ c.l; x = c.x; r = c.r; es_is = cc; place_is = cc }
 
-pub record Parent {K : Type 0} (ms js : List ℕ) (up : ℕ) (rows : Rows K) (a : Heads K) (x : K × ℕ) (b : Heads K) : Type 0 where
-  pub before : Row K ℕ
-  pub l : Heads K
-  pub r : Heads K
-  pub after : Row K ℕ
-  pub rest : Rows K
-  pub rows_are : rows ≡ (before ++ node (get_or ms up 0) (l ++ x ∷ r) ∷ after) ∷ rest
-  pub a_is : a ≡ flat before ++ l
-  pub b_is : b ≡ r ++ flat after
-  pub entry_is : length l ≡ get_or js up 0
-  pub stands : StandsAbove ms js (suc up) rest (length (heads before))
-
--- the rows above a level, cut at the path's node of the lowest of them
-abbrev pub Cut_above : {K V : Type 0} → Table K V → List ℕ → List ℕ → ℕ → ℕ → Row K ℕ → ℕ → Heads K → K × ℕ → Heads K → Row K ℕ → Rows K → Type 0
-Cut_above t ms js up size before n l x r after rest =
-    Above t ms js up size ((before ++ node n (l ++ x ∷ r) ∷ after) ∷ rest) ((flat before ++ l) ++ x ∷ (r ++ flat after)) (length (flat before ++ l))
-
 -- the number of the row's node occurs nowhere else in the rows
 pub apart_here : {K X : Type 0} (n : ℕ) (before : Row K X) (es after ms fs : _) → Distinct ((numbers (before ++ node n es ∷ after) ++ ms) ++ fs) →
     (count n (numbers before) + count n (numbers after) ≡ 0) × (count n ms ≡ 0) × (count n fs ≡ 0)
@@ -58,24 +41,43 @@ stands_here ms js up row before n e es after rest p solid row_is n_is e_is withi
 )
 
 module _ {K V : Type 0} where
-  pub parent : {t : Table K V} {ms js up size : _} (rows a x b : _) → Above t ms js up size rows (a ++ x ∷ b) (length a) → up < size →
-      Parent ms js up rows a x b
-  parent [] a x b p low = absurd (omega arith)
-  parent {ms} {js} {up} (row ∷ rest) a x b p low = let at = p.stands.0 in let n = get_or ms up 0 in let c = cut at.entries (get_or js up 0) at.within in
-      let whole : a ++ x ∷ b ≡ (flat at.before ++ c.l) ++ c.x ∷ (c.r ++ flat at.after) =
-      sym p.stacked.0 ∙ ap flat at.row_is ∙ ap (λ z. flat (at.before ++ node n z ∷ at.after)) c.es_is ∙ simp (flat-append, append_assoc) in
-      let same = cut_same a (flat at.before ++ c.l) x c.x b (c.r ++ flat at.after) whole (omega (arith, length-append (flat at.before) c.l)) in
-      let full = Solid-full 4 8 (omega arith) at.before (FitRow-split 4 8 at.before (node n at.entries) at.after (rw (← at.row_is) p.stacked.1)).0 in record {
-        before = at.before;
-        l = c.l;
-        r = c.r;
-        after = at.after;
+  -- the row of a level where the path stands
+  pub record OnRow (slots : List (Content K V)) (path indices : List ℕ) (up size : ℕ) (rows : Rows K) (list : Heads K) (place : ℕ) : Type 0 where
+    pub row : Row K ℕ
+    pub rest : Rows K
+    pub before : Row K ℕ
+    pub entries : Heads K
+    pub after : Row K ℕ
+    pub rows_are : rows ≡ row ∷ rest
+    pub row_is : row ≡ before ++ node (get_or path up 0) entries ∷ after
+    pub within : get_or indices up 0 < length entries
+    pub place_is : place ≡ length (flat before) + get_or indices up 0
+    pub slot_is : slice_get slots (get_or path up 0) ≡ Some (inner_content entries)
+    pub fit : FitRow 4 8 row
+    pub flat_is : flat row ≡ list
+    pub most_is : length entries ≤ 8
+    pub inside : RowIn inner_content slots row
+    pub over : Over slots path indices (suc up) size rest (heads row) (length before)
+
+  pub on_row : {slots : List (Content K V)} {path indices up size rows list place : _} → Over slots path indices up size rows list place → up ≢ size → OnRow slots path indices up size rows list place
+  on_row {rows = []} p other = absurd (other (omega arith))
+  on_row {slots} {path} {up} {rows = row ∷ rest} p other = let at = p.stands.0 in
+      record {
+        row = row;
         rest = rest;
-        rows_are = ap (λ z. z ∷ rest) cc;
-        a_is = same.0;
-        b_is = same.2;
-        entry_is = c.place_is;
-        stands = rw full p.stands.1;
+        before = at.before;
+        entries = at.entries;
+        after = at.after;
+        rows_are = refl;
+        row_is = at.row_is;
+        within = at.within;
+        place_is = at.place_is;
+        slot_is = (row-split inner_content slots at.before (node (get_or path up 0) at.entries ∷ at.after) (rw (← at.row_is) p.inside.0)).1.0;
+        fit = p.stacked.1;
+        flat_is = p.stacked.0;
+        most_is = (FitRow-split 4 8 at.before (node (get_or path up 0) at.entries) at.after (rw (← at.row_is) p.stacked.1)).1.1;
+        inside = p.inside.0;
+        over = record { stacked = p.stacked.2; inside = p.inside.1; stands = p.stands.1; height = omega arith };
       }
 
   -- a level of two nodes or more has a row above it
@@ -83,44 +85,64 @@ module _ {K V : Type 0} where
   above_two [] a x y b h = absurd (omega (arith, length-append a (x ∷ y ∷ b)))
   above_two (row ∷ rest) a x y b h = omega arith
 
-  cut_above : {t : Table K V} {ms js up size rows a x : _} {b : _} → Above t ms js up size rows (a ++ x ∷ b) (length a) → (q : Parent ms js up rows a x b)
-      → Cut_above t ms js up size q.before (get_or ms up 0) q.l x q.r q.after q.rest
-  cut_above p q = rw (q.rows_are, q.a_is, q.b_is) at p
-
-  -- what holds of the rows cut at the path's node
-  pub record Facts (t : Table K V) (ms js : List ℕ) (up size : ℕ) (before : Row K ℕ) (n : ℕ) (l : Heads K) (x : K × ℕ) (r : Heads K) (after : Row K ℕ) (rest : Rows K) : Type 0 where
-    pub slot_is : slice_get t.nodes n ≡ Some (inner_content (l ++ x ∷ r))
+  -- the path's row above a level, cut at the entry for the node `x` of that level
+  pub record Spot (t : Table K V) (ms js : List ℕ) (up size : ℕ) (rows : Rows K) (a : Heads K) (x : K × ℕ) (b : Heads K) : Type 0 where
+    pub before : Row K ℕ
+    pub l : Heads K
+    pub r : Heads K
+    pub after : Row K ℕ
+    pub rest : Rows K
+    pub rows_are : rows ≡ (before ++ node (get_or ms up 0) (l ++ x ∷ r) ∷ after) ∷ rest
+    pub a_is : a ≡ flat before ++ l
+    pub b_is : b ≡ r ++ flat after
+    pub entry_is : length l ≡ get_or js up 0
+    pub whole : Above t ms js up size ((before ++ node (get_or ms up 0) (l ++ x ∷ r) ∷ after) ∷ rest) ((flat before ++ l) ++ x ∷ (r ++ flat after)) (length (flat before ++ l))
+    pub stands : StandsAbove ms js (suc up) rest (length (heads before))
+    pub slot_is : slice_get t.nodes (get_or ms up 0) ≡ Some (inner_content (l ++ x ∷ r))
     pub solid : Solid 4 8 before
-    pub fit : FitRow 4 8 (node n (l ++ x ∷ r) ∷ after)
-    pub inside : RowIn inner_content t.nodes (before ++ node n (l ++ x ∷ r) ∷ after)
-    pub none : count n (numbers before) + count n (numbers after) ≡ 0
-    pub none_rest : count n (flat_map numbers rest) ≡ 0
-    pub none_chain : count n t.chain ≡ 0
+    pub fit : FitRow 4 8 (node (get_or ms up 0) (l ++ x ∷ r) ∷ after)
+    pub inside : RowIn inner_content t.nodes (before ++ node (get_or ms up 0) (l ++ x ∷ r) ∷ after)
+    pub none : count (get_or ms up 0) (numbers before) + count (get_or ms up 0) (numbers after) ≡ 0
+    pub none_rest : count (get_or ms up 0) (flat_map numbers rest) ≡ 0
+    pub none_chain : count (get_or ms up 0) t.chain ≡ 0
+    pub count_is : length (l ++ x ∷ r) ≡ get_or js up 0 + suc (length r)
+    pub most_is : length (l ++ x ∷ r) ≤ 8
 
-  pub facts : (t : Table K V) (ms js up size before n l x r after rest : _) →
-      Cut_above t ms js up size before n l x r after rest → Facts t ms js up size before n l x r after rest
-  facts t ms js up size before n l x r after rest p =
-      let f = FitRow-split 4 8 before (node n (l ++ x ∷ r)) after p.stacked.1 in let d = apart_here n _ _ _ _ _ p.apart in record {
-        slot_is = (row-split _ _ _ (node n (l ++ x ∷ r) ∷ after) p.inside.0).1.0;
+  spot_at : {t : Table K V} {ms js up size rows : _} (a x b : _) → Above t ms js up size rows (a ++ x ∷ b) (length a) → (o : OnRow t.nodes ms js up size rows (a ++ x ∷ b) (length a))
+      → Cut o.entries (get_or js up 0) → Spot t ms js up size rows a x b
+  spot_at {t} {ms} {js} {up} {size} {rows} a x b p o c = let n = get_or ms up 0 in
+      let whole : a ++ x ∷ b ≡ (flat o.before ++ c.l) ++ c.x ∷ (c.r ++ flat o.after) =
+      sym o.flat_is ∙ ap flat o.row_is ∙ ap (λ z. flat (o.before ++ node n z ∷ o.after)) c.es_is ∙ simp (flat-append, append_assoc) in
+      let same = cut_same a (flat o.before ++ c.l) x c.x b (c.r ++ flat o.after) whole (omega (arith, length-append (flat o.before) c.l)) in
+      let rows_are : rows ≡ (o.before ++ node n (c.l ++ x ∷ c.r) ∷ o.after) ∷ o.rest = cc in
+      let w : Above t ms js up size ((o.before ++ node n (c.l ++ x ∷ c.r) ∷ o.after) ∷ o.rest) ((flat o.before ++ c.l) ++ x ∷ (c.r ++ flat o.after)) (length (flat o.before ++ c.l)) =
+      rw (rows_are, same.0, same.2) at p in
+      let f = FitRow-split 4 8 o.before (node n (c.l ++ x ∷ c.r)) o.after w.stacked.1 in let d = apart_here n _ _ _ _ _ w.apart in
+      let full = Solid-full 4 8 (omega arith) o.before f.0 in record {
+        before = o.before;
+        l = c.l;
+        r = c.r;
+        after = o.after;
+        rest = o.rest;
+        rows_are = rows_are;
+        a_is = same.0;
+        b_is = same.2;
+        entry_is = c.place_is;
+        whole = w;
+        stands = rw full o.over.stands;
+        slot_is = (row-split _ _ _ (node n (c.l ++ x ∷ c.r) ∷ o.after) w.inside.0).1.0;
         solid = f.0;
         fit = f.1;
-        inside = p.inside.0;
+        inside = w.inside.0;
         none = d.0;
         none_rest = d.1;
         none_chain = d.2;
+        count_is = omega (arith, length-append c.l (x ∷ c.r), c.place_is);
+        most_is = f.1.1;
       }
 
-  -- the path's level as a call finds it: the parent, the rows cut there, and what holds of them
-  pub record Spot (t : Table K V) (ms js : List ℕ) (up size : ℕ) (rows : Rows K) (a : Heads K) (x : K × ℕ) (b : Heads K) : Type 0 where
-    pub q : Parent ms js up rows a x b
-    pub whole : Cut_above t ms js up size q.before (get_or ms up 0) q.l x q.r q.after q.rest
-    pub f : Facts t ms js up size q.before (get_or ms up 0) q.l x q.r q.after q.rest
-    pub count_is : length (q.l ++ x ∷ q.r) ≡ get_or js up 0 + suc (length q.r)
-    pub most_is : length (q.l ++ x ∷ q.r) ≤ 8
-
   pub spot : {t : Table K V} {ms js up size rows : _} (a x b : _) → Above t ms js up size rows (a ++ x ∷ b) (length a) → up < size → Spot t ms js up size rows a x b
-  spot {t} {rows} a x b p low = let q = parent rows a x b p low in let w = cut_above p q in let f = facts t _ _ _ _ _ _ _ x _ _ _ w in
-      record { q = q; whole = w; f = f; count_is = omega (arith, length-append q.l (x ∷ q.r), q.entry_is); most_is = f.fit.1 }
+  spot {js = js} {up = up} a x b p low = let o = on_row p.over (λ e. omega arith) in spot_at a x b p o (cut o.entries (get_or js up 0) o.within)
 
 module _ {K V : Type 0} where
   -- a tree, cut at the index of a path in its leaf

@@ -4,7 +4,7 @@ use Rattle.bforest_core.proofs.Words.{numbers, FitRow, half_of, RowsIn, leaf_con
 use Rattle.bforest_core.proofs.Words.{Some, append-nil, sym, subst, inl, inr, flat_map-append, Inner, Leaf, Free, IsInner, children_of, entry_count}
 use Rattle.bforest_core.proofs.{Words.{inner_content, entry_items, numbers_down, nil_from_length, IsLeafCapacity}, rows.LevelRows.flat-append}
 use Rattle.bforest_core.proofs.{rows.LevelRows.{numbers-append, least-pos, some_leaf}, table.Read.slot-is, table.Tables.{count-append, row-split}}
-use Rattle.bforest_core.proofs.{walks.Downward.Seen, walks.RowNodes.no_heads, walks.TopNode.{LeafUnder, InnerUnder, node_over, node_under}}
+use Rattle.bforest_core.proofs.{walks.Downward.HeadNode, walks.RowNodes.no_heads, walks.TopNode.{LeafUnder, InnerUnder, node_over, node_under}}
 
 module _ {K X : Type 0} where
   -- a row, cut between two of its heads
@@ -94,7 +94,7 @@ module _ {K V : Type 0} (most : ℕ) (slots : List (Content K V)) where
       }
 
 -- a row with one head has one node
-one_node : {K X : Type 0} {half : ℕ} (most : ℕ) → 1 ≤ half → {row : Row K X} {first number : _} (at : Seen half most row [] first number []) → row ≡ node number (at.e ∷ at.es) ∷ []
+one_node : {K X : Type 0} {half : ℕ} (most : ℕ) → 1 ≤ half → {row : Row K X} {first number : _} (at : HeadNode half most row [] first number []) → row ≡ node number (at.e ∷ at.es) ∷ []
 one_node most one at = cc (nil_from_length _ at.before_is, no_heads _ _ one _ at.after_fit at.after_is)
 
 module _ {K V : Type 0} where

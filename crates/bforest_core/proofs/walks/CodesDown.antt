@@ -3,7 +3,7 @@ use Rattle.bforest_core.proofs.Words.{HasUnder, IsLeafAt, IsSpotAt, IsWay, NodeO
 use Rattle.bforest_core.proofs.Words.{List, [], ◌∷◌, ◌++◌, IsTrue, length, slice_get, Some, refl, sym, ap, ◌∙◌, arith, append_assoc, length-append, Heads, Row}
 use Rattle.bforest_core.proofs.Words.{Rows, Content, IsInner, IsLeafCapacity, IsUnion, flat, heads, node, IsFirst, IsLast, append-nil, Table, is_root}
 use Rattle.bforest_core.proofs.{Words.tree_of, rows.LevelRows.some_leaf, walks.RowNodes.no_heads, walks.Standing.under-root, union.Unions.is-rooted}
-use Rattle.bforest_core.proofs.walks.TopNode.{InnerUnder, LeafUnder, inner_under, leaf_under, node_held, seen_at}
+use Rattle.bforest_core.proofs.walks.TopNode.{InnerUnder, LeafUnder, inner_under, leaf_under, node_held, head_at}
 use Rattle.bforest_core.proofs.{table.Stored.{item_count, slice_get_at}, walks.Leading.{Turns, child_under}, walks.Codes.{IsBelow, code-low, leaf-at, way-below}}
 use Rattle.bforest_core.proofs.walks.Reading.{ChildAsked, ChildRead, LastAsked}
 use Rattle.bforest_core.specs.declared.spot.Spot.{Spot}
@@ -17,7 +17,7 @@ module _ {K V : Type 0} {most : _} {slots : List (Content K V)} {leaves : Row K 
   pub child-way : {index : ℕ} → index ≤ length s.es → {spot next : Spot} → IsBelow spot number index next → {upper : Rows K} {numbers : _}
       → IsWay numbers spot upper (length n.before) → {place : ℕ} → place ≡ length (flat s.before) + index → IsWay (number ∷ numbers) next (s.row ∷ upper) place
   child-way low {spot} b {upper} {numbers} w place_is =
-      way-below (seen_at s.at refl refl low place_is) (omega arith) (rw s.before_is w) b
+      way-below (head_at s.at refl refl low place_is) (omega arith) (rw s.before_is w) b
 
 -- what is said of the first leaf, and of the last, as the end of a way
 module _ {K V : Type 0} (end : Spot) (leaf : ℕ) (leaves : Row K V) (rows : Rows K) where

@@ -4,7 +4,7 @@ use Rattle.bforest_core.proofs.Words.{Some, refl, sym, ap, subst, ◌∙◌, ari
 use Rattle.bforest_core.proofs.Words.{nil_from_length, slice_get_within, IsTotalOrder, IsStrictlySortedBy, AllByRecursion, is_some, Content, Inner}
 use Rattle.bforest_core.proofs.Words.{IsLeafCapacity, IsIncreasing, place, is_present, value_for, node, flat, entry_keys, entry_items, child_index, IsFrom}
 use Rattle.bforest_core.proofs.{Words.{IsUpTo, Descended, Reached, SearchThrough}, rows.LevelRows.{flat-append, some_leaf}, table.Stored.some_same}
-use Rattle.bforest_core.proofs.{table.Stored.slice_get_at, walks.Downward.{Seen, last_of, heads_increasing, upto_flat, stacked_increasing}}
+use Rattle.bforest_core.proofs.{table.Stored.slice_get_at, walks.Downward.{HeadNode, last_of, heads_increasing, upto_flat, stacked_increasing}}
 use Rattle.bforest_core.proofs.{walks.Leading.{inner_up, leaf_up}, walks.LeafSearch.items-read, walks.Reading.ChildRead, walks.Rising.{all_split, all_less}}
 use Rattle.bforest_core.proofs.walks.Rising.{increasing_split, increasing_rest, all_before, all_greater, place_between, entry_between, place-le, first_passed}
 use Rattle.bforest_core.proofs.{walks.Rising.sides, walks.TopNode.{InnerUnder, LeafUnder, flat_parted, set_but}}
@@ -21,7 +21,7 @@ module _ {K : Type 0} (cmp : K → K → Ordering) where
   is_from (x ∷ a) first key ng = ng
 
   -- a node's first key is the first of its level, or not greater
-  from_at : {X : Type 0} {half most : _} {row : Row K X} (a : _) {first number b : _} {key : K} (at : Seen half most row a first number b) → IsFrom cmp a first key → (at.before ≡ []) ⊎ (cmp at.e.0 key ≢ Greater)
+  from_at : {X : Type 0} {half most : _} {row : Row K X} (a : _) {first number b : _} {key : K} (at : HeadNode half most row a first number b) → IsFrom cmp a first key → (at.before ≡ []) ⊎ (cmp at.e.0 key ≢ Greater)
   from_at [] at f = inl (nil_from_length _ at.before_is)
   from_at (x ∷ a) at f = inr (rw at.first_is f)
 
@@ -57,7 +57,7 @@ module _ {K V : Type 0} {cmp : K → K → Ordering} {most : ℕ} {slots : List 
     pub high : AllByRecursion (λ p. cmp p key ≡ Greater) (keys_of (flat after))
 
 -- the entries of a row around a node increase
-increasing_about : {K X : Type 0} (cmp : K → K → Ordering) (o : IsTotalOrder cmp) {half most : _} {row : Row K X} {a first number b : _} (at : Seen half most row a first number b) → IsIncreasing cmp (flat row) →
+increasing_about : {K X : Type 0} (cmp : K → K → Ordering) (o : IsTotalOrder cmp) {half most : _} {row : Row K X} {a first number b : _} (at : HeadNode half most row a first number b) → IsIncreasing cmp (flat row) →
     IsIncreasing cmp (flat at.before ++ (at.e ∷ (at.es ++ flat at.after))) × IsIncreasing cmp (at.e ∷ at.es) × IsIncreasing cmp (flat at.after)
 increasing_about cmp o {number} at inc = let parts = subst (IsIncreasing cmp) (cc (flat-append at.before (node number (at.e ∷ at.es) ∷ at.after))) inc in
     let two = increasing_split o (at.e ∷ at.es) (flat at.after) (increasing_split o _ ((at.e ∷ at.es) ++ flat at.after) parts).1 in (parts, two.0, two.1)

@@ -37,7 +37,7 @@ module _ {K : Type 0} where
   stands_more path indices level (r ∷ rows) place high s e at = (s.0, stands_more path indices (suc level) rows (length s.0.before) high s.1 (omega arith) at)
 
 -- the node of a row whose head is between these heads
-pub record Seen {K X : Type 0} (half most : ℕ) (row : Row K X) (a : Heads K) (first : K) (number : ℕ) (b : Heads K) : Type 0 where
+pub record HeadNode {K X : Type 0} (half most : ℕ) (row : Row K X) (a : Heads K) (first : K) (number : ℕ) (b : Heads K) : Type 0 where
   pub before : Row K X
   pub e : K × X
   pub es : List (K × X)
@@ -49,13 +49,13 @@ pub record Seen {K X : Type 0} (half most : ℕ) (row : Row K X) (a : Heads K) (
   pub after_fit : FitRow half most after
 
 module _ {K X : Type 0} where
-  pub seen : (half most : ℕ) → 1 ≤ half → (row : Row K X) (a first number b : _) → FitRow half most row → heads row ≡ a ++ (first, number) ∷ b → Seen half most row a first number b
-  seen half most one [] [] first number b f h = absurd cc
-  seen half most one [] (z ∷ a) first number b f h = absurd cc
-  seen half most one (node m [] ∷ ns) a first number b f h = absurd (omega (arith, least-pos half one ns))
-  seen half most one (node m (e ∷ es) ∷ ns) [] first number b f h = let same : ◌≡◌ {A = K × ℕ} (e.0, m) (first, number) = cc in
+  pub head_node : (half most : ℕ) → 1 ≤ half → (row : Row K X) (a first number b : _) → FitRow half most row → heads row ≡ a ++ (first, number) ∷ b → HeadNode half most row a first number b
+  head_node half most one [] [] first number b f h = absurd cc
+  head_node half most one [] (z ∷ a) first number b f h = absurd cc
+  head_node half most one (node m [] ∷ ns) a first number b f h = absurd (omega (arith, least-pos half one ns))
+  head_node half most one (node m (e ∷ es) ∷ ns) [] first number b f h = let same : ◌≡◌ {A = K × ℕ} (e.0, m) (first, number) = cc in
       record { before = []; e = e; es = es; after = ns; row_is = ap (λ z. node z.1 (e ∷ es) ∷ ns) same; first_is = ap (λ z. z.0) same; before_is = refl; after_is = (cc); after_fit = f.2 }
-  seen half most one (node m (e ∷ es) ∷ ns) (z ∷ a) first number b f h = let r = seen half most one ns a first number b f.2 (cc) in
+  head_node half most one (node m (e ∷ es) ∷ ns) (z ∷ a) first number b f h = let r = head_node half most one ns a first number b f.2 (cc) in
       record { before = node m (e ∷ es) ∷ r.before; e = r.e; es = r.es; after = r.after; row_is = cc; first_is = r.first_is; before_is = cc; after_is = r.after_is; after_fit = r.after_fit }
 
   -- what holds of all keys of a row holds of the keys of its heads

@@ -2,9 +2,9 @@
 use Rattle.bforest_core.proofs.Words.{◌≡◌, ◌≢◌, ℕ, zero, suc, ◌+◌, ◌-◌, ◌≤◌, ◌<◌, List, [], ◌∷◌, ◌++◌, length, get_or, set, slice_get, Some, refl, sym, ap}
 use Rattle.bforest_core.proofs.Words.{subst, ◌∙◌, arith, length-append, Heads, Row, Rows, length-map, nil_from_length, Content, IsInner, entry_count}
 use Rattle.bforest_core.proofs.Words.{node, flat, leaf_content, inner_content, entry_items, HasBelow, IsFirst, IsLast, Led, LedUp, NodeOver, OnBelow}
-use Rattle.bforest_core.proofs.{Words.IsLeafCapacity, walks.Downward.{Seen, stands_more}, walks.RowNodes.no_heads}
+use Rattle.bforest_core.proofs.{Words.IsLeafCapacity, walks.Downward.{HeadNode, stands_more}, walks.RowNodes.no_heads}
 use Rattle.bforest_core.proofs.{table.Stored.{some_same, item_count}, rows.LevelRows.{flat-append, some_leaf}, walks.Reading.{ChildAsked, ChildRead, LastRead}}
-use Rattle.bforest_core.proofs.walks.TopNode.{SameBut, none_flat, flat_parted, seen_at, set_but, LeafUnder, InnerUnder, inner_at, leaf_at}
+use Rattle.bforest_core.proofs.walks.TopNode.{SameBut, none_flat, flat_parted, head_at, set_but, LeafUnder, InnerUnder, inner_at, leaf_at}
 
 -- a node's entries, cut at the child of an index
 child_cut : {K : Type 0} (es : Heads K) (index child : ℕ) → slice_get (entry_items es) index ≡ Some child → (l : Heads K) × (key : K)
@@ -15,7 +15,7 @@ child_cut (y ∷ es) (suc index) child found = let r = child_cut _ _ _ found in 
 
 -- the entries of a row end with those of its last node
 last-end : {K X : Type 0} {half most : _} → 1 ≤ half → {row : Row K X} {a : _} {first number : _} {b : _}
-    (at : Seen half most row a first number b) → b ≡ [] → length (flat row) ≡ length (flat at.before) + suc (length at.es)
+    (at : HeadNode half most row a first number b) → b ≡ [] → length (flat row) ≡ length (flat at.before) + suc (length at.es)
 last-end one {number} at last = let none = ap (λ z. length (flat z)) (no_heads _ _ one _ at.after_fit (at.after_is ∙ last)) in
     let parts = ap length (ap flat at.row_is ∙ flat-append at.before (node number (at.e ∷ at.es) ∷ at.after)) in
     omega (arith, length-append (flat at.before) ((at.e ∷ at.es) ++ flat at.after), length-append (at.e ∷ at.es) (flat at.after))
@@ -58,7 +58,7 @@ module _ {K V : Type 0} {most : ℕ} {slots : List (Content K V)} {leaves : Row 
       → get_or path1 high 0 ≡ number → get_or indices1 high 0 ≡ index → SameBut high path path1 → SameBut high indices indices1
       → LedUp n.lower place (length n.before) path indices path2 indices2
   inner_up s rows_are top_is within {path2} {indices2} {place} high high_is led m_is j_is nodes entries =
-      let d = rw rows_are at led in let at = seen_at s.at (d.nodes_above high (omega arith) ∙ m_is) (d.entries_above high (omega arith) ∙ j_is) within top_is in
+      let d = rw rows_are at led in let at = head_at s.at (d.nodes_above high (omega arith) ∙ m_is) (d.entries_above high (omega arith) ∙ j_is) within top_is in
       let more = stands_more path2 indices2 1 s.rows place high d.stands (omega arith) at in record {
         stands = rw s.lower_is (rw (← s.before_is) more);
         nodes_above = λ i low. d.nodes_above i (omega arith) ∙ nodes i (λ z. omega arith);
@@ -108,7 +108,7 @@ module _ {K V : Type 0} {most : ℕ} (capacity : IsLeafCapacity most) {slots : L
       (λ leaves lower top. Led leaves lower (place leaves) top path indices path1 indices1)
   led-ends none here path_is indices_are leaves n side level_is = let s = leaf_at capacity n (omega arith) in
       record {
-        leaf = seen_at s.at (cc) (cc) (turns.low s side) (turns.ends s side);
+        leaf = head_at s.at (cc) (cc) (turns.low s side) (turns.ends s side);
         up = leaf_up s (λ i ne. set_but _ _ _ path_is i (λ e. ne (e ∙ none))) (λ i ne. set_but _ _ _ indices_are i (λ e. ne (e ∙ none)));
       }
 

@@ -1,7 +1,7 @@
 -- A node at a place of a row, and the nodes beside it.
 use Rattle.bforest_core.proofs.Words.{NumberAt, ◌≡◌, ℕ, suc, ◌+◌, ◌≤◌, List, [], ◌∷◌, ◌++◌, length, take, slice_get, Some, refl, sym, ap, subst, ◌∙◌, arith}
 use Rattle.bforest_core.proofs.Words.{append_assoc, length-append, Row, nil_from_length, take_at, slice_get_within, Content, node, flat, heads, FitRow, RowIn}
-use Rattle.bforest_core.proofs.{table.Tables.row-split, table.Stored.{some_same, slice_get_at}, rows.Zipper.cut, walks.Downward.seen}
+use Rattle.bforest_core.proofs.{table.Tables.row-split, table.Stored.{some_same, slice_get_at}, rows.Zipper.cut, walks.Downward.head_node}
 use Rattle.bforest_core.proofs.{rows.LevelRows.{flat-append, least-pos, FitRow-split}, table.Lists.{slice_get-append-add, slice_get-append_left}}
 
 -- a fit row has as many heads as nodes
@@ -60,7 +60,7 @@ module _ {K V X : Type 0} (content : List (K × X) → Content K V) (slots : Lis
 
     pub node-at : (number place : ℕ) → NumberAt (heads row) place number → NodeIn row number place
     node-at number place m = let c = cut (heads row) place (slice_get_within (heads row) place (m.0, number) m.1) in
-        let same = some_same {x = c.x} {y = (m.0, number)} (cc (slice_get_at c.l c.x c.r place c.place_is)) in let s = seen half most one row c.l m.0 number c.r fit (cc) in
+        let same = some_same {x = c.x} {y = (m.0, number)} (cc (slice_get_at c.l c.x c.r place c.place_is)) in let s = head_node half most one row c.l m.0 number c.r fit (cc) in
         node-in _ _ _ _ _ s.row_is (cc)
 
 module _ {K V X : Type 0} {content : List (K × X) → Content K V} {slots most row number place : _} (a : NodeIn content slots most row number place) where

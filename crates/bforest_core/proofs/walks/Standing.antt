@@ -7,7 +7,7 @@ use Rattle.bforest_core.proofs.Words.{sizes, sizes_of, IsPathAt, PointsAt, Stand
 use Rattle.bforest_core.proofs.{Words.{is_root, slot, tree_of}, walks.Backward.{at_end, at_entry}, rows.LevelRows.flat-append, union.Unions.{is-rooted, rooted}}
 use Rattle.bforest_core.proofs.{walks.Whole.{led_stands, stands-pointed, root-node}, walks.Entered.{InLeaf, first_behind, in_leaf, leaf_here, leaf_last}}
 use Rattle.bforest_core.proofs.{walks.Leading.leaf_up, table.Read.slot-is, rows.Tops.root-points, walks.Steps.not_less}
-use Rattle.bforest_core.proofs.{walks.TopNode.{SameBut, node_under, none_flat, seen_at}, table.Tables.{absent_ne, count-append, count-row, count-same}}
+use Rattle.bforest_core.proofs.{walks.TopNode.{SameBut, node_under, none_flat, head_at}, table.Tables.{absent_ne, count-append, count-row, count-same}}
 use Rattle.bforest_core.specs.Paths.{IsPlaced}
 
 module _ {K V : Type 0} (path indices : _) (tree : Tree K V) (place : ℕ) where
@@ -64,7 +64,7 @@ on-leaf table root path indices union is leaf node_is index_is =
     elim (node_under union.1.capacity (under-root root union is)) [
       | inl s ↦ (
           let d : Led (tree_of table.nodes root).leaves (tree_of table.nodes root).above 0 0 path indices path indices = record {
-            leaf = seen_at s.at node_is index_is (omega arith) (omega (arith, none_flat _ s.before_is));
+            leaf = head_at s.at node_is index_is (omega arith) (omega (arith, none_flat _ s.before_is));
             up = leaf_up s (λ i ne. refl) (λ i ne. refl);
           } in
           record { root_is = is; stands = led_stands _ 1 d (sym (ap (λ z. suc (length z)) s.lower_is)) }

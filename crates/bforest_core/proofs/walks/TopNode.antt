@@ -2,7 +2,7 @@
 use Rattle.bforest_core.proofs.Words.{◌≡◌, ◌≢◌, ℕ, suc, ◌+◌, ◌≤◌, ◌<◌, ◌⊎◌, inl, inr, List, [], ◌∷◌, ◌++◌, length, get_or, set, slice_get, Some, refl, sym, ap}
 use Rattle.bforest_core.proofs.Words.{subst, ◌∙◌, arith, append_assoc, length-append, Row, Rows, get_or-set_other, nil_from_length, slice_get_within}
 use Rattle.bforest_core.proofs.Words.{Content, IsInner, node, flat, half_of, RowIn, leaf_content, inner_content, IsAt, NodeOver, Under, IsLeafCapacity}
-use Rattle.bforest_core.proofs.{rows.LevelRows.{FitRow-split, flat-append, some_leaf}, walks.Downward.{Seen, at_node, seen, last_of, stacked_last, in_last}}
+use Rattle.bforest_core.proofs.{rows.LevelRows.{FitRow-split, flat-append, some_leaf}, walks.Downward.{HeadNode, at_node, head_node, last_of, stacked_last, in_last}}
 use Rattle.bforest_core.proofs.{table.Stored.some_same, table.Tables.row-split, walks.Reading.LastAsked}
 
 -- the list is unchanged except at this level
@@ -22,15 +22,15 @@ flat_parted before n {es} l x r after is =
     cc (flat-append before (node n es ∷ after), append_assoc l (x ∷ r) (flat after), append_assoc (flat before) l (x ∷ (r ++ flat after)))
 
 -- a path's place at the node
-abbrev pub seen_at : {K X : Type 0} {half most : _} {row : Row K X} {a first number b : _} (at : Seen half most row a first number b) {n j index place : ℕ} → n ≡ number → j ≡ index → index ≤ length at.es
+abbrev pub head_at : {K X : Type 0} {half most : _} {row : Row K X} {a first number b : _} (at : HeadNode half most row a first number b) {n j index place : ℕ} → n ≡ number → j ≡ index → index ≤ length at.es
     → place ≡ length (flat at.before) + index → IsAt row n j place
-seen_at at n_is j_is within place_is = at_node _ _ _ at.row_is n_is j_is (omega arith) place_is
+head_at at n_is j_is within place_is = at_node _ _ _ at.row_is n_is j_is (omega arith) place_is
 
 module _ {K V : Type 0} {most : ℕ} {slots : List (Content K V)} {leaves : Row K V} {number : ℕ} (n : NodeOver most slots leaves number) where
   -- the node is a leaf
   pub record LeafUnder : Type 0 where
     pub lower_is : n.lower ≡ []
-    pub at : Seen (half_of most) most leaves n.before n.first number n.after
+    pub at : HeadNode (half_of most) most leaves n.before n.first number n.after
     pub open at use *
     pub slot_is : slice_get slots number ≡ Some (leaf_content (e ∷ es))
 
@@ -40,7 +40,7 @@ module _ {K V : Type 0} {most : ℕ} {slots : List (Content K V)} {leaves : Row 
     pub row : Row K ℕ
     pub lower_is : n.lower ≡ rows ++ row ∷ []
     pub count_is : length n.lower ≡ suc (length rows)
-    pub at : Seen 4 8 row n.before n.first number n.after
+    pub at : HeadNode 4 8 row n.before n.first number n.after
     pub open at use *
     pub room : length es < 8
     pub under : Under most slots leaves rows (flat row)
@@ -50,16 +50,16 @@ module _ {K V : Type 0} {most : ℕ} {slots : List (Content K V)} {leaves : Row 
 abbrev pub node_over : {K V : Type 0} {most : ℕ} {slots : List (Content K V)} {leaves : _} (lower : _) (a first : _) (number : ℕ) (b : _) → Under most slots leaves lower (a ++ (first, number) ∷ b) → NodeOver most slots leaves number
 node_over lower a first number b u = record { lower = lower; before = a; first = first; after = b; under = u }
 
-seen_slot : {K V X : Type 0} (content : List (K × X) → Content K V) (slots : List (Content K V)) {half most : _} {row : Row K X} {a first number b : _} (at : Seen half most row a first number b) → RowIn content slots row → slice_get slots number ≡ Some (content (at.e ∷ at.es))
-seen_slot content slots {number} at i = (row-split content slots at.before (node number (at.e ∷ at.es) ∷ at.after) (rw (← at.row_is) i)).1.0
+head_slot : {K V X : Type 0} (content : List (K × X) → Content K V) (slots : List (Content K V)) {half most : _} {row : Row K X} {a first number b : _} (at : HeadNode half most row a first number b) → RowIn content slots row → slice_get slots number ≡ Some (content (at.e ∷ at.es))
+head_slot content slots {number} at i = (row-split content slots at.before (node number (at.e ∷ at.es) ∷ at.after) (rw (← at.row_is) i)).1.0
 
 module _ {K V : Type 0} {most : ℕ} (capacity : IsLeafCapacity most) {slots : List (Content K V)} {leaves : _} where
   parted : (lower : _) (a first number b : _) (u : Under most slots leaves lower (a ++ (first, number) ∷ b)) → LeafUnder (node_over lower a first number b u) ⊎ InnerUnder (node_over lower a first number b u)
-  parted [] a first number b u = let at = seen (half_of most) most (some_leaf capacity) leaves a first number b u.leaves_fit u.stacked in
-      inl (record { lower_is = refl; at = at; slot_is = seen_slot _ _ at u.leaves_in })
+  parted [] a first number b u = let at = head_node (half_of most) most (some_leaf capacity) leaves a first number b u.leaves_fit u.stacked in
+      inl (record { lower_is = refl; at = at; slot_is = head_slot _ _ at u.leaves_in })
   parted (r ∷ rs) a first number b u =
       let z = last_of r rs in let s = stacked_last _ _ _ _ (rw (← z.is) u.stacked) in let i = in_last _ _ _ (rw (← z.is) u.rows_in) in
-      let at = seen 4 8 (omega arith) z.last a first number b s.1 s.2 in inr (record {
+      let at = head_node 4 8 (omega arith) z.last a first number b s.1 s.2 in inr (record {
         rows = z.init;
         row = z.last;
         lower_is = z.is;
@@ -67,7 +67,7 @@ module _ {K V : Type 0} {most : ℕ} (capacity : IsLeafCapacity most) {slots : L
         at = at;
         room = omega (arith, (FitRow-split 4 8 at.before (node number (at.e ∷ at.es)) at.after (rw (← at.row_is) s.1)).1.1);
         under = record { leaves_fit = u.leaves_fit; leaves_in = u.leaves_in; stacked = s.0; rows_in = i.0 };
-        slot_is = seen_slot _ _ at i.1;
+        slot_is = head_slot _ _ at i.1;
       })
 
   module _ {number : ℕ} (n : NodeOver most slots leaves number) where

@@ -1,9 +1,9 @@
 -- A path's node goes to the next one, or to the previous one, by its turn: the lowest level above it where the path can go on.
 use Rattle.bforest_core.proofs.Words.{AreFirst, AreLast, Turned, TurnedBack, TurnedBy, ◌≡◌, ◌≢◌, ℕ, zero, suc, ◌+◌, ◌-◌, ◌≤◌, ◌<◌, List, length, get_or}
-use Rattle.bforest_core.proofs.Words.{slice_get, Some, Bool, false, IsTrue, ◌↔◌, inl, inr, refl, sym, subst, ◌∙◌, arith, cases_lt, false≢true, Content, HasOver}
+use Rattle.bforest_core.proofs.Words.{slice_get, Some, Bool, false, IsTrue, ◌↔◌, inl, inr, refl, sym, subst, ◌∙◌, arith, cases_lt, false≢true, Content}
+use Rattle.bforest_core.proofs.Words.{HasOver, LastAt, MoreAt, OnLevels, OnOver, heads, inner_content, Over}
 use Rattle.bforest_core.proofs.walks.Turns.{ChildAt, Went, back_asks, before_turn, first_moves, first_turn, last_moves, last_turn, next_turn, turn_asks}
-use Rattle.bforest_core.proofs.{Words.{LastAt, MoreAt, OnLevels, OnOver, heads, inner_content, Over}, walks.Reading.{LastAsked, LastRead}}
-use Rattle.bforest_core.proofs.{walks.Steps.{not_less, only, spot}, walks.Turns.turn_moves}
+use Rattle.bforest_core.proofs.{walks.Turns.turn_moves, walks.Reading.{LastAsked, LastRead}, walks.Steps.{not_less, only}, rows.Zipper.on_row}
 
 -- two runs of levels, one above the other
 pub both : {Holds : ℕ → Type 0} (low between high : ℕ) → OnLevels Holds low between → OnLevels Holds between high → OnLevels Holds low high
@@ -31,17 +31,17 @@ module _ {K V : Type 0} {slots : List (Content K V)} {path indices : _} where
   over-up : (steps : ℕ) {level size rows list place : _} (to : ℕ)
       → Over slots path indices level size rows list place → to ≡ level + steps → to ≤ size → HasOver slots path indices to size
   over-up zero {size} {rows} {list} {place} to p is low = (rows, list, place, subst (λ z. Over slots path indices z size rows list place) (omega arith) p)
-  over-up (suc steps) to p is low = over-up steps to (spot p (λ e. omega arith)).over (omega arith) low
+  over-up (suc steps) to p is low = over-up steps to (on_row p (λ e. omega arith)).over (omega arith) low
 
   -- the node on a level meets what the test for a child requires
   pub turn-asks : {level size rows list place : _} → Over slots path indices level size rows list place → level ≢ size → size ≤ 17 → (level ≤ 16)
       × ((entries : _) × (slice_get slots (get_or path level 0) ≡ Some (inner_content entries)))
-  turn-asks p other height = let s = spot p other in (omega arith, (s.entries, s.slot_is))
+  turn-asks p other height = let s = on_row p other in (omega arith, (s.entries, s.slot_is))
 
   -- the rows above the node meet what a search for the turn from there requires
   pub turn-above : {level size rows list place : _} (to : ℕ)
       → Over slots path indices level size rows list place → level ≢ size → to ≡ suc level → HasOver slots path indices to size
-  turn-above to p other is = let s = spot p other in (s.rest, heads s.row, length s.before, rw is s.over)
+  turn-above to p other is = let s = on_row p other in (s.rest, heads s.row, length s.before, rw is s.over)
 
   -- where each child up to the root is the last, the node is the last of its level
   all-last : (steps : ℕ) {level : ℕ} {size rows list place : _} → Over slots path indices (suc level) size rows list place → size ≡ suc level + steps

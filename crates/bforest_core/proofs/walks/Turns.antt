@@ -1,9 +1,9 @@
 -- Moving a path's node to the next or the previous one of its level, once the node above it is there.
-use Rattle.bforest_core.proofs.Words.{◌≡◌, ◌≢◌, ℕ, suc, ◌+◌, ◌-◌, ◌≤◌, ◌<◌, List, ◌∷◌, length, get_or, slice_get, Some, refl, ap, ◌∙◌, arith}
-use Rattle.bforest_core.proofs.Words.{Content, flat, heads, inner_content, entry_items, SameBelow, StandsAbove, Advances, LastAt, MoreAt, OnOver, Over, Moved}
-use Rattle.bforest_core.proofs.{Words.Retreats, table.Stored.{some_same, item_count}, walks.TopNode.{SameBut, none_flat}, walks.Reading.{LastAsked, LastRead}}
-use Rattle.bforest_core.proofs.{walks.LeafSearch.items-read, rows.Zipper.stands-same, walks.Downward.at_node}
-use Rattle.bforest_core.proofs.{walks.RowNodes.{entry_at, node-in, none-behind, seam}, walks.Steps.{Spot, Within, last_asks, last_is, read, spot, there}}
+use Rattle.bforest_core.proofs.Words.{◌≡◌, ◌≢◌, ℕ, suc, ◌+◌, ◌-◌, ◌≤◌, ◌<◌, List, ◌∷◌, length, get_or, slice_get, Some, refl, ap, ◌∙◌, arith, Content, flat}
+use Rattle.bforest_core.proofs.Words.{heads, inner_content, entry_items, SameBelow, StandsAbove, Advances, LastAt, MoreAt, OnOver, Over, Moved, Retreats}
+use Rattle.bforest_core.proofs.{table.Stored.{some_same, item_count}, walks.TopNode.{SameBut, none_flat}, walks.Reading.{LastAsked, LastRead}}
+use Rattle.bforest_core.proofs.{walks.LeafSearch.items-read, rows.Zipper.{stands-same, OnRow, on_row}, walks.Downward.at_node}
+use Rattle.bforest_core.proofs.{walks.RowNodes.{entry_at, node-in, none-behind, seam}, walks.Steps.{Within, last_asks, last_is, read, there}}
 
 module _ {K V : Type 0} where
   -- what going to a child requires
@@ -29,8 +29,8 @@ module _ {K V : Type 0} where
 
   module _ {slots : List (Content K V)} {path indices : _} {level up : ℕ} {size rows list place : _}
       (p : Over slots path indices (suc level) size rows list place) (up_is : up ≡ suc level) (other : up ≢ size) (height : size ≤ 17) where
-    pub here : Spot slots path indices up size rows list place
-    here = spot (rw up_is p) other
+    pub here : OnRow slots path indices up size rows list place
+    here = on_row (rw up_is p) other
 
     abbrev stay : Within inner_content slots 8 path indices up here.row here.rest (length here.before)
     stay = record { node = node-in _ _ 8 4 (omega arith) _ here.fit here.inside _ _ _ _ _ here.row_is refl; stands = here.over.stands }

@@ -14,7 +14,7 @@ update_separator-requires g t c κs within =
 
 pub returns-then-index-gt0 : goal.returns-then-index-gt0
 returns-then-index-gt0 g t c = λ w.
-    let s = seen w.before w.x w.after w.above c.if-up-self.false _ (omega arith) c.requires.height in let es = s.d.q.l ++ w.x ∷ s.d.q.r in
+    let s = seen w.before w.x w.after w.above c.if-up-self.false _ (omega arith) c.requires.height in let es = s.d.l ++ w.x ∷ s.d.r in
     rekey_parent s.d _ c.args.key c.if-index-gt0.true (rw s.num_is at (c.set_separator.ensures (drop 1 (entry_keys es)) (entry_items es) s.slot_is))
 
 pub returns-else-index-gt0 : goal.returns-else-index-gt0

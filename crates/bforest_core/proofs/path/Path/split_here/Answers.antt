@@ -25,7 +25,7 @@ returns-then-entry-lt-MIN_CHILDREN-clause-halved g c = λ w. let said = c.split_
     let at = site w c.requires.within g.row.N (c.args.half.key, c.args.half.node) in (
       _,
       _,
-      (d w c.requires.within g.row.N).q.rows_are,
+      (d w c.requires.within g.row.N).rows_are,
       early_halves at _ (omega arith) _ c.requires.full said.node said.used said.split said.capacity
           c.if-entry-lt-MIN_CHILDREN.true c.put_child-room.ensures (goes c.args.half.moved (step_most _) (omega arith) c.index_behind.ensures.value),
     )
@@ -35,7 +35,7 @@ returns-else-entry-lt-MIN_CHILDREN-clause-halved g c = λ w. let said = c.split_
     let at = site w c.requires.within g.row.N (c.args.half.key, c.args.half.node) in (
       _,
       _,
-      (d w c.requires.within g.row.N).q.rows_are,
+      (d w c.requires.within g.row.N).rows_are,
       late_halves at _ (omega arith) _ c.requires.full said.node said.used said.split said.capacity
           c.if-entry-lt-MIN_CHILDREN.false _ refl c.put_child-room-else-entry-lt-MIN_CHILDREN.ensures (λ none. absurd (omega arith)) (λ some. refl)
           (goes c.args.half.moved (step_most _) (omega arith) c.index_behind-else-entry-lt-MIN_CHILDREN.ensures.value),
