@@ -5,16 +5,16 @@ use Rattle.bforest_core.proofs.Words.{numbers, RowIn, count, Distinct, Draws, Fr
 use Rattle.bforest_core.proofs.table.Tables.{absent_ne, count-append, count-other, ne_from_count, row-changed}
 use Rattle.bforest_core.proofs.{table.Lists.{slice_get-set_apart, slice_get-set_same}, union.Forests.every-join, union.FreeSlots.{free-same, freed-slot}}
 
--- a number is not that of another slot, of which it tells
+-- a number other than `n` does not occur in the list of `n` alone
 pub apart_from : (m n : ℕ) → m ≢ n → count m (n ∷ []) ≡ 0
 apart_from m n ne = count-other m n [] (λ e. ne (sym e))
 
--- a number that occurs in some numbers is not that of a slot that does not
+-- a number that occurs in a list does not occur in that of `n` alone, where `n` is not in the list
 pub not_there : (m n : ℕ) (ms : List ℕ) → 0 < count m ms → count n ms ≡ 0 → count m (n ∷ []) ≡ 0
 not_there m n ms some none = apart_from m n (ne_from_count m n ms some none)
 
 module _ {K V : Type 0} where
-  -- a table that stays
+  -- nothing changes
   pub trades-none : (t : Table K V) (own : List ℕ) → Trades t t own own [] []
   trades-none t own = record { numbers_are = λ m. refl; others = λ m z. refl; freed_are = tt; chain_is = refl; slots_are = refl; limit_is = refl; memory_is = refl }
 
@@ -35,8 +35,8 @@ module _ {K V : Type 0} where
   pub trades-apart : {t u : Table K V} {was are taken freed : List ℕ} → Trades t u was are taken freed → Distinct (was ++ t.chain) → Distinct (are ++ u.chain)
   trades-apart d apart m = omega (arith, apart m, d.numbers_are m, ap (λ z. count m z) d.chain_is, count-append)
 
-  -- two changes in sequence, the first of `one`, which become `mid`, and the second of `two`, which become `end`, within a change of `was` to
-  -- `are`
+  -- two changes in sequence, as one change of `was` to `are`: the first makes `one` into `mid`, the second `two` into `end`. `within` says how often
+  -- each number occurs
   module _ {t u v : Table K V} {one mid two end : List ℕ} (was are : List ℕ)
       (within : (m : ℕ) → (count m one ≤ count m was) × (count m two + count m one ≤ count m was + count m mid)
       × (count m are + count m two + count m one ≡ count m was + count m mid + count m end)) where

@@ -3,8 +3,8 @@ use Rattle.bforest_core.proofs.Words.{◌≡◌, ℕ, ◌-◌, IsTrue, Some, [],
 use Rattle.bforest_core.proofs.Words.{Table, front_of, free_count, slot_count, fresh_nodes, down_from, with_front, reserved, node, Tree, count, is_root}
 use Rattle.bforest_core.proofs.{Words.{GrowsFor, IsUnion, Plants}, table.Tables.count-same, union.Forests.{once, tree-back, within-slots}}
 use Rattle.bforest_core.proofs.{table.Chains.{length-fresh_nodes, length-down_from}, union.Reserved.{reserved-union, reserved-then, reserved-roots}}
-use Rattle.bforest_core.proofs.{rows.Counts.past-none, union.Roots.{not-root, one_root, one_tree}}
-use Rattle.bforest_core.proofs.{union.Exchange.{IsPlanted, Traded, exchange-trees, others-keep, roots-gone, traded}, table.Trading.takes}
+use Rattle.bforest_core.proofs.{rows.Counts.past-none, union.Roots.{one_root, one_tree}}
+use Rattle.bforest_core.proofs.{union.Exchange.{IsPlanted, Traded, exchange-trees, others-keep, roots-gone, traded}, table.Trading.{apart_from, takes}}
 
 -- a chain with a front is not empty
 front_rest : {m : ℕ} (chain : _) → front_of chain ≡ Some m → (rest : _) × (chain ≡ m ∷ rest)
@@ -47,7 +47,7 @@ module _ {K V : Type 0} where
           root_is = back.1;
           list_is = cc (back.0);
           sizes_are = cc (back.0);
-          others = reserved-then most old 1 memory new number number union (λ other ne ne'. others-keep [] [] (tree ∷ []) u.0 u.1 g other refl (not-root other number ne));
+          others = reserved-then most old 1 memory new number number union (λ other ne ne'. others-keep [] [] (tree ∷ []) u.0 u.1 g other refl (apart_from other number ne));
           old_gone = λ ne. absurd (ne refl);
           new_came = λ ne. absurd (ne refl);
           limit_is = t.limit_is;

@@ -1,16 +1,12 @@
 -- A change of the tree under a root, stated without a witness: by roots and the trees computed from them.
 use Rattle.bforest_core.proofs.Words.{◌≡◌, ℕ, ◌<◌, ◌≢◌, IsTrue, List, [], ◌∷◌, ◌++◌, refl, sym, subst, append-nil, arith, Changes, flat, sizes_of, flat_map}
-use Rattle.bforest_core.proofs.Words.{Table, Tree, count, root_of, numbers_of, tree_of, is_root, IsUnion, OthersKeep, Frees, Draws}
-use Rattle.bforest_core.proofs.{table.Tables.{count-same, count-other}, union.Exchange.{IsPlanted, Traded, traded, exchange-trees, others-keep, roots-gone}}
+use Rattle.bforest_core.proofs.{Words.{Table, Tree, count, root_of, numbers_of, tree_of, is_root, IsUnion, OthersKeep, Frees, Draws}, table.Tables.count-same}
+use Rattle.bforest_core.proofs.{table.Trading.apart_from, union.Exchange.{IsPlanted, Traded, traded, exchange-trees, others-keep, roots-gone}}
 use Rattle.bforest_core.proofs.{union.Forests.tree-back, union.Unions.rooted}
 
 -- a root occurs in the list of itself
 pub one_root : (root : ℕ) → 0 < count root (root ∷ [])
 one_root root = omega (arith, count-same root [])
-
--- a number other than the root does not occur in the list of the root
-pub not-root : (other root : ℕ) → other ≢ root → count other (root ∷ []) ≡ 0
-not-root other root ne = count-other other root [] (λ e. ne (sym e))
 
 module _ {K V : Type 0} where
   -- the tree under a root was replaced by another, perhaps under another root
@@ -34,9 +30,9 @@ module _ {K V : Type 0} where
         union = (r.before ++ tree' ∷ r.after, g);
         root_is = back.1;
         tree_is = back.0;
-        others = λ other ne ne'. others-keep r.before (tree ∷ []) (tree' ∷ []) r.after r.forest g other (not-root other (root_of tree) ne) (not-root other (root_of tree') ne');
-        old_gone = λ ne. roots-gone r.before (tree ∷ []) (tree' ∷ []) r.after r.forest g (root_of tree) (one_root (root_of tree)) (not-root (root_of tree) (root_of tree') ne);
-        new_came = λ ne. roots-gone r.before (tree' ∷ []) (tree ∷ []) r.after g r.forest (root_of tree') (one_root (root_of tree')) (not-root (root_of tree') (root_of tree) (λ e. ne (sym e)));
+        others = λ other ne ne'. others-keep r.before (tree ∷ []) (tree' ∷ []) r.after r.forest g other (apart_from other (root_of tree) ne) (apart_from other (root_of tree') ne');
+        old_gone = λ ne. roots-gone r.before (tree ∷ []) (tree' ∷ []) r.after r.forest g (root_of tree) (one_root (root_of tree)) (apart_from (root_of tree) (root_of tree') ne);
+        new_came = λ ne. roots-gone r.before (tree' ∷ []) (tree ∷ []) r.after g r.forest (root_of tree') (one_root (root_of tree')) (apart_from (root_of tree') (root_of tree) (λ e. ne (sym e)));
       })
 
   -- the tree after an insertion under a root
@@ -70,5 +66,5 @@ module _ {K V : Type 0} where
       let g = exchange-trees r.before (tree ∷ []) [] r.after r.forest tt (rw (← one_tree tree) t) in (
         (r.before ++ r.after, g),
         rw (← r.root_is) (roots-gone r.before (tree ∷ []) [] r.after r.forest g (root_of tree) (one_root (root_of tree)) refl),
-        rw (← r.root_is) (λ other ne ne'. others-keep r.before (tree ∷ []) [] r.after r.forest g other (not-root other (root_of tree) ne) refl),
+        rw (← r.root_is) (λ other ne ne'. others-keep r.before (tree ∷ []) [] r.after r.forest g other (apart_from other (root_of tree) ne) refl),
       )
