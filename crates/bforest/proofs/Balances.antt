@@ -17,6 +17,9 @@ use Rattle.std.proofs.lemmas.List.Sums.{count_by-le-length}
 use Rattle.std.specs.Ordering.{is_lt}
 use Rattle.std.specs.declared.cmp.Ordering.{Ordering}
 
+-- a table that holds as much memory as before has not grown
+pub use Rattle.bforest_core.proofs.table.Allocating.{grows-not}
+
 not-less : (a b : ℕ) → ¬ (a < b) → b ≤ a
 not-less a b never = elim (leb_tells b a) [ inl w ↦ w.1 | inr w ↦ absurd (never w.1) ]
 

@@ -1,5 +1,5 @@
 -- What a contract states of a `NodePool`: numbered nodes, the chain of the free ones, and a limit.
-use Rattle.std.specs.Prelude.{◌≡◌, ℕ, ◌+◌, ◌-◌, ◌*◌, ◌<◌, ◌≤◌, true, false, List, [], ◌∷◌, ◌++◌, length, slice_set, nat_eq, Option, Some, None, IfSome, slice_get, slice_index_or, option_and_then, zero, suc, Bool, IsTrue, ◌↔◌, if◌then◌else◌}
+use Rattle.std.specs.Prelude.{◌≡◌, ℕ, ◌+◌, ◌-◌, ◌*◌, ◌<◌, ◌≤◌, true, false, List, [], ◌∷◌, ◌++◌, length, max, slice_set, nat_eq, Option, Some, None, IfSome, slice_get, slice_index_or, option_and_then, zero, suc, Bool, IsTrue, ◌↔◌, if◌then◌else◌}
 use Rattle.std.specs.List.{list_any, IsDistinct}
 use Rattle.bforest_nodes.specs.Content.{Content, Free, Inner, Leaf, with_child, with_entry, IsLeaf, vals_of, with_value, IsFree, IsCut, entry_count, entry_capacity, left_half, IsSameKind, Balances}
 use Rattle.bforest_nodes.specs.declared.node.SplitOff.{SplitOff}
@@ -38,17 +38,24 @@ module _ {K V : Type 0} where
   abbrev pub room : Table K V → ℕ
   room table = free_count table + (table.limit - slot_count table)
 
+  -- the number of slots once `n` nodes are free
+  abbrev pub slots_with : ℕ → Table K V → ℕ
+  slots_with n table = slot_count table + (n - free_count table)
+
   -- fewer than `n` nodes are free, the limit allows `n`, and the memory that is held is too little for the slots
   -- that are to be added
   pub record NeedsGrowth (n : ℕ) (table : Table K V) : Type 0 where
     pub scarce : free_count table < n
     pub allowed : n ≤ room table
-    pub short : table.memory < slot_count table + (n - free_count table)
+    pub short : table.memory < slots_with n table
 
-  -- no memory is given back, and more is taken only where fewer than `n` nodes were free
+  -- No memory is given back. None is taken where `n` nodes were free, nor where what was held suffices for the
+  -- slots that they lacked. Else it is taken for at most twice the slots that there are then, or for four.
   pub record GrowsFor (n : ℕ) (old new : Table K V) : Type 0 where
     pub grows : old.memory ≤ new.memory
     pub stays : n ≤ free_count old → new.memory ≡ old.memory
+    pub suffices : slots_with n old ≤ old.memory → new.memory ≡ old.memory
+    pub bounded : new.memory ≤ max old.memory (max (2 * slots_with n old) 4)
 
   -- the number is that of a slot that is not on the chain
   pub record IsUsed (table : Table K V) (node : ℕ) : Type 0 where

@@ -1,5 +1,5 @@
 //! Numbered nodes, of which the free ones form a chain.
-ghost use Rattle.std.specs.Prelude.{◌≡◌, ◌≢◌, ℕ, ◌+◌, ◌-◌, ◌<◌, ◌≤◌, ◌↔◌, ◌++◌, length, IsTrue, IsOk, IfOk, OnOk, OnErr, Ok, Err, Some, None, [], ◌∷◌, slice_get, slice_set, vec_len, vec_capacity};
+ghost use Rattle.std.specs.Prelude.{◌≡◌, ◌≢◌, ℕ, ◌*◌, ◌+◌, ◌-◌, ◌<◌, ◌≤◌, ◌↔◌, ◌++◌, length, max, IsTrue, IsOk, IfOk, OnOk, OnErr, Ok, Err, Some, None, [], ◌∷◌, slice_get, slice_set, vec_len, vec_capacity};
 ghost use Rattle.std.specs.Borrow.{sem, LendsBoth, Array};
 ghost use Rattle.bforest_nodes.specs.Content.{Inner, Leaf, IsLeafCapacity};
 ghost use Rattle.bforest_core.specs.Change.{KeepsTrees, Plants};
@@ -290,6 +290,33 @@ fn two_nodes<T>(nodes: &mut [T], left: usize, right: usize) -> (&mut T, &mut T)
     }
 }
 
+// The fewest slots for which memory is taken, so that a small forest grows once.
+const LEAST_SLOTS: usize = 4;
+
+// Takes memory for `more` slots beside those that are there, where there is less: for twice the slots that there are, or for as many as are
+// asked for. So the time that growing takes is constant on average, and a table holds at most twice what it needs.
+fn hold<T>(slots: &mut Vec<T>, more: usize) -> Result<(), AllocError>
+    requires few { vec_len slots.old + more ≤ 4294967295 }
+    ensures items { slots.new.items ≡ slots.old.items }
+    ensures len { vec_len slots.new ≡ vec_len slots.old }
+    ensures ok { OnOk result (vec_len slots.old + more ≤ vec_capacity slots.new) }
+    ensures grows { vec_capacity slots.old ≤ vec_capacity slots.new }
+    ensures suffices { vec_len slots.old + more ≤ vec_capacity slots.old → vec_capacity slots.new
+        ≡ vec_capacity slots.old }
+    ensures bounded { vec_capacity slots.new
+        ≤ max (vec_capacity slots.old) (max (2 * (vec_len slots.old + more)) 4) }
+    ensures kept { OnErr result (vec_capacity slots.new ≡ vec_capacity slots.old) }
+    ensures short { OnErr result (vec_capacity slots.old < vec_len slots.old + more) }
+{
+    let len = slots.len();
+    let needed = len + more;
+    if needed <= slots.capacity() {
+        return Ok(());
+    }
+    let held = needed.max(2 * len).max(LEAST_SLOTS);
+    slots.reserve_exact(held - len)
+}
+
 // Adds slots, each of which names the one before and the first of which names `next`; returns `None` if the growth is refused.
 fn add_slots<K: Copy, V: Copy, const N: usize>(
     nodes: &mut Vec<NodeData<K, V, N>>,
@@ -304,10 +331,14 @@ fn add_slots<K: Copy, V: Copy, const N: usize>(
     ensures first { IfOk result (λ first. first ≡ front_of_new (vec_len nodes.old) count next) }
     ensures err { OnErr result (nodes.new.items ≡ nodes.old.items) }
     ensures memory { vec_capacity nodes.old ≤ vec_capacity nodes.new }
+    ensures suffices { vec_len nodes.old + count ≤ vec_capacity nodes.old → vec_capacity nodes.new
+        ≡ vec_capacity nodes.old }
+    ensures bounded { vec_capacity nodes.new
+        ≤ max (vec_capacity nodes.old) (max (2 * (vec_len nodes.old + count)) 4) }
     ensures kept { OnErr result (vec_capacity nodes.new ≡ vec_capacity nodes.old) }
     ensures short { OnErr result (vec_capacity nodes.old < vec_len nodes.old + count) }
 {
-    nodes.reserve(count as usize)?;
+    hold(nodes, count as usize)?;
     let mut first = next;
     for _added in 0..count {
         let mut node = NodeData::new(alloc).unwrap();

@@ -1,6 +1,7 @@
 -- What an insertion needs and leaves, where its key is present and where it is absent.
 use Rattle.bforest_trees.proofs.Changed.{becomes, list-root, sizes-new, sizes-root, takes}
 use Rattle.bforest_trees.specs.Forest.{Becomes, Forest, Takes, list_at, list_of, need_of, sizes_at, sizes_of as forest_sizes, sizes_with}
+use Rattle.bforest_core.proofs.table.Allocating.{grows-not}
 use Rattle.bforest_nodes.proofs.Found.{put-absent, put-present}
 use Rattle.bforest_nodes.specs.Entries.{entry_for, is_present, place, put, value_for, with_value}
 use Rattle.bforest_core.specs.Change.{Changes, TakesNodes}
@@ -85,7 +86,7 @@ module _ {K X : Type 0} (most : ℕ) (cmp : K → K → Ordering) (f : Forest K 
       put = subst (λ (l : List (K × X)). Becomes f (Some n) f' (Some n) l) (sym (ap (λ (l : List (K × X)). put cmp l k v) (list-root f n root) ∙ put-present cmp es k v here)) (becomes most f f' n n (with_value es at v) ss c);
       sizes = sizes-new most f f' n n (with_value es at v) ss c ∙ sym sizes-present;
       same_root = (λ e. ap length (sizes-present ∙ sym (sizes-root f n root)), λ e. refl);
-      account = subst (λ (d : ℕ). Takes d f f') (sym need-present) (record { slots = omega (arith, slots); free = omega (arith, ap length chain); memory = record { grows = omega arith; stays = λ low. memory } });
+      account = subst (λ (d : ℕ). Takes d f f') (sym need-present) (record { slots = omega (arith, slots); free = omega (arith, ap length chain); memory = grows-not memory });
     }
 
   module _ (gone : is_present cmp es k ≡ false) where

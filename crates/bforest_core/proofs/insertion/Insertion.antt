@@ -6,7 +6,7 @@ use Rattle.bforest_core.proofs.Words.{numbers, Stacked, Topped, Tree, sizes_of, 
 use Rattle.bforest_core.proofs.Words.{top_of, Placed, Inserted, GrowsFor, tree_of, is_root, IsUnion, Changes, TakesNodes, PlacedUnder, StandsUnder}
 use Rattle.bforest_core.proofs.Words.{InsertsHere, list_under, Ok, Path, Placing, refl, place}
 use Rattle.bforest_core.proofs.{union.Reserved.{reserved-union, reserved-roots, reserved-then}, rows.Counts.{once_below, below-one, few-below}}
-use Rattle.bforest_core.proofs.{table.Allocating.{reserved-enough, reserved-free}, table.Lists.slice_get-append_left, table.Chains.length-fresh_nodes}
+use Rattle.bforest_core.proofs.{table.Allocating.{grows-alike, grows-not, reserved-enough, reserved-free}, table.Lists.slice_get-append_left, table.Chains.length-fresh_nodes}
 use Rattle.bforest_core.proofs.{rows.Bounds.climb-seventeen, union.Unions.{Rooted, rooted}, table.Tables.count-append, rows.Tops.{root-points, root-stands}}
 use Rattle.bforest_core.proofs.{union.Forests.root-among, union.Exchange.IsPlanted, union.Roots.exchanged, removal.Removal.place_low}
 use Rattle.bforest_core.specs.Paths.{sizes_under}
@@ -104,7 +104,7 @@ module _ {K V : Type 0} where
         takes = record {
           slots = omega (arith, i.slots_are, length-append old.nodes (fresh_nodes (slot_count old) (n - free_count old) (front_of old.chain)), length-fresh_nodes K V (slot_count old) (n - free_count old) (front_of old.chain));
           free = omega (arith, i.taken_is, ap length i.chain_is, length-append i.taken new.chain, reserved-free old n memory);
-          memory = record { grows = rw i.memory_is held.grows; stays = λ enough. i.memory_is ∙ held.stays enough };
+          memory = grows-alike i.memory_is held;
           chain_is = cc (i.chain_is, i.taken_is, drop-append_seam i.taken new.chain);
         };
         stands = rw (← root_is) (record { root_is = e.root_is; stands = subst (λ z. Stands path' indices' size' z place) (sym e.tree_is) stands });
@@ -123,7 +123,7 @@ module _ {K V : Type 0} where
       Inserted most old new path indices path indices size size (tree_of old.nodes root) place entry → Put most old new root place entry path indices size
   put-here {most} {old} {new} {root} {place} {path} {indices} {size} {entry} union p i = let n = need most place (sizes_under old root) in
       let enough : n ≤ free_count old = omega (arith, i.taken_is, ap length i.chain_is, length-append i.taken new.chain) in
-      insertion old root old.memory union p (under-low most old union p).1 (omega (arith, enough)) (record { grows = omega arith; stays = λ more. refl })
+      insertion old root old.memory union p (under-low most old union p).1 (omega (arith, enough)) (grows-not refl)
       (rw (reserved-enough old n enough) i)
 
   -- reserving nodes leaves the path at its place

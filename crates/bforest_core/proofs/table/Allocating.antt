@@ -1,8 +1,9 @@
 -- Taking a free node and reserving nodes, over plain values.
 use Rattle.bforest_core.proofs.Words.{◌≡◌, ◌↔◌, ℕ, ◌-◌, ◌≤◌, ◌<◌, List, [], ◌∷◌, length, length-set}
 use Rattle.bforest_core.proofs.Words.{append-nil, Some, Result, Err, IsErrAnd, sym, ap, ◌∙◌, arith, ◌+◌, refl}
-use Rattle.bforest_core.proofs.Words.{err_from_is_err_and, Content, IsPool, chain_from, Table, IsUsed, NeedsGrowth, room, reserved, front_of, with_node}
+use Rattle.bforest_core.proofs.Words.{err_from_is_err_and, Content, GrowsFor, IsPool, chain_from, slots_with, Table, IsUsed, NeedsGrowth, room, reserved, front_of, with_node}
 use Rattle.bforest_core.proofs.Words.{with_front, without_front}
+use Rattle.std.proofs.{Common.{max, ◌*◌}, Math.Nat.{le-max_left, le-max_right}}
 use Rattle.bforest_core.proofs.{Words.{free_count, length-append, down_from, slot_count}, table.Pools.with_front-is, table.Chains.length-down_from}
 
 -- a result that is an error equal to `y` is `Err y`
@@ -25,6 +26,14 @@ module _ {K V : Type 0} where
   -- taking the front off the chain takes no memory
   pub taken-memory : (t : Table K V) {u : Table K V} → u ≡ without_front t t.chain → u.memory ≡ t.memory
   taken-memory t is = ap (λ z. z.memory) is ∙ memory-without_front t t.chain
+
+  -- a table that holds as much memory as another grew as that did
+  pub grows-alike : {n : ℕ} {old mid new : Table K V} → new.memory ≡ mid.memory → GrowsFor n old mid → GrowsFor n old new
+  grows-alike same g = record { grows = rw same g.grows; stays = λ enough. same ∙ g.stays enough; suffices = λ held. same ∙ g.suffices held; bounded = rw same g.bounded }
+
+  -- a table that holds as much memory as before has not grown
+  pub grows-not : {n : ℕ} {old new : Table K V} → new.memory ≡ old.memory → GrowsFor n old new
+  grows-not {n} {old} same = record { grows = omega (arith, same); stays = λ _. same; suffices = λ _. same; bounded = omega (arith, same, le-max_left old.memory (max (2 * slots_with n old) 4)) }
 
   -- a used node stays used when it is written
   pub used_written : (t : Table K V) (node c : _) → IsUsed t node → IsUsed (with_node t node c) node
@@ -65,6 +74,16 @@ module _ {K V : Type 0} where
 
     pub not_enough : free < n → n ≤ length t.chain → ⊥
     not_enough scarce enough = omega (arith, fields_are.0)
+
+    -- the memory after slots were added
+    pub grows-by : {new : Table K V} → free < n → memory ≤ new.memory → (len + (n - free) ≤ memory → new.memory ≡ memory) →
+        new.memory ≤ max memory (max (2 * (len + (n - free))) 4) → GrowsFor n t new
+    grows-by scarce grows suffices bounded = record {
+      grows = omega (arith, fields_are.3, grows);
+      stays = λ enough. absurd (not_enough scarce enough);
+      suffices = λ held. suffices (omega (arith, fields_are.0, fields_are.2, fields_are.3, held)) ∙ sym fields_are.3;
+      bounded = rw (fields_are.0, fields_are.2, fields_are.3) bounded;
+    }
 
     pub stays_reserved : n ≤ free → t ≡ reserved t n t.memory
     stays_reserved enough = sym (reserved-enough t n (omega (arith, fields_are.0)))

@@ -1,5 +1,5 @@
 use Rattle.bforest_core.proofs.{Words.{rules, ◌≡◌, [], ◌∷◌, ap, ◌∙◌, subst, length, reserved, with_node, sym, arith, false≢true, Leaf, front_of, with_front}, union.Planting.planted-alloc}
-use Rattle.bforest_core.proofs.table.Allocating.{err_iff, err_is, reserved-free, taken-memory, taken_is, used_written}
+use Rattle.bforest_core.proofs.table.Allocating.{err_iff, err_is, grows-alike, reserved-free, taken-memory, taken_is, used_written}
 use Rattle.bforest_core.proofs.pool.NodePool.alloc_node.Goals as goal
 
 pub returns-in_err-reserve : goal.returns-in_err-reserve
@@ -31,10 +31,7 @@ returns-clause-ok g c = let leaf = Leaf (c.args.key ∷ []) (c.args.value ∷ []
     (taken_is _ c.take_slot-node.ensures.node c.take_slot-node.ensures.table c.leaf.ensures.node ∙ ap (λ z. with_front z z.chain leaf) c.in_ok-reserve.ensures.ok)
 
 pub returns-clause-growth : goal.returns-clause-growth
-returns-clause-growth g c = record {
-  grows = rw (taken-memory c.reserve.new.self c.take_slot-node.ensures.table) c.in_ok-reserve.ensures.growth.grows;
-  stays = λ enough. taken-memory c.reserve.new.self c.take_slot-node.ensures.table ∙ c.in_ok-reserve.ensures.growth.stays enough;
-}
+returns-clause-growth g c = grows-alike (taken-memory c.reserve.new.self c.take_slot-node.ensures.table) c.in_ok-reserve.ensures.growth
 
 pub returns-clause-used : goal.returns-clause-used
 returns-clause-used g c = used_written _ _ _ c.take_slot-node.ensures.used

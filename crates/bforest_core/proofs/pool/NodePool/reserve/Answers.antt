@@ -1,6 +1,6 @@
 use Rattle.bforest_core.proofs.{Words.{◌≡◌, ◌-◌, length, vec_len, arith, ap, refl}, union.Reserved.{reserved-frees, reserved-keeps, same-keeps}}
 use Rattle.bforest_core.proofs.{table.Pools.IsPool-grown, table.Chains.front_of-is}
-use Rattle.bforest_core.proofs.table.Allocating.{has_room, lacks_room, finds_room, needs_growth, not_enough, stays_reserved, few_slots}
+use Rattle.bforest_core.proofs.table.Allocating.{grows-by, grows-not, has_room, lacks_room, finds_room, needs_growth, not_enough, stays_reserved, few_slots}
 use Rattle.bforest_core.proofs.pool.NodePool.reserve.Goals as goal
 
 pub invariant_of-self : goal.invariant_of-self
@@ -12,6 +12,9 @@ pub returns-in-Ok-clause-ok : goal.returns-in-Ok-clause-ok
 returns-in-Ok-clause-ok g c = let size : vec_len c.self.inside.nodes ≡ length c.self.inside.nodes.items = omega arith in
     let grown = IsPool-grown _ _ _ _ (c.args.n - c.self.inside.free) c.args.n (omega arith) (omega arith) c.self.invariant in
     rw (← c.self.view_is, c.in-Ok.ensures.ok, c.in-Ok.ensures.first, size, c.self.invariant.counted, front_of-is _ _ _ c.self.invariant.linked, grown.1)
+
+pub returns-in-Ok-clause-growth : goal.returns-in-Ok-clause-growth
+returns-in-Ok-clause-growth g c = grows-by _ c.self.invariant c.self.view_is (omega arith) c.if-n-self.false c.in-Ok.ensures.memory c.in-Ok.ensures.suffices c.in-Ok.ensures.bounded
 
 pub returns-in-Ok-clause-full : goal.returns-in-Ok-clause-full
 returns-in-Ok-clause-full g c = (λ is. absurd cc, λ short. absurd (finds_room _ c.self.invariant c.self.view_is (omega arith) c.if-missing-self.false short))
@@ -33,7 +36,7 @@ returns-then-n-self g c = let ok = stays_reserved _ c.self.invariant c.self.view
     record {
       ok = ok;
       err = tt;
-      growth = record { grows = omega arith; stays = λ more. refl };
+      growth = grows-not refl;
       full = (λ is. absurd cc, λ short. absurd (has_room _ c.self.invariant c.self.view_is refl c.if-n-self.true short));
       memory = λ is. absurd cc;
       enough = λ enough. refl;
@@ -46,7 +49,7 @@ pub returns-then-missing-self : goal.returns-then-missing-self
 returns-then-missing-self g c = record {
   ok = tt;
   err = refl;
-  growth = record { grows = omega arith; stays = λ more. refl };
+  growth = grows-not refl;
   full = (λ is. lacks_room _ c.self.invariant c.self.view_is (omega arith) c.if-n-self.false c.if-missing-self.true, λ short. refl);
   memory = λ is. absurd cc;
   enough = λ enough. absurd (not_enough _ c.self.invariant c.self.view_is refl c.if-n-self.false enough);
@@ -59,7 +62,7 @@ pub returns-in-Err : goal.returns-in-Err
 returns-in-Err g c = record {
   ok = tt;
   err = rw (c.in-Err.ensures.err, c.in-Err.ensures.kept) c.self.view_is;
-  growth = rw (c.in-Err.ensures.err, c.in-Err.ensures.kept, c.self.view_is) (record { grows = omega arith; stays = λ more. refl });
+  growth = rw (c.in-Err.ensures.err, c.in-Err.ensures.kept, c.self.view_is) (grows-not refl);
   full = (λ is. absurd cc, λ short. absurd (finds_room _ c.self.invariant c.self.view_is (omega arith) c.if-missing-self.false short));
   memory = λ is. needs_growth _ c.self.invariant c.self.view_is (omega arith) c.if-n-self.false c.if-missing-self.false (let short = c.in-Err.ensures.short in omega arith);
   enough = λ enough. absurd (not_enough _ c.self.invariant c.self.view_is refl c.if-n-self.false enough);
