@@ -12,6 +12,10 @@ IsEnoughFor most entries nodes = (n : ℕ) (sizes : List (List ℕ)) → n ≤ e
 abbrev pub IsMetBy : ℕ → ℕ → ℕ → Type 0
 IsMetBy most entries nodes = (sizes : List (List ℕ)) × IsFitFor most entries sizes × (node_count sizes ≡ nodes)
 
+-- a fit tree of `entries` entries or fewer, whose leaves have at most `most`, has at most `nodes` nodes, and one has so many
+abbrev pub IsMostFor : ℕ → ℕ → ℕ → Type 0
+IsMostFor most entries nodes = IsEnoughFor most entries nodes × IsMetBy most entries nodes
+
 -- no level of `count` nodes or fewer has more nodes than `nodes` together with fit levels above it
 abbrev pub IsEnoughAbove : ℕ → ℕ → Type 0
 IsEnoughAbove count nodes = (n : ℕ) (levels : List (List ℕ)) → n ≤ count → IsFitAbove n levels → n + node_count levels ≤ nodes

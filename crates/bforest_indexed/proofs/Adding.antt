@@ -62,8 +62,8 @@ module _ {E : Type 0} (hs qs : List (Option ℕ)) (n : ℕ) where
   tried-more (Err e) adds = tt
 
 -- one empty handle more changes no index
-pub pushed : (hs qs : List (Option ℕ)) (h : Option ℕ) → h ≡ None → qs ≡ hs ++ h ∷ [] → (i : ℕ) → get_or qs i None ≡ get_or hs i None
-pushed hs qs h empty is = same-handles hs qs 1 (adds-one hs 0 hs qs h (adds-none hs hs refl) empty is)
+pub pushed : (hs held qs : List (Option ℕ)) (h : Option ℕ) → h ≡ None → held ≡ hs → qs ≡ held ++ h ∷ [] → (i : ℕ) → get_or qs i None ≡ get_or hs i None
+pushed hs held qs h empty same is = same-handles hs qs 1 (adds-one hs 0 held qs h (adds-none hs held same) empty is)
 
 -- a test whether a list is empty
 pub tells-none : {X : Type 0} (b : Bool) (n : ℕ) (xs : List X) → n ≡ length xs → b ≡ (n == 0) → IsTrue b ↔ (length xs ≡ 0)

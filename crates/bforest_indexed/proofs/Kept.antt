@@ -12,7 +12,7 @@ use Rattle.bforest_indexed.proofs.Rooms.{has-room, may-have, sum-agree, sum-few,
 use Rattle.bforest_indexed.specs.Handles.{Adds}
 use Rattle.bforest_indexed.specs.Edits.{EditsAt, Leaves}
 use Rattle.bforest_indexed.specs.Indexed.{AreKept, ChangesAt, ClearsAll, ClearsAt, FiltersAt, GetsOrInsertsAt, Indexed, InsertsAt, KeepsAll, PopsAt, RemovesAt, Swaps}
-use Rattle.bforest_indexed.specs.Indexed.{as_inserted, count, entries, handle, node_sizes, nodes_in_use, table}
+use Rattle.bforest_indexed.specs.Indexed.{as_inserted, count, entries, handle, memory, node_sizes, nodes_in_use, table}
 use Rattle.std.proofs.Common.{Bool, Err, IsOk, IsSome, List, None, Ok, OnErr, Option, Result, Some, [], ap, arith, get_or, inl, inr, length, refl, rules, slice_set, subst, swap, sym, ℕ, ◌%◌, ◌+◌, ◌-◌, ◌<◌, ◌∙◌, ◌≡◌, ◌≢◌, ◌≤◌}
 use Rattle.std.proofs.lemmas.Bool.{false≢true}
 use Rattle.std.proofs.lemmas.Bool.Decides.{eqb_tells, leb_tells}
@@ -92,14 +92,14 @@ module _ {K X C : Type 0} where
   }
 
   -- there is no index
-  pub kept-none : {most : ℕ} {cmp : K → K → Ordering} → most % 2 ≡ 1 → (f : Forest K X) (o : C) (hs : List (Option ℕ)) (n : ℕ) → f ≡ empty n → hs ≡ []
-      → AreKept most cmp (record { forest = f; order = o; handles = hs })
-  kept-none odd f o hs n forest is = kept-empty odd (record { forest = f; order = o; handles = hs }) (empty n) forest
+  pub kept-none : {most : ℕ} {cmp : K → K → Ordering} → most % 2 ≡ 1 → (f : Forest K X) (o : C) (hs : List (Option ℕ)) (n : ℕ) {held : ℕ} → f ≡ empty n → hs ≡ []
+      → AreKept most cmp (record { forest = f; order = o; handles = hs; held = held })
+  kept-none odd f o hs n {held} forest is = kept-empty odd (record { forest = f; order = o; handles = hs; held = held }) (empty n) forest
       (λ i. ap (λ (qs : List (Option ℕ)). get_or qs i None) is ∙ none-at i)
 
   -- each index has the same handle
-  pub kept-same : {most : ℕ} {cmp : K → K → Ordering} (m : Indexed K X C) (qs : List (Option ℕ)) → ((i : ℕ) → get_or qs i None ≡ handle m i)
-      → AreKept most cmp m → AreKept most cmp (record m { handles = qs })
+  pub kept-same : {most : ℕ} {cmp : K → K → Ordering} (m : Indexed K X C) (qs : List (Option ℕ)) {held : ℕ} → ((i : ℕ) → get_or qs i None ≡ handle m i)
+      → AreKept most cmp m → AreKept most cmp (record m { handles = qs; held = held })
   kept-same {most} {cmp} m qs same a = record {
     odd = a.odd;
     live = λ i. subst (λ (q : Option ℕ). IsLive (table m) q) (sym (same i)) (a.live i);
@@ -109,7 +109,7 @@ module _ {K X C : Type 0} where
     account = omega (arith, a.account, sum-agree (nodes_of (table m)) None refl m.handles qs same);
   }
 
-  pub keeps-same : (m : Indexed K X C) (qs : List (Option ℕ)) → ((i : ℕ) → get_or qs i None ≡ handle m i) → KeepsAll m (record m { handles = qs })
+  pub keeps-same : (m : Indexed K X C) (qs : List (Option ℕ)) {held : ℕ} → ((i : ℕ) → get_or qs i None ≡ handle m i) → KeepsAll m (record m { handles = qs; held = held })
   keeps-same m qs same = record {
     lists = λ i. ap (list_of (table m)) (same i);
     sizes = λ i. ap (sizes_of (table m)) (same i);
@@ -117,9 +117,10 @@ module _ {K X C : Type 0} where
   }
 
   -- a call that was refused left each handle
-  pub refused-same : {E : Type 0} (m : Indexed K X C) (qs : List (Option ℕ)) (r : Result (Unit {0}) E) → OnErr r (qs ≡ m.handles) → OnErr r (record m { handles = qs } ≡ m)
-  refused-same m qs (Ok done) same = tt
-  refused-same m qs (Err e) same = λ j. record m { handles = same j }
+  pub refused-same : {E : Type 0} (m : Indexed K X C) (qs : List (Option ℕ)) {held : ℕ} (r : Result (Unit {0}) E) → OnErr r (qs ≡ m.handles) → OnErr r (held ≡ memory m)
+      → OnErr r (record m { handles = qs; held = held } ≡ m)
+  refused-same m qs (Ok done) same kept = tt
+  refused-same m qs (Err e) same kept = λ j. record m { handles = same j; held = kept j }
 
   -- the tree of i is now that of h' in the forest f'
   abbrev pub with_tree : Indexed K X C → ℕ → Forest K X → Option ℕ → Indexed K X C
@@ -137,6 +138,7 @@ module _ {K X C : Type 0} where
     same_count = refl;
     same_comparator = refl;
     same_limit = refl;
+    same_memory = refl;
   })
 
   module _ {most : ℕ} {cmp : K → K → Ordering} {m : Indexed K X C} {i : ℕ} {f' : Forest K X} {h' : Option ℕ} {es : List (K × X)} (a : AreKept most cmp m) (within : i < count m) (b : Becomes (table m) (handle m i) f' h' es) where
@@ -210,6 +212,7 @@ module _ {K X C : Type 0} where
       same_count = length-set m.handles i h';
       same_comparator = refl;
       same_limit = b.limit;
+      same_memory = refl;
     }
 
   module _ {most : ℕ} {cmp : K → K → Ordering} {m : Indexed K X C} {i : ℕ} {h : Option ℕ} (a : AreKept most cmp m) (within : i < count m) (is : h ≡ get_or m.handles i h) where
@@ -361,15 +364,14 @@ module _ {K X C : Type 0} where
           → AreKept most cmp (with_tree m i f' h') × PopsAt most m i (length (entries m i) - 1) r (with_tree m i f' h')
       popped_last-at {r} given = popped-at (subst (λ (es : List (K × X)). Pops most (table m) h (length es - 1) r f' h') same-list given)
 
-      pub edited-at : {R : Type 0} (leaves : List (K × X) → R → List (K × X) → Type 0) {r : R} → Leaves most (table m) h f' h' → IsIncreasing cmp (list_of f' h')
-          → leaves (list_of (table m) h) r (list_of f' h') → AreKept most cmp (with_tree m i f' h') × EditsAt leaves m i r (with_tree m i f' h')
+      pub edited-at : {R : Type 0} (leaves : Forest K X → Option ℕ → R → Forest K X → Option ℕ → Type 0) {r : R} → Leaves most (table m) h f' h' → IsIncreasing cmp (list_of f' h')
+          → leaves (table m) h r f' h' → AreKept most cmp (with_tree m i f' h') × EditsAt leaves m i r (with_tree m i f' h')
       edited-at {R} leaves {r} given up told =
           let call = subst (λ (q : Option ℕ). Leaves most (table m) q f' h') read given in
           let made = call.balances (a.fit i) in (
             kept-set a within call.becomes up made,
             record {
-              left = subst (λ (es : List (K × X)). leaves es r (entries (with_tree m i f' h') i)) same-list
-                  (subst (λ (es : List (K × X)). leaves (list_of (table m) h) r es) (sym (list-here a within call.becomes)) told);
+              left = subst (λ q. leaves (table m) (handle m i) r f' q) (sym (here a within call.becomes)) (subst (λ q. leaves (table m) q r f' h') read told);
               beside = changes a within call.becomes;
               slots = made.slots;
             },
@@ -445,19 +447,20 @@ module _ {K X C : Type 0} where
     )
 
   -- each handle is empty now, and the forest has no tree
-  pub kept-cleared : {most : ℕ} {cmp : K → K → Ordering} → most % 2 ≡ 1 → (o : C) (f' : Forest K X) (qs : List (Option ℕ)) (g : Forest K X) (size : ℕ) →
+  pub kept-cleared : {most : ℕ} {cmp : K → K → Ordering} → most % 2 ≡ 1 → (o : C) (f' : Forest K X) (qs : List (Option ℕ)) (g : Forest K X) (size : ℕ) {held : ℕ} →
       f' ≡ emptied g → Adds (λ h. h ≡ None) [] size qs
-      → AreKept most cmp (record { forest = f'; order = o; handles = qs })
-  kept-cleared odd o f' qs g size forest adds = kept-empty odd (record { forest = f'; order = o; handles = qs }) g forest (none-handles qs size adds)
+      → AreKept most cmp (record { forest = f'; order = o; handles = qs; held = held })
+  kept-cleared odd o f' qs g size {held} forest adds = kept-empty odd (record { forest = f'; order = o; handles = qs; held = held }) g forest (none-handles qs size adds)
 
-  pub cleared-all : (m : Indexed K X C) (f' : Forest K X) (qs : List (Option ℕ)) → f' ≡ emptied (table m)
-      → Adds (λ h. h ≡ None) [] (count m) qs → ClearsAll m (record m { forest = f'; handles = qs })
-  cleared-all m f' qs forest adds = record {
+  pub cleared-all : (m : Indexed K X C) (f' : Forest K X) (qs : List (Option ℕ)) {held : ℕ} → f' ≡ emptied (table m)
+      → Adds (λ h. h ≡ None) [] (count m) qs → held ≡ memory m → ClearsAll m (record m { forest = f'; handles = qs; held = held })
+  cleared-all m f' qs forest adds kept = record {
     lists = λ i. ap (list_of f') (none-handles qs (count m) adds i);
     sizes = λ i. ap (sizes_of f') (none-handles qs (count m) adds i);
     forest = forest;
     same_count = as-many qs (count m) adds;
     same_comparator = refl;
+    same_memory = kept;
   }
 
   -- the handles of i and j changed places
@@ -480,8 +483,8 @@ module _ {K X C : Type 0} where
       ]
     ]
 
-    pub swaps : length qs ≡ count m → Swaps m i j (record m { handles = qs })
-    swaps same = record {
+    pub swaps : {held : ℕ} → length qs ≡ count m → held ≡ memory m → Swaps m i j (record m { handles = qs; held = held })
+    swaps same kept = record {
       first = ap (list_of (table m)) at-first;
       second = ap (list_of (table m)) at-second;
       others = λ q ne ne'. ap (list_of (table m)) (at-other q ne ne');
@@ -491,13 +494,15 @@ module _ {K X C : Type 0} where
       same_count = same;
       same_comparator = refl;
       same_table = refl;
+      same_memory = kept;
     }
 
     at-each : (P : Option ℕ → Type 0) → ((q : ℕ) → P (handle m q)) → (q : ℕ) → P (get_or qs q None)
     at-each P all = by-index (λ q. P (get_or qs q None)) (subst P (sym at-first) (all j)) (subst P (sym at-second) (all i))
         (λ q ne ne'. subst P (sym (at-other q ne ne')) (all q))
 
-    pub kept-swapped : {most : ℕ} {cmp : K → K → Ordering} → i < count m → j < count m → qs ≡ swap m.handles i j → AreKept most cmp m → AreKept most cmp (record m { handles = qs })
+    pub kept-swapped : {most : ℕ} {cmp : K → K → Ordering} {held : ℕ} → i < count m → j < count m → qs ≡ swap m.handles i j → AreKept most cmp m
+        → AreKept most cmp (record m { handles = qs; held = held })
     kept-swapped {most} {cmp} first second swapped a = record {
       odd = a.odd;
       live = at-each (IsLive (table m)) a.live;

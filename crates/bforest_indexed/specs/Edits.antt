@@ -3,7 +3,7 @@ use Rattle.bforest.specs.Cursor.{IsCursor, comparator, forest_loan, forest_now, 
 use Rattle.bforest.specs.Forest.{Becomes, Forest, IsFitFor, list_of, sizes_of, slots_of}
 use Rattle.bforest.specs.Room.{Balances}
 use Rattle.bforest.specs.declared.map_cursor_mut.MapCursorMut.{MapCursorMut}
-use Rattle.bforest_indexed.specs.Indexed.{ChangesAt, Indexed, entries, table}
+use Rattle.bforest_indexed.specs.Indexed.{ChangesAt, Indexed, handle, table}
 use Rattle.std.specs.Prelude.{List, Option, length, ◌≡◌, ◌≤◌, ℕ}
 use Rattle.std.specs.declared.cmp.Ordering.{Ordering}
 
@@ -21,8 +21,8 @@ pub record Edits {K X C : Type 0} (most : ℕ) (order : C → K → K → Orderi
   pub valid : IsCursor order c'
   pub leaves : Leaves most (forest_now c) (map_now c) (forest_now c') (map_now c')
 
--- work by a cursor on the index i answered and left what `leaves` says; no other index changed
-pub record EditsAt {K X C R : Type 0} (leaves : List (K × X) → R → List (K × X) → Type 0) (m : Indexed K X C) (i : ℕ) (result : R) (m' : Indexed K X C) : Type 0 where
-  pub left : leaves (entries m i) result (entries m' i)
+-- work by a cursor on the index i answered, and left of the table and of the handle, what `leaves` says; no other index changed
+pub record EditsAt {K X C R : Type 0} (leaves : Forest K X → Option ℕ → R → Forest K X → Option ℕ → Type 0) (m : Indexed K X C) (i : ℕ) (result : R) (m' : Indexed K X C) : Type 0 where
+  pub left : leaves (table m) (handle m i) result (table m') (handle m' i)
   pub beside : ChangesAt m i m'
   pub slots : slots_of (table m) ≤ slots_of (table m')

@@ -1,13 +1,15 @@
 -- What contracts see of maps and of sets that are named by an index: a forest, an order, and a handle for each index. A set's values are
 -- all the unit.
 use Rattle.bforest.specs.Entries.{IsIncreasing, cut, is_present, put, value_for}
-use Rattle.bforest.specs.Forest.{Forest, Gives, IsFitFor, IsLive, IsTooMany, NeedsGrowth, Takes, emptied, free_of, limit_of, list_of, need_of, shrink, sizes_of, sizes_with, sizes_without, slots_of}
+use Rattle.bforest.specs.Forest.{Forest, Gives, GrowsFor, IsFitFor, IsLive, IsTooMany, NeedsGrowth, Takes, emptied, free_of, limit_of, list_of, need_of, shrink, sizes_of, sizes_with, sizes_without, slots_of}
 use Rattle.bforest.specs.Refusal.{Full, Memory, OutOfMemory}
 use Rattle.bforest.specs.Retain.{Retains}
-use Rattle.bforest.specs.Room.{IsEnoughFor, node_count}
+use Rattle.bforest.specs.Room.{IsEnoughFor, IsMostFor, node_count}
+use Rattle.std.proofs.Math.Logic.{◌⊎◌}
+use Rattle.bforest_indexed.specs.Handles.{Holds}
 use Rattle.std.specs.List.{sum_by}
 use Rattle.std.specs.Map.{keys_of}
-use Rattle.std.specs.Prelude.{Bool, Err, IfOk, IsOk, IsSome, List, None, Ok, OnErr, OnOk, Option, Result, Some, [], false, get_or, if◌then◌else◌, length, map, max, nat_lt, remove, slice_get, unwrap_or, ◌%◌, ◌*◌, ◌+◌, ◌<◌, ◌↔◌, ◌≡◌, ◌≢◌, ◌≤◌, ℕ}
+use Rattle.std.specs.Prelude.{Bool, Err, IfOk, IsOk, IsSome, List, None, Ok, OnErr, OnOk, Option, Result, Some, [], false, get_or, if◌then◌else◌, length, map, max, nat_lt, remove, slice_get, unwrap_or, ◌%◌, ◌*◌, ◌+◌, ◌-◌, ◌<◌, ◌↔◌, ◌≡◌, ◌≢◌, ◌≤◌, ℕ}
 use Rattle.std.specs.declared.cmp.Ordering.{Ordering}
 
 -- the answer of an insertion of an absent key, from that of a call that answers the value
@@ -29,6 +31,7 @@ pub record Indexed (K X C : Type 0) : Type 0 where
   pub forest : Forest K X
   pub order : C
   pub handles : List (Option ℕ)
+  pub held : ℕ
 
 module _ {K X C : Type 0} where
   -- the table of all entries
@@ -42,6 +45,14 @@ module _ {K X C : Type 0} where
   -- the number of indices
   abbrev pub count : Indexed K X C → ℕ
   count m = length m.handles
+
+  -- for how many indices memory is held
+  abbrev pub memory : Indexed K X C → ℕ
+  memory m = m.held
+
+  -- m, with memory for n indices
+  abbrev pub holding : ℕ → Indexed K X C → Indexed K X C
+  holding n m = record m { held = n }
 
   -- the handle of an index, which is empty past the end
   abbrev pub handle : Indexed K X C → ℕ → Option ℕ
@@ -83,6 +94,10 @@ module _ {K X C : Type 0} where
     pub sizes : (i : ℕ) → node_sizes m' i ≡ node_sizes m i
     pub same_comparator : comparator m' ≡ comparator m
 
+  -- m became m', where n indices in all were to have memory
+  abbrev pub HoldsFor : ℕ → Indexed K X C → Indexed K X C → Type 0
+  HoldsFor n m m' = Holds n (memory m) (memory m')
+
   -- m became m', and at most the list of i changed
   pub record ChangesAt (m : Indexed K X C) (i : ℕ) (m' : Indexed K X C) : Type 0 where
     pub others : (j : ℕ) → j ≢ i → entries m' j ≡ entries m j
@@ -90,6 +105,7 @@ module _ {K X C : Type 0} where
     pub same_count : count m' ≡ count m
     pub same_comparator : comparator m' ≡ comparator m
     pub same_limit : limit_of (table m') ≡ limit_of (table m)
+    pub same_memory : memory m' ≡ memory m
 
   -- the lists of i and j changed places
   pub record Swaps (m : Indexed K X C) (i j : ℕ) (m' : Indexed K X C) : Type 0 where
@@ -102,6 +118,7 @@ module _ {K X C : Type 0} where
     pub same_count : count m' ≡ count m
     pub same_comparator : comparator m' ≡ comparator m
     pub same_table : table m' ≡ table m
+    pub same_memory : memory m' ≡ memory m
 
   -- all lists ended
   pub record ClearsAll (m m' : Indexed K X C) : Type 0 where
@@ -110,6 +127,7 @@ module _ {K X C : Type 0} where
     pub forest : table m' ≡ emptied (table m)
     pub same_count : count m' ≡ count m
     pub same_comparator : comparator m' ≡ comparator m
+    pub same_memory : memory m' ≡ memory m
 
   -- the list of i ended
   pub record ClearsAt (m : Indexed K X C) (i : ℕ) (m' : Indexed K X C) : Type 0 where
@@ -140,21 +158,30 @@ module _ {K X C : Type 0} where
     pub each : (j : ℕ) → length (entries m j) ≤ most_entries
     pub here : is_present cmp (entries m i) k ≡ false → length (entries m i) < most_entries
 
-  -- room was asked for, for `lists` lists of at most `most_entries` entries each, where a leaf has at most `most`: all lists stay, and as few
-  -- slots are added as make the room; or the call was refused, and nothing changed
+  -- the number of free slots with which `lists` lists have room, of at most `nodes` nodes each
+  abbrev pub missing : ℕ → ℕ → Indexed K X C → ℕ
+  missing lists nodes m = lists * nodes - nodes_in_use m
+
+  -- Room was asked for, for `lists` lists of at most `most_entries` entries each, where a leaf has at most `most`: all lists stay, as few
+  -- slots are added as make the room, and memory for so many indices is held. Or the call was refused: then at most memory for indices was
+  -- taken.
   pub record ReservesFor (most lists most_entries : ℕ) (m : Indexed K X C) (result : Result (Unit {0}) OutOfMemory) (m' : Indexed K X C) : Type 0 where
     pub keeps : KeepsAll m m'
     pub same_count : count m' ≡ count m
     pub same_limit : limit_of (table m') ≡ limit_of (table m)
     pub room : OnOk result (HasRoom most lists most_entries (table m'))
+    pub indices : OnOk result (lists ≤ memory m')
+    pub holds : HoldsFor lists m m'
     pub no_fewer : slots_of (table m) ≤ slots_of (table m')
     pub added_free : slots_of (table m') + free_of (table m) ≡ slots_of (table m) + free_of (table m')
     pub no_more : OnOk result ((nodes : ℕ) → IsEnoughFor most most_entries nodes → slots_of (table m') ≤ max (slots_of (table m)) (lists * nodes))
-    pub enough : HasRoom most lists most_entries (table m) → lists ≤ count m → IsOk result
-    pub same : HasRoom most lists most_entries (table m) → m' ≡ m
-    pub refused : OnErr result (m' ≡ m)
+    pub growth : (nodes : ℕ) → IsMostFor most most_entries nodes → GrowsFor (missing lists nodes m) (table m) (table m')
+    pub enough : HasRoom most lists most_entries (table m) → lists ≤ memory m → IsOk result
+    pub same : HasRoom most lists most_entries (table m) → m' ≡ holding (memory m') m
+    pub refused : OnErr result (m' ≡ holding (memory m') m)
     pub full : (result ≡ Err Full) ↔ ¬ (MayHave most lists most_entries (table m))
-    pub memory : result ≡ Err Memory → HasRoom most lists most_entries (table m) → count m < lists
+    pub full_same : result ≡ Err Full → m' ≡ m
+    pub memory : result ≡ Err Memory → (memory m < lists) ⊎ ((nodes : ℕ) → IsMostFor most most_entries nodes → NeedsGrowth (missing lists nodes m) (table m))
 
   -- `most` is the number of entries that a leaf has at most; `increasing` says that the list of i did before
   module _ (most : ℕ) (cmp : K → K → Ordering) where

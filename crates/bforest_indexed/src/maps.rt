@@ -6,15 +6,15 @@ ghost use Rattle.bforest.specs.Forest.{IsFitFor, empty, first_level, free_of, li
 ghost use Rattle.bforest.specs.Memory.{MapsFitInMemory};
 ghost use Rattle.bforest.specs.Retain.{Answers, MayAsk, MayAskEach};
 ghost use Rattle.bforest_indexed.specs.Edits.{EditsAt};
-ghost use Rattle.bforest_indexed.specs.Indexed.{ReservesFor};
+ghost use Rattle.bforest_indexed.specs.Indexed.{HoldsFor, ReservesFor};
 ghost use Rattle.bforest_indexed.specs.Indexed.{ClearsAll, ClearsAt, FiltersAt, GetsOrInsertsAt, InsertsAt};
 ghost use Rattle.bforest_indexed.specs.Indexed.{KeepsAll, PopsAt, RemovesAt, Swaps};
 ghost use Rattle.bforest.specs.declared.map_forest.TheConstants.{MAP_LEAF};
-ghost use Rattle.bforest_indexed.specs.Indexed.{comparator, count, entries, node_sizes, nodes_in_use, table};
-ghost use Rattle.std.specs.Prelude.{IfOk, IsTrue, OnErr, OnOk, length, slice_get, ◌+◌, ◌-◌, ◌/◌, ◌<◌, ◌^◌, ◌↔◌, ◌≡◌, ◌≤◌, ℕ};
+ghost use Rattle.bforest_indexed.specs.Indexed.{comparator, count, entries, memory, node_sizes, nodes_in_use, table};
+ghost use Rattle.std.specs.Prelude.{IfOk, IsOk, IsTrue, OnErr, OnOk, length, slice_get, ◌+◌, ◌-◌, ◌/◌, ◌<◌, ◌^◌, ◌↔◌, ◌≡◌, ◌≤◌, ℕ};
 
 use crate::edit::{Edit, lend};
-use crate::handles::{add_empty, empty_all};
+use crate::handles::{add_empty, empty_all, hold};
 use crate::room::{reserve_handles, slots_for};
 use bforest::{Comparator, Map, MapCursor, MapForest, MapIter, MapRange, OutOfMemory};
 use std::alloc::{AllocError, Global};
@@ -35,13 +35,24 @@ pub struct Maps<K: Copy, V: Copy, C: Comparator<K>> {
 impl<K: Copy, V: Copy, C: Comparator<K>> Model for Maps<K, V, C> {
     ghost use Rattle.bforest.specs.declared.map_forest.TheConstants.{MAP_LEAF};
     ghost use Rattle.bforest_indexed.specs.Indexed.{AreKept, Indexed};
+    ghost use Rattle.std.specs.Prelude.{vec_capacity};
 
     ghost Value = { Indexed K V C };
 
-    ghost view = { λ m. record { forest = m.forest; order = m.order; handles = m.maps.items } };
+    ghost view = { λ m. record {
+      forest = m.forest;
+      order = m.order;
+      handles = m.maps.items;
+      held = vec_capacity m.maps;
+    } };
 
     ghost invariant = { λ m. AreKept MAP_LEAF (C.order m.order)
-        (record { forest = m.forest; order = m.order; handles = m.maps.items }) };
+        (record {
+      forest = m.forest;
+      order = m.order;
+      handles = m.maps.items;
+      held = vec_capacity m.maps;
+    }) };
 }
 
 impl<K: Copy, V: Copy, C: Comparator<K>> Maps<K, V, C> {
@@ -50,6 +61,7 @@ impl<K: Copy, V: Copy, C: Comparator<K>> Maps<K, V, C> {
         ensures none { count result ≡ 0 }
         ensures table { table result ≡ empty u32.MAX }
         ensures comparator { comparator result ≡ order }
+        ensures memory { memory result ≡ 0 }
     {
         Maps::with_node_limit(alloc, order, u32::MAX)
     }
@@ -59,6 +71,7 @@ impl<K: Copy, V: Copy, C: Comparator<K>> Maps<K, V, C> {
         ensures none { count result ≡ 0 }
         ensures table { table result ≡ empty limit }
         ensures comparator { comparator result ≡ order }
+        ensures memory { memory result ≡ 0 }
     {
         Maps {
             forest: MapForest::with_node_limit(alloc, limit),
@@ -91,10 +104,13 @@ impl<K: Copy, V: Copy, C: Comparator<K>> Maps<K, V, C> {
         ensures count { OnOk result (count self.new ≡ count self.old + 1) }
         ensures keeps { KeepsAll self.old self.new }
         ensures table { table self.new ≡ table self.old }
+        ensures holds { HoldsFor (count self.old + 1) self.old self.new }
+        ensures succeeds { count self.old < memory self.old → IsOk result }
         ensures refused { OnErr result (self.new ≡ self.old) }
     {
         let index = self.maps.len();
-        self.maps.push(Map::new())?;
+        hold(&mut self.maps, 1)?;
+        self.maps.push_reserved(Map::new());
         Ok(index)
     }
 
@@ -108,6 +124,8 @@ impl<K: Copy, V: Copy, C: Comparator<K>> Maps<K, V, C> {
         ensures count { OnOk result (count self.new ≡ count self.old + (len - count self.old)) }
         ensures keeps { KeepsAll self.old self.new }
         ensures table { table self.new ≡ table self.old }
+        ensures holds { HoldsFor len self.old self.new }
+        ensures succeeds { len ≤ memory self.old → IsOk result }
         ensures refused { OnErr result (self.new ≡ self.old) }
     {
         add_empty(&mut self.maps, len)

@@ -6,14 +6,14 @@ ghost use Rattle.bforest.specs.Forest.{IsFitFor, empty, first_level, free_of, li
 ghost use Rattle.bforest.specs.Memory.{SetsFitInMemory};
 ghost use Rattle.bforest.specs.Retain.{MayAskEach};
 ghost use Rattle.bforest.specs.Set.{AnswersKey, MayAskKey, as_popped, as_put, as_removed, the_value};
-ghost use Rattle.bforest_indexed.specs.Indexed.{ReservesFor};
+ghost use Rattle.bforest_indexed.specs.Indexed.{HoldsFor, ReservesFor};
 ghost use Rattle.bforest_indexed.specs.Indexed.{ClearsAll, ClearsAt, FiltersAt, InsertsAt, KeepsAll, PopsAt, RemovesAt, Swaps};
 ghost use Rattle.bforest.specs.declared.set_forest.TheConstants.{SET_LEAF};
-ghost use Rattle.bforest_indexed.specs.Indexed.{comparator, count, entries, keys, node_sizes, nodes_in_use, table};
+ghost use Rattle.bforest_indexed.specs.Indexed.{comparator, count, entries, keys, memory, node_sizes, nodes_in_use, table};
 ghost use Rattle.std.specs.Map.{keys_of};
-ghost use Rattle.std.specs.Prelude.{IfOk, IsTrue, OnErr, OnOk, length, option_map, slice_get, ◌*◌, ◌+◌, ◌-◌, ◌/◌, ◌<◌, ◌^◌, ◌↔◌, ◌≡◌, ◌≤◌, ℕ};
+ghost use Rattle.std.specs.Prelude.{IfOk, IsOk, IsTrue, OnErr, OnOk, length, option_map, slice_get, ◌*◌, ◌+◌, ◌-◌, ◌/◌, ◌<◌, ◌^◌, ◌↔◌, ◌≡◌, ◌≤◌, ℕ};
 
-use crate::handles::{add_empty, empty_all};
+use crate::handles::{add_empty, empty_all, hold};
 use crate::room::{reserve_handles, slots_for};
 use bforest::{Comparator, OutOfMemory, Set, SetForest, SetIter, SetRange};
 use std::alloc::{AllocError, Global};
@@ -34,13 +34,24 @@ pub struct Sets<K: Copy, C: Comparator<K>> {
 impl<K: Copy, C: Comparator<K>> Model for Sets<K, C> {
     ghost use Rattle.bforest.specs.declared.set_forest.TheConstants.{SET_LEAF};
     ghost use Rattle.bforest_indexed.specs.Indexed.{AreKept, Indexed};
+    ghost use Rattle.std.specs.Prelude.{vec_capacity};
 
     ghost Value = { Indexed K (Unit {0}) C };
 
-    ghost view = { λ m. record { forest = m.forest; order = m.order; handles = m.sets.items } };
+    ghost view = { λ m. record {
+      forest = m.forest;
+      order = m.order;
+      handles = m.sets.items;
+      held = vec_capacity m.sets;
+    } };
 
     ghost invariant = { λ m. AreKept SET_LEAF (C.order m.order)
-        (record { forest = m.forest; order = m.order; handles = m.sets.items }) };
+        (record {
+      forest = m.forest;
+      order = m.order;
+      handles = m.sets.items;
+      held = vec_capacity m.sets;
+    }) };
 }
 
 impl<K: Copy, C: Comparator<K>> Sets<K, C> {
@@ -49,6 +60,7 @@ impl<K: Copy, C: Comparator<K>> Sets<K, C> {
         ensures none { count result ≡ 0 }
         ensures table { table result ≡ empty u32.MAX }
         ensures comparator { comparator result ≡ order }
+        ensures memory { memory result ≡ 0 }
     {
         Sets::with_node_limit(alloc, order, u32::MAX)
     }
@@ -58,6 +70,7 @@ impl<K: Copy, C: Comparator<K>> Sets<K, C> {
         ensures none { count result ≡ 0 }
         ensures table { table result ≡ empty limit }
         ensures comparator { comparator result ≡ order }
+        ensures memory { memory result ≡ 0 }
     {
         Sets {
             forest: SetForest::with_node_limit(alloc, limit),
@@ -90,10 +103,13 @@ impl<K: Copy, C: Comparator<K>> Sets<K, C> {
         ensures count { OnOk result (count self.new ≡ count self.old + 1) }
         ensures keeps { KeepsAll self.old self.new }
         ensures table { table self.new ≡ table self.old }
+        ensures holds { HoldsFor (count self.old + 1) self.old self.new }
+        ensures succeeds { count self.old < memory self.old → IsOk result }
         ensures refused { OnErr result (self.new ≡ self.old) }
     {
         let index = self.sets.len();
-        self.sets.push(Set::new())?;
+        hold(&mut self.sets, 1)?;
+        self.sets.push_reserved(Set::new());
         Ok(index)
     }
 
@@ -107,6 +123,8 @@ impl<K: Copy, C: Comparator<K>> Sets<K, C> {
         ensures count { OnOk result (count self.new ≡ count self.old + (len - count self.old)) }
         ensures keeps { KeepsAll self.old self.new }
         ensures table { table self.new ≡ table self.old }
+        ensures holds { HoldsFor len self.old self.new }
+        ensures succeeds { len ≤ memory self.old → IsOk result }
         ensures refused { OnErr result (self.new ≡ self.old) }
     {
         add_empty(&mut self.sets, len)

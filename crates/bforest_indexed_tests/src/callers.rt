@@ -1,9 +1,12 @@
 //! What a caller can prove of maps by an index from their contracts alone.
+ghost use Rattle.bforest.specs.Calls.{RemovesAt};
+ghost use Rattle.bforest.specs.Forest.{list_of, memory_of, slots_of};
 ghost use Rattle.bforest.specs.declared.map_forest.TheConstants.{MAP_LEAF};
 ghost use Rattle.bforest_indexed.specs.Indexed.{HasRoom, StaysWithin, comparator, count, table};
-ghost use Rattle.std.specs.Prelude.{IfOk, IsOk, ◌<◌};
+ghost use Rattle.std.specs.Prelude.{IfOk, IsOk, length, ◌-◌, ◌<◌, ◌≡◌};
 
-use bforest_indexed::{Comparator, Maps, OutOfMemory};
+use bforest::MapCursorMut;
+use bforest_indexed::{Comparator, Edit, Maps, OutOfMemory};
 
 /// Inserts an entry where there is room for `room.0` maps of `room.1` entries each, and stays within these numbers: that is never refused.
 pub fn insert_in_room<K: Copy, V: Copy, C: Comparator<K>>(
@@ -33,4 +36,33 @@ pub fn make_room_and_insert<K: Copy, V: Copy, C: Comparator<K>>(
 {
     maps.reserve_for(room.0, room.1)?;
     Ok(maps.insert(index, entry.0, entry.1))
+}
+
+/// Work that removes the last entry of a map, and answers its value.
+#[derive(Drop)]
+pub struct RemoveLast;
+
+impl<K: Copy, V: Copy, C: Comparator<K>> Edit<K, V, C> for RemoveLast {
+    type Answer = Option<V>;
+
+    // The last entry is removed, and the nodes that are left over are free.
+    ghost leaves = { λ _ f h _ f' h'. RemovesAt MAP_LEAF f h (length (list_of f h) - 1) f' h' };
+
+    fn edit(self, cursor: &mut MapCursorMut<K, V, C>) -> Option<V> {
+        let _last = cursor.prev();
+        cursor.remove()
+    }
+}
+
+/// Removes the last entry of a map by a cursor. What the work says of the table is known of the whole call: no slot was added and no memory
+/// was taken.
+pub fn remove_last<K: Copy, V: Copy, C: Comparator<K>>(
+    maps: &mut Maps<K, V, C>,
+    index: usize,
+) -> Option<V>
+    requires within { index < count maps.old }
+    ensures slots { slots_of (table maps.new) ≡ slots_of (table maps.old) }
+    ensures memory { memory_of (table maps.new) ≡ memory_of (table maps.old) }
+{
+    maps.edit(index, RemoveLast)
 }

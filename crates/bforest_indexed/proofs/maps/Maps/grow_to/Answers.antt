@@ -12,4 +12,4 @@ pub returns-clause-keeps : goal.returns-clause-keeps
 returns-clause-keeps g c = rw (← c.self.view_is) (keeps-same _ _ (tried-handles _ _ _ _ c.add_empty.ensures.more c.add_empty.ensures.refused))
 
 pub returns-clause-refused : goal.returns-clause-refused
-returns-clause-refused g c = rw (← c.self.view_is) (refused-same _ _ _ c.add_empty.ensures.refused)
+returns-clause-refused g c = rw (← c.self.view_is) (refused-same _ _ _ c.add_empty.ensures.refused c.add_empty.ensures.kept)

@@ -12,7 +12,7 @@ invariant_of-self g c = kept-handles _ _ c.reserve_handles.ensures.same c.self.i
 pub returns-in_err-reserve_handles : goal.returns-in_err-reserve_handles
 returns-in_err-reserve_handles g c = rw (← c.self.view_is) (refused-memory c.self.invariant _ _ _ c.nodes_for-most.ensures.enough c.nodes_for-most.ensures.met
     _ (rw (← c.self.view_is) at c.node_limit.ensures.limit) _ c.in_ok-slots.ensures.slots _ c.reserve_handles.ensures.same
-    _ _ c.in_err-reserve_handles.ensures.memory c.from_residual-in_err-reserve_handles.ensures.1)
+    _ _ c.in_err-reserve_handles.ensures.memory c.in_err-reserve_handles.ensures.kept c.from_residual-in_err-reserve_handles.ensures.1)
 
 pub invariant_of-self-2 : goal.invariant_of-self-2
 invariant_of-self-2 g c = kept-reserved _ _ _ c.reserve_nodes.ensures c.reserve_handles.ensures.same c.self.invariant
@@ -20,4 +20,4 @@ invariant_of-self-2 g c = kept-reserved _ _ _ c.reserve_nodes.ensures c.reserve_
 pub returns : goal.returns
 returns g c = rw (← c.self.view_is) (reserved c.self.invariant _ _ _ c.nodes_for-most.ensures.enough c.nodes_for-most.ensures.met
     _ (rw (← c.self.view_is) at c.node_limit.ensures.limit) _ c.in_ok-slots.ensures.slots _ c.reserve_handles.ensures.same
-    _ _ (rw (← c.self.view_is) at c.used_slots-used.ensures.count) c.saturating_sub.ensures _ _ c.reserve_nodes.ensures)
+    _ _ (rw (← c.self.view_is) at c.used_slots-used.ensures.count) c.saturating_sub.ensures _ _ c.reserve_nodes.ensures c.reserve_handles.ensures.holds c.in_ok-reserve_handles.ensures.enough)
