@@ -1,7 +1,7 @@
 -- The tests of a call, and a call that compares keys, from what its handle and its comparator tell.
 use Rattle.bforest.specs.Calls.{Inserts, Removes}
-use Rattle.bforest_calls.specs.Compared.{IsComparing, Makes}
-use Rattle.bforest_calls.specs.Machine.{Compares, On, Orders, Refuses, State, Step, Tests, order_at}
+use Rattle.bforest_calls.specs.Compared.{IsComparing, IsListed, Makes}
+use Rattle.bforest_calls.specs.Machine.{AsksRoom, Compares, On, Orders, Passes, Refuses, State, Step, Tests, order_at}
 use Rattle.bforest_calls.specs.State.{Edits, Held}
 use Rattle.bforest_calls.specs.declared.call.Answer.TheVariants as answer
 use Rattle.bforest_calls.specs.declared.call.Answer.{Answer}
@@ -35,6 +35,17 @@ module _ {K V : Type 0} where
   changes : {X : Type 0} {P : X → Type 0} (R : X → Held K V → Held K V → Type 0) (h : ℕ) (old new : State K V)
       → On h old new (λ held after. (x : X) × P x × R x held after) → (x : X) × P x × On h old new (R x)
   changes R h old new w = (w.2.0, w.2.1, (w.0, w.1, w.2.2))
+
+module _ {K V : Type 0} (reads : Bool) (orders : Orders K) (h c : ℕ) (state : State K V) (passes : Passes orders state h c) where
+  on : (a b : ℕ) → a ≡ h → b ≡ c → Passes orders state a b
+  on a b handle order = subst (λ n. Passes orders state n b) (sym handle) (subst (λ n. Passes orders state h n) (sym order) passes)
+
+  -- a call that passes its tests and is answered by a list requests memory for it
+  pub asks-room : (call : Call K V) → IsComparing reads h c call → IsListed call → AsksRoom reads orders state call
+  asks-room (call.Read a b steps) w listed = (w.2, on a b w.0 w.1)
+  asks-room (call.Edit a b steps) w listed = on a b w.0 w.1
+  asks-room (call.Range a b lo hi ends) w listed = on a b w.0 w.1
+  asks-room other w listed = absurd listed
 
 module _ {K V : Type 0} (most : ℕ) (reads : Bool) (orders : Orders K) (h c : ℕ) (old : State K V) (given : Answer K V) (new : State K V) where
   at : (P : ℕ → ℕ → Type 0) → P h c → (a b : ℕ) → a ≡ h → b ≡ c → P a b

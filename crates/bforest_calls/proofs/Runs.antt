@@ -40,10 +40,13 @@ module _ {K V : Type 0} (most : ℕ) (odd : most % 2 ≡ 1) (reads : Bool) where
       → Run most reads orders old (take i calls) answers new → length calls ≤ i → Run most reads orders old calls answers new
   run_whole orders old calls i answers new h end = subst (λ (cs : List (Call K V)). Run most reads orders old cs answers new) (take_all i calls end) h
 
--- a list may stop at a call of it that requests memory
-pub may-stop : {K V : Type 0} (calls : List (Call K V)) (i : ℕ) (call : Call K V) → i < length calls → call ≡ get_or calls i call → AsksRoom call
-    → MayStopAt calls i
-may-stop calls i call within is asks positive = (call, slice_get_read calls (length calls) i call refl within is, asks)
+-- a list may stop at a call of it that requests memory, and then has left the state as it was
+pub may-stop : {K V : Type 0} (reads : Bool) (orders : Orders K) (calls : List (Call K V)) (i : ℕ) (call : Call K V) (old new : State K V) → i < length calls
+    → call ≡ get_or calls i call → new.forest ≡ old.forest → new.handles ≡ old.handles → AsksRoom reads orders old call
+    → MayStopAt reads orders new calls i
+may-stop reads orders calls i call old new within is forest handles asks positive =
+    let same : old ≡ new = λ j. record { forest = sym forest j; handles = sym handles j } in
+    (call, slice_get_read calls (length calls) i call refl within is, subst (λ s. AsksRoom reads orders s call) same asks)
 
 pub on_err_from : {T E P : Type 0} (r : Result T E) → P → OnErr r P
 on_err_from (Ok x) p = tt

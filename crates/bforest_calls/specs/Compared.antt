@@ -27,6 +27,13 @@ module _ {K V : Type 0} where
   IsComparing reads h c (call.Range a b lo hi ends) = (a ≡ h) × (b ≡ c)
   IsComparing reads h c other = ⊥
 
+  -- the answer of such a call is a list
+  abbrev pub IsListed : Call K V → Type 0
+  IsListed (call.Read h c steps) = Unit {0}
+  IsListed (call.Edit h c steps) = Unit {0}
+  IsListed (call.Range h c lo hi ends) = Unit {0}
+  IsListed other = ⊥
+
   module _ (most : ℕ) (order : K → K → Ordering) where
     -- what such a call answers and leaves
     abbrev pub Makes : Call K V → Held K V → Answer K V → Held K V → Type 0

@@ -85,17 +85,23 @@ module _ {K V : Type 0} where
   On h old new R =
       (number : Option ℕ) × (new.handles ≡ slice_set old.handles h number) × R (held_at old h) (record { forest = new.forest; number = number })
 
-  -- a call that is answered by a list, for which memory is requested
-  abbrev pub AsksRoom : Call K V → Type 0
-  AsksRoom (call.Iter h) = Unit {0}
-  AsksRoom (call.Read h c steps) = Unit {0}
-  AsksRoom (call.Edit h c steps) = Unit {0}
-  AsksRoom (call.Range h c lo hi ends) = Unit {0}
-  AsksRoom other = ⊥
+  -- a call on handle h that compares keys by comparator c passes all tests
+  abbrev pub Passes : Orders K → State K V → ℕ → ℕ → Type 0
+  Passes orders state h c = (h < length state.handles) × (c < length orders) × Live state h × Ordered orders state h c
 
-  -- a list of calls may end for want of memory after the first n: before any call, or at a call that requests some
-  abbrev pub MayStopAt : List (Call K V) → ℕ → Type 0
-  MayStopAt calls n = 0 < n → (call : Call K V) × (slice_get calls n ≡ Some call) × AsksRoom call
+  -- memory is requested for the answer of a call: it is a list, and the call is offered and passes its tests. `reads` is whether
+  -- reading cursors are offered
+  abbrev pub AsksRoom : (reads : Bool) → Orders K → State K V → Call K V → Type 0
+  AsksRoom reads orders state (call.Iter h) = (h < length state.handles) × Live state h
+  AsksRoom reads orders state (call.Read h c steps) = (reads ≡ true) × Passes orders state h c
+  AsksRoom reads orders state (call.Edit h c steps) = Passes orders state h c
+  AsksRoom reads orders state (call.Range h c lo hi ends) = Passes orders state h c
+  AsksRoom reads orders state other = ⊥
+
+  -- a list of calls may end for want of memory after the first n, which left this state: before any call, or at a call for whose
+  -- answer memory is requested in this state
+  abbrev pub MayStopAt : (reads : Bool) → Orders K → State K V → List (Call K V) → ℕ → Type 0
+  MayStopAt reads orders state calls n = 0 < n → (call : Call K V) × (slice_get calls n ≡ Some call) × AsksRoom reads orders state call
 
   -- an answer that lists the answers of steps
   abbrev pub Shows : List (Seen K V) → Answer K V → Type 0

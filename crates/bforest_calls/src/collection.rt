@@ -1,8 +1,7 @@
 //! What the engine asks of a map or of a set.
 ghost use Rattle.bforest.specs.Calls.{Clears};
 ghost use Rattle.bforest.specs.Forest.{Forest, IsLive, emptied, list_of};
-ghost use Rattle.bforest_calls.specs.Compared.{IsComparing, Makes};
-ghost use Rattle.bforest_calls.specs.Machine.{AsksRoom};
+ghost use Rattle.bforest_calls.specs.Compared.{IsComparing, IsListed, Makes};
 ghost use Rattle.bforest_calls.specs.State.{Retained};
 ghost use Rattle.bforest_nodes.specs.Entries.{IsIncreasing};
 ghost use Rattle.std.specs.Prelude.{Bool, IfOk, IsTrue, List, None, OnErr, Option, get_or, length, slice_set, ◌%◌, ◌<◌, ◌↔◌, ◌≡◌, ℕ};
@@ -69,7 +68,7 @@ pub trait Collection<K: Copy, V: Copy>: Drop {
         ensures makes { IfOk result (λ given. Makes most (C.order comp.now) call.now
             (record { forest = trees forest.old; number = number self.old }) given
             (record { forest = trees forest.new; number = number self.new })) }
-        ensures room { OnErr result (AsksRoom call.now) }
+        ensures room { OnErr result (IsListed call.now) }
         ensures err_forest { OnErr result (forest.new ≡ forest.old) }
         ensures err_self { OnErr result (self.new ≡ self.old) };
 

@@ -26,7 +26,8 @@ pub fn make<K: Copy, V: Copy, C: Comparator<K>, T: Collection<K, V>>(
     ensures step { IfOk result (λ given. Step T.most T.READS (map C.order comps.now)
         (record { forest = T.trees forest.old; handles = T.numbers handles.old }) call.now given
         (record { forest = T.trees forest.new; handles = T.numbers handles.new })) }
-    ensures room { OnErr result (AsksRoom call.now) }
+    ensures room { OnErr result (AsksRoom T.READS (map C.order comps.now)
+        (record { forest = T.trees forest.old; handles = T.numbers handles.old }) call.now) }
     ensures err_forest { OnErr result (forest.new ≡ forest.old) }
     ensures err_handles { OnErr result (handles.new ≡ handles.old) }
 {
@@ -91,7 +92,8 @@ fn compare<K: Copy, V: Copy, C: Comparator<K>, T: Collection<K, V>>(
     ensures step { IfOk result (λ given. Step T.most T.READS (map C.order comps.now)
         (record { forest = T.trees forest.old; handles = T.numbers handles.old }) call.now given
         (record { forest = T.trees forest.new; handles = T.numbers handles.new })) }
-    ensures room { OnErr result (AsksRoom call.now) }
+    ensures room { OnErr result (AsksRoom T.READS (map C.order comps.now)
+        (record { forest = T.trees forest.old; handles = T.numbers handles.old }) call.now) }
     ensures err_forest { OnErr result (forest.new ≡ forest.old) }
     ensures err_handles { OnErr result (handles.new ≡ handles.old) }
 {
@@ -173,9 +175,11 @@ fn iter<K: Copy, V: Copy, T: Collection<K, V>>(
     forest: &T::Forest,
 ) -> Result<Answer<K, V>, AllocError>
     requires fits { T.fits }
-    ensures { (orders : _) → IfOk result (λ given. Step T.most T.READS orders
+    ensures step { (orders : _) → IfOk result (λ given. Step T.most T.READS orders
         (record { forest = T.trees forest.now; handles = T.numbers handles.now }) (call.Iter h) given
         (record { forest = T.trees forest.now; handles = T.numbers handles.now })) }
+    ensures room { (orders : _) → OnErr result (AsksRoom T.READS orders
+        (record { forest = T.trees forest.now; handles = T.numbers handles.now }) (call.Iter h)) }
 {
     if let Some(given) = unnamed(h, handles, forest) {
         return Ok(given);

@@ -39,7 +39,8 @@ pub fn run_map<K: Copy, V: Copy, C: Comparator<K>>(
     // Where memory was refused, the first n calls were made, each whole.
     ensures err { OnErr result ((n : ℕ) × (answers : _) × Run 7 true (map C.order comps.now)
         (record { forest = forest.old; handles = handles.old }) (take n calls.now) answers
-        (record { forest = forest.new; handles = handles.new }) × MayStopAt calls.now n) }
+        (record { forest = forest.new; handles = handles.new }) × MayStopAt true (map C.order comps.now)
+        (record { forest = forest.new; handles = handles.new }) calls.now n) }
 {
     run(alloc, calls, comps, handles, forest)
 }

@@ -22,7 +22,9 @@ pub(crate) fn run<K: Copy, V: Copy, C: Comparator<K>, T: Collection<K, V>>(
         (record { forest = T.trees forest.new; handles = T.numbers handles.new })) }
     ensures err { OnErr result ((n : ℕ) × (answers : _) × Run T.most T.READS (map C.order comps.now)
         (record { forest = T.trees forest.old; handles = T.numbers handles.old }) (take n calls.now) answers
-        (record { forest = T.trees forest.new; handles = T.numbers handles.new }) × MayStopAt calls.now n) }
+        (record { forest = T.trees forest.new; handles = T.numbers handles.new })
+        × MayStopAt T.READS (map C.order comps.now)
+        (record { forest = T.trees forest.new; handles = T.numbers handles.new }) calls.now n) }
 {
     let mut answers = Vec::with_capacity(alloc, calls.len())?;
     for call in calls {

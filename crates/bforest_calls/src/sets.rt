@@ -42,7 +42,8 @@ pub fn run_set<K: Copy, C: Comparator<K>>(
     // Where memory was refused, the first n calls were made, each whole.
     ensures err { OnErr result ((n : ℕ) × (answers : _) × Run 15 false (map C.order comps.now)
         (record { forest = forest.old; handles = handles.old }) (take n calls.now) answers
-        (record { forest = forest.new; handles = handles.new }) × MayStopAt calls.now n) }
+        (record { forest = forest.new; handles = handles.new }) × MayStopAt false (map C.order comps.now)
+        (record { forest = forest.new; handles = handles.new }) calls.now n) }
 {
     run(alloc, calls, comps, handles, forest)
 }

@@ -1,6 +1,7 @@
 use Rattle.bforest.specs.Forest.{list_of}
-use Rattle.bforest_calls.proofs.Comparing.{refuses-more, step-of}
+use Rattle.bforest_calls.proofs.Comparing.{asks-room, refuses-more, step-of}
 use Rattle.bforest_calls.proofs.Indexed.{at_both, is_order, number-lent, order-there}
+use Rattle.bforest_calls.proofs.Runs.{on_err_from}
 use Rattle.bforest_calls.proofs.engine.compare.Goals as goal
 use Rattle.bforest_calls.specs.Compared.{Makes}
 use Rattle.bforest_calls.specs.Machine.{State}
@@ -46,3 +47,23 @@ returns-clause-step g c =
             (is_order order comps c.args.c c.index-comps-c-2.result c.index-comps-c-2.is there) lent c.in_ok-given.ensures.makes,
       ),
     ))
+
+pub returns-in_err-given-clause-room : goal.returns-in_err-given-clause-room
+returns-in_err-given-clause-room g c =
+    let t = g.T.Collection in
+    let laws = g.met.T.Collection in
+    let order = g.C.Comparator.order in
+    let comps = c.args.comps.now in
+    let xs = c.args.handles.now in
+    let forest = t.trees c.args.forest.now in
+    let passed = c.unnamed.ensures.made c.in_default.is in
+    let there = order-there order comps c.args.c c.if-c-comps.false in
+    let tested = number-lent t.number t.numbers laws.counted laws.at xs c.args.h passed.0 c.index-handles-h.result in
+    on_err_from c.from_residual.result (asks-room t.READS (map order comps) c.args.h c.args.c (record { forest = forest; handles = t.numbers xs })
+    (
+      passed.0,
+      there,
+      passed.1,
+      at_both (λ o n. IsIncreasing o (list_of forest n)) (is_order order comps c.args.c c.index-comps-c.result c.index-comps-c.is there) tested
+          (c.increases.ensures.increasing.0 c.if-not-increases.false),
+    ) c.args.call.now c.requires.compares c.in_err-given.ensures.room)

@@ -18,7 +18,10 @@ pub returns-in-Clear-clause-step : goal.returns-in-Clear-clause-step
 returns-in-Clear-clause-step g c = rw c.in-Clear.is (c.clear.ensures (map g.C.Comparator.order c.args.comps.now))
 
 pub returns-in-Iter-clause-step : goal.returns-in-Iter-clause-step
-returns-in-Iter-clause-step g c = rw c.in-Iter.is (c.iter.ensures (map g.C.Comparator.order c.args.comps.now))
+returns-in-Iter-clause-step g c = rw c.in-Iter.is (c.iter.ensures.step (map g.C.Comparator.order c.args.comps.now))
 
 pub returns-in-Alias-clause-step : goal.returns-in-Alias-clause-step
 returns-in-Alias-clause-step g c = rw c.in-Alias.is (c.alias.ensures (map g.C.Comparator.order c.args.comps.now) (g.T.Collection.trees c.args.forest.now))
+
+pub returns-in-Iter-clause-room : goal.returns-in-Iter-clause-room
+returns-in-Iter-clause-room g c = rw c.in-Iter.is (c.iter.ensures.room (map g.C.Comparator.order c.args.comps.now))

@@ -19,7 +19,10 @@ returns-in_err-given-clause-err g c =
           (record { forest = t.trees l.forest; handles = t.numbers l.handles })
           (record { forest = t.trees c.make.new.forest; handles = t.numbers c.make.new.handles })
           l.invariant.run (ap t.trees c.in_err-given.ensures.err_forest) (ap t.numbers c.in_err-given.ensures.err_handles),
-      may-stop c.args.calls.now l.call-index c.call-item.result c.loop-call-test.true c.call-item.is c.in_err-given.ensures.room,
+      may-stop t.READS (map g.C.Comparator.order c.args.comps.now) c.args.calls.now l.call-index c.call-item.result
+          (record { forest = t.trees l.forest; handles = t.numbers l.handles })
+          (record { forest = t.trees c.make.new.forest; handles = t.numbers c.make.new.handles }) c.loop-call-test.true c.call-item.is
+          (ap t.trees c.in_err-given.ensures.err_forest) (ap t.numbers c.in_err-given.ensures.err_handles) c.in_err-given.ensures.room,
     )
 
 pub loop-call-preserved : goal.loop-call-preserved
