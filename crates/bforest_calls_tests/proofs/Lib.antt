@@ -1,5 +1,6 @@
 pub mod Aliases
 pub mod Changes
+pub mod Counted
 pub mod Determined
 pub mod Exchange
 pub mod Joined

@@ -128,7 +128,7 @@ module _ {K V : Type 0} where
     -- a run spares a tree that all its calls spare, also where it ended early
     pub run-spares : {E : Type 0} (m : ℕ) (old new : State K V) (calls : List (Call K V)) {Answers : Type 0} (items : Answers → List (Answer K V)) (result : Result Answers E)
         → IfOk result (λ answers. Run most reads orders old calls (items answers) new)
-        → OnErr result ((n : ℕ) × (answers : List (Answer K V)) × Run most reads orders old (take n calls) answers new × MayStopAt calls n)
+        → OnErr result ((n : ℕ) × (answers : List (Answer K V)) × Run most reads orders old (take n calls) answers new × MayStopAt reads orders new calls n)
         → list_at old.forest m ≢ [] → All (Spares m old) calls → IsSpared m old new
     run-spares m old new calls items (Ok answers) run err here all = spared-run m old calls (items answers) new here (recursion_from_All (Spares m old) calls all) run
     run-spares m old new calls items (Err e) run err here all = spared-run m old (take err.0 calls) err.1 new here (all-taken (Spares m old) err.0 calls (recursion_from_All (Spares m old) calls all)) err.2

@@ -1,3 +1,4 @@
+pub mod Counted
 pub mod Determined
 pub mod Exchange
 pub mod Sparing

@@ -7,6 +7,7 @@ use bforest_calls::{Answer, Call, run_map, run_set};
 use std::alloc::{AllocError, Global};
 
 pub mod beside;
+pub mod counted;
 pub mod exchanged;
 pub mod twice;
 

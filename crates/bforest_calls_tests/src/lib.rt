@@ -6,6 +6,7 @@ mod callers;
 mod lists;
 
 pub use callers::beside::{run_beside, run_beside_sets};
+pub use callers::counted::{run_counted, run_counted_sets};
 pub use callers::exchanged::{run_either, run_either_sets};
 pub use callers::twice::{run_twice, run_twice_sets};
 pub use callers::{run_both, run_both_sets};

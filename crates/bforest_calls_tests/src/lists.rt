@@ -200,3 +200,47 @@ fn a_refused_call_stops_no_other_on_sets(rt: HostRuntime) {
         }
     }
 }
+
+/// Makes as many insertions in one list, and returns whether each was answered as that of a new key.
+fn are_made(alloc: Global, count: u32) -> Result<bool, AllocError> {
+    let mut forest = MapForest::new(alloc);
+    let mut handles = [Map::new()];
+    let mut calls = Vec::new(alloc);
+    for key in 0..count {
+        calls.push(insert(0, key, key))?;
+    }
+    let answers = run_map(alloc, &calls, &[()], &mut handles, &mut forest)?;
+    let mut made = 0u32;
+    for answer in &answers {
+        if *answer == Answer::Put(Ok(None)) {
+            made = made.saturating_add(1);
+        }
+    }
+    Ok(made == count && answers.len() == count as usize)
+}
+
+#[test]
+fn a_list_of_any_length_is_made(rt: HostRuntime) {
+    for count in 0..10u32 {
+        assert_eq!(rt; are_made(rt.alloc(), count), Ok(true));
+    }
+}
+
+#[test]
+fn a_set_is_looked_up_from_below(rt: HostRuntime) {
+    let alloc = rt.alloc();
+    let mut forest = SetForest::new(alloc);
+    let mut handles = [Set::new()];
+    let calls = [
+        insert(0, 10, ()),
+        insert(0, 20, ()),
+        insert(0, 30, ()),
+        Call::GetOrLess {
+            h: 0,
+            c: 0,
+            k: 25u32,
+        },
+    ];
+    let answers = run_set(alloc, &calls, &[()], &mut handles, &mut forest).unwrap();
+    assert_eq!(rt; answers.get(3), Some(&Answer::Pair(Some((20, ())))));
+}

@@ -1,8 +1,14 @@
 //! Maps in the order of their keys' type.
 
 use crate::checked::{NumberForest, Numbers, ascending, get, insert};
-use bforest::{Map, MapForest};
+use bforest::{Map, MapForest, Set};
 use std::default::Default;
+use std::mem::size_of;
+
+// A handle takes 4 bytes, whatever its keys and values take.
+const _: () = prove!(size_of::<Map<u64, u64>>() == 4);
+
+const _: () = prove!(size_of::<Set<u64>>() == 4);
 
 // The README's example: for a map that is used by itself the checker finds the conditions of each call.
 #[test]
