@@ -24,9 +24,6 @@ extern crate alloc;
 
 '''
 
-# The documents that are modules of the package's docs: the file in docs/, and the module.
-DOCUMENTS = {"CHOOSING": "choosing", "TUTORIAL": "tutorial", "CALLS": "calls", "DIFFERENCES": "differences"}
-
 # What the package does not have: there `cursor_mut` of `Maps`, in `rust.rs`, lends a cursor.
 LEFT_OUT = ["bforest_indexed/edit.rt"]
 
@@ -43,6 +40,7 @@ UNUSED = {
 }
 
 USE_GLOBAL = (r"^use std::alloc::Global;\n", "", 1)
+# `cargo doc` lists the calls of a type of forests by themselves only where the capacity of its leaves is written as a number.
 FOREST = [
     USE_GLOBAL,
     (r"pub fn new\(alloc: Global\)", "pub fn new()", 1),
@@ -53,6 +51,12 @@ FOREST = [
 # The comments at the front of a crate that speak of its contracts.
 FRONT = r"\A(?://![^\n]*\n)*"
 
+# What the docs of `range` say of its bounds.
+BOUNDS = (
+    "    ///\n    /// Any bounds serve: `3..9`, `..=9`, `..` for all, or a pair of `Bound`s. A pair of two `Unbounded` does not say of which type its\n"
+    "    /// bounds are, so write `..` for it.\n"
+)
+
 # Handles in a vector that asks for memory by Rust's names.
 INDEXED = [
     (r"^use std::alloc::\{AllocError, Global\};\n", "use alloc::collections::TryReserveError;\nuse alloc::vec::Vec;\n", 1),
@@ -62,22 +66,24 @@ INDEXED = [
     (r"\bAllocError\b", "TryReserveError", 4),
     (r"^use std::ops::Bound;", "use std::ops::RangeBounds;", 1),
     (r"pub fn range\(&self, index: usize, bounds: \(Bound<K>, Bound<K>\)\)", "pub fn range<R: RangeBounds<K>>(&self, index: usize, bounds: R)", 1),
+    (r"^(?=    pub fn range<)", BOUNDS, 1),
 ]
 
 # A range is named by any bounds, as in the standard library.
 RANGE = [
+    (r"^(?=    pub fn range<)", BOUNDS, 1),
     (r"^use std::ops::Bound;", "use std::ops::RangeBounds;", 1),
     (r"pub fn range<'a, C: Comparator<K>>\(", "pub fn range<'a, R: RangeBounds<K>, C: Comparator<K>>(", 1),
     (r"bounds: \(Bound<K>, Bound<K>\),", "bounds: R,", 1),
     (r"(trees\.range\(root, )bounds", r"\1(bounds.start_bound().cloned(), bounds.end_bound().cloned())", 1),
 ]
 # What is met where a call was made on a handle that was not live.
-MISUSED = 'panic!("an earlier call was made on a handle that was not live: the trees of this forest share nodes")'
+MISUSED = 'panic!("this call or an earlier one was made on a handle that was not live: the trees of this forest share nodes")'
 
 EDITS = {
     "bforest/lib.rt": [(FRONT, "", 1)],
-    "bforest/map_forest.rt": FOREST,
-    "bforest/set_forest.rt": FOREST,
+    "bforest/map_forest.rt": [*FOREST, (r"^(pub type .*)\bMAP_LEAF>", r"\g<1>7>", 1)],
+    "bforest/set_forest.rt": [*FOREST, (r"^(pub type .*)\bSET_LEAF>", r"\g<1>15>", 1)],
     "bforest/map.rt": [*RANGE, (r" \(docs/RULES\.md, removal\)", "", 1)],
     "bforest/set.rt": RANGE,
     "bforest_indexed/lib.rt": [
@@ -225,6 +231,19 @@ MUST_USE = {
     "bforest/map_cursor.rt": ["is_empty", "entry", "key", "value"],
     "bforest/map_cursor_mut.rt": ["is_empty", "entry", "key", "value"],
     "bforest/set_cursor.rt": ["is_empty", "elem"],
+}
+
+# Names under which Rust's users look for a call, which its docs are found by.
+IN_ORDER = {"get_or_less": ["floor"], "get_or_greater": ["ceiling", "lower_bound"], "levels": ["height"]}
+ENDS = {"first": ["first_key_value"], "last": ["last_key_value"]}
+ALIASES = {
+    "bforest/map.rt": {**IN_ORDER, **ENDS, "increases": ["is_sorted"]},
+    "bforest/set.rt": {**IN_ORDER, "contains": ["contains_key"], "increases": ["is_sorted"]},
+    "bforest_indexed/maps.rt": {**IN_ORDER, **ENDS},
+    "bforest_indexed/sets.rt": {**IN_ORDER, "contains": ["contains_key"]},
+    "bforest/map_cursor.rt": {"goto": ["lower_bound"]},
+    "bforest/map_cursor_mut.rt": {"goto": ["lower_bound"]},
+    "bforest/set_cursor.rt": {"goto": ["lower_bound"]},
 }
 
 # What a source of a program takes from `fallible.rs`, with the calls for which it does.

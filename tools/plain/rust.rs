@@ -6,6 +6,7 @@ use crate::{
     Comparator, Map, MapCursor, MapCursorMut, MapForest, MapIntoIter, MapIter, MapRange, Maps, OutOfMemory, Set,
     SetCursor, SetForest, SetIter, SetRange, Sets,
 };
+use alloc::collections::TryReserveError;
 use core::cmp::{Ordering, Reverse};
 use core::error::Error;
 use core::fmt::{self, Debug, Display, Formatter};
@@ -22,6 +23,13 @@ impl Display for OutOfMemory {
 }
 
 impl Error for OutOfMemory {}
+
+impl From<TryReserveError> for OutOfMemory {
+    /// Returns [`OutOfMemory::Memory`], so that `?` serves for [`Maps::push`] and for [`Maps::insert`] in one function.
+    fn from(_: TryReserveError) -> Self {
+        OutOfMemory::Memory
+    }
+}
 
 impl<K: Copy, V: Copy> Default for MapForest<K, V> {
     /// Returns an empty forest, as [`MapForest::new`] does.
@@ -52,6 +60,19 @@ impl<K: Copy, C: Comparator<K> + Default> Default for Sets<K, C> {
 }
 
 impl<K: Copy, V: Copy, C: Comparator<K>> Maps<K, V, C> {
+    /// Returns whether a key of a map compares equal to `key`. One search, as [`Map::get`] makes.
+    ///
+    /// This call is not among [what is proved](crate#what-is-proved); [`Maps::get`] is.
+    ///
+    /// # Panics
+    ///
+    /// Where `index` is not less than `len`; the panic names it.
+    #[must_use]
+    #[track_caller]
+    pub fn contains_key(&self, index: usize, key: K) -> bool {
+        self.get(index, key).is_some()
+    }
+
     /// Returns a cursor that reads and changes a map, as [`Map::cursor_mut`] does. It stands at the end, behind the last entry.
     ///
     /// # Panics
@@ -213,18 +234,18 @@ impl<K: Copy, V: Copy, const N: usize> Trees<K, V, N> {
         let (slot, slots) = (root.number(), self.slots());
         assert!(
             slot < slots,
-            "the handle is not live in this forest, which the call asks and `holds` tests: its root was in slot {slot}, and the number of \
+            "the handle is not live in this forest, which the call requires and `holds` tests: its root was in slot {slot}, and the number of \
              slots is {slots} (the forest was cleared, or the handle belongs to another one)"
         );
         assert!(
             !self.pool.node(root).is_free(),
-            "the handle is not live in this forest, which the call asks and `holds` tests: its tree has ended, since the slot {slot} of its \
+            "the handle is not live in this forest, which the call requires and `holds` tests: its tree has ended, since the slot {slot} of its \
              root is free (a copy of the handle was cleared or changed)"
         );
     }
 }
 
-// Each iterator returns `None` for ever once it has returned it.
+// Each iterator returns `None` again once it has returned it.
 impl<K: Copy, V: Copy> FusedIterator for MapIter<'_, K, V> {}
 impl<K: Copy, V: Copy> FusedIterator for MapIntoIter<K, V> {}
 impl<K: Copy, V: Copy, C: Comparator<K>> FusedIterator for MapRange<'_, K, V, C> {}
@@ -245,6 +266,19 @@ impl<K: Copy> Debug for Set<K> {
 }
 
 impl<K: Copy, V: Copy> Map<K, V> {
+    /// Returns whether a key of the map compares equal to `key`. One search, as in [`Map::get`].
+    ///
+    /// This call is not among [what is proved](crate#what-is-proved); [`Map::get`] is.
+    ///
+    /// # Panics
+    ///
+    /// As [`Map::get`]: the call requires that the handle is live and that its keys increase under the comparator.
+    #[cfg_attr(debug_assertions, track_caller)]
+    #[must_use]
+    pub fn contains_key<C: Comparator<K>>(&self, key: K, forest: &MapForest<K, V>, comp: &C) -> bool {
+        self.get(key, forest, comp).is_some()
+    }
+
     /// Returns a value whose `Debug` shows the entries in order, as that of a map.
     ///
     /// # Panics

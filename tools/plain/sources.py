@@ -2,7 +2,7 @@
 import re
 import textwrap
 
-from edits import CLONED, CONSTANT, EDITS, FALLIBLE, IMPORT, MUST_USE, OPENED, PROGRAM, UNUSED
+from edits import ALIASES, CLONED, CONSTANT, EDITS, FALLIBLE, IMPORT, MUST_USE, OPENED, PROGRAM, UNUSED
 
 # comments and blank lines in front of what goes, which are about it
 LEAD = r"(?:^[ \t]*(?://[^\n]*)?\n)*"
@@ -12,10 +12,10 @@ GHOST = LEAD + r"^[ \t]*ghost \w+\s*[=:]\s*\{"
 MODEL = r"^impl[^\n{]*\bModel for [^\n{]*\{"
 # what no plain Rust has outside of a comment
 LEFT = re.compile(r"[^\x00-\x7f]|\b(?:ghost|requires|ensures|decreases|invariant|tactic|Model|Global|rt;)\b|derive\(Drop")
-# What a public function of the forest asks of its handle, and of its handle's keys.
+# What a public function of the forest requires of its handle, and of its handle's keys.
 LIVE, SEARCHABLE = r"requires (?:live )?\{ (?:IsLive|IsSearchable) ", r"requires \{ IsSearchable "
-IS_LIVE, IS_ORDERED = "The call asks that the handle is live", " and that its keys increase under the comparator"
-PANICS = "Else it may panic; debug builds often do so at once: [what a call asks](crate#what-a-call-asks)."
+IS_LIVE, IS_ORDERED = "The call requires that the handle is live", " and that its keys increase under the comparator"
+PANICS = "Else it may panic; debug builds often do so at once: [what a call requires](crate#what-a-call-requires)."
 GUARD = "forest.trees.expect_live(self.root);"
 
 
@@ -123,7 +123,8 @@ def bounded(contract):
 
 
 def with_attributes(text, name):
-    """The text with what Rust's users expect of its types and functions: `Clone`, `const`, `must_use`, and fields that `rust.rs` reads."""
+    """The text with what Rust's users expect of its types and functions: `Clone`, `const`, `must_use`, other names, and fields that `rust.rs`
+    reads."""
     for it in CLONED.get(name, []):
         text = replaced(text, rf"^(?=(?:pub(?:\(crate\))? )?(?:struct|enum) {it}\b)", "#[derive(Clone)]\n", 1, name)
     for it in OPENED.get(name, []):
@@ -134,6 +135,9 @@ def with_attributes(text, name):
         text = replaced(text, rf"^( *pub(?:\(crate\))? )(?=fn {it}\()", r"\1const ", 1, name)
     for it in MUST_USE.get(name, []):
         text = replaced(text, rf"^(?=( *)pub (?:const )?fn {it}\b)", r"\1#[must_use]\n", 1, name)
+    for it, aliases in ALIASES.get(name, {}).items():
+        lines = "".join(f'\\1#[doc(alias = "{alias}")]\n' for alias in aliases)
+        text = replaced(text, rf"^(?=( *)pub fn {it}\b)", lines, 1, name)
     return re.sub(r"^(?=pub struct \w*(?:Iter|Range)\b)", '#[must_use = "iterators are lazy and do nothing unless consumed"]\n', text, flags=re.M)
 
 

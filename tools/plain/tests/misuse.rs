@@ -70,7 +70,7 @@ fn refused(what: &str, mistake: &str, call: impl FnOnce()) {
         return;
     }
     let said = met(call).err().unwrap_or_else(|| panic!("{what} returned, where {mistake}"));
-    let asked = "the handle is not live in this forest, which the call asks and `holds` tests: ";
+    let asked = "the handle is not live in this forest, which the call requires and `holds` tests: ";
     assert!(said.text.starts_with(asked) && said.text.contains(mistake), "{what}: {}", said.text);
     assert!(!said.text.contains("internal error"), "{what}: {}", said.text);
     assert_eq!(said.file, file!(), "{what}: {}", said.text);
@@ -322,7 +322,7 @@ fn trees_that_a_copy_made_a_hole_in() {
     assert!(forest.holds(&map) && !forest.holds(&copy));
     copy.clear(&mut forest);
     let said = met(|| map.get(1, &forest, &())).expect_err("there is no leaf");
-    assert!(said.text.starts_with("an earlier call was made on a handle that was not live"), "{}", said.text);
+    assert!(said.text.starts_with("this call or an earlier one was made on a handle that was not live"), "{}", said.text);
     for (name, call) in OF_MAPS {
         let (mut map, mut forest) = (map.clone(), forest.clone());
         survived(name, || call(&mut map, &mut forest));
