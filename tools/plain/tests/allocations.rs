@@ -2,7 +2,7 @@
 
 mod random;
 
-use bforest::{Map, MapForest, Set, SetForest};
+use bforest::{Map, MapForest, Maps, Set, SetForest, Sets};
 use random::Random;
 use std::alloc::{GlobalAlloc, Layout, System};
 use std::cell::Cell;
@@ -10,6 +10,8 @@ use std::cell::Cell;
 thread_local! {
     /// How often the allocator was called by this thread.
     static CALLS: Cell<u32> = const { Cell::new(0) };
+    /// How many bytes it was last asked for.
+    static BYTES: Cell<usize> = const { Cell::new(0) };
 }
 
 struct Counting;
@@ -19,9 +21,14 @@ fn count() {
     let _ = CALLS.try_with(|it| it.set(it.get() + 1));
 }
 
+fn asked_for(bytes: usize) {
+    count();
+    let _ = BYTES.try_with(|it| it.set(bytes));
+}
+
 unsafe impl GlobalAlloc for Counting {
     unsafe fn alloc(&self, layout: Layout) -> *mut u8 {
-        count();
+        asked_for(layout.size());
         unsafe { System.alloc(layout) }
     }
 
@@ -31,7 +38,7 @@ unsafe impl GlobalAlloc for Counting {
     }
 
     unsafe fn realloc(&self, at: *mut u8, layout: Layout, size: usize) -> *mut u8 {
-        count();
+        asked_for(size);
         unsafe { System.realloc(at, layout, size) }
     }
 }
@@ -166,4 +173,103 @@ fn a_new_forest_and_handles_take_nothing() {
         assert!(map.iter(&forest).next().is_none() && map.clone().is_empty());
     });
     assert_eq!(calls, 0);
+}
+
+/// How many entries a forest has that is filled, cleared and filled again.
+const ENTRIES: u32 = 10_000;
+
+/// A forest's `clear` keeps the table's memory, so that as many nodes as before ask for none.
+#[test]
+fn a_cleared_forest_of_maps_asks_for_no_memory_up_to_its_former_size() {
+    let mut forest = MapForest::new();
+    let fill = |forest: &mut MapForest<u32, u32>| {
+        let mut map = Map::new();
+        (0..ENTRIES).for_each(|key| _ = map.insert(key, key, forest, &()).unwrap());
+        map
+    };
+    fill(&mut forest);
+    let slots = forest.slots();
+    forest.clear();
+    assert_eq!(calls_of(|| fill(&mut forest)), 0);
+    assert_eq!(forest.slots(), slots);
+    // Room for the same nodes is held too where it is reserved.
+    forest.clear();
+    assert_eq!(calls_of(|| forest.reserve_nodes(slots).unwrap()), 0);
+}
+
+#[test]
+fn a_cleared_forest_of_sets_asks_for_no_memory_up_to_its_former_size() {
+    let mut forest = SetForest::new();
+    let fill = |forest: &mut SetForest<u32>| {
+        let mut set = Set::new();
+        (0..ENTRIES).for_each(|key| _ = set.insert(key, forest, &()).unwrap());
+        set
+    };
+    fill(&mut forest);
+    let slots = forest.slots();
+    forest.clear();
+    assert_eq!(calls_of(|| fill(&mut forest)), 0);
+    assert_eq!(forest.slots(), slots);
+}
+
+/// `clear_all` keeps the table's memory and that of the handles.
+#[test]
+fn cleared_maps_and_sets_ask_for_no_memory_up_to_their_former_size() {
+    let mut maps: Maps<u32, u32> = Maps::new(());
+    maps.grow_to(HANDLES).unwrap();
+    let fill = |maps: &mut Maps<u32, u32>| (0..ENTRIES).for_each(|key| _ = maps.insert(key as usize % HANDLES, key, key).unwrap());
+    fill(&mut maps);
+    maps.clear_all();
+    assert_eq!(calls_of(|| fill(&mut maps)), 0);
+    let mut sets: Sets<u32> = Sets::new(());
+    sets.grow_to(HANDLES).unwrap();
+    let fill = |sets: &mut Sets<u32>| (0..ENTRIES).for_each(|key| _ = sets.insert(key as usize % HANDLES, key).unwrap());
+    fill(&mut sets);
+    sets.clear_all();
+    assert_eq!(calls_of(|| fill(&mut sets)), 0);
+}
+
+// The memory of the handles of `Maps` and `Sets`: 4 bytes each.
+
+const HANDLE: usize = 4;
+/// How many handles a vector may make room for, beside doubling, where it grows by one.
+const FEW: usize = 8;
+
+#[test]
+fn new_maps_and_sets_take_nothing() {
+    let calls = calls_of(|| {
+        let (maps, sets): (Maps<u32, u32>, Sets<u32>) = (Maps::new(()), Sets::new(()));
+        assert!(maps.is_empty() && sets.is_empty());
+        let (maps, sets): (Maps<u32, u32>, Sets<u32>) = (Maps::with_node_limit((), 9), Sets::with_node_limit((), 9));
+        assert!(maps.is_empty() && sets.is_empty());
+    });
+    assert_eq!(calls, 0);
+}
+
+/// `grow_to` takes memory once, and none for handles that are there. An empty map has no node.
+#[test]
+fn growing_to_many_maps_or_sets_takes_memory_once() {
+    let mut maps: Maps<u32, u32> = Maps::new(());
+    let mut sets: Sets<u32> = Sets::new(());
+    for len in [1000, 100_000] {
+        assert_eq!((calls_of(|| maps.grow_to(len).unwrap()), maps.len()), (1, len));
+        assert!(BYTES.get() >= HANDLE * len && BYTES.get() <= 2 * HANDLE * len);
+        assert_eq!((calls_of(|| sets.grow_to(len).unwrap()), sets.len()), (1, len));
+        assert_eq!(calls_of(|| (maps.grow_to(len).unwrap(), sets.grow_to(len / 2).unwrap())), 0);
+    }
+    assert_eq!((maps.slots(), sets.slots()), (0, 0));
+}
+
+/// `push` takes memory at most once, and then for at most twice as many handles as there are, or for a few.
+#[test]
+fn pushing_one_map_or_set_takes_room_for_few() {
+    let mut maps: Maps<u32, u32> = Maps::new(());
+    let mut sets: Sets<u32> = Sets::new(());
+    for len in 0..5000 {
+        let most = HANDLE * (2 * len + FEW);
+        for calls in [calls_of(|| maps.push().unwrap()), calls_of(|| sets.push().unwrap())] {
+            assert!(calls <= 1 && BYTES.get() <= most, "{} bytes at {len}", BYTES.get());
+        }
+    }
+    assert_eq!((maps.len(), sets.len()), (5000, 5000));
 }

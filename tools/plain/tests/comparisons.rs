@@ -1,6 +1,6 @@
 //! How often calls compare, told by a comparator that counts.
 
-use bforest::{Comparator, Map, MapForest, Set, SetForest};
+use bforest::{Comparator, Map, MapForest, Maps, Set, SetForest, Sets};
 use std::cell::Cell;
 use std::cmp::{Ordering, Reverse};
 use std::ops::Bound::{self, Excluded, Included, Unbounded};
@@ -296,6 +296,123 @@ fn insertions_far_from_a_cursor() {
     }
 }
 
+// Maps and sets that are named by an index.
+
+type Indexed<'a> = Maps<u32, u32, &'a Counting>;
+type IndexedSets<'a> = Sets<u32, &'a Counting>;
+
+/// A call by the index 1, which searches for a key once.
+type IndexedCall<T> = fn(&mut T, u32);
+
+fn of_indexed_maps<'a>() -> [(&'static str, IndexedCall<Indexed<'a>>); 11] {
+    [
+        ("get", |maps, key| _ = maps.get(1, key)),
+        ("contains_key", |maps, key| _ = maps.contains_key(1, key)),
+        ("get_or_less", |maps, key| _ = maps.get_or_less(1, key)),
+        ("get_or_greater", |maps, key| _ = maps.get_or_greater(1, key)),
+        ("get_or_insert", |maps, key| _ = maps.get_or_insert(1, key, 0).unwrap()),
+        ("insert", |maps, key| _ = maps.insert(1, key, 0).unwrap()),
+        ("try_insert", |maps, key| _ = maps.try_insert(1, key, 0).unwrap()),
+        ("remove", |maps, key| _ = maps.remove(1, key)),
+        ("goto of a reading cursor", |maps, key| _ = maps.cursor(1).goto(key)),
+        ("goto of a writing cursor", |maps, key| _ = maps.cursor_mut(1).goto(key)),
+        ("goto and remove", |maps, key| {
+            let mut cursor = maps.cursor_mut(1);
+            cursor.goto(key);
+            cursor.remove();
+        }),
+    ]
+}
+
+fn of_indexed_sets<'a>() -> [(&'static str, IndexedCall<IndexedSets<'a>>); 8] {
+    [
+        ("contains", |sets, key| _ = sets.contains(1, key)),
+        ("get_or_less", |sets, key| _ = sets.get_or_less(1, key)),
+        ("get_or_greater", |sets, key| _ = sets.get_or_greater(1, key)),
+        ("insert", |sets, key| _ = sets.insert(1, key).unwrap()),
+        ("try_insert", |sets, key| _ = sets.try_insert(1, key).unwrap()),
+        ("remove", |sets, key| _ = sets.remove(1, key)),
+        ("goto", |sets, key| _ = sets.cursor(1).goto(key)),
+        ("goto and remove", |sets, key| {
+            let mut cursor = sets.cursor(1);
+            cursor.goto(key);
+            cursor.remove();
+        }),
+    ]
+}
+
+/// Three maps, of which the one in the middle has so many even keys from 2 on.
+fn even_maps(count: u32, order: &Counting) -> Indexed<'_> {
+    let mut maps = Maps::new(order);
+    maps.grow_to(3).unwrap();
+    for key in 1..=count {
+        maps.insert(1, 2 * key, key).unwrap();
+    }
+    maps
+}
+
+fn even_sets(count: u32, order: &Counting) -> IndexedSets<'_> {
+    let mut sets = Sets::new(order);
+    sets.grow_to(3).unwrap();
+    for key in 1..=count {
+        sets.insert(1, 2 * key).unwrap();
+    }
+    sets
+}
+
+/// Makes each call of the table with the keys up to `last`, each on the maps or sets as they were, and none compares more often than one search.
+fn each_indexed<T: Clone>(calls: &[(&str, IndexedCall<T>)], all: &T, last: u32, order: &Counting, search: impl Fn(u32) -> u32) {
+    for (name, call) in calls {
+        for key in 0..=last {
+            let mut all = all.clone();
+            order.taken();
+            call(&mut all, key);
+            let (taken, most) = (order.taken(), search(key));
+            assert!(taken <= most, "{name} of {key} compares {taken} times, more than {most}");
+        }
+    }
+}
+
+/// A call by an index compares as often as that of its name on a handle: the index costs no comparison.
+#[test]
+fn searches_by_an_index() {
+    let order = Counting::default();
+    let (of_maps, of_sets) = (of_indexed_maps(), of_indexed_sets());
+    for count in [0, 1, 7] {
+        each_indexed(&of_maps, &even_maps(count, &order), 2 * count + 1, &order, |_| of_search(&[count]));
+    }
+    each_indexed(&of_maps, &even_maps(35, &order), 71, &order, of_search_in_35);
+    each_indexed(&of_maps, &even_maps(36, &order), 73, &order, |_| 1 + 3 + 3);
+    for count in [0, 1, 15] {
+        each_indexed(&of_sets, &even_sets(count, &order), 2 * count + 1, &order, |_| of_search(&[count]));
+    }
+    each_indexed(&of_sets, &even_sets(71, &order), 143, &order, of_search_in_71);
+    each_indexed(&of_sets, &even_sets(72, &order), 145, &order, |_| 1 + 3 + 4);
+}
+
+/// What goes by the place of an entry or by an index alone compares nothing.
+#[test]
+fn calls_by_an_index_that_compare_nothing() {
+    let order = Counting::default();
+    let (mut maps, mut sets) = (even_maps(36, &order), even_sets(72, &order));
+    order.taken();
+    assert_eq!((maps.first(1), maps.last(1)), (Some((2, 1)), Some((72, 36))));
+    assert_eq!((sets.first(1), sets.last(1)), (Some(2), Some(144)));
+    assert_eq!((maps.levels(1), sets.levels(1), maps.iter(1).count(), sets.iter(1).count()), (3, 3, 36, 72));
+    assert_eq!((maps.pop_first(1), maps.pop_last(1)), (Some((2, 1)), Some((72, 36))));
+    assert_eq!((sets.pop_first(1), sets.pop_last(1)), (Some(2), Some(144)));
+    maps.retain(1, |key, _| key % 4 == 0);
+    sets.retain(1, |key| key % 4 == 0);
+    maps.swap(0, 1);
+    sets.swap(0, 1);
+    assert_eq!((maps.cursor(0).goto_first(), sets.cursor(0).goto_first()), (Some(2), Some(4)));
+    maps.push().unwrap();
+    maps.reserve_for(4, 100).unwrap();
+    maps.clear(0);
+    sets.clear_all();
+    assert_eq!(order.taken(), 0);
+}
+
 // Ranges, and the test of an order.
 
 type Bounds = (Bound<u32>, Bound<u32>);
@@ -362,6 +479,23 @@ fn ranges_below_a_full_root() {
     each_range(143, of_search_in_71, |bounds| {
         _ = set.range(bounds, &forest, &counting);
         counting.taken()
+    });
+}
+
+/// A range by an index makes as many searches as one of a handle.
+#[test]
+fn ranges_by_an_index() {
+    let order = Counting::default();
+    let (maps, sets) = (even_maps(35, &order), even_sets(71, &order));
+    each_range(71, of_search_in_35, |bounds| {
+        order.taken();
+        _ = maps.range(1, bounds);
+        order.taken()
+    });
+    each_range(143, of_search_in_71, |bounds| {
+        order.taken();
+        _ = sets.range(1, bounds);
+        order.taken()
     });
 }
 

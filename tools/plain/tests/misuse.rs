@@ -4,6 +4,7 @@
 use bforest::{Comparator, Map, MapForest, Set, SetForest};
 use std::cell::{Cell, RefCell};
 use std::cmp::{Ordering, Reverse};
+use std::iter;
 use std::panic::{AssertUnwindSafe, PanicHookInfo, catch_unwind, set_hook, take_hook};
 use std::sync::Once;
 
@@ -328,6 +329,90 @@ fn trees_that_a_copy_made_a_hole_in() {
         survived(name, || call(&mut map, &mut forest));
         assert!(is_map_forest_in_use(&mut forest), "after {name} in a tree with a hole");
     }
+}
+
+// Mistakes that no build notices.
+
+/// The eighth entry halves the only leaf into 4 entries and 4, below a new root. The copy names the first half. An insertion through the copy
+/// puts a key there that belongs into the other half, where it is looked for.
+#[test]
+fn a_copy_after_the_eighth_insertion_has_half_the_map() {
+    let mut forest = MapForest::new();
+    let mut map = Map::new();
+    for key in 1..=7 {
+        map.insert(key, 10 * key, &mut forest, &()).unwrap();
+    }
+    let mut copy = map.clone();
+    map.insert(8, 80, &mut forest, &()).unwrap();
+    assert!(forest.holds(&map) && !forest.holds(&copy));
+    assert!(copy.iter(&forest).eq((1..=4).map(|key| (key, 10 * key))));
+    assert_eq!((copy.get(7, &forest, &()), map.get(7, &forest, &())), (None, Some(70)));
+    assert_eq!(copy.insert(9, 90, &mut forest, &()), Ok(None));
+    assert!(map.iter(&forest).map(|it| it.0).eq([1, 2, 3, 4, 9, 5, 6, 7, 8]));
+    assert!(!map.increases(&forest, &()) && map.get(9, &forest, &()).is_none());
+    assert!(is_map_forest_in_use(&mut forest));
+}
+
+/// The sixteenth key of a set halves its only leaf into 8 keys and 8.
+#[test]
+fn a_copy_after_the_sixteenth_insertion_has_half_the_set() {
+    let mut forest = SetForest::new();
+    let mut set = Set::new();
+    for key in 1..=15 {
+        set.insert(key, &mut forest, &()).unwrap();
+    }
+    let mut copy = set.clone();
+    set.insert(16, &mut forest, &()).unwrap();
+    assert!(forest.holds(&set) && !forest.holds(&copy));
+    assert!(copy.iter(&forest).eq(1..=8));
+    assert!(!copy.contains(15, &forest, &()) && set.contains(15, &forest, &()));
+    assert_eq!(copy.insert(17, &mut forest, &()), Ok(true));
+    assert!(!set.increases(&forest, &()) && !set.contains(17, &forest, &()));
+    assert!(is_set_forest_in_use(&mut forest));
+}
+
+/// A new cursor stands at the end, so nothing comes behind it.
+#[test]
+fn stepping_on_from_a_new_cursor_gives_nothing() {
+    let (mut maps, mut sets) = (MapForest::new(), SetForest::new());
+    let (mut map, mut set) = (filled_map(&mut maps), filled_set(&mut sets));
+    let mut reading = map.cursor(&maps, &());
+    assert_eq!(iter::from_fn(|| reading.next()).count(), 0);
+    let mut writing = map.cursor_mut(&mut maps, &());
+    assert_eq!(iter::from_fn(|| writing.next()).count(), 0);
+    let mut of_set = set.cursor(&mut sets, &());
+    assert_eq!(iter::from_fn(|| of_set.next()).count(), 0);
+}
+
+/// `next` moves before it returns, so behind `goto_first` it leaves out the first entry.
+#[test]
+fn stepping_on_from_the_first_entry_leaves_it_out() {
+    let (mut maps, mut sets) = (MapForest::new(), SetForest::new());
+    let (mut map, mut set) = (filled_map(&mut maps), filled_set(&mut sets));
+    let mut reading = map.cursor(&maps, &());
+    reading.goto_first();
+    assert!(iter::from_fn(|| reading.next()).map(|it| it.0).eq(2..=5));
+    let mut writing = map.cursor_mut(&mut maps, &());
+    writing.goto_first();
+    assert!(iter::from_fn(|| writing.next()).map(|it| it.0).eq(2..=5));
+    let mut of_set = set.cursor(&mut sets, &());
+    of_set.goto_first();
+    assert!(iter::from_fn(|| of_set.next()).eq(2..=5));
+}
+
+/// What the table of mistakes says to write: all entries, by looking before each step.
+#[test]
+fn looking_before_each_step_gives_all_entries() {
+    let mut forest = MapForest::new();
+    let map = filled_map(&mut forest);
+    let mut cursor = map.cursor(&forest, &());
+    let mut seen = Vec::new();
+    cursor.goto_first();
+    while let Some(it) = cursor.entry() {
+        seen.push(it);
+        cursor.next();
+    }
+    assert!(seen.into_iter().eq((1..=5).map(|key| (key, 10 * key))));
 }
 
 // Orders that do not fit.

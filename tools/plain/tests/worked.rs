@@ -144,6 +144,12 @@ with_both_searches!(
     retaining_nothing_frees_every_node,
     a_set_of_one_key,
     a_forest_of_no_nodes_takes_no_key,
+    a_value_written_by_a_cursor_and_the_steps_behind,
+    a_value_written_at_a_leaf_s_end_and_the_steps_behind,
+    the_first_entry_inserted_by_a_cursor,
+    a_removal_at_the_boundary_of_two_parents,
+    removing_the_first_keys_merges_leaves_one_by_one,
+    removing_the_last_keys_empties_leaves_one_by_one,
 );
 
 /// Keys that compare equal share an entry, which keeps the first one's key.
@@ -332,6 +338,44 @@ fn a_range_taken_from_both_ends_in_turn<C: Comparator<u32>>(comp: &C) {
     assert_eq!(range.next(), None);
 }
 
+fn a_value_written_by_a_cursor_and_the_steps_behind<C: Comparator<u32>>(comp: &C) {
+    let mut forest = Forest::new();
+    let mut map = three(&mut forest, comp);
+    let mut cursor = map.cursor_mut(&mut forest, comp);
+    assert_eq!(cursor.goto(20), Some(2));
+    *cursor.value_mut().unwrap() = 9;
+    assert_eq!(cursor.value(), Some(9));
+    assert_eq!(cursor.next(), Some((30, 3)));
+    assert_eq!(cursor.next(), None);
+    assert_eq!(cursor.value_mut(), None);
+    assert_eq!(entries(&map, &forest), [(10, 1), (20, 9), (30, 3)]);
+}
+
+// Keys that are put in from the least up leave leaves of 4, so 17 to 20 share one, and 21 begins the next.
+fn a_value_written_at_a_leaf_s_end_and_the_steps_behind<C: Comparator<u32>>(comp: &C) {
+    let mut forest = Forest::new();
+    let mut map = filled(1..=36, &mut forest, comp);
+    let mut cursor = map.cursor_mut(&mut forest, comp);
+    assert_eq!(cursor.goto(20), Some(200));
+    *cursor.value_mut().unwrap() = 9;
+    assert_eq!(cursor.value(), Some(9));
+    assert_eq!(cursor.next(), Some((21, 210)));
+    assert_eq!(cursor.next(), Some((22, 220)));
+    assert_eq!(cursor.value_mut(), Some(&mut 220));
+    assert_eq!(entries(&map, &forest), [tenfold(1..=19), vec![(20, 9)], tenfold(21..=36)].concat());
+}
+
+fn the_first_entry_inserted_by_a_cursor<C: Comparator<u32>>(comp: &C) {
+    let (mut map, mut forest) = (Numbers::new(), Forest::new());
+    let mut cursor = map.cursor_mut(&mut forest, comp);
+    assert_eq!(cursor.insert(7, 70), Ok(None));
+    assert_eq!(cursor.key(), Some(7));
+    assert_eq!(cursor.next(), None);
+    assert_eq!(cursor.key(), None);
+    assert_eq!(cursor.prev(), Some((7, 70)));
+    assert_eq!(entries(&map, &forest), [(7, 70)]);
+}
+
 // Leaves that are halved, merged and evened out.
 
 fn the_eighth_key_halves_a_leaf<C: Comparator<u32>>(comp: &C) {
@@ -380,6 +424,50 @@ fn the_thirty_sixth_key_adds_a_level<C: Comparator<u32>>(comp: &C) {
     assert_eq!(map.insert(36, 0, &mut forest, comp), Ok(None));
     assert_eq!(sizes(&map, &forest), Sizes { levels: 3, slots: 12, free: 0 });
     assert_eq!(entries(&map, &forest), [tenfold(1..=35), vec![(36, 0)]].concat());
+}
+
+// Nine leaves of 4 lie below two inner nodes, of 4 children and of 5. Without 16 the fourth leaf has 3 entries, and joins the fifth, whose
+// parent is the other one. The first parent is left with 3 children, and joins the other: 8 children. The root has a single child then, and
+// ends. So 3 nodes of 12 are free.
+fn a_removal_at_the_boundary_of_two_parents<C: Comparator<u32>>(comp: &C) {
+    let mut forest = Forest::new();
+    let mut map = filled(1..=36, &mut forest, comp);
+    assert_eq!(sizes(&map, &forest), Sizes { levels: 3, slots: 12, free: 0 });
+    let mut cursor = map.cursor_mut(&mut forest, comp);
+    assert_eq!(cursor.goto(16), Some(160));
+    assert_eq!(cursor.remove(), Some(160));
+    assert_eq!(cursor.key(), Some(17));
+    assert_eq!(cursor.prev(), Some((15, 150)));
+    assert_eq!(sizes(&map, &forest), Sizes { levels: 2, slots: 12, free: 3 });
+    assert_eq!(forest.nodes_in_use(), 9);
+    assert_eq!(entries(&map, &forest), tenfold((1..=15).chain(17..=36)));
+}
+
+/// Removes the keys in turn. After each the tree has as many levels and nodes as are named beside it, and no slot is added.
+fn shrinks<C: Comparator<u32>>(last: u32, steps: &[(u32, usize, u32)], comp: &C) {
+    let mut forest = Forest::new();
+    let mut map = filled(1..=last, &mut forest, comp);
+    let slots = forest.slots();
+    for &(key, levels, nodes) in steps {
+        assert_eq!(map.remove(key, &mut forest, comp), Some(10 * key));
+        assert_eq!(sizes(&map, &forest), Sizes { levels, slots, free: slots - nodes }, "after {key}");
+        assert_eq!(forest.nodes_in_use(), nodes, "after {key}");
+    }
+    assert!(map.is_empty());
+}
+
+// Three leaves of 4 below a root. Without 1 the first leaf has 3 entries, and joins the second: 7. It keeps 4 of them without 2, 3 and 4. Without
+// 5 it has 3, and joins the last: 7 in one leaf, and the root ends. A leaf alone has no neighbour, and stays until its last entry goes.
+fn removing_the_first_keys_merges_leaves_one_by_one<C: Comparator<u32>>(comp: &C) {
+    let merged = [(1, 2, 3), (2, 2, 3), (3, 2, 3), (4, 2, 3), (5, 1, 1)];
+    let alone = (6..=11).map(|key| (key, 1, 1));
+    shrinks(12, &[merged.to_vec(), alone.collect(), vec![(12, 0, 0)]].concat(), comp);
+}
+
+// Two leaves of 4 below a root. The last leaf has no right neighbour, and stays until its last entry goes, with which the root ends.
+fn removing_the_last_keys_empties_leaves_one_by_one<C: Comparator<u32>>(comp: &C) {
+    let last_leaf = [(8, 2, 3), (7, 2, 3), (6, 2, 3), (5, 1, 1)];
+    shrinks(8, &[last_leaf.to_vec(), vec![(4, 1, 1), (3, 1, 1), (2, 1, 1), (1, 0, 0)]].concat(), comp);
 }
 
 fn retain_changes_values_and_merges_leaves<C: Comparator<u32>>(comp: &C) {
