@@ -524,7 +524,11 @@ impl<C: Order> Subject for Maps<'_, C> {
         match call {
             Call::Insert((key, value)) => vec![Answer::Put(map.insert(*key, *value, forest, order))],
             Call::Remove(key) => vec![Answer::Value(map.remove(*key, forest, order))],
-            Call::Get(key) => vec![Answer::Value(map.get(*key, forest, order))],
+            Call::Get(key) => {
+                let value = map.get(*key, forest, order);
+                assert_eq!(map.contains_key(*key, forest, order), value.is_some());
+                vec![Answer::Value(value)]
+            }
             Call::GetOrLess(key) => vec![Answer::Entry(map.get_or_less(*key, forest, order))],
             Call::GetOrGreater(key) => vec![Answer::Entry(map.get_or_greater(*key, forest, order))],
             Call::Ends => vec![Answer::Entry(map.first(forest)), Answer::Entry(map.last(forest))],

@@ -21,6 +21,7 @@ fn entry(found: Option<(&u32, &u32)>) -> Option<(u32, u32)> {
 fn read(maps: &Maps<u32, u32>, model: &Model, at: usize, key: u32) {
     let map = &model[at];
     assert_eq!(maps.get(at, key), map.get(&key).copied());
+    assert_eq!(maps.contains_key(at, key), map.contains_key(&key));
     assert_eq!(maps.get_or_less(at, key), entry(map.range(..=key).next_back()));
     assert_eq!(maps.get_or_greater(at, key), entry(map.range(key..).next()));
     assert_eq!(maps.first(at), entry(map.first_key_value()));
