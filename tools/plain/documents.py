@@ -4,7 +4,7 @@ A page of the package is for a user of cargo. What is for readers of the reposit
 
 - what stands behind the line `<!-- inside -->`;
 - what stands between the lines `<!-- rattle -->` and `<!-- /rattle -->`;
-- each sentence, each clause behind a semicolon, each row of a table that still has a word of the checker (`WORDS`).
+- each sentence, and each clause behind a semicolon, that still has a word of the checker (`WORDS`). A cell of a table has to keep a clause.
 
 What stands between the lines `<!-- cargo` and `-->` comes. `REWRITTEN` says some sentences in other words; a sentence that is no longer in a
 document does no harm there.
@@ -52,7 +52,8 @@ REWRITTEN = [
     (r"`?(?:docs/)?([A-Z]{3,})\.md`? of the repository", lambda it: f"{the(it)} repository's page on {it[1].lower()}"),
     (r"[Tt]he repository's `?(?:docs/)?([A-Z]{3,})\.md`?", lambda it: f"{the(it)} repository's page on {it[1].lower()}"),
     # two signatures in one cell of a table
-    (r"`[^`|\n]*`; in the package (`[^`|\n]*`)(?=[^|\n]*\|)", r"\1"),
+    (r"(?<=\|)( )`[^`|\n]*`; in the package (`[^`|\n]*`)", r"\1\2"),
+    (r"(?<=\|)( )`[^`|\n]*` in Rattle[,;] (`[^`|\n]*`) in the package", r"\1\2"),
     (r"`([^`|\n]*?)\balloc(?:, )?([^`|\n]*)`; in the package without `alloc`", r"`\1\2`"),
     (r"; in the package also ", "; also "),
     (r": in the package ", ": "),
@@ -160,7 +161,7 @@ def rewritten(text):
 
 def without_words(text):
     """The text, in which no code stands, without what has a word of the checker."""
-    parts, kept = re.split(r"(\n(?:\n+|(?=[-|*] )))", text), ""
+    parts, kept = re.split(r"(\n(?:\n+|(?=(?:[-|*]|\d+\.) )))", text), ""
     for between, part in zip(["", *parts[1::2]], parts[::2]):
         if part.startswith("|"):
             made = row_without_words(part)
@@ -174,14 +175,17 @@ def without_words(text):
 
 
 def row_without_words(row):
-    """The row of a table without the clauses that have a word of the checker, or nothing where a cell would be left without any."""
+    """The row of a table without the clauses that have a word of the checker. A cell that is left without any is told: the whole row may be of
+    the checker alone, or the cell can be said as `REWRITTEN` knows it."""
     cells = [clauses_without_words(it) if WORDS.search(it) else it for it in row.split("|")]
-    return "|".join(cells) if None not in cells else ""
+    if None in cells:
+        raise Stop(f"a cell of a table has words of the checker alone, and no page can have it: {row}")
+    return "|".join(cells)
 
 
 def paragraph_without_words(part):
     """A paragraph or an item of a list without the sentences that have a word of the checker; its lines are filled anew."""
-    start = re.match(r"(?:[-*] )?", part)[0]
+    start = re.match(r"(?:(?:[-*]|\d+\.) )?", part)[0]
     sentences = re.split(r"(?<=[.!?])\s+(?=[A-Z`\[*(])", part[len(start) :].strip("\n"))
     kept = [clauses_without_words(it) if WORDS.search(it) else it for it in sentences]
     text = " ".join(" ".join(it[:1].upper() + it[1:] for it in kept if it).split())
@@ -190,8 +194,9 @@ def paragraph_without_words(part):
 
 
 def clauses_without_words(text):
-    """A sentence or a cell without the clauses that have a word of the checker, or None where no clause is left."""
+    """A sentence or a cell without the parts that have a word of the checker, or None where no part is left."""
     found = re.fullmatch(r"(\s*)(.*?)([.:!?]?\s*)", text, re.S)
-    clauses = [re.sub(r", which [^,;]*\Z", "", it) if WORDS.search(it) else it for it in re.split(r";\s+", found[2])]
-    kept = [HERE.sub(r"\1", it) for it in clauses if not WORDS.search(it)]
+    # what can be left out of a clause: a relative clause, and what stands in brackets
+    shorter = re.sub(r", which [^,;:()]*[^\s,;:()]|\s\([^()]*\)", lambda it: "" if WORDS.search(it[0]) else it[0], found[2])
+    kept = [HERE.sub(r"\1", it) for it in re.split(r";\s+", shorter) if not WORDS.search(it)]
     return found[1] + "; ".join(kept) + found[3] if kept else None

@@ -100,7 +100,7 @@ def with_panics(text, source, panics):
         if not told:
             continue
         said, attribute, first = told
-        docs = "".join(f"    /// {it}".rstrip() + "\n" for it in ["", "# Panics", "", *textwrap.wrap(said, 92)])
+        docs = "".join(f"    /// {it}".rstrip() + "\n" for it in ["", "# Panics", "", *textwrap.wrap(said, 92, break_on_hyphens=False)])
         put = text.rindex("    pub fn", start, body)
         text = f"{text[:put]}{docs}    #[{attribute}]\n{text[put : body + 1]}{first}{text[body + 1 :]}"
     return text
