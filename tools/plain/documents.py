@@ -4,10 +4,11 @@ A page of the package is for a user of cargo. What is for readers of the reposit
 
 - what stands behind the line `<!-- inside -->`;
 - what stands between the lines `<!-- rattle -->` and `<!-- /rattle -->`;
-- each sentence, and each clause behind a semicolon, that still has a word of the checker (`WORDS`). A cell of a table has to keep a clause.
+- each sentence, and each clause behind a semicolon, that still has a word of the checker (`WORDS`). Each cell of a table has to keep a
+  clause, but for a row that says `in Rattle alone`, which goes.
 
-What stands between the lines `<!-- cargo` and `-->` comes. `REWRITTEN` says some sentences in other words; a sentence that is no longer in a
-document does no harm there.
+What stands between the lines `<!-- cargo` and `-->` comes. `REWRITTEN` says some sentences in other words; a sentence that is no longer in
+a document does no harm there.
 """
 import base64
 import posixpath
@@ -29,12 +30,14 @@ DOCUMENTS = {"CHOOSING": "choosing", "TUTORIAL": "tutorial", "CALLS": "calls", "
 # A link to a call that stands in the docs of both `MapForest` and `SetForest`.
 OF_FORESTS = re.compile(r"\[`((?:Map|Set)Forest)::(new|with_node_limit|holds)`\](?![(\[])")
 
-# What the checker reads or does, and the tools that make the package. `what is proved` is the name of a section of the package's README.
+# What the checker reads or does, the allocator that is handed over, and the tool that makes the package. `what is proved` is the name of a
+# section of the package's README.
 WORDS = re.compile(
-    r"\bRattle\b|\b(?:checker|prover|proofs?|contracts?|theorems?|ghost|antt|specs)\b|(?<!what[\s-]is[\s-])\bproved?\b|\brt\.alloc\b|`requires`"
-    r"|\ballocator argument|\btakes? (?:no|an|the) allocator\b|`[^`]*\balloc[,)][^`]*`|tools/plain_rust",
+    r"\b(?:Rattle|checker|prover|proofs?|contracts?|theorems?|ghost|antt|specs)\b|(?<!what[\s-]is[\s-])\bproved?\b|`requires`"
+    r"|\brt\.alloc\b|\ballocator argument|\btakes? (?:no|an|the) allocator\b|`[^`]*\balloc[,)][^`]*`|tools/plain_rust",
     re.I,
 )
+ALONE = re.compile(r"\bin Rattle (?:alone|only)\b", re.I)
 PROVED = "[what is proved](../README.md#what-is-proved)"
 # What stands in front of what is so in the package alone.
 HERE = re.compile(r"^(\s*)in (?:plain Rust|the package(?: for cargo)?),? ", re.I)
@@ -61,7 +64,10 @@ REWRITTEN = [
     (r"\b(is|are) not proved\b", rf"\1 not among {PROVED}"),
     (r"In Rattle the checker refuses [^.;]*; [^.;]*nobody checks it\.", "Nobody checks that a call has what it requires."),
     (r"In plain Rust nobody checks\b", "Nobody checks"),
-    (r"An index that is not there [^.;]*checker[^.;]*; in plain Rust the call panics and names it\.", "Where the index is not there, the call panics and names it."),
+    (
+        r"An index that is not there [^.;]*checker[^.;]*; in plain Rust the call panics and names it\.",
+        "Where the index is not there, the call panics and names it.",
+    ),
     (r"\*\*You want (?:the )?proofs\*\*:[^.]*\.", f"**You want more than tests**: {PROVED}."),
 ]
 
@@ -81,8 +87,8 @@ def module_of(target):
 
 
 def own_page(text):
-    """The text in which a link to a call that maps' and sets' forests have each of their own leads to the page of the one that is named: both
-    are one type, whose page has the calls of both."""
+    """The text in which a link to a call that maps' and sets' forests have each of their own leads to the page of the one that is named:
+    both are one type, whose page has the calls of both."""
     return OF_FORESTS.sub(r"[`\1::\2`](crate::\1#method.\2)", text)
 
 
@@ -93,8 +99,8 @@ def in_docs(defined):
 
 
 def linked(text, files):
-    """A document with each link by a reference, which its end defines for a reader of the file, and the pictures that it shows, each with its
-    content, which `files` reads."""
+    """A document with each link by a reference, which its end defines for a reader of the file, and the pictures that it shows, each with
+    its content, which `files` reads."""
     defined, pictures = {}, {}
 
     def by_reference(found):
@@ -175,11 +181,12 @@ def without_words(text):
 
 
 def row_without_words(row):
-    """The row of a table without the clauses that have a word of the checker. A cell that is left without any is told: the whole row may be of
-    the checker alone, or the cell can be said as `REWRITTEN` knows it."""
+    """The row of a table without the clauses that have a word of the checker, or nothing where it says that it is of Rattle alone."""
+    if ALONE.search(row):
+        return ""
     cells = [clauses_without_words(it) if WORDS.search(it) else it for it in row.split("|")]
     if None in cells:
-        raise Stop(f"a cell of a table has words of the checker alone, and no page can have it: {row}")
+        raise Stop(f"a cell of a table is of Rattle alone, and its row does not say so (`in Rattle alone`): {row}")
     return "|".join(cells)
 
 

@@ -1,6 +1,7 @@
 """What `tools/plain_rust` changes beside taking out what only the prover reads.
 
-Each edit is a pattern, what takes its place, and how often it has to be found in its file; the file is named by its crate.
+Each edit is a pattern, what takes its place, and how often it has to be found in its file, or `None` for a comment that may be said in
+other words; the file is named by its crate.
 """
 
 # How the package begins. The lints are about how the proved code is written, which the package leaves as it is.
@@ -48,13 +49,14 @@ FOREST = [
     (r"pub fn with_node_limit\(alloc: Global, limit: u32\)", "pub fn with_node_limit(limit: u32)", 1),
     (r"Trees::with_limit\(alloc, limit\)", "Trees::with_limit(limit)", 1),
 ]
-# The comments at the front of a crate that speak of its contracts.
+# The comments at the front of a file, and those of them behind the first paragraph, which speak of contracts and of the crates.
 FRONT = r"\A(?://![^\n]*\n)*"
+BEHIND_FIRST = (r"^//!\n(?://![^\n]*\n)+", "", 1)
 
 # What the docs of `range` say of its bounds.
 BOUNDS = (
-    "    ///\n    /// Any bounds serve: `3..9`, `..=9`, `..` for all, or a pair of `Bound`s. A pair of two `Unbounded` does not say of which type its\n"
-    "    /// bounds are, so write `..` for it.\n"
+    "    ///\n    /// Any bounds serve: `3..9`, `..=9`, `..` for all, or a pair of `Bound`s. A pair of two `Unbounded` does not say\n"
+    "    /// of which type its bounds are, so write `..` for it.\n"
 )
 
 # Handles in a vector that asks for memory by Rust's names.
@@ -65,7 +67,11 @@ INDEXED = [
     (r"Vec::new\(alloc\)", "Vec::new()", 1),
     (r"\bAllocError\b", "TryReserveError", 4),
     (r"^use std::ops::Bound;", "use std::ops::RangeBounds;", 1),
-    (r"pub fn range\(&self, index: usize, bounds: \(Bound<K>, Bound<K>\)\)", "pub fn range<R: RangeBounds<K>>(&self, index: usize, bounds: R)", 1),
+    (
+        r"pub fn range\(&self, index: usize, bounds: \(Bound<K>, Bound<K>\)\)",
+        "pub fn range<R: RangeBounds<K>>(&self, index: usize, bounds: R)",
+        1,
+    ),
     (r"^(?=    pub fn range<)", BOUNDS, 1),
 ]
 
@@ -84,7 +90,7 @@ EDITS = {
     "bforest/lib.rt": [(FRONT, "", 1)],
     "bforest/map_forest.rt": [*FOREST, (r"^(pub type .*)\bMAP_LEAF>", r"\g<1>7>", 1)],
     "bforest/set_forest.rt": [*FOREST, (r"^(pub type .*)\bSET_LEAF>", r"\g<1>15>", 1)],
-    "bforest/map.rt": [*RANGE, (r" \(docs/RULES\.md, removal\)", "", 1)],
+    "bforest/map.rt": [*RANGE, (r"(?:\s|///)*\(docs/RULES\.md[^)]*\)", "", None)],
     "bforest/set.rt": RANGE,
     "bforest_indexed/lib.rt": [
         (r"^pub use bforest::\{Comparator, OutOfMemory\};\n", "", 1),
@@ -111,46 +117,36 @@ EDITS = {
         (r"^pub struct Sets<K: Copy, C: Comparator<K>>", "pub struct Sets<K: Copy, C: Comparator<K> = ()>", 1),
         (r"\.push_reserved\(", ".push(", 1),
     ],
-    "bforest_nodes/lib.rt": [
-        (r"; contracts see it as two lists \(`specs/Content\.antt`\)\.", ".", 1),
-        (r"table, which this crate does not\n//! know\. Users name `bforest_core`, which has all of it\.", "table.", 1),
-    ],
+    "bforest_nodes/lib.rt": [BEHIND_FIRST],
     "bforest_nodes/comparator.rt": [
         (
-            r"An implementation\n/// proves that `order` is a total order: two keys may compare equal and still be different values\.",
-            "An implementation\n/// has to be a total order, always the same: each key equals itself, swapping two keys reverses the result, and less than "
-            "and equal are\n/// transitive. Two keys may compare equal and still be different values. Where an implementation replaces a search, it has "
-            "to return what\n/// the provided body does.",
+            r"An implementation(?: |\n/// )proves [^.]*\.",
+            "An implementation\n/// has to be a total order, always the same: each key equals itself, swapping two keys reverses the "
+            "result, and less than and\n/// equal are transitive. Two keys may compare equal and still be different values. Where an "
+            "implementation replaces a search,\n/// it has to return what the provided body does.",
             1,
         )
     ],
-    "bforest_nodes/lent.rt": [(r"^//!\n(?://![^\n]*\n)+", "", 1)],
+    "bforest_nodes/lent.rt": [BEHIND_FIRST],
     "bforest_nodes/node.rt": [
         (r"^use std::alloc::\{AllocError, Global\};\n", "", 1),
         (r"pub fn new\(_alloc: Global\) -> Result<Self, AllocError>", "pub fn new() -> Self", 1),
         (r"Ok\((NodeData \{\s*state: State::Vacant\(PackedNode::none\(\)\),\s*\})\)", r"\1", 1),
-        (r" It takes no memory and always succeeds, since the room for the entries is the node's own\.", " It takes no memory.", 1),
+        (r" It takes no memory and always succeeds[^.]*\.", " It takes no memory.", None),
         (r"\bunreachable!\(\)", MISUSED, 25),
         # what only a caller of the prover reads
-        (r"\n    /// Of the right half\.\n    pub rhs_entries: usize,", "", 1),
+        (r"(?:\n    //[^\n]*)+\n    pub rhs_entries: usize,", "", 1),
         (r"\n *rhs_entries: len - \w+,", "", 2),
     ],
     "bforest_core/lib.rt": [
-        (
-            r" Contracts see a node as two lists and a pool as the contents of its slots, its chain and its\n//! limit \(`specs/Content\.antt`, "
-            r"`specs/Table\.antt`\)\.",
-            "",
-            1,
-        ),
-        (r"; a tree is seen as its levels, each a\n//! row of nodes \(`specs/Levels\.antt`\)\. docs/MODEL\.md reads these definitions aloud\.", ".", 1),
-        (r"\[`NodeData`\]", "`NodeData`", 1),
+        BEHIND_FIRST,
         (r"Comparator, Node, NodeData, PackedNode, Removed, SetValue, SplitOff,?", "Comparator, Node, PackedNode, SetValue", 1),
     ],
     # What the search alone uses, which goes with it.
     "bforest_core/pool.rt": [
         (r"^use std::alloc::\{AllocError, Global\};\n", "use alloc::collections::TryReserveError;\nuse alloc::vec::Vec;\n", 1),
         (r"(#\[derive\(Clone, Copy, Debug, PartialEq, Eq)(?=\)\]\npub enum OutOfMemory)", r"\1, Hash", 1),
-        (r"\n    // A free node that is never handed out[^\n]*\n    blank: NodeData<K, V, N>,", "", 1),
+        (r"(?:\n    //[^\n]*)+\n    blank: NodeData<K, V, N>,", "", 1),
         (r"\n    alloc: Global,(?=\n\})", "", 1),
         (r"\n *blank: NodeData::new\(alloc\)\.unwrap\(\),", "", 1),
         (r"\n            alloc,", "", 1),
@@ -165,7 +161,7 @@ EDITS = {
         (r"nodes\.push_reserved\(node\)", "nodes.push(node)", 1),
     ],
     "bforest_trees/lib.rt": [
-        (r" What a contract sees is the list of entries under\n(?://![^\n]*\n)+", "\n", 1),
+        BEHIND_FIRST,
         (r"^pub use bforest_core::\{[^}]*\};\n", "", 1),
     ],
     "bforest_trees/trees.rt": [

@@ -234,13 +234,13 @@ impl<K: Copy, V: Copy, const N: usize> Trees<K, V, N> {
         let (slot, slots) = (root.number(), self.slots());
         assert!(
             slot < slots,
-            "the handle is not live in this forest, which the call requires and `holds` tests: its root was in slot {slot}, and the number of \
-             slots is {slots} (the forest was cleared, or the handle belongs to another one)"
+            "the handle is not live in this forest, which the call requires and `holds` tests: its root was in slot {slot}, and the \
+             number of slots is {slots} (the forest was cleared, or the handle belongs to another one)"
         );
         assert!(
             !self.pool.node(root).is_free(),
-            "the handle is not live in this forest, which the call requires and `holds` tests: its tree has ended, since the slot {slot} of its \
-             root is free (a copy of the handle was cleared or changed)"
+            "the handle is not live in this forest, which the call requires and `holds` tests: its tree has ended, since the slot {slot} \
+             of its root is free (a copy of the handle was cleared or changed)"
         );
     }
 }

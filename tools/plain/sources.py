@@ -62,9 +62,9 @@ def functions(text):
 
 
 def replaced(text, pattern, new, count, what):
-    """The text with each match of the pattern replaced; `count` says how many there have to be."""
+    """The text with each match of the pattern replaced; `count` says how many there have to be, where that is known."""
     text, made = re.subn(pattern, new, text, flags=re.M)
-    if made != count:
+    if count is not None and made != count:
         raise Stop(f"{what}: {pattern!r} is there {made} times, and {count} are wanted")
     return text
 
@@ -92,8 +92,8 @@ def marked_unused(text):
 
 
 def with_panics(text, source, panics):
-    """The text in which the docs of public functions say when they panic: `panics` tells of a contract what they say, an attribute, and what
-    the body begins with, or answers nothing."""
+    """The text in which the docs of public functions say when they panic: `panics` tells of a contract what they say, an attribute, and
+    what the body begins with, or returns nothing."""
     for start, name, _, (body, _) in reversed(list(functions(text))):
         contract = re.search(rf"^    pub fn {name}\b.*?^    \{{", source, re.M | re.S)
         told = panics(contract[0]) if contract and "    pub fn" in text[start:body] else None
@@ -123,8 +123,8 @@ def bounded(contract):
 
 
 def with_attributes(text, name):
-    """The text with what Rust's users expect of its types and functions: `Clone`, `const`, `must_use`, other names, and fields that `rust.rs`
-    reads."""
+    """The text with what Rust's users expect of its types and functions: `Clone`, `const`, `must_use`, other names, and fields that
+    `rust.rs` reads."""
     for it in CLONED.get(name, []):
         text = replaced(text, rf"^(?=(?:pub(?:\(crate\))? )?(?:struct|enum) {it}\b)", "#[derive(Clone)]\n", 1, name)
     for it in OPENED.get(name, []):
@@ -138,7 +138,8 @@ def with_attributes(text, name):
     for it, aliases in ALIASES.get(name, {}).items():
         lines = "".join(f'\\1#[doc(alias = "{alias}")]\n' for alias in aliases)
         text = replaced(text, rf"^(?=( *)pub fn {it}\b)", lines, 1, name)
-    return re.sub(r"^(?=pub struct \w*(?:Iter|Range)\b)", '#[must_use = "iterators are lazy and do nothing unless consumed"]\n', text, flags=re.M)
+    lazy = '#[must_use = "iterators are lazy and do nothing unless consumed"]\n'
+    return re.sub(r"^(?=pub struct \w*(?:Iter|Range)\b)", lazy, text, flags=re.M)
 
 
 def plain(text):

@@ -1,5 +1,5 @@
-//! Random calls on maps and sets, cursors, ranges and iterators beside `BTreeMap`, under five orders and some limits; and the counts of slots and
-//! of levels beside what their definitions say. `BFOREST_CALLS` is how many calls are made.
+//! Random calls on maps and sets, cursors, ranges and iterators beside `BTreeMap`, under five orders and some limits; and the counts of
+//! slots and of levels beside what their definitions say. `BFOREST_CALLS` is how many calls are made.
 
 mod random;
 

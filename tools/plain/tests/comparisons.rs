@@ -138,8 +138,8 @@ fn steps_of_cursors() {
 
 // Calls that search once.
 
-/// How often a search compares at most, on its way through nodes of so many keys. Each comparison leaves half of a node's keys, rounded up, and
-/// the key that is left is compared too: with 7 keys that is 7, 4, 2 and 1, so four comparisons, and with 15 keys five.
+/// How often a search compares at most, on its way through nodes of so many keys. Each comparison leaves half of a node's keys, rounded
+/// up, and the key that is left is compared too: with 7 keys that is 7, 4, 2 and 1, so four comparisons, and with 15 keys five.
 fn of_search(way: &[u32]) -> u32 {
     way.iter().map(|&keys| if keys == 0 { 0 } else { keys.next_power_of_two().ilog2() + 1 }).sum()
 }
@@ -228,14 +228,14 @@ fn searches_of_one_leaf() {
     }
 }
 
-/// How often a search compares at most in a map of 35 even keys. They lie below 7 separators, in seven leaves of 4 keys and a last one of 7,
-/// which begins with 58.
+/// How often a search compares at most in a map of 35 even keys. They lie below 7 separators, in seven leaves of 4 keys and a last one of
+/// 7, which begins with 58.
 fn of_search_in_35(key: u32) -> u32 {
     of_search(if key < 58 { &[7, 4] } else { &[7, 7] })
 }
 
-/// How often a search compares at most in a set of 71 even keys. They lie below 7 separators, in seven leaves of 8 keys and a last one of 15,
-/// which begins with 114.
+/// How often a search compares at most in a set of 71 even keys. They lie below 7 separators, in seven leaves of 8 keys and a last one of
+/// 15, which begins with 114.
 fn of_search_in_71(key: u32) -> u32 {
     of_search(if key < 114 { &[7, 8] } else { &[7, 15] })
 }
@@ -360,7 +360,8 @@ fn even_sets(count: u32, order: &Counting) -> IndexedSets<'_> {
     sets
 }
 
-/// Makes each call of the table with the keys up to `last`, each on the maps or sets as they were, and none compares more often than one search.
+/// Makes each call of the table with the keys up to `last`, each on the maps or sets as they were, and none compares more often than one
+/// search.
 fn each_indexed<T: Clone>(calls: &[(&str, IndexedCall<T>)], all: &T, last: u32, order: &Counting, search: impl Fn(u32) -> u32) {
     for (name, call) in calls {
         for key in 0..=last {
@@ -429,8 +430,8 @@ fn with_two_bounds(start: u32, end: u32) -> [Bounds; 4] {
     [(starts[0], ends[0]), (starts[0], ends[1]), (starts[1], ends[0]), (starts[1], ends[1])]
 }
 
-/// Makes ranges whose bounds are keys up to `last`; `taken` makes one, and returns how often it compared: in one search for each bound, and in
-/// one comparison more.
+/// Makes ranges whose bounds are keys up to `last`; `taken` makes one, and returns how often it compared: in one search for each bound,
+/// and in one comparison more.
 fn each_range(last: u32, search: impl Fn(u32) -> u32, taken: impl Fn(Bounds) -> u32) {
     assert!(taken((Unbounded, Unbounded)) <= 1);
     for start in 0..=last {

@@ -1,5 +1,6 @@
-//! What a mistake of the caller meets: a handle that is not live, and an order that does not fit. Debug builds panic at once on a handle whose
-//! tree has ended, and name the mistake, what was asked, and the caller's place. All builds go on: a call returns, or panics in plain words.
+//! What a mistake of the caller meets: a handle that is not live, and an order that does not fit. Debug builds panic at once on a handle
+//! whose tree has ended, and name the mistake, what was asked, and the caller's place. All builds go on: a call returns, or panics in
+//! plain words.
 
 use bforest::{Comparator, Map, MapForest, Set, SetForest};
 use std::cell::{Cell, RefCell};
@@ -337,8 +338,8 @@ fn trees_that_a_copy_made_a_hole_in() {
 
 // Mistakes that no build notices.
 
-/// The eighth entry halves the only leaf into 4 entries and 4, below a new root. The copy names the first half. An insertion through the copy
-/// puts a key there that belongs into the other half, where it is looked for.
+/// The eighth entry halves the only leaf into 4 entries and 4, below a new root. The copy names the first half. An insertion through the
+/// copy puts a key there that belongs into the other half, where it is looked for.
 #[test]
 fn a_copy_after_the_eighth_insertion_has_half_the_map() {
     let mut forest = MapForest::new();

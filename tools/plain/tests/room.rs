@@ -144,8 +144,8 @@ fn a_limit_of_the_most_nodes_is_never_full() {
     assert_eq!(maps.reserve_for(usize::MAX, usize::MAX), Err(OutOfMemory::Full));
 }
 
-/// A map that was filled in order far enough has nodes that are half full, level by level, but for the last ones. Once it is taken apart from
-/// its end, it has the most nodes that its entries can have.
+/// A map that was filled in order far enough has nodes that are half full, level by level, but for the last ones. Once it is taken apart
+/// from its end, it has the most nodes that its entries can have.
 #[test]
 fn the_most_nodes_are_met() {
     for entries in (0..300).chain((300..2000).step_by(37)) {

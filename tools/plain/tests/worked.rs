@@ -1,5 +1,6 @@
-//! Short runs whose answers are worked out by hand from the rules of the trees: a leaf of a map has at most 7 entries, one of a set at most 15,
-//! and an inner node at most 8 children. Each run is made twice, with the package's own search in a node and with a scan from the front.
+//! Short runs whose answers are worked out by hand from the rules of the trees: a leaf of a map has at most 7 entries, one of a set at
+//! most 15, and an inner node at most 8 children. Each run is made twice, with the package's own search in a node and with a scan from
+//! the front.
 
 use bforest::{Comparator, Map, MapForest, OutOfMemory, Set, SetForest};
 use std::cmp::{Ordering, Reverse};
@@ -456,8 +457,9 @@ fn shrinks<C: Comparator<u32>>(last: u32, steps: &[(u32, usize, u32)], comp: &C)
     assert!(map.is_empty());
 }
 
-// Three leaves of 4 below a root. Without 1 the first leaf has 3 entries, and joins the second: 7. It keeps 4 of them without 2, 3 and 4. Without
-// 5 it has 3, and joins the last: 7 in one leaf, and the root ends. A leaf alone has no neighbour, and stays until its last entry goes.
+// Three leaves of 4 below a root. Without 1 the first leaf has 3 entries, and joins the second: 7. It keeps 4 of them without 2, 3 and 4.
+// Without 5 it has 3, and joins the last: 7 in one leaf, and the root ends. A leaf alone has no neighbour, and stays until its last entry
+// goes.
 fn removing_the_first_keys_merges_leaves_one_by_one<C: Comparator<u32>>(comp: &C) {
     let merged = [(1, 2, 3), (2, 2, 3), (3, 2, 3), (4, 2, 3), (5, 1, 1)];
     let alone = (6..=11).map(|key| (key, 1, 1));
