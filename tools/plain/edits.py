@@ -120,7 +120,7 @@ EDITS = {
     "bforest_nodes/lib.rt": [BEHIND_FIRST],
     "bforest_nodes/comparator.rt": [
         (
-            r"An implementation(?: |\n/// )proves [^.]*\.",
+            r"An implementation(?: |\n/// )[^.]*`order`[^.]*\.",
             "An implementation\n/// has to be a total order, always the same: each key equals itself, swapping two keys reverses the "
             "result, and less than and\n/// equal are transitive. Two keys may compare equal and still be different values. Where an "
             "implementation replaces a search,\n/// it has to return what the provided body does.",
