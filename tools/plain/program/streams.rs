@@ -1,6 +1,6 @@
 //! Standard input and output that tell where a read or a write fails. Not proved.
 //!
-//! Rust's `Stdin` and `Stdout` do not tell: a stream that is closed, or that is open for the other direction alone, is empty or takes all there.
+//! Rust's `Stdin` and `Stdout` do not tell: there a stream that is closed, or open for the other direction alone, is empty or takes all.
 
 use std::io::{Read, Write};
 
@@ -55,8 +55,8 @@ mod unix {
 
     /// Whether a stream is `/dev/null`, open for reading and for writing.
     ///
-    /// Rust's library opens it so before `main`, in the place of a stream that is closed. Nothing else tells the two apart, so a caller that
-    /// hands `/dev/null` over in this way, and not for one direction as a shell does, meets a closed stream.
+    /// Rust's library opens it so before `main`, in the place of a stream that is closed, and no safe call tells more. So a caller that opens
+    /// `/dev/null` for both, and not for one direction as a shell does, has a closed stream here.
     fn was_closed(mut stream: &File) -> Result<bool> {
         let (held, null) = (stream.metadata()?, metadata("/dev/null")?);
         let is_null = held.file_type().is_char_device() && held.rdev() == null.rdev();
