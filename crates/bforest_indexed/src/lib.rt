@@ -1,7 +1,7 @@
 //! Many maps or sets in one forest under one order, each named by an index.
 //!
 //! [`Maps`] and [`Sets`] hold the forest, the order and all handles, so no handle is copied, and each tree is only ever used under the one
-//! order. A call asks for nothing but an index that is there.
+//! order. A call requires an index that is there, and `retain` a closure that may be called.
 #![tactic(auto)]
 
 mod edit;
