@@ -68,13 +68,13 @@ impl<K: Copy, V: Copy, const N: usize> Forest<K, V, N> {
 
     /// Makes sure that `n` slots are free: where fewer are, the table grows once until exactly `n` are.
     ///
-    /// Insertions that need at most `n` nodes in all cannot be refused then. Where `n` slots are free already, nothing changes and no
+    /// Insertions that need at most `n` nodes in all cannot fail then. Where `n` slots are free already, nothing changes and no
     /// memory is taken.
     ///
     /// # Errors
     ///
     /// [`OutOfMemory::Full`] where the limit does not allow that many slots, which is tested first, and [`OutOfMemory::Memory`] where the
-    /// allocator refused the growth. The forest is unchanged then.
+    /// allocator gave no memory for the growth. The forest is unchanged then.
     pub fn reserve_nodes(&mut self, n: u32) -> Result<(), OutOfMemory>
         ensures { Reserves self.old n result self.new }
     {

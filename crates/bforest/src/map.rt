@@ -28,9 +28,9 @@ use std::ops::Bound;
 
 /// A handle to one ordered map, whose entries lie in a [`MapForest`].
 ///
-/// A handle is 4 bytes: the number of its tree's root, or nothing, which is the empty map. Each call is handed the forest. Calls ask that
-/// the handle is live there, which [`MapForest::holds`] tests, and calls that compare keys ask that its list strictly increases under the
-/// comparator, which [`Map::increases`] tests. Dropping a handle frees no node: [`Map::clear`] does.
+/// A handle is 4 bytes: the number of its tree's root, or nothing, which is the empty map. Each call is handed the forest. Calls require
+/// that the handle is live there, which [`MapForest::holds`] tests. Calls that compare keys also require that its list strictly increases
+/// under the comparator, which [`Map::increases`] tests. Dropping a handle frees no node: [`Map::clear`] does.
 #[derive(Drop)]
 pub struct Map<K: Copy, V: Copy> {
     pub(crate) root: PackedNode,
@@ -177,7 +177,7 @@ impl<K: Copy, V: Copy> Map<K, V> {
     /// # Errors
     ///
     /// [`OutOfMemory::Full`] where the forest's limit does not allow the nodes that the entry needs. [`OutOfMemory::Memory`] where the
-    /// table had to grow and the memory was refused. The map and the forest are unchanged then.
+    /// table had to grow and there was no memory for it. The map and the forest are unchanged then.
     pub fn try_insert<C: Comparator<K>>(
         &mut self,
         key: K,
@@ -199,7 +199,7 @@ impl<K: Copy, V: Copy> Map<K, V> {
     ///
     /// # Errors
     ///
-    /// [`OutOfMemory`] exactly where [`Map::try_insert`] refuses the entry. The map and the forest are unchanged then.
+    /// [`OutOfMemory`] exactly where [`Map::try_insert`] of the entry fails. The map and the forest are unchanged then.
     pub fn get_or_insert<C: Comparator<K>>(
         &mut self,
         key: K,
@@ -218,7 +218,7 @@ impl<K: Copy, V: Copy> Map<K, V> {
     ///
     /// One search, as in [`Map::get`], and then at most two nodes of each level: a leaf that falls below half full is rebalanced with its
     /// right sibling or merged into it, and so on upwards (docs/RULES.md, removal). No memory is taken, and nodes that become empty join
-    /// the forest's free list. An insertion of the same key may need a node again, and be refused.
+    /// the forest's free list. An insertion of the same key may need a node again, and fail.
     pub fn remove<C: Comparator<K>>(
         &mut self,
         key: K,
@@ -266,7 +266,7 @@ impl<K: Copy, V: Copy> Map<K, V> {
 
     /// Keeps the entries for which the predicate returns `true`, with the value as the predicate left it, and removes all others.
     ///
-    /// The predicate is asked once for each entry, in order. No comparison, no memory. Each removed entry may rebalance or merge nodes,
+    /// The predicate is called once for each entry, in order. No comparison, no memory. Each removed entry may rebalance or merge nodes,
     /// as in [`Map::remove`].
     pub fn retain<F: FnMut(K, &mut V) -> bool>(
         &mut self,
@@ -281,7 +281,8 @@ impl<K: Copy, V: Copy> Map<K, V> {
         forest.trees.retain(&mut self.root, Asked { predicate });
     }
 
-    /// Returns how many levels of nodes the map's tree has: 0 where it is empty, and never more than 17. Visits one node of each level.
+    /// Returns the height of the map's tree, in levels of nodes: 0 where it is empty, and never more than 17. Visits one node of each
+    /// level.
     ///
     /// A map of `n` entries has at most `(n + 3) / 4` leaves, and with `h` levels, 2 or more, `4 ^ (h - 1)` is less than `n`.
     pub fn levels(&self, forest: &MapForest<K, V>) -> usize
@@ -299,10 +300,10 @@ impl<K: Copy, V: Copy> Map<K, V> {
     ///
     /// At most 32 steps, one for each level of such a tree. No node is visited, and no memory is taken.
     ///
-    /// A leaf holds at most 7 entries, and each but the last of its map at least 4; an inner node has at most 8 children, and each but
-    /// the last of its level at least 4. The answer counts the nodes where all of them hold as few as that allows, and a map may have so
-    /// many. So it never decreases as `entries` grows. It is at most twice the number of such leaves, which is `entries / 4` rounded up,
-    /// and so within `usize` for each number of entries.
+    /// A leaf holds at most 7 entries, and each but the last of its map at least 4; an inner node has at most 8 children, and each but the
+    /// last of its level at least 4. The number returned is that of the nodes where all of them hold as few as that allows, and a map may
+    /// have so many. So it never decreases as `entries` grows. It is at most twice the number of such leaves, which is `entries / 4`
+    /// rounded up, and so within `usize` for each number of entries.
     ///
     /// | Entries | 0 | 10 | 100 | 10,000 | 1,000,000 |
     /// |---|---|---|---|---|---|
@@ -334,9 +335,9 @@ impl<K: Copy, V: Copy> Map<K, V> {
 
     /// Returns a double-ended iterator over the entries within both bounds, in order.
     ///
-    /// At most two searches, as in [`Map::get`], and one comparison; the steps compare nothing. From an included key to another the searches
-    /// go down together as far as they go the same way. A start behind the end, or two excluded bounds that compare equal, give an empty
-    /// range.
+    /// At most two searches, as in [`Map::get`], and one comparison; the steps compare nothing. From an included key to another the
+    /// searches go down together as far as they go the same way. A start behind the end, or two excluded bounds that compare equal, give an
+    /// empty range.
     pub fn range<'a, C: Comparator<K>>(
         &self,
         bounds: (Bound<K>, Bound<K>),
@@ -396,7 +397,7 @@ impl<K: Copy, V: Copy> Map<K, V> {
         }
     }
 
-    /// Returns whether each key is less than the next under the comparator, which each call that compares asks.
+    /// Returns whether each key is less than the next under the comparator, which each call that compares requires.
     ///
     /// Visits each entry, and compares at most `n - 1` times for `n` entries. A map of at most one entry increases under every order.
     pub fn increases<C: Comparator<K>>(&self, forest: &MapForest<K, V>, comp: &C) -> bool

@@ -32,7 +32,7 @@ impl<K: Copy, V: Copy> MapForest<K, V> {
         MapForest::with_node_limit(alloc, u32::MAX)
     }
 
-    /// Returns an empty forest of at most `limit` slots. No memory is taken. A limit of 0 is allowed: then each insertion is refused.
+    /// Returns an empty forest of at most `limit` slots. No memory is taken. A limit of 0 is allowed: then each insertion fails.
     pub fn with_node_limit(alloc: Global, limit: u32) -> Self
         ensures empty { result ≡ empty limit }
     {
@@ -41,7 +41,7 @@ impl<K: Copy, V: Copy> MapForest<K, V> {
         }
     }
 
-    /// Returns whether a handle is live here: whether it is empty or names a tree of this forest, which each call on a handle asks.
+    /// Returns whether a handle is live here: whether it is empty or names a tree of this forest, which each call on a handle requires.
     ///
     /// Visits all nodes of the forest. No comparison. A handle does not know its forest: one that was filled in another forest is live
     /// here if this forest has a tree of its number.

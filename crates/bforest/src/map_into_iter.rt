@@ -8,7 +8,7 @@ use crate::map_forest::{MAP_LEAF, MapForest};
 use bforest_core::Path;
 use std::marker::Model;
 
-/// An iterator over the entries of a map, in order, and then `None` for ever, which owns the forest. [`Map::into_iter`] makes it. A step
+/// An iterator over the entries of a map, in order, which owns the forest. It is fused. [`Map::into_iter`] makes it. A step
 /// compares nothing.
 #[derive(Drop)]
 pub struct MapIntoIter<K: Copy, V: Copy> {

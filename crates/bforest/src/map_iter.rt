@@ -9,7 +9,7 @@ use crate::map_forest::{MAP_LEAF, MapForest};
 use bforest_trees::{Reader, Trees};
 use std::marker::Model;
 
-/// An iterator over the entries of a map, in order, and then `None` for ever. [`Map::iter`] makes it. A step compares nothing.
+/// An iterator over the entries of a map, in order. It is fused. [`Map::iter`] makes it. A step compares nothing.
 #[derive(Drop)]
 pub struct MapIter<'a, K: Copy, V: Copy> {
     trees: &'a Trees<K, V, MAP_LEAF>,

@@ -7,7 +7,7 @@ use bforest_core::{Comparator, PackedNode};
 use bforest_trees::{Ends, Trees};
 use std::marker::{Model, PhantomData};
 
-/// A double-ended iterator over the entries of a map within bounds, in order, and then `None` for ever from both ends.
+/// A double-ended iterator over the entries of a map within bounds, in order. It is fused, at both ends.
 /// [`Map::range`](crate::Map::range) makes it. A step compares nothing.
 #[derive(Drop)]
 pub struct MapRange<'a, K: Copy, V: Copy, C: Comparator<K>> {

@@ -27,9 +27,9 @@ use std::ops::Bound;
 
 /// A handle to one ordered set, whose keys lie in a [`SetForest`].
 ///
-/// A handle is 4 bytes: the number of its tree's root, or nothing, which is the empty set. Each call is handed the forest. Calls ask that
-/// the handle is live there, which [`SetForest::holds`] tests, and calls that compare keys ask that its keys strictly increase under the
-/// comparator, which [`Set::increases`] tests. Dropping a handle frees no node: [`Set::clear`] does.
+/// A handle is 4 bytes: the number of its tree's root, or nothing, which is the empty set. Each call is handed the forest. Calls require
+/// that the handle is live there, which [`SetForest::holds`] tests. Calls that compare keys also require that its keys strictly increase
+/// under the comparator, which [`Set::increases`] tests. Dropping a handle frees no node: [`Set::clear`] does.
 #[derive(Drop)]
 pub struct Set<K: Copy> {
     pub(crate) root: PackedNode,
@@ -92,7 +92,7 @@ impl<K: Copy> Set<K> {
 
     /// Returns whether the set has a key that compares equal to `key`.
     ///
-    /// One search. It visits one node of each level, at most `1 + log4(n / 2)` nodes for `n` keys, and compares about 3 times in an inner
+    /// One search. It visits one node of each level, at most `1 + log4(n / 2)` nodes for `n` keys. It compares about 3 times in an inner
     /// node and 4 times in the leaf, or as often as the comparator's own search does among at most 7 and 15 keys.
     pub fn contains<C: Comparator<K>>(&self, key: K, forest: &SetForest<K>, comp: &C) -> bool
         requires { IsSearchable (C.order comp.now) forest.now self.now }
@@ -176,7 +176,7 @@ impl<K: Copy> Set<K> {
     /// # Errors
     ///
     /// [`OutOfMemory::Full`] where the forest's limit does not allow the nodes that the key needs. [`OutOfMemory::Memory`] where the
-    /// table had to grow and the memory was refused. The set and the forest are unchanged then.
+    /// table had to grow and there was no memory for it. The set and the forest are unchanged then.
     pub fn try_insert<C: Comparator<K>>(
         &mut self,
         key: K,
@@ -238,7 +238,7 @@ impl<K: Copy> Set<K> {
 
     /// Keeps the keys for which the predicate returns `true`, and removes all others.
     ///
-    /// The predicate is asked once for each key, in order. No comparison, no memory. Each removed key may rebalance or merge nodes, as in
+    /// The predicate is called once for each key, in order. No comparison, no memory. Each removed key may rebalance or merge nodes, as in
     /// [`Set::remove`].
     pub fn retain<F: FnMut(K) -> bool>(&mut self, forest: &mut SetForest<K>, predicate: F)
         requires live { IsLive forest.old self.old }
@@ -249,7 +249,8 @@ impl<K: Copy> Set<K> {
         forest.trees.retain(&mut self.root, AskedKey { predicate });
     }
 
-    /// Returns how many levels of nodes the set's tree has: 0 where it is empty, and never more than 17. Visits one node of each level.
+    /// Returns the height of the set's tree, in levels of nodes: 0 where it is empty, and never more than 17. Visits one node of each
+    /// level.
     ///
     /// A set of `n` keys has at most `(n + 7) / 8` leaves, and with `h` levels, 2 or more, `2 * 4 ^ (h - 1)` is less than `n`.
     pub fn levels(&self, forest: &SetForest<K>) -> usize
@@ -268,9 +269,9 @@ impl<K: Copy> Set<K> {
     /// At most 32 steps, one for each level of such a tree. No node is visited, and no memory is taken.
     ///
     /// A leaf holds at most 15 keys, and each but the last of its set at least 8; an inner node has at most 8 children, and each but the
-    /// last of its level at least 4. The answer counts the nodes where all of them hold as few as that allows, and a set may have so
-    /// many. So it never decreases as `keys` grows. It is at most twice the number of such leaves, which is `keys / 8` rounded up, and
-    /// so within `usize` for each number of keys.
+    /// last of its level at least 4. The number returned is that of the nodes where all of them hold as few as that allows, and a set may
+    /// have so many. So it never decreases as `keys` grows. It is at most twice the number of such leaves, which is `keys / 8` rounded up,
+    /// and so within `usize` for each number of keys.
     ///
     /// | Keys | 0 | 10 | 100 | 10,000 | 1,000,000 |
     /// |---|---|---|---|---|---|
@@ -341,7 +342,7 @@ impl<K: Copy> Set<K> {
         }
     }
 
-    /// Returns whether each key is less than the next under the comparator, which each call that compares asks.
+    /// Returns whether each key is less than the next under the comparator, which each call that compares requires.
     ///
     /// Visits each key, and compares at most `n - 1` times for `n` keys. A set of at most one key increases under every order.
     pub fn increases<C: Comparator<K>>(&self, forest: &SetForest<K>, comp: &C) -> bool

@@ -12,7 +12,7 @@ use bforest_core::SetValue;
 use bforest_trees::{Reader, Trees};
 use std::marker::Model;
 
-/// An iterator over the keys of a set, in order, and then `None` for ever. [`Set::iter`] makes it. A step compares nothing.
+/// An iterator over the keys of a set, in order. It is fused. [`Set::iter`] makes it. A step compares nothing.
 #[derive(Drop)]
 pub struct SetIter<'a, K: Copy> {
     trees: &'a Trees<K, SetValue, SET_LEAF>,

@@ -8,7 +8,7 @@ use bforest_core::{Comparator, PackedNode, SetValue};
 use bforest_trees::{Ends, Trees};
 use std::marker::{Model, PhantomData};
 
-/// A double-ended iterator over the keys of a set within bounds, in order, and then `None` for ever from both ends.
+/// A double-ended iterator over the keys of a set within bounds, in order. It is fused, at both ends.
 /// [`Set::range`](crate::Set::range) makes it. A step compares nothing.
 #[derive(Drop)]
 pub struct SetRange<'a, K: Copy, C: Comparator<K>> {

@@ -56,7 +56,7 @@ pub fn make<K: Copy, V: Copy, C: Comparator<K>, T: Collection<K, V>>(
     }
 }
 
-/// The answer to a call on handle `h` that is not made: the index is out of range, or the handle is not live.
+/// The answer to a call on handle `h` that cannot be made, since there is no such handle or it is not live; `None` where it can.
 fn unnamed<K: Copy, V: Copy, T: Collection<K, V>>(
     h: usize,
     handles: &[T],

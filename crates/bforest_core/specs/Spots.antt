@@ -11,8 +11,8 @@ use Rattle.bforest_core.specs.Trees.{is_root, tree_of}
 use Rattle.bforest_core.specs.declared.spot.Spot.{Spot}
 
 module _ {K : Type 0} where
-  -- the way down through rows, whose nodes have these numbers, the lowest first, to the entry at this place of the lowest: the code's digits
-  -- are the indices, the last digit that in the lowest row
+  -- the way down through rows, whose nodes have these numbers, the lowest first, to the entry at this place of the lowest: the code's
+  -- digits are the indices, the last digit that in the lowest row
   abbrev pub Coded : List ℕ → List (List (LevelNode K ℕ)) → ℕ → ℕ → Type 0
   Coded numbers [] code place = (code ≡ 0) × (place ≡ 0)
   Coded numbers (row ∷ rows) code place =
@@ -101,8 +101,8 @@ module _ {K : Type 0} where
     pub grand_is : 1 < spot.height → get_or (drop 1 numbers) 0 0 ≡ spot.grand
     pub height_is : spot.height ≡ length rows
 
--- onwards or backwards: whether a node has a child on that side of the one at an index, which of two places is beside the other, and which of so
--- many places is the last on that side
+-- A direction, onwards or backwards. It says whether a node has a child on that side of the one at an index, which of two
+-- places is beside the other, and which of so many places is the last on that side.
 pub record Direction (K V : Type 0) : Type 1 where
   pub HasChild : Content K V → ℕ → Type 0
   pub Beside : ℕ → ℕ → Type 0

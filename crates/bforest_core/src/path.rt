@@ -15,7 +15,7 @@ mod value;
 use bforest_nodes::Node;
 use std::marker::PhantomData;
 
-/// The most levels of a tree, and so of a path.
+/// The greatest height of a tree, and so of a path.
 const MAX_LEVELS: usize = 17;
 
 /// The fewest children of an inner node with a right neighbour: half of its capacity.

@@ -1,4 +1,4 @@
-//! Numbered nodes, of which the free ones form a chain.
+//! Numbered nodes, of which the free ones form a list.
 ghost use Rattle.std.specs.Prelude.{◌≡◌, ◌≢◌, ℕ, ◌*◌, ◌+◌, ◌-◌, ◌<◌, ◌≤◌, ◌↔◌, ◌++◌, length, max, IsTrue, IsOk, IfOk, OnOk, OnErr, Ok, Err, Some, None, [], ◌∷◌, slice_get, slice_set, vec_len, vec_capacity};
 ghost use Rattle.std.specs.Borrow.{sem, LendsBoth, Array};
 ghost use Rattle.bforest_nodes.specs.Content.{Inner, Leaf, IsLeafCapacity};
@@ -10,20 +10,20 @@ use bforest_nodes::{Node, NodeData, PackedNode, SplitOff};
 use std::alloc::{AllocError, Global};
 use std::marker::Model;
 
-/// Why an insertion or a reservation was refused. The call that returns it has changed nothing.
+/// Why an insertion or a reservation failed. The call that returns it has changed nothing.
 #[derive(Clone, Copy, Debug, PartialEq, Eq)]
 pub enum OutOfMemory {
-    /// The allocator refused the memory for more nodes, which the limit would allow. The call may succeed when it is made again.
+    /// The allocator gave no memory for more nodes, which the limit would allow. The call may succeed when it is made again.
     Memory,
     /// The forest's limit does not allow the nodes that are needed: the free ones and those up to the limit are too few.
     Full,
 }
 
-/// Nodes in one table, each of which is named by its number. The free ones form a chain, which the nodes themselves keep.
+/// Nodes in one table, each of which is named by its number. The free ones form a list, which the nodes themselves keep.
 #[derive(Drop)]
 pub struct NodePool<K, V, const N: usize> {
     nodes: Vec<NodeData<K, V, N>>,
-    // A free node that is never handed out: where a pool has room, a node has, so that no call needs to ask for it.
+    // A free node that is never handed out. By it the type of a pool tells that a node fits in memory, so that no call has to require it.
     blank: NodeData<K, V, N>,
     first: PackedNode,
     free: u32,
@@ -105,7 +105,7 @@ impl<K: Copy, V: Copy, const N: usize> NodePool<K, V, N> {
         &self.nodes[node.number() as usize]
     }
 
-    /// The content of a used slot, for writing. One index. Whatever is written, the chain of the free nodes stays as it is.
+    /// The content of a used slot, for writing. One index. Whatever is written, the free list stays as it is.
     pub fn node_mut(&mut self, node: Node) -> &mut NodeData<K, V, N>
         requires { IsUsed self.old node }
         ensures* writes_back { sem 𝓛 (lends_node K.row V.row N.row self.entry node result) }
@@ -123,7 +123,7 @@ impl<K: Copy, V: Copy, const N: usize> NodePool<K, V, N> {
         self.free = 0;
     }
 
-    /// Frees a used slot: it becomes the front of the chain, and the next to be taken. Constant time.
+    /// Frees a used slot: it becomes the front of the free list, and the next to be taken. Constant time.
     pub fn free_node(&mut self, node: Node)
         requires used { IsUsed self.old node }
         ensures freed { self.new ≡ with_freed self.old node }
@@ -170,7 +170,7 @@ impl<K: Copy, V: Copy, const N: usize> NodePool<K, V, N> {
         }
     }
 
-    /// Makes the front of the chain a leaf of one entry, or a new slot if no node is free, and returns its number.
+    /// Makes the front of the free list a leaf of one entry, or a new slot if no node is free, and returns its number.
     ///
     /// # Errors
     ///
@@ -196,7 +196,7 @@ impl<K: Copy, V: Copy, const N: usize> NodePool<K, V, N> {
         Ok(node)
     }
 
-    /// Makes the front of the chain an inner node of two children, and returns its number. Takes no memory.
+    /// Makes the front of the free list an inner node of two children, and returns its number. Takes no memory.
     pub fn inner_node(&mut self, left: Node, key: K, right: Node) -> Node
         requires room { 0 < free_count self.old }
         ensures node { front_of self.old.chain ≡ Some result }
@@ -209,8 +209,8 @@ impl<K: Copy, V: Copy, const N: usize> NodePool<K, V, N> {
         node
     }
 
-    /// Splits the full node `left`, at which an insertion at `insert_index` had no room. The right half is in the front of the chain, whose
-    /// number is returned. Takes no memory.
+    /// Splits the full node `left`, at which an insertion at `insert_index` had no room. The right half is in the front of the free list,
+    /// whose number is returned. Takes no memory.
     pub fn split_node(&mut self, left: Node, insert_index: usize) -> (Node, SplitOff<K>)
         requires used { IsUsed self.old left }
         requires full { IsFullAt N self.old.nodes left }
@@ -257,7 +257,7 @@ impl<K: Copy, V: Copy, const N: usize> NodePool<K, V, N> {
         self.node_mut(node).value_mut(index)
     }
 
-    // Takes the front off the chain: a used slot from then on, which the caller fills.
+    // Takes the front off the free list: a used slot from then on, which the caller fills.
     fn take_slot(&mut self) -> Node
         requires room { 0 < free_count self.old }
         ensures node { front_of self.old.chain ≡ Some result }
@@ -317,7 +317,7 @@ fn hold<T>(slots: &mut Vec<T>, more: usize) -> Result<(), AllocError>
     slots.reserve_exact(held - len)
 }
 
-// Adds slots, each of which names the one before and the first of which names `next`; returns `None` if the growth is refused.
+// Adds slots, each of which names the one before and the first of which names `next`; returns `None` if there is no memory for them.
 fn add_slots<K: Copy, V: Copy, const N: usize>(
     nodes: &mut Vec<NodeData<K, V, N>>,
     count: u32,

@@ -15,8 +15,8 @@ use crate::access::{child, child_count, follow, last_index, separator};
 use crate::pool::NodePool;
 use bforest_nodes::{Comparator, Node};
 
-/// The place of a leaf in its tree: at which child the way from the root down to it goes on, an octal digit for each level of inner nodes,
-/// that of the leaf's parent the last.
+/// The place of a leaf in its tree, as the way from the root down to it. The way is a number with one octal digit for each inner node on
+/// it: the index of the child at which it goes on. The digit of the leaf's parent is the last.
 #[derive(Clone, Copy, Drop)]
 pub struct Spot {
     code: u64,
@@ -376,8 +376,8 @@ fn goes_along<K: Copy, V: Copy, const N: usize, C: Comparator<K>>(
     index == last_index(pool, node) || comp.cmp(key, separator(pool, node, index)).is_lt()
 }
 
-// The node behind the one at which the way of a code ends, and its spot, if there is one: the way turns to the next child as low as it can, and
-// goes on to the first children.
+// The node behind the one at which the way of a code ends, and its spot, if there is one: the way turns to the next child as low as it can,
+// and goes on to the first children.
 #[inline(never)]
 fn next_far<K: Copy, V: Copy, const N: usize>(
     code: u64,
@@ -424,7 +424,8 @@ fn turn_on<K: Copy, V: Copy, const N: usize>(
     next
 }
 
-// The child of `node` behind the one at an index, and its spot, where there is one; else what was found further up. `here` is the spot of `node`.
+// The child of `node` behind the one at an index, and its spot, where there is one; else what was found further up. `here` is the spot of
+// `node`.
 #[inline(always)]
 fn lower_next<K: Copy, V: Copy, const N: usize>(
     above: Option<(Spot, Node)>,
@@ -446,8 +447,8 @@ fn lower_next<K: Copy, V: Copy, const N: usize>(
     above
 }
 
-// The node before the one at which the way of a code ends, and its spot, if there is one: the way turns to the child before as low as it can,
-// and goes on to the last children.
+// The node before the one at which the way of a code ends, and its spot, if there is one: the way turns to the child before as low as it
+// can, and goes on to the last children.
 #[inline(never)]
 fn prev_far<K: Copy, V: Copy, const N: usize>(
     code: u64,
@@ -495,7 +496,8 @@ fn turn_back<K: Copy, V: Copy, const N: usize>(
     before
 }
 
-// The child of `node` before the one at an index, and its spot, where there is one; else what was found further up. `here` is the spot of `node`.
+// The child of `node` before the one at an index, and its spot, where there is one; else what was found further up. `here` is the spot of
+// `node`.
 #[inline(always)]
 fn lower_prev<K: Copy, V: Copy, const N: usize>(
     above: Option<(Spot, Node)>,

@@ -22,8 +22,8 @@ impl<K: Copy, V: Copy, const N: usize> NodePool<K, V, N> {
         node.number() < self.slots() && !self.node(node).is_free() && !self.is_child(node)
     }
 
-    /// Ends the tree under a root: all its nodes are freed and put in front of the chain, each before those below it, and later children
-    /// before earlier ones. Reads each node, and each inner node twice for each of its children, and takes no memory.
+    /// Ends the tree under a root: all its nodes are freed and put in front of the free list, each before those below it, and later
+    /// children before earlier ones. Reads each node, and each inner node twice for each of its children, and takes no memory.
     pub fn free_tree(&mut self, root: Node)
         requires union { IsUnion N self.old }
         requires root { IsTrue (is_root self.old.nodes root) }
@@ -98,7 +98,7 @@ impl<K: Copy, V: Copy, const N: usize> NodePool<K, V, N> {
         false
     }
 
-    /// How many levels the tree under a root has, including the root's and the leaves'. Reads one node of each.
+    /// The height of the tree under a root: its levels, the root's and the leaves' included. Reads one node of each.
     pub fn levels(&self, root: Node) -> usize
         requires union { IsUnion N self.now }
         requires root { IsTrue (is_root self.now.nodes root) }
@@ -112,7 +112,7 @@ impl<K: Copy, V: Copy, const N: usize> NodePool<K, V, N> {
         self.levels_from(root, 0)
     }
 
-    // The number of levels from a node down; `depth` levels are above it.
+    // The height of what is below a node, with the node; `depth` levels are above it.
     fn levels_from(&self, node: Node, depth: usize) -> usize
         requires capacity { IsLeafCapacity N }
         requires under { (leaves : List (LevelNode K V)) × (n : NodeOver N self.now.nodes leaves node)

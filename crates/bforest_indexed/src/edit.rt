@@ -14,10 +14,10 @@ use bforest::{Comparator, Map, MapCursorMut, MapForest};
 /// The cursor may be moved, and may insert, write and remove. A closure would not do: it could put another cursor in the place of the one
 /// that it was lent. So the work is a type, whose implementation shows that the cursor which it leaves continues the one that it got.
 pub trait Edit<K: Copy, V: Copy, C: Comparator<K>>: Drop {
-    /// What the work answers.
+    /// What the work returns.
     type Answer;
 
-    // Whether the work on a map, which a forest and a handle are, may give this answer and leave that forest and that handle: its list,
+    // Whether the work on a map, which a forest and a handle are, may return this and leave that forest and that handle: its list,
     // its nodes, and what it takes of the table.
     ghost leaves: { Self → Forest K V → Option ℕ → Self.Answer → Forest K V → Option ℕ → Type 0 };
 
@@ -31,7 +31,7 @@ pub trait Edit<K: Copy, V: Copy, C: Comparator<K>>: Drop {
             (map_now cursor.new) };
 }
 
-/// Lends a writing cursor of a map to some work, and returns what that answers.
+/// Lends a writing cursor of a map to some work, and returns what that returns.
 pub(crate) fn lend<K: Copy, V: Copy, C: Comparator<K>, E: Edit<K, V, C>>(
     map: &mut Map<K, V>,
     forest: &mut MapForest<K, V>,

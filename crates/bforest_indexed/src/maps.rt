@@ -56,7 +56,7 @@ impl<K: Copy, V: Copy, C: Comparator<K>> Model for Maps<K, V, C> {
 }
 
 impl<K: Copy, V: Copy, C: Comparator<K>> Maps<K, V, C> {
-    /// Returns no maps, whose table has at most 4294967295 slots. No memory is taken.
+    /// Returns a table of at most 4294967295 slots, with no map yet. No memory is taken.
     pub fn new(alloc: Global, order: C) -> Self
         ensures none { count result ≡ 0 }
         ensures table { table result ≡ empty u32.MAX }
@@ -66,7 +66,7 @@ impl<K: Copy, V: Copy, C: Comparator<K>> Maps<K, V, C> {
         Maps::with_node_limit(alloc, order, u32::MAX)
     }
 
-    /// Returns no maps, whose table has at most `limit` slots. No memory is taken.
+    /// Returns a table of at most `limit` slots, with no map yet. No memory is taken.
     pub fn with_node_limit(alloc: Global, order: C, limit: u32) -> Self
         ensures none { count result ≡ 0 }
         ensures table { table result ≡ empty limit }
@@ -98,7 +98,7 @@ impl<K: Copy, V: Copy, C: Comparator<K>> Maps<K, V, C> {
     ///
     /// # Errors
     ///
-    /// `AllocError` where memory for the handle was refused; nothing has changed then.
+    /// `AllocError` where there is no memory for the handle; nothing has changed then.
     pub fn push(&mut self) -> Result<usize, AllocError>
         ensures index { IfOk result (λ i. i ≡ count self.old) }
         ensures count { OnOk result (count self.new ≡ count self.old + 1) }
@@ -119,7 +119,7 @@ impl<K: Copy, V: Copy, C: Comparator<K>> Maps<K, V, C> {
     ///
     /// # Errors
     ///
-    /// `AllocError` where memory for the handles was refused; nothing has changed then.
+    /// `AllocError` where there is no memory for the handles; nothing has changed then.
     pub fn grow_to(&mut self, len: usize) -> Result<(), AllocError>
         ensures count { OnOk result (count self.new ≡ count self.old + (len - count self.old)) }
         ensures keeps { KeepsAll self.old self.new }
@@ -270,7 +270,7 @@ impl<K: Copy, V: Copy, C: Comparator<K>> Maps<K, V, C> {
     }
 
     /// Keeps the entries for which the predicate returns `true`, with the value as the predicate left it, and removes all others. It is
-    /// asked once for each entry, in order. No comparison, no memory.
+    /// called once for each entry, in order. No comparison, no memory.
     pub fn retain<F: FnMut(K, &mut V) -> bool>(&mut self, index: usize, predicate: F)
         requires within { index < count self.old }
         requires callable { MayAskEach (Answers F.FnMut) (MayAsk F.FnMut) predicate (entries self.old index) }
@@ -279,7 +279,7 @@ impl<K: Copy, V: Copy, C: Comparator<K>> Maps<K, V, C> {
         self.maps[index].retain(&mut self.forest, predicate);
     }
 
-    /// Returns how many levels of nodes a map's tree has: 0 where it is empty, and never more than 17. Visits one node of each level.
+    /// Returns the height of a map's tree, in levels of nodes: 0 where it is empty, and never more than 17. Visits one node of each level.
     pub fn levels(&self, index: usize) -> usize
         requires within { index < count self.now }
         ensures count { result ≡ length (node_sizes self.now index) }
@@ -323,8 +323,8 @@ impl<K: Copy, V: Copy, C: Comparator<K>> Maps<K, V, C> {
         self.maps[index].cursor(&self.forest, &self.order)
     }
 
-    /// Hands a writing cursor of a map to `edit`, and returns what that answers. The cursor stands at the end at first. What it does to the
-    /// map is what its own calls cost and answer; each other map stays.
+    /// Hands a writing cursor of a map to `edit`, and returns what that returns. The cursor stands at the end at first. What it does to the
+    /// map is what its own calls do, at their cost; each other map stays.
     pub fn edit<E: Edit<K, V, C>>(&mut self, index: usize, edit: E) -> E::Answer
         requires within { index < count self.old }
         ensures { EditsAt (E.leaves edit) self.old index result self.new }
@@ -357,7 +357,7 @@ impl<K: Copy, V: Copy, C: Comparator<K>> Maps<K, V, C> {
     }
 
     /// Makes sure that `n` slots are free, as [`bforest::MapForest::reserve_nodes`] does: insertions that need no more nodes in all can't
-    /// be refused then. Where so many are free already, nothing changes and no memory is taken.
+    /// fail then. Where so many are free already, nothing changes and no memory is taken.
     ///
     /// # Errors
     ///
@@ -370,7 +370,7 @@ impl<K: Copy, V: Copy, C: Comparator<K>> Maps<K, V, C> {
         self.forest.reserve_nodes(n)
     }
 
-    /// Makes room for `maps` maps of at most `entries` entries each, so that no insertion is refused as long as there are no more
+    /// Makes room for `maps` maps of at most `entries` entries each, so that no insertion fails as long as there are no more
     /// maps and none has more entries.
     ///
     /// The table gets as many slots as such maps can have nodes, which is [`bforest::Map::nodes_for`] each, those in use included; and
@@ -379,8 +379,8 @@ impl<K: Copy, V: Copy, C: Comparator<K>> Maps<K, V, C> {
     ///
     /// # Errors
     ///
-    /// [`OutOfMemory::Full`] where the limit does not allow so many slots, which is tested first, and [`OutOfMemory::Memory`] where memory
-    /// was refused; no map and no slot has changed then.
+    /// [`OutOfMemory::Full`] where the limit does not allow so many slots, which is tested first, and [`OutOfMemory::Memory`] where there
+    /// is no memory; no map and no slot has changed then.
     pub fn reserve_for(&mut self, maps: usize, entries: usize) -> Result<(), OutOfMemory>
         ensures { ReservesFor MAP_LEAF maps entries self.old result self.new }
     {

@@ -1,4 +1,4 @@
-//! Room for many maps or sets, taken ahead.
+//! Room for many maps or sets, reserved.
 ghost use Rattle.bforest.specs.Refusal.{Full, Memory};
 ghost use Rattle.bforest_indexed.specs.Handles.{Holds};
 ghost use Rattle.std.specs.Prelude.{IfErr, IfOk, OnErr, OnOk, vec_capacity, ◌*◌, ◌<◌, ◌≡◌, ◌≤◌};
@@ -6,7 +6,7 @@ ghost use Rattle.std.specs.Prelude.{IfErr, IfOk, OnErr, OnOk, vec_capacity, ◌*
 use crate::handles::hold;
 use bforest::OutOfMemory;
 
-/// Returns how many slots `count` trees take in all, of at most `nodes` nodes each, or refuses where the limit does not allow so many.
+/// Returns how many slots `count` trees take in all, of at most `nodes` nodes each, or fails where the limit does not allow so many.
 pub(crate) fn slots_for(count: usize, nodes: usize, limit: u32) -> Result<u32, OutOfMemory>
     ensures slots { IfOk result (λ slots. (slots ≡ count * nodes) × (slots ≤ limit)) }
     ensures full { IfErr result (λ why. (why ≡ Full) × (limit < count * nodes)) }

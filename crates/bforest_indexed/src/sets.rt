@@ -97,7 +97,7 @@ impl<K: Copy, C: Comparator<K>> Sets<K, C> {
     ///
     /// # Errors
     ///
-    /// `AllocError` where memory for the handle was refused; nothing has changed then.
+    /// `AllocError` where there is no memory for the handle; nothing has changed then.
     pub fn push(&mut self) -> Result<usize, AllocError>
         ensures index { IfOk result (λ i. i ≡ count self.old) }
         ensures count { OnOk result (count self.new ≡ count self.old + 1) }
@@ -118,7 +118,7 @@ impl<K: Copy, C: Comparator<K>> Sets<K, C> {
     ///
     /// # Errors
     ///
-    /// `AllocError` where memory for the handles was refused; nothing has changed then.
+    /// `AllocError` where there is no memory for the handles; nothing has changed then.
     pub fn grow_to(&mut self, len: usize) -> Result<(), AllocError>
         ensures count { OnOk result (count self.new ≡ count self.old + (len - count self.old)) }
         ensures keeps { KeepsAll self.old self.new }
@@ -255,7 +255,7 @@ impl<K: Copy, C: Comparator<K>> Sets<K, C> {
         self.sets[index].clear(&mut self.forest);
     }
 
-    /// Keeps the keys for which the predicate returns `true`, and removes all others. It is asked once for each key, in order. No
+    /// Keeps the keys for which the predicate returns `true`, and removes all others. It is called once for each key, in order. No
     /// comparison, no memory.
     pub fn retain<F: FnMut(K) -> bool>(&mut self, index: usize, predicate: F)
         requires within { index < count self.old }
@@ -266,7 +266,7 @@ impl<K: Copy, C: Comparator<K>> Sets<K, C> {
         self.sets[index].retain(&mut self.forest, predicate);
     }
 
-    /// Returns how many levels of nodes a set's tree has: 0 where it is empty, and never more than 17. Visits one node of each level.
+    /// Returns the height of a set's tree, in levels of nodes: 0 where it is empty, and never more than 17. Visits one node of each level.
     pub fn levels(&self, index: usize) -> usize
         requires within { index < count self.now }
         ensures count { result ≡ length (node_sizes self.now index) }
@@ -324,7 +324,7 @@ impl<K: Copy, C: Comparator<K>> Sets<K, C> {
     }
 
     /// Makes sure that `n` slots are free, as [`bforest::SetForest::reserve_nodes`] does: insertions that need no more nodes in all can't
-    /// be refused then. Where so many are free already, nothing changes and no memory is taken.
+    /// fail then. Where so many are free already, nothing changes and no memory is taken.
     ///
     /// # Errors
     ///
@@ -337,7 +337,7 @@ impl<K: Copy, C: Comparator<K>> Sets<K, C> {
         self.forest.reserve_nodes(n)
     }
 
-    /// Makes room for `sets` sets of at most `keys` keys each, so that no insertion is refused as long as there are no more
+    /// Makes room for `sets` sets of at most `keys` keys each, so that no insertion fails as long as there are no more
     /// sets and none has more keys.
     ///
     /// The table gets as many slots as such sets can have nodes, which is [`bforest::Set::nodes_for`] each, those in use included; and
@@ -346,8 +346,8 @@ impl<K: Copy, C: Comparator<K>> Sets<K, C> {
     ///
     /// # Errors
     ///
-    /// [`OutOfMemory::Full`] where the limit does not allow so many slots, which is tested first, and [`OutOfMemory::Memory`] where memory
-    /// was refused; no set and no slot has changed then.
+    /// [`OutOfMemory::Full`] where the limit does not allow so many slots, which is tested first, and [`OutOfMemory::Memory`] where there
+    /// is no memory; no set and no slot has changed then.
     pub fn reserve_for(&mut self, sets: usize, keys: usize) -> Result<(), OutOfMemory>
         ensures { ReservesFor SET_LEAF sets keys self.old result self.new }
     {

@@ -6,10 +6,10 @@ use std::marker::Model;
 
 /// A question about a key and its value, which may change the value.
 pub trait Predicate<K, V>: Drop {
-    // Whether it may be asked of this key and value.
+    // Whether it may be called on this key and value.
     ghost may: { Self → K → V → Type 0 };
 
-    // Whether a call at this key and value may give this answer, and leave this value and this predicate.
+    // Whether a call on this key and value may return this, and leave this value and this predicate.
     ghost step: { Self → K → V → Bool → V → Self → Type 0 };
 
     fn ask(&mut self, key: K, value: &mut V) -> bool

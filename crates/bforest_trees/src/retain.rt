@@ -7,8 +7,8 @@ ghost use Rattle.std.specs.Prelude.{IfSome, IsTrue, None, ◌≡◌, ℕ};
 use crate::predicate::Predicate;
 use bforest_core::{Node, NodePool, Path};
 
-/// Asks a predicate of each entry of the tree under a root, in order, and keeps the entries answered `true`, with the value that the call
-/// left. Returns the new root, or `None` where no entry stays.
+/// Calls a predicate on each entry of the tree under a root, in order, and keeps the entries for which it returns `true`, with the value
+/// that the call left. Returns the new root, or `None` where no entry stays.
 pub(crate) fn retain<K: Copy, V: Copy, const N: usize, P: Predicate<K, V>>(
     pool: &mut NodePool<K, V, N>,
     root: Node,
@@ -30,7 +30,8 @@ pub(crate) fn retain<K: Copy, V: Copy, const N: usize, P: Predicate<K, V>>(
     Some(root)
 }
 
-// Asks a predicate of the entry where a path stands, and goes to the next entry, or to the end. An entry answered `false` is removed.
+// Calls a predicate on the entry where a path stands, and goes to the next entry, or to the end. An entry for which it returns `false` is
+// removed.
 // Returns the new root.
 fn retain_step<K: Copy, V: Copy, const N: usize, P: Predicate<K, V>>(
     entry: (K, V),

@@ -118,7 +118,7 @@ impl<K: Copy, V: Copy, const N: usize> Trees<K, V, N> {
         }
     }
 
-    /// Asks a predicate of each entry, in order, and keeps the entries answered `true`.
+    /// Calls a predicate on each entry, in order, and keeps the entries for which it returns `true`.
     pub fn retain<P: Predicate<K, V>>(&mut self, handle: &mut PackedNode, predicate: P)
         requires live { IsLive self.old handle.old }
         requires callable { MayAskEach P.step P.may predicate (list_of self.old handle.old) }
@@ -158,7 +158,7 @@ impl<K: Copy, V: Copy, const N: usize> Trees<K, V, N> {
         }
     }
 
-    /// The number of levels of a tree.
+    /// The height of a tree.
     pub fn levels(&self, handle: PackedNode) -> usize
         requires live { IsLive self.now handle }
         ensures count { result ≡ length (sizes_of self.now handle) }
@@ -173,7 +173,7 @@ impl<K: Copy, V: Copy, const N: usize> Trees<K, V, N> {
         }
     }
 
-    /// Inserts a value at a key, and returns the value that it replaces. The path goes to the key's place, also where the entry is refused.
+    /// Inserts a value at a key, and returns the value that it replaces. The path goes to the key's place, also where the insertion fails.
     /// The search begins where the path stands: two comparisons find a key that is near.
     pub fn insert<C: Comparator<K>>(
         &mut self,

@@ -65,8 +65,8 @@ pub enum Kind {
     /// One set, as in `RandomSet`, inserted in ascending order.
     AscendingSet,
     /// `size` live ranges in one map, from the point where each begins to its end, inserted in order, by one cursor per eight ranges. Then
-    /// rounds of as many lookups of the last range that begins at a point or before, rounds that read the first and the last of as many
-    /// spans, and, if there are turns, as many ranges more between those, each behind the one that its cursor inserted before.
+    /// rounds of as many look-ups of the last range that begins at a point or before, and rounds that read the first and the last of as
+    /// many spans. If there are turns, then as many ranges more between those, each behind the one that its cursor inserted before.
     Ranges,
 }
 
@@ -109,8 +109,8 @@ pub fn run(alloc: Global, kind: Kind, size: u32, rounds: Rounds) -> u64 {
     }
 }
 
-/// Makes a run of small maps, of edges read by `iter`, or of small sets, on maps and sets of the toolchain's standard library. Of any other kind
-/// returns 0.
+/// Makes a run of small maps, of edges read by `iter`, or of small sets, on maps and sets of the toolchain's standard library. Of any other
+/// kind returns 0.
 pub fn run_std(alloc: Global, kind: Kind, size: u32, rounds: Rounds) -> u64 {
     match kind {
         Kind::Mixture | Kind::Indexed => run_std_mixture(alloc, size, calls(size), rounds),

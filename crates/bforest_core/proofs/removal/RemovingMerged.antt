@@ -124,7 +124,7 @@ module _ {K V : Type 0} where
         named = heads-append before _ ∙ ap (λ z. heads before ++ (head_of (n d) (z ++ x ∷ r) ++ heads after)) o.l_is
             ∙ ap (λ z. heads before ++ (o.z.0, n d) ∷ heads z) o.after_is
 
-        -- the rows above, where the two parents are neighbours, meet what the call one level up requires
+        -- where the two parents are neighbours, the rows above are what the call one level up requires
         abbrev pub above_asks : TwoAbove t path indices (up + 1) size
         above_asks = record { rows = rest; before = heads before; x = (o.z.0, n d); y = (y.0, o.q); after = heads o.rest; above = rw add-one (rw named at (rows_above d)) }
 

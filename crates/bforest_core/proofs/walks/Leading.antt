@@ -67,7 +67,8 @@ module _ {K V : Type 0} {most : ℕ} {slots : List (Content K V)} {leaves : Row 
 
 module _ {K V : Type 0} (most : ℕ) (slots : List (Content K V)) (Side : Heads K → Heads K → Type 0) (place : Row K V → ℕ)
     (number index : ℕ) where
-  -- the way down one side of a tree goes on from a node to its child at this index, and ends at this index of a leaf, at this place
+  -- The way down one side of a tree goes on from a node to its child at this index. In a leaf it ends at this index, and
+  -- at this place of the list.
   pub record Turns : Type 0 where
     pub within : {leaves : _} {n : NodeOver most slots leaves number} (s : InnerUnder n) → Side n.before n.after → index ≤ length s.es
     pub keeps : {leaves : _} {n : NodeOver most slots leaves number} (s : InnerUnder n) → Side n.before n.after → {child : ℕ} (c : ChildUnder s index child)

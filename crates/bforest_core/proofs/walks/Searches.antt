@@ -98,7 +98,7 @@ module _ {K V : Type 0} {cmp : K → K → Ordering} {most : ℕ} {slots : List 
           omega (arith, to.within, here.room),
         )
 
-        -- what asking asks whether another search goes to that child too
+        -- what the call requires that tells whether another search goes to that child too
         pub search-along : (keys : List K) × (children : List ℕ) × (slice_get slots number ≡ Some (Inner keys children)) × IsStrictlySortedBy cmp keys
             × (length children ≡ suc (length keys)) × (index ≤ length keys)
         search-along = let a = search-asks in let es = here.es in let count = length-map es (λ w. w.0) in

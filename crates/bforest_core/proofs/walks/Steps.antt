@@ -25,7 +25,7 @@ module _ {K V X : Type 0} (content : List (K × X) → Content K V) (slots : Lis
     pub open node use *
     pub stands : StandsAbove path indices (suc up) rest place
 
-  -- a path that moved to a place is in the node there
+  -- a path that moved to a place of a row stands in the node of that row at the place
   pub there : (half : ℕ) → 1 ≤ half → (row : Row K X) → FitRow half most row → RowIn content slots row → {path indices path1 indices1 up rest place : _} → Moved path indices path1 indices1 up rest (heads row) place → Within path1 indices1 up row rest place
   there half one row fit inside m = record { node = node-at _ _ _ _ one _ fit inside _ _ (m.head.0, simp (m.head_is, m.node_is)); stands = m.stands }
 

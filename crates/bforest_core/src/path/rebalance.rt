@@ -1,5 +1,6 @@
-//! Rebalancing on the way up, once an entry has gone: a node that underflows and its right sibling, under the same parent or another; a merged
-//! or emptied node, taken out of the rows above it; the separators above a node whose first key changed.
+//! Rebalancing on the way up, once an entry has gone. It is about a node that underflows and its right sibling, under the same parent or
+//! another, and about a merged or emptied node, which is taken out of the rows above it. Separators above a node whose first key changed
+//! are renewed.
 ghost use Rattle.std.specs.Prelude.{◌≡◌, ℕ, suc, ◌+◌, ◌-◌, ◌<◌, ◌≤◌, List, [], ◌∷◌, ◌++◌, map, length, get_or, slice_get, Some, None, true, false};
 ghost use Rattle.std.specs.List.{flat_map};
 ghost use Rattle.bforest_core.specs.Levels.{LevelNode, numbers, sizes, most_levels};
@@ -106,7 +107,7 @@ impl<K: Copy, V: Copy, const N: usize> Path<K, V, N> {
         let parent = self.node[up];
         let index = self.entry[up] as usize;
         if index + 1 < entries(pool, parent) {
-            // Where the child is the first, this key is removed with it.
+            // The removal of the first child takes the first separator with it, so it does not matter which key was written there.
             let key = separator(pool, parent, index.saturating_sub(1));
             set_separator(pool, parent, index, key);
             let _answer = remove_child(pool, parent, index);
@@ -117,8 +118,8 @@ impl<K: Copy, V: Copy, const N: usize> Path<K, V, N> {
         }
     }
 
-    // Balances the path's node on `level`, which lost an entry, with its right neighbour, if it has fewer than `least` entries. Returns whether
-    // it was merged into the neighbour, to which the path leads then.
+    // Balances the path's node on `level`, which lost an entry, with its right neighbour, if it has fewer than `least` entries. Returns
+    // whether it was merged into the neighbour, to which the path leads then.
     #[tactic(auto, using(crate::proofs::removal::Rebalancing::loses_low))]
     #[inline(always)]
     pub(super) fn rebalance(

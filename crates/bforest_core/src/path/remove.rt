@@ -21,7 +21,8 @@ impl<K: Copy, V: Copy, const N: usize> Path<K, V, N> {
     /// The path goes to the next entry, or to the end. Takes no memory.
     ///
     /// A leaf that falls under half full is filled from its right neighbour or merged into it, and so on upwards; a root with a single
-    /// child is discarded. Freed nodes are in front of the chain: those of the path from the leaf up, and in front of them the old root.
+    /// child is discarded. Freed nodes are in front of the free list: those of the path from the leaf up, and in front of them the old
+    /// root.
     pub fn remove(&mut self, pool: &mut NodePool<K, V, N>) -> Option<Node>
         requires union { IsUnion N pool.old }
         requires stands { OnEntry pool.old self.old }
@@ -75,8 +76,8 @@ impl<K: Copy, V: Copy, const N: usize> Path<K, V, N> {
         }
     }
 
-    // Frees the path's leaf, which has one entry, or had one before it was removed, and goes to the end: only the rightmost leaf can have one
-    // entry. Returns the tree's root, or `None` if the tree is empty.
+    // Frees the path's leaf, which has one entry, or had one before it was removed, and goes to the end: only the rightmost leaf can have
+    // one entry. Returns the tree's root, or `None` if the tree is empty.
     fn remove_leaf(&mut self, root: Node, pool: &mut NodePool<K, V, N>) -> Option<Node>
         requires capacity { IsLeafCapacity N }
         requires used { IsUsed pool.old (get_or self.old.node 0 0) }

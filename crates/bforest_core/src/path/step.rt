@@ -217,7 +217,7 @@ impl<K: Copy, V: Copy, const N: usize> Path<K, V, N> {
         true
     }
 
-    // The lowest level from this one on where the path's node has a child behind the path's, or else the number of levels.
+    // The lowest level from this one on where the path's node has a child behind the path's, or else the height.
     fn next_turn(&self, level: usize, pool: &NodePool<K, V, N>) -> usize
         requires height { self.now.size ≤ most_levels }
         requires over { HasOver pool.now.nodes self.now.node self.now.entry level self.now.size }
@@ -253,8 +253,8 @@ impl<K: Copy, V: Copy, const N: usize> Path<K, V, N> {
         self.go_first(from - 1, level, pool);
     }
 
-    // Whether the path's inner node on `level` has a child at this index. Inlined, as `go_to_child`: a search for a turn and a way down
-    // make one for each level, and calls of their own take one in twelve of the instructions of insertions in order by a cursor.
+    // Whether the path's inner node on `level` has a child at this index. This is inlined, since a way down asks it on each level: a call
+    // of its own takes one in twelve of the instructions of insertions in order by a cursor.
     #[inline(always)]
     fn has_child(&self, level: usize, index: usize, pool: &NodePool<K, V, N>) -> bool
         requires within { level ≤ top_level }
@@ -412,7 +412,7 @@ impl<K: Copy, V: Copy, const N: usize> Path<K, V, N> {
         true
     }
 
-    // The lowest level from this one on where the path's node has a child before the path's, or else the number of levels.
+    // The lowest level from this one on where the path's node has a child before the path's, or else the height.
     fn prev_turn(&self, level: usize) -> usize
         requires height { self.now.size ≤ most_levels }
         requires within { level ≤ self.now.size }

@@ -71,7 +71,7 @@ impl<K: Copy, V: Copy, const N: usize> Trees<K, V, N> {
         }
     }
 
-    // Inserts a value at a key in a tree of more levels than one.
+    // Inserts a value at a key in a tree of a height above 1.
     fn put_below<C: Comparator<K>>(
         &mut self,
         root: Node,

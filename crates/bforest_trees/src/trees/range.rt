@@ -122,7 +122,7 @@ impl<K: Copy, V: Copy, const N: usize> Trees<K, V, N> {
         }
     }
 
-    // Looks at the place where each bound lies, or answers `None` where the start is behind the end. The searches for an included start and
+    // Looks at the place where each bound lies, or returns `None` where the start is behind the end. The searches for an included start and
     // for an end go down together.
     #[inline(always)]
     fn ends_at<'a, C: Comparator<K>>(

@@ -30,7 +30,7 @@ impl<K: Copy, V: Copy, const N: usize> Trees<K, V, N> {
         }
     }
 
-    // Removes a key from a tree of more levels than one, and returns its value.
+    // Removes a key from a tree of a height above 1, and returns its value.
     fn remove_below<C: Comparator<K>>(
         &mut self,
         root: Node,
