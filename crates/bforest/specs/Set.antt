@@ -13,24 +13,24 @@ elements f h = keys_of (list_of f h)
 abbrev pub the_value : Unit {0}
 the_value = tt
 
--- the answer of a set's insertion, as that of an insertion of an entry
+-- the result of a set's insertion, as that of an insertion of an entry
 abbrev pub as_put : Result Bool OutOfMemory → Result (Option (Unit {0})) OutOfMemory
 as_put (Ok true) = Ok None
 as_put (Ok false) = Ok (Some the_value)
 as_put (Err refused) = Err refused
 
--- the answer of a set's removal, as that of a removal of an entry
+-- the result of a set's removal, as that of a removal of an entry
 abbrev pub as_removed : Bool → Option (Unit {0})
 as_removed true = Some the_value
 as_removed false = None
 
--- the key that a set's removal answers, as the entry that is removed
+-- the key that a set's removal returns, as the entry that is removed
 abbrev pub as_popped : {K : Type 0} → Option K → Option (K × Unit {0})
 as_popped None = None
 as_popped (Some k) = Some (k, the_value)
 
 module _ {F K : Type 0} (g : Mut F (K × Unit {0}) Bool) where
-  -- a call of f at the key k may answer b, and leave f as f'; the values v and w are ignored
+  -- a call of f at the key k may return b, and leave f as f'; the values v and w are ignored
   pub record AnswersKey (f : F) (k : K) (v : Unit {0}) (b : Bool) (w : Unit {0}) (f' : F) : Type 0 where
     pub called : Called g f (k, tt) b f'
 

@@ -1,4 +1,4 @@
--- How a `NodePool` keeps its chain. No public clause cites this module.
+-- How a `NodePool` keeps its free list. No public clause cites this module.
 use Rattle.std.specs.Prelude.{◌≡◌, ℕ, ◌≤◌, List, [], ◌∷◌, length, slice_get, nat_eq, Option, Some, None, zero, suc}
 use Rattle.std.specs.List.{IsDistinct}
 use Rattle.bforest_nodes.specs.Content.{Content, Inner, Leaf, Free, IsLeafCapacity}
@@ -11,7 +11,7 @@ module _ {K V : Type 0} where
   next_of (Some (Leaf keys vals)) = None
   next_of None = None
 
-  -- the first `count` numbers of the chain that starts at this one
+  -- the first `count` numbers of the free list that starts at this one
   abbrev pub chain_from : List (Content K V) → ℕ → Option ℕ → List ℕ
   chain_from nodes zero first = []
   chain_from nodes (suc count) None = []
@@ -23,7 +23,7 @@ module _ {K V : Type 0} where
   IsChain nodes (node ∷ rest) first =
       (next : Option ℕ) × (first ≡ Some node) × (slice_get nodes node ≡ Some (Free next)) × IsChain nodes rest next
 
-  -- the chain has `free` nodes, no slot is on it twice, and the slots are within the limit
+  -- the free list has `free` nodes, no slot is on it twice, and the slots are within the limit
   pub record IsPool (n : ℕ) (nodes : List (Content K V)) (first : Option ℕ) (free limit : ℕ) : Type 0 where
     pub capacity : IsLeafCapacity n
     pub linked : IsChain nodes (chain_from nodes free first) first

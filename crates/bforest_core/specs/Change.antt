@@ -31,7 +31,7 @@ module _ {K V : Type 0} where
   KeepsTrees old new =
       (number : ℕ) → (is_root new number ≡ is_root old number) × (IsTrue (is_root old number) → tree_of new number ≡ tree_of old number)
 
-  -- the first `count` nodes are taken off the chain; slots are added in front of the chain first where fewer
+  -- the first `count` nodes are taken off the free list; slots are added in front of the free list first where fewer
   -- are free
   pub record TakesNodes (count : ℕ) (old new : Table K V) : Type 0 where
     pub slots : slot_count new ≡ slot_count old + (count - free_count old)
@@ -53,7 +53,7 @@ module _ {K V : Type 0} where
     pub limit_is : new.limit ≡ old.limit
 
   -- a tree of the sizes `before` becomes one of the sizes `after` and frees nodes, which are put in front of
-  -- the chain; no slot is added
+  -- the free list; no slot is added
   pub record GivesNodes (before after : List (List ℕ)) (old new : Table K V) : Type 0 where
     pub given : List ℕ
     pub chain_is : new.chain ≡ given ++ old.chain
@@ -61,7 +61,7 @@ module _ {K V : Type 0} where
     pub memory_is : new.memory ≡ old.memory
     pub count_is : length given + node_count after ≡ node_count before
 
-  -- freed nodes are in front of the chain: nodes of this path, leaf first, then one discarded root per lost
+  -- freed nodes are in front of the free list: nodes of this path, leaf first, then one discarded root per lost
   -- level; each is in front of those freed before it
   pub record GivesInOrder (path : List ℕ) (before after : List (List ℕ)) (old new : Table K V) : Type 0 where
     pub roots : List ℕ
@@ -102,7 +102,7 @@ module _ {K V : Type 0} where
     pub leaf : LeafTaken old new path indices
 
   -- the tree under `root` lost the entry at this place and has the root `left`, or is empty; the nodes of this
-  -- path that it freed are in front of the chain
+  -- path that it freed are in front of the free list
   pub record Shrinks (most : ℕ) (old new : Table K V) (path : List ℕ) (root place : ℕ) (left : Option ℕ) : Type 0 where
     pub changes : IfSome left (λ root'. Changes most old new root root' (remove (flat (tree_of old.nodes root).leaves) place) (shrink most place (sizes_of (tree_of old.nodes root))))
     pub account : GivesNodes (sizes_of (tree_of old.nodes root)) (shrink most place (sizes_of (tree_of old.nodes root))) old new

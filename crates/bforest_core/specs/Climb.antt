@@ -42,7 +42,7 @@ module _ {K V : Type 0} where
     pub stands : StandsAbove path indices level rows place
     pub height : level + length rows ≡ size
 
-  -- these rows are off the chain of the table
+  -- these rows are off the free list of the table
   pub record Above (table : Table K V) (path indices : List ℕ) (level size : ℕ) (rows : List (List (LevelNode K ℕ))) (list : List (K × ℕ)) (place : ℕ) : Type 0 where
     pub over : Over table.nodes path indices level size rows list place
     pub open over use *
@@ -91,9 +91,9 @@ module _ {K V : Type 0} where
       (suc (length taken) ≡ need_above (Some (length w.before)) (map sizes w.rows))
       × Grown old new path indices path' indices' level size size' w.rows (w.before ++ w.x ∷ right ∷ w.after) (if moved then suc (length w.before) else length w.before) (gain_above (Some (length w.before)) (map sizes w.rows)) taken
 
-  -- the path's node on a level is split, with a new entry: `row` was the level and `rows` those above it, which take up a change of the level
-  -- by `gain`. The level's entries are `list` now, the rows above lack only the right half, whose number and first key are given, and the path
-  -- leads to the half with its place
+  -- the path's node on a level is split, with a new entry: `row` was the level and `rows` those above it, which take up a change of the
+  -- level by `gain`. The level's entries are `list` now, the rows above lack only the right half, whose number and first key are given, and
+  -- the path leads to the half with its place
   pub record Halved {X : Type 0} (content : List (K × X) → Content K V) (half most : ℕ) (old new : Table K V) (path indices path' indices' : List ℕ) (level size : ℕ) (row : List (LevelNode K X)) (rows : List (List (LevelNode K ℕ)))
       (gain : Option ℕ × List ℕ) (list : List (K × X)) (place : ℕ) (key : K) (right : ℕ) (moved : Bool) : Type 0 where
     pub before : List (LevelNode K X)
@@ -126,8 +126,8 @@ module _ {K V : Type 0} where
       (row : List (LevelNode K ℕ)) × (rows : List (List (LevelNode K ℕ))) × (w.rows ≡ row ∷ rows)
       × Halved inner_content 4 8 old new path indices path' indices' level size row rows (inner_gain (length w.before) (sizes row)) (w.before ++ w.x ∷ right ∷ w.after) (if moved then suc (length w.before) else length w.before) key half there
 
-  -- a level and the rows above it after the level gained an entry: `row` and `rows` became `row'` and `rows'`, the level's entries are `list`,
-  -- and the path leads to the place
+  -- a level and the rows above it after the level gained an entry: `row` and `rows` became `row'` and `rows'`, the level's entries are
+  -- `list`, and the path leads to the place
   pub record Raised {X : Type 0} (content : List (K × X) → Content K V) (half most : ℕ) (old new : Table K V) (path indices path' indices' : List ℕ) (level size size' : ℕ) (row : List (LevelNode K X)) (rows : List (List (LevelNode K ℕ)))
       (list : List (K × X)) (place : ℕ) (sizes_after : List (List ℕ)) (taken : List ℕ) : Type 0 where
     pub row' : List (LevelNode K X)
@@ -144,7 +144,7 @@ module _ {K V : Type 0} where
     pub climbs : Climbs path indices path' indices' level size size' taken
     pub open climbs use *
 
-  -- the path is where an entry may be inserted in a fit tree, which is in the table, off its chain
+  -- the path is where an entry may be inserted in a fit tree, which is in the table, off its free list
   pub record Placed (most : ℕ) (table : Table K V) (path indices : List ℕ) (size : ℕ) (tree : Tree K V) (place : ℕ) : Type 0 where
     pub fit : IsFit most tree
     pub inside : IsIn table.nodes tree

@@ -69,8 +69,7 @@ pub record NodeOver {K V : Type 0} (most : ℕ) (slots : List (Content K V)) (le
 
 module _ {K V : Type 0} (cmp : K → K → Ordering) where
   -- where a path stands in the leaf in which a search for the key ends, at the key's place. It is past the
-  -- last entry only if the key is absent, and before the first only if the key is present or the leaf is the
-  -- first
+  -- last entry only if the key is absent, and before the first only if the key is present or the leaf is the first
   pub record IsPlaced (leaves : List (LevelNode K V)) (key : K) (number index : ℕ) : Type 0 where
     pub before : List (LevelNode K V)
     pub entries : List (K × V)
@@ -126,7 +125,7 @@ module _ {K V : Type 0} (most : ℕ) (slots : List (Content K V)) (Side : List (
       (leaves : List (LevelNode K V)) (n : NodeOver most slots leaves number) → Side n.before n.after → level ≡ length n.lower
       → Said leaves n.lower (length n.before)
 
--- the tree is in the slots under this root, fit, not empty, and at most 17 levels high
+-- the tree is in the slots under this root, fit, not empty, and of a height of at most 17
 pub record IsRooted {K V : Type 0} (most : ℕ) (slots : List (Content K V)) (root : ℕ) (tree : Tree K V) : Type 0 where
   pub fit : IsFit most tree
   pub inside : IsIn slots tree

@@ -1,5 +1,5 @@
--- The leaf of a tree in which a search for a key ends: its path, its spot, what it tells of the whole tree, and what putting a value in there, and
--- removing the key, answers and leaves.
+-- The leaf of a tree in which a search for a key ends: its path, its spot, what it tells of the whole tree, and what putting a value in
+-- there, and removing the key, returns and leaves.
 use Rattle.std.specs.Prelude.{◌≡◌, ℕ, ◌+◌, ◌<◌, ◌≤◌, IsTrue, true, false, if◌then◌else◌, List, [], ◌∷◌, ◌++◌, length, get_or, insert, slice_get, slice_set, Option, Some, None, Result, Ok, Err, IfOk, IfSome, option_map}
 use Rattle.std.specs.declared.cmp.Ordering.{Ordering}
 use Rattle.bforest_nodes.specs.Content.{Content}
@@ -53,7 +53,7 @@ module _ {K V : Type 0} (cmp : K → K → Ordering) (table : Table K V) (root :
     pub placed : (index : ℕ) → result ≡ Err index → PlacedUnder table.nodes root path (slice_set indices 0 index) size (place cmp list key)
     pub refused : (index : ℕ) → result ≡ Err index → new ≡ table
 
-  -- the key was removed from the leaf of such a path; its index there and its value are answered
+  -- the key was removed from the leaf of such a path; its index there and its value are returned
   pub record TakesFromLeaf (most : ℕ) (path indices : List ℕ) (size : ℕ) (result : Option (ℕ × V)) (new : Table K V) : Type 0 where
     pub value : option_map (λ e. e.1) result ≡ value_for cmp list key
     pub taken : IfSome result (λ e. EntryTaken most table new root (place cmp list key) path (slice_set indices 0 e.0) size)

@@ -1,7 +1,7 @@
 -- A B+-tree, level by level: each level is the row of its nodes from left to right.
 use Rattle.std.specs.Prelude.{◌≡◌, ℕ, ◌+◌, ◌/◌, ◌≤◌, List, [], ◌∷◌, ◌++◌, map, length}
 
--- the most levels of a tree
+-- the greatest height of a tree
 abbrev pub most_levels : ℕ
 most_levels = 17
 
@@ -45,8 +45,7 @@ module _ {K X : Type 0} where
   least half [] = 1
   least half (next ∷ rest) = half
 
-  -- every node of the row but the last is at least half full, the last is not empty, and none exceeds its
-  -- capacity
+  -- every node of the row but the last is at least half full, the last is not empty, and none exceeds its capacity
   abbrev pub FitRow : ℕ → ℕ → List (LevelNode K X) → Type 0
   FitRow half most [] = Unit {0}
   FitRow half most (node number entries ∷ rest) =

@@ -91,8 +91,8 @@ module _ {K V : Type 0} where
     pub place : ℕ
     pub to : PointsTo table root path place
 
-  -- what an insertion at a path answers and leaves: at each place where the path stands, the entry is in the list and the nodes that this takes are
-  -- off the chain, or both the table and the path are as before, and memory or the limit is too small
+  -- What an insertion at a path returns and leaves, at each place where the path stands. The entry is in the list and the nodes that this
+  -- takes are off the free list, or both the table and the path are as before, and memory or the limit is too small
   pub record InsertsHere {n : ℕ} (old new : Table K V) (path path' : Path K V n) (key : K) (value : V) (result : Result ℕ OutOfMemory) : Type 0 where
     pub inserted : (at : Placing old path) → IfOk result (λ root'. Changes n old new at.root root' (insert (list_under old at.root) at.place (key, value)) (growth n at.place (sizes_under old at.root)))
     pub account : (at : Placing old path) → OnOk result (TakesNodes (need n at.place (sizes_under old at.root)) old new)
@@ -104,8 +104,8 @@ module _ {K V : Type 0} where
     pub refused_pool : OnErr result (new ≡ old)
     pub refused_path : OnErr result (path' ≡ path)
 
-  -- what a removal at a path answers and leaves: on each entry where the path stands, the entry is out of the list and the nodes that this frees are on
-  -- the chain; `None` where it was the tree's last, which ends the tree
+  -- What a removal at a path returns and leaves, on each entry where the path stands. The entry is out of the list, and the nodes that this
+  -- frees are on the free list; `None` where it was the tree's last, which ends the tree
   pub record RemovesHere {n : ℕ} (old new : Table K V) (path path' : Path K V n) (result : Option ℕ) : Type 0 where
     pub removed : (at : OnEntry old path) → IfSome result (λ root'. Changes n old new at.root root' (remove (list_under old at.root) at.place) (shrink n at.place (sizes_under old at.root)))
     pub account : (at : OnEntry old path) → GivesNodes (sizes_under old at.root) (shrink n at.place (sizes_under old at.root)) old new
@@ -118,8 +118,7 @@ module _ {K V : Type 0} where
     pub none_left : result ≡ None → (at : OnEntry old path) → shrink n at.place (sizes_under old at.root) ≡ []
     pub freed_root : (at : OnEntry old path) → result ≢ Some at.root → 0 < count at.root new.chain
 
-  -- the path stands at its index in a leaf of these entries, which start at this place of the list under a
-  -- root
+  -- the path stands at its index in a leaf of these entries, which start at this place of the list under a root
   pub record OnLeaf {n : ℕ} (table : Table K V) (root : ℕ) (path : Path K V n) (place : ℕ) (entries : List (K × V)) : Type 0 where
     pub on : StandsOn table root path (place + index_of path)
     pub within : index_of path < length entries

@@ -179,8 +179,7 @@ module _ {K V : Type 0} where
     pub root_is : root_above list rows' ≡ top_of path size
     pub frees : Frees old new (flat_map numbers rows) (flat_map numbers rows') freed
 
-  -- the rows over a level up to this root, with this many levels on the path: they are in the table, off its
-  -- chain
+  -- the rows over a level up to this root, with this many levels on the path: they are in the table, off its free list
   pub record UpTo (table : Table K V) (size : ℕ) (rows : List (List (LevelNode K ℕ))) (list : List (K × ℕ)) (root : ℕ) : Type 0 where
     pub stacked : Stacked list rows
     pub inside : RowsIn table.nodes rows
@@ -188,8 +187,7 @@ module _ {K V : Type 0} where
     pub root_is : root_above list rows ≡ root
     pub apart : Distinct (flat_map numbers rows ++ table.chain)
 
-  -- the rows after roots with a single child were discarded: the lowest ones, up to the first of a single
-  -- node
+  -- the rows after roots with a single child were discarded: the lowest ones, up to the first of a single node
   pub record Trimmed (old new : Table K V) (size size' : ℕ) (rows : List (List (LevelNode K ℕ))) (list : List (K × ℕ)) (root root' : ℕ) (freed : List ℕ) : Type 0 where
     pub rows' : List (List (LevelNode K ℕ))
     pub discarded : List (List (LevelNode K ℕ))
@@ -203,7 +201,7 @@ module _ {K V : Type 0} where
     pub old_root : size' ≢ size → 0 < count root freed
     pub frees : Frees old new (flat_map numbers discarded) [] freed
 
-  -- the path stands at an entry of a fit tree, which is in the table, off its chain
+  -- the path stands at an entry of a fit tree, which is in the table, off its free list
   pub record StandsIn (most : ℕ) (table : Table K V) (path indices : List ℕ) (size : ℕ) (tree : Tree K V) (place : ℕ) : Type 0 where
     pub fit : IsFit most tree
     pub inside : IsIn table.nodes tree
@@ -241,8 +239,8 @@ module _ {K V : Type 0} where
     pub lost : LeafLoss most old table path indices size tree place
     pub at_entry : half_of most ≤ length lost.entries → get_or indices 0 0 < length (lost.entries ++ flat lost.after)
 
-  -- the entry at the place is removed from the tree, which is not empty and has the root `root'`: the sizes are those
-  -- of `shrink`, and the freed nodes are in front of the chain, those of the path from the leaf up
+  -- the entry at the place is removed from the tree, which is not empty and has the root `root'`. The sizes are those of `shrink`, and the
+  -- freed nodes are in front of the free list, those of the path from the leaf up
   pub record Shrunk (most : ℕ) (old new : Table K V) (path : List ℕ) (tree : Tree K V) (place root' : ℕ) : Type 0 where
     pub tree' : Tree K V
     pub freed : List ℕ

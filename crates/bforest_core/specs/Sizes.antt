@@ -38,8 +38,7 @@ growth n place [] = (1 ∷ []) ∷ []
 growth n place (leaves ∷ levels) = (leaf_gain n place leaves).1 ∷ gain_above (leaf_gain n place leaves).0 levels
 
 -- a node that lost an entry, before these nodes: whether it is removed, and the sizes from it on. An empty
--- one is removed; one less than half full is merged into the next if everything fits there, else the two
--- share
+-- one is removed; one less than half full is merged into the next if everything fits there, else the two share
 abbrev pub rebalanced : ℕ → ℕ → List ℕ → Bool × List ℕ
 rebalanced most zero after = (true, after)
 rebalanced most (suc left) [] = (false, suc left ∷ [])

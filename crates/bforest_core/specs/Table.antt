@@ -1,10 +1,10 @@
--- What a contract states of a `NodePool`: numbered nodes, the chain of the free ones, and a limit.
+-- What a contract states of a `NodePool`: numbered nodes, the list of the free ones, and a limit.
 use Rattle.std.specs.Prelude.{◌≡◌, ℕ, ◌+◌, ◌-◌, ◌*◌, ◌<◌, ◌≤◌, true, false, List, [], ◌∷◌, ◌++◌, length, max, slice_set, nat_eq, Option, Some, None, IfSome, slice_get, slice_index_or, option_and_then, zero, suc, Bool, IsTrue, ◌↔◌, if◌then◌else◌}
 use Rattle.std.specs.List.{list_any, IsDistinct}
 use Rattle.bforest_nodes.specs.Content.{Content, Free, Inner, Leaf, with_child, with_entry, IsLeaf, vals_of, with_value, IsFree, IsCut, entry_count, entry_capacity, left_half, IsSameKind, Balances}
 use Rattle.bforest_nodes.specs.declared.node.SplitOff.{SplitOff}
 
--- the content of each slot, the numbers of the free slots from the front of the chain on, the most slots
+-- the content of each slot, the numbers of the free slots from the front of the free list on, the most slots
 -- allowed, and for how many slots memory is held
 pub record Table (K V : Type 0) : Type 0 where
   pub nodes : List (Content K V)
@@ -12,7 +12,7 @@ pub record Table (K V : Type 0) : Type 0 where
   pub limit : ℕ
   pub memory : ℕ
 
--- the front of a chain
+-- the front of a free list
 abbrev pub front_of : List ℕ → Option ℕ
 front_of [] = None
 front_of (node ∷ rest) = Some node
@@ -22,7 +22,7 @@ abbrev pub down_from : ℕ → ℕ → List ℕ
 down_from first zero = []
 down_from first (suc count) = (first + count) ∷ down_from first count
 
--- the front of the chain after `count` slots from the first on were added
+-- the front of the free list after `count` slots from the first on were added
 abbrev pub front_of_new : ℕ → ℕ → Option ℕ → Option ℕ
 front_of_new first zero next = next
 front_of_new first (suc count) next = Some (first + count)
@@ -34,7 +34,7 @@ module _ {K V : Type 0} where
   abbrev pub free_count : Table K V → ℕ
   free_count table = length table.chain
 
-  -- how many nodes can be taken if no memory is refused
+  -- how many nodes can be taken if there is memory for them
   abbrev pub room : Table K V → ℕ
   room table = free_count table + (table.limit - slot_count table)
 
@@ -57,7 +57,7 @@ module _ {K V : Type 0} where
     pub suffices : slots_with n old ≤ old.memory → new.memory ≡ old.memory
     pub bounded : new.memory ≤ max old.memory (max (2 * slots_with n old) 4)
 
-  -- the number is that of a slot that is not on the chain
+  -- the number is that of a slot that is not on the free list
   pub record IsUsed (table : Table K V) (node : ℕ) : Type 0 where
     pub within : node < slot_count table
     pub off_chain : list_any (nat_eq node) table.chain ≡ false
@@ -66,7 +66,7 @@ module _ {K V : Type 0} where
   abbrev pub IsFreeAt : List (Content K V) → ℕ → Type 0
   IsFreeAt nodes number = (next : Option ℕ) × (slice_get nodes number ≡ Some (Free next))
 
-  -- the chain names different slots, all of which are free, and the slots are within the limit
+  -- the free list names different slots, all of which are free, and the slots are within the limit
   pub record IsTable (table : Table K V) : Type 0 where
     pub distinct : IsDistinct nat_eq table.chain
     pub free : (number : ℕ) → list_any (nat_eq number) table.chain ≡ true → IsFreeAt table.nodes number
@@ -84,7 +84,7 @@ module _ {K V : Type 0} where
   fresh_nodes first (suc count) next =
       fresh_nodes first count next ++ Free (front_of_new first count next) ∷ []
 
-  -- the table with `count` new slots, all in front of the chain, which holds memory for `memory` slots then
+  -- the table with `count` new slots, all in front of the free list, which holds memory for `memory` slots then
   abbrev pub with_slots : Table K V → ℕ → ℕ → Table K V
   with_slots table count memory = record table {
     nodes = table.nodes ++ fresh_nodes (slot_count table) count (front_of table.chain);
@@ -97,25 +97,25 @@ module _ {K V : Type 0} where
   abbrev pub reserved : Table K V → ℕ → ℕ → Table K V
   reserved table n memory = with_slots table (n - free_count table) memory
 
-  -- the table without the front of its chain
+  -- the table without the front of its free list
   abbrev pub without_front : Table K V → List ℕ → Table K V
   without_front table [] = table
   without_front table (node ∷ rest) = record table { chain = rest }
 
-  -- the table with this content in the front of the chain, which leaves the chain
+  -- the table with this content in the front of the free list, which leaves the free list
   abbrev pub with_front : Table K V → List ℕ → Content K V → Table K V
   with_front table [] content = table
   with_front table (node ∷ rest) content =
       record table { nodes = slice_set table.nodes node content; chain = rest }
 
-  -- the table with this node freed and in front of the chain
+  -- the table with this node freed and in front of the free list
   abbrev pub with_freed : Table K V → ℕ → Table K V
   with_freed table node = record table {
     nodes = slice_set table.nodes node (Free (front_of table.chain));
     chain = node ∷ table.chain;
   }
 
-  -- what an insertion into a node answers and leaves: the node, which holds keys and as many items, is written where it
+  -- what an insertion into a node returns and leaves: the node, which holds keys and as many items, is written where it
   -- has room for one more, and else stays
   pub record PutsIn {X : Type 0} (kind : List K → List X → Content K V) (size : List K → List X → ℕ) (most : ℕ) (write : Content K V → Content K V) (old new : Table K V) (number : ℕ) (put : Bool) : Type 0 where
     pub room : (keys : List K) (items : List X) → slice_get old.nodes number ≡ Some (kind keys items) → IsTrue put ↔ (size keys items < most)
@@ -135,8 +135,7 @@ module _ {K V : Type 0} where
   abbrev pub IsFullAt : ℕ → List (Content K V) → ℕ → Type 0
   IsFullAt n nodes node = IfSome (slice_get nodes node) (λ content. (¬ IsFree content) × (entry_count content ≡ entry_capacity n content))
 
-  -- the full node is split into these parts, and its right half is in the node that was the front of the
-  -- chain
+  -- the full node is split into these parts, and its right half is in the node that was the front of the free list
   pub record IsSplitAt (n : ℕ) (old : Table K V) (left index : ℕ) (parts : SplitOff K) (new : Table K V) : Type 0 where
     pub whole : Content K V
     pub was : slice_get old.nodes left ≡ Some whole

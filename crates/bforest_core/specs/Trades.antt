@@ -6,7 +6,7 @@ use Rattle.bforest_core.specs.Place.{count}
 use Rattle.bforest_core.specs.Trees.{slot, Every}
 
 module _ {K V : Type 0} where
-  -- the nodes with the numbers `was` became those with the numbers `are`: `taken` left the front of the chain, or
+  -- the nodes with the numbers `was` became those with the numbers `are`: `taken` left the front of the free list, or
   -- `freed`, which are free now, came to it, and no other slot changed. A change either takes or frees: one of these two is empty
   pub record Trades (old new : Table K V) (was are taken freed : List ℕ) : Type 0 where
     pub numbers_are : (number : ℕ) → count number (freed ++ are) ≡ count number (taken ++ was)

@@ -23,8 +23,7 @@ module _ {K V : Type 0} where
   is_used (Leaf keys vals) = true
   is_used (Free next) = false
 
-  -- the numbers of this many levels from these nodes downwards, the leaves first, before those of the levels
-  -- above
+  -- the numbers of this many levels from these nodes downwards, the leaves first, before those of the levels above
   abbrev pub levels_below : List (Content K V) → ℕ → List ℕ → List (List ℕ) → List (List ℕ)
   levels_below slots zero level above = level ∷ above
   levels_below slots (suc count) level above =
@@ -73,9 +72,8 @@ Every P [] = Unit {0}
 Every P (first ∷ rest) = P first × Every P rest
 
 module _ {K V : Type 0} where
-  -- the trees of a table, where a leaf has at most `most` entries: each is fit, not empty, in the table and
-  -- at most 17 levels high, the slots of the chain are free, and each slot is in just one of the trees or on
-  -- the chain
+  -- the trees of a table, where a leaf has at most `most` entries. Each is fit, not empty, in the table and of a height of at most 17. The
+  -- slots of the free list are free, and each slot is in just one of the trees or on the free list
   pub record IsForest (most : ℕ) (table : Table K V) (trees : List (Tree K V)) : Type 0 where
     pub capacity : IsLeafCapacity most
     pub fit : Every (IsFit most) trees

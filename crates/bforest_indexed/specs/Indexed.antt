@@ -162,9 +162,9 @@ module _ {K X C : Type 0} where
   abbrev pub missing : ℕ → ℕ → Indexed K X C → ℕ
   missing lists nodes m = lists * nodes - nodes_in_use m
 
-  -- Room was asked for, for `lists` lists of at most `most_entries` entries each, where a leaf has at most `most`: all lists stay, as few
-  -- slots are added as make the room, and memory for so many indices is held. Or the call was refused: then at most memory for indices was
-  -- taken.
+  -- Room was to be made for `lists` lists of at most `most_entries` entries each, where a leaf has at most `most`. All lists stay, as few
+  -- slots are added as make the room, and memory for so many indices is held. Or the call failed: then memory for indices may have been
+  -- taken, and nothing else changed.
   pub record ReservesFor (most lists most_entries : ℕ) (m : Indexed K X C) (result : Result (Unit {0}) OutOfMemory) (m' : Indexed K X C) : Type 0 where
     pub keeps : KeepsAll m m'
     pub same_count : count m' ≡ count m

@@ -1,4 +1,4 @@
--- What a call that may be refused leaves.
+-- What a call that may fail leaves.
 use Rattle.bforest_trees.specs.Forest.{Forest, free_of, slots_of}
 use Rattle.bforest_core.proofs.table.Chains.{length-down_from, length-fresh_nodes}
 use Rattle.bforest_core.specs.Table.{down_from, free_count, fresh_nodes, front_of, reserved, slot_count, with_slots}

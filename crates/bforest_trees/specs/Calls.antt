@@ -1,4 +1,4 @@
--- What a call that may change one tree answers and leaves: one record per call, which every such call of a
+-- What a call that may change one tree returns and leaves: one record per call, which every such call of a
 -- map cites.
 use Rattle.bforest_core.specs.Sizes.{shrink}
 use Rattle.bforest_core.specs.declared.pool.OutOfMemory.TheVariants.{Full, Memory}
@@ -10,12 +10,11 @@ use Rattle.std.specs.Prelude.{Bool, Err, IfOk, IsOk, IsSome, None, Ok, OnErr, On
 use Rattle.std.specs.declared.cmp.Ordering.{Ordering}
 
 module _ {K X : Type 0} where
-  -- the handle keeps its number exactly where the tree keeps its number of levels
+  -- the handle keeps its number exactly where the tree keeps its height
   abbrev pub SameLevels : Forest K X → Option ℕ → Forest K X → Option ℕ → Type 0
   SameLevels f h f' h' = (h' ≡ h) ↔ (length (sizes_of f' h') ≡ length (sizes_of f h))
 
-  -- the entry at a place of h was removed, where a leaf has at most `most` entries; at the end nothing
-  -- changed
+  -- the entry at a place of h was removed, where a leaf has at most `most` entries; at the end nothing changed
   pub record RemovesAt (most : ℕ) (f : Forest K X) (h : Option ℕ) (place : ℕ) (f' : Forest K X) (h' : Option ℕ) : Type 0 where
     pub removed : Becomes f h f' h' (remove (list_of f h) place)
     pub sizes : sizes_of f' h' ≡ (if nat_lt place (length (list_of f h)) then shrink most place (sizes_of f h) else sizes_of f h)
@@ -24,14 +23,14 @@ module _ {K X : Type 0} where
     pub end_forest : length (list_of f h) ≤ place → f' ≡ f
     pub end_handle : length (list_of f h) ≤ place → h' ≡ h
 
-  -- the entry at a place of h was removed and is answered, where a leaf has at most `most` entries; at the end
+  -- the entry at a place of h was removed and is returned, where a leaf has at most `most` entries; at the end
   -- none is, and nothing changed
   pub record Pops (most : ℕ) (f : Forest K X) (h : Option ℕ) (place : ℕ) (result : Option (K × X)) (f' : Forest K X) (h' : Option ℕ) : Type 0 where
     pub entry : result ≡ slice_get (list_of f h) place
     pub removed : RemovesAt most f h place f' h'
     pub increasing : (order : K → K → Ordering) → IsIncreasing order (list_of f h) → IsIncreasing order (list_of f' h')
 
-  -- f was asked for n free slots: all trees stay, and where fewer were free, exactly n are free in f'
+  -- f was to have n free slots: all trees stay, and where fewer were free, exactly n are free in f'
   pub record Reserves (f : Forest K X) (n : ℕ) (result : Result (Unit {0}) OutOfMemory) (f' : Forest K X) : Type 0 where
     pub keeps : Keeps f f'
     pub free : OnOk result (n ≤ free_of f')
@@ -51,7 +50,7 @@ module _ {K X : Type 0} where
     pub same_levels : SameLevels f h f' h'
     pub account : Gives (sizes_of f h) [] f f'
 
-  -- q was asked of each entry of h; the entries answered true stay, with the values that the calls left
+  -- q was called on each entry of h; the entries for which it returned true stay, with the values that the calls left
   pub record Filters {F : Type 0} (most : ℕ) (step : F → K → X → Bool → X → F → Type 0) (f : Forest K X) (h : Option ℕ) (q : F) (f' : Forest K X) (h' : Option ℕ) : Type 0 where
     pub kept : Retains step most q (list_of f h) (sizes_of f h) (list_of f' h') (sizes_of f' h')
     pub changed : Becomes f h f' h' (list_of f' h')
@@ -60,15 +59,14 @@ module _ {K X : Type 0} where
     pub account : Gives (sizes_of f h) (sizes_of f' h') f f'
     pub increasing : (order : K → K → Ordering) → IsIncreasing order (list_of f h) → IsIncreasing order (list_of f' h')
 
--- the answer of an insertion of an absent key, from that of a call that answers the value
+-- the result of an insertion of an absent key, from that of a call that returns the value
 abbrev pub as_inserted : {X : Type 0} → Result X OutOfMemory → Result (Option X) OutOfMemory
 as_inserted (Ok x) = Ok None
 as_inserted (Err refused) = Err refused
 
 -- `most` is the number of entries that a leaf has at most
 module _ {K X : Type 0} (most : ℕ) (cmp : K → K → Ordering) where
-  -- x was inserted at the key k of h, or replaced the value there, which is answered; or the call was
-  -- refused,
+  -- x was inserted at the key k of h, or replaced the value there, which is returned; or the call was refused,
   -- and nothing changed
   pub record Inserts (f : Forest K X) (h : Option ℕ) (k : K) (x : X) (result : Result (Option X) OutOfMemory) (f' : Forest K X) (h' : Option ℕ) : Type 0 where
     pub ok : IfOk result (λ old. old ≡ value_for cmp (list_of f h) k)
@@ -85,7 +83,7 @@ module _ {K X : Type 0} (most : ℕ) (cmp : K → K → Ordering) where
     pub refused_forest : OnErr result (f' ≡ f)
     pub refused_handle : OnErr result (h' ≡ h)
 
-  -- the key k was removed from h, and its value is answered
+  -- the key k was removed from h, and its value is returned
   pub record Removes (f : Forest K X) (h : Option ℕ) (k : K) (result : Option X) (f' : Forest K X) (h' : Option ℕ) : Type 0 where
     pub value : result ≡ value_for cmp (list_of f h) k
     pub cut : Becomes f h f' h' (cut cmp (list_of f h) k)
@@ -96,8 +94,8 @@ module _ {K X : Type 0} (most : ℕ) (cmp : K → K → Ordering) where
     pub absent_forest : result ≡ None → f' ≡ f
     pub absent_handle : result ≡ None → h' ≡ h
 
-  -- the value of the key k of h is answered: the one that was there, and nothing changed, or x, which was
-  -- inserted; or the insertion was refused, and nothing changed
+  -- the value of the key k of h is returned: the one that was there, and nothing changed, or x, which was
+  -- inserted; or the insertion failed, and nothing changed
   pub record GetsOrInserts (f : Forest K X) (h : Option ℕ) (k : K) (x : X) (result : Result X OutOfMemory) (f' : Forest K X) (h' : Option ℕ) : Type 0 where
     pub value : IfOk result (λ v. v ≡ unwrap_or (value_for cmp (list_of f h) k) x)
     pub present : IsSome (value_for cmp (list_of f h) k) → IsOk result

@@ -6,8 +6,7 @@ use Rattle.bforest_core.specs.declared.path.Path.{Path}
 use Rattle.std.specs.Prelude.{None, Option, Some, length, ◌<◌, ◌≡◌, ℕ}
 
 module _ {K X : Type 0} where
-  -- the path stands at this place of a handle's list, on an entry or at the end; an empty handle has only the
-  -- end
+  -- the path stands at this place of a handle's list, on an entry or at the end; an empty handle has only the end
   abbrev pub IsSpot : {n : ℕ} → Forest K X → Option ℕ → Path K X n → ℕ → Type 0
   IsSpot f None path place = IsAtEnd path × (place ≡ 0)
   IsSpot f (Some root) path place = StandsAt f root path place

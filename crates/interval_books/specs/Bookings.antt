@@ -1,5 +1,4 @@
--- The bookings of one resource: a list of intervals, each with its start and its end, which it does not
--- contain.
+-- The bookings of one resource: a list of intervals, each with its start and its end, which it does not contain.
 use Rattle.bforest.specs.Entries.{cut, put, value_for}
 use Rattle.std.specs.List.{AllByRecursion, find}
 use Rattle.std.specs.Ordering.{nat_cmp}
@@ -22,8 +21,7 @@ meets start end x = nat_lt x.0 end && nat_lt start x.1
 abbrev pub holding : List (ℕ × ℕ) → ℕ → Option (ℕ × ℕ)
 holding es moment = find (contains moment) es
 
--- the first booking that meets the interval from start up to end; in increasing lists, the one with the least
--- start
+-- the first booking that meets the interval from start up to end; in increasing lists, the one with the least start
 abbrev pub first_met : List (ℕ × ℕ) → ℕ → ℕ → Option (ℕ × ℕ)
 first_met es start end = find (meets start end) es
 

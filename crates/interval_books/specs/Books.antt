@@ -51,9 +51,8 @@ objection b r start end =
 abbrev pub need : Books → ℕ → ℕ → ℕ
 need b r start = need_of MAP_LEAF nat_cmp (table b) (map_of b r) start
 
--- The answers to a booking that takes d slots of f: an objection, if there is one; else success, only where
--- there is room for d slots;
--- or that there is no room; or that the table had to grow and memory was refused.
+-- The answers to a booking that takes d slots of f: an objection, if there is one. Else success, only where there is room for d slots; or
+-- that there is no room; or that the table had to grow and there was no memory.
 abbrev pub MayAnswer : Forest ℕ ℕ → ℕ → Option BookError → Result (Unit {0}) BookError → Type 0
 MayAnswer f d (Some reason) result = result ≡ Err reason
 MayAnswer f d None (Ok done) = d ≤ room_of f
@@ -64,7 +63,7 @@ MayAnswer f d None (Err why.NotBooked) = ⊥
 MayAnswer f d None (Err (why.Forest Full)) = IsTooMany d f
 MayAnswer f d None (Err (why.Forest Memory)) = NeedsGrowth d f
 
--- what `book` of the resource r from start up to end answers and leaves
+-- what `book` of the resource r from start up to end returns and leaves
 pub record Recorded (b : Books) (r start end : ℕ) (result : Result (Unit {0}) BookError) (b' : Books) : Type 0 where
   pub answer : MayAnswer (table b) (need b r start) (objection b r start end) result
   pub booked : OnOk result (bookings b' r ≡ with_booking (bookings b r) start end)
@@ -82,7 +81,7 @@ pub record Recorded (b : Books) (r start end : ℕ) (result : Result (Unit {0}) 
 abbrev pub end_at : Books → ℕ → ℕ → Result ℕ BookError
 end_at b r start = if nat_lt r (resource_count b) then ok_or (end_of (bookings b r) start) why.NotBooked else Err why.UnknownResource
 
--- what `cancel` of the booking of r that begins at start answers and leaves
+-- what `cancel` of the booking of r that begins at start returns and leaves
 pub record Cancelled (b : Books) (r start : ℕ) (result : Result ℕ BookError) (b' : Books) : Type 0 where
   pub answer : result ≡ end_at b r start
   pub cancelled : OnOk result (bookings b' r ≡ without_booking (bookings b r) start)

@@ -88,8 +88,8 @@ pub step_most : (moved : Bool) → step moved ≤ 1
 step_most true = omega arith
 step_most false = omega arith
 
--- leaves or inner nodes: how entries are stored, how many there may be, how many entries `behind` an index a new one goes, and how a full node is
--- cut for a new entry: at an index below `mid` the entry goes into the left half
+-- Leaves or inner nodes: how entries are stored, how many there may be, how many entries `behind` an index a new one goes, and how a full
+-- node is cut for a new entry. At an index below `mid` the entry goes into the left half
 pub record Kind (K V X : Type 0) : Type 0 where
   pub cap : ℕ
   pub half : ℕ
@@ -173,7 +173,8 @@ module _ {K V : Type 0} where
     late = λ c e high. (omega arith, omega arith, omega arith, omega arith, omega arith, λ rest. (let is = le-ltb e 4 high in rw is refl));
   }
 
--- the path was at this index of its node and this place of its level. By the indices `js'` it is there, or one entry further, at the place `p`
+-- the path was at this index of its node and this place of its level. By the indices `js'` it is there, or one entry further, at the place
+-- `p`
 pub record Moves (js js' : List ℕ) (up behind at place p : ℕ) : Type 0 where
   pub ahead : ℕ
   pub few : ahead ≤ behind
