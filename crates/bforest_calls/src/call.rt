@@ -124,7 +124,7 @@ pub enum Act<K: Copy, V: Copy> {
     Remove,
 }
 
-/// What a step of a cursor or of a range answered.
+/// What a step of a cursor or of a range returned.
 #[derive(Drop, Debug, PartialEq, Eq)]
 pub enum Seen<K: Copy, V: Copy> {
     Pair(Option<(K, V)>),

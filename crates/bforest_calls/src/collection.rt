@@ -1,4 +1,4 @@
-//! What the engine asks of a map or of a set.
+//! What the engine requires of a map or of a set.
 ghost use Rattle.bforest.specs.Calls.{Clears};
 ghost use Rattle.bforest.specs.Forest.{Forest, IsLive, emptied, list_of};
 ghost use Rattle.bforest_calls.specs.Compared.{IsComparing, IsListed, Makes};
@@ -31,7 +31,7 @@ pub trait Collection<K: Copy, V: Copy>: Drop {
     // The number of entries that a leaf has at most.
     ghost most: { ℕ };
 
-    // What the calls ask of the sizes of types.
+    // What the calls require of the sizes of types.
     ghost fits: { Type 0 };
 
     /// Whether the handle is live.

@@ -1,4 +1,4 @@
-//! Lists of calls on maps, and maps as the engine asks for them.
+//! Lists of calls on maps, and maps as the engine takes them.
 ghost use Rattle.bforest.specs.Cursor.{Goes, IsCursor, entries, forest_now, map_now, spot};
 ghost use Rattle.bforest.specs.Forest.{IsLive};
 ghost use Rattle.bforest.specs.Memory.{MapsFitInMemory};
@@ -23,8 +23,8 @@ use std::cmp::Ordering;
 ///
 /// # Errors
 ///
-/// `AllocError` where memory for the answers was refused: then the first calls, up to some number, were made, each whole. It ends before the
-/// first call, or at a call that is answered by a list.
+/// `AllocError` where memory for the answers was refused: then the first calls, up to some number, were made, each whole. It ends before
+/// the first call, or at a call that is answered by a list.
 pub fn run_map<K: Copy, V: Copy, C: Comparator<K>>(
     alloc: Global,
     calls: &[Call<K, V>],

@@ -1,4 +1,4 @@
-//! Lists of calls on sets, and sets as the engine asks for them: the value of a key is the unit.
+//! Lists of calls on sets, and sets as the engine takes them: the value of a key is the unit.
 ghost use Rattle.bforest.specs.Forest.{IsLive, list_of};
 ghost use Rattle.bforest.specs.Memory.{SetsFitInMemory};
 ghost use Rattle.bforest.specs.Set.{as_put, as_removed};
@@ -26,8 +26,8 @@ use std::cmp::Ordering;
 ///
 /// # Errors
 ///
-/// `AllocError` where memory for the answers was refused: then the first calls, up to some number, were made, each whole. It ends before the
-/// first call, or at a call that is answered by a list.
+/// `AllocError` where memory for the answers was refused: then the first calls, up to some number, were made, each whole. It ends before
+/// the first call, or at a call that is answered by a list.
 pub fn run_set<K: Copy, C: Comparator<K>>(
     alloc: Global,
     calls: &[Call<K, ()>],

@@ -8,10 +8,10 @@ use std::alloc::{AllocError, Global};
 
 /// A cursor or a range, which makes steps of type `A`.
 pub(crate) trait Steps<A, K: Copy, V: Copy> {
-    // What a step asks.
+    // What a step requires.
     ghost ready: { Self → Type 0 };
 
-    // Whether a step from here may give this answer and lead there.
+    // Whether a step from here may return this and lead there.
     ghost goes: { Self → A → Seen K V → Self → Type 0 };
 
     /// Makes one step.
@@ -21,7 +21,7 @@ pub(crate) trait Steps<A, K: Copy, V: Copy> {
         ensures goes { goes self.old step.now result self.new };
 }
 
-/// Makes each step in turn, and answers the list of what they answered. Room for it is taken first.
+/// Makes each step in turn, and returns the list of what they returned. Room for it is taken first.
 pub(crate) fn each<A, K: Copy, V: Copy, S: Steps<A, K, V>>(
     alloc: Global,
     steps: &[A],

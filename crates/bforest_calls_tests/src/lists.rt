@@ -18,7 +18,8 @@ const NONE: usize = 1;
 
 const REVERSED: usize = 2;
 
-/// A key behind those of a list, which is there before: so the filled tree keeps its node, and the one of the handle without a tree stays free.
+/// A key behind those of a list, which is there before: so the filled tree keeps its node, and the one of the handle without a tree stays
+/// free.
 const LAST: u32 = 100;
 
 /// The order of numbers with the largest first.
@@ -34,7 +35,7 @@ impl Comparator<u32> for Reversed {
     }
 }
 
-/// Why a call is refused.
+/// Why a call fails.
 #[derive(Clone, Copy)]
 enum Refusal {
     NoHandle,

@@ -1,4 +1,4 @@
-//! Taking and reserving nodes in a pool, where one call may be refused for lack of memory: it changes nothing then, and succeeds when it is
+//! Taking and reserving nodes in a pool, where one call may fail for lack of memory: it changes nothing then, and succeeds when it is
 //! made again. `tools/refuse_each` runs it with each request for memory refused in turn.
 #![tactic(auto)]
 
@@ -30,7 +30,7 @@ fn state(pool: &Pool) -> (u32, u32, u32) {
     (pool.slots(), pool.free(), digest)
 }
 
-/// Takes a node, once more if it was refused.
+/// Takes a node, once more if it failed.
 fn take(pool: &mut Pool, key: u32, seen: &mut Seen) {
     let before = state(pool);
     if let Err(error) = pool.alloc_node(key, key) {
@@ -41,7 +41,7 @@ fn take(pool: &mut Pool, key: u32, seen: &mut Seen) {
     }
 }
 
-/// Reserves `n` free nodes, once more if it was refused.
+/// Reserves `n` free nodes, once more if it failed.
 fn reserve(pool: &mut Pool, n: u32, seen: &mut Seen) {
     let before = state(pool);
     if let Err(error) = pool.reserve(n) {

@@ -23,7 +23,7 @@ pub(crate) fn grow(forest: &mut MapForest<u32, u32>, seen: &mut Seen) {
     seen.note(forest.free_slots() == 0);
 }
 
-/// Reserves the nodes: then no insertion is refused. In the end all nodes are free.
+/// Reserves the nodes: then no insertion fails. In the end all nodes are free.
 pub(crate) fn grow_ahead(forest: &mut MapForest<u32, u32>, seen: &mut Seen) {
     if let Err(error) = forest.reserve_nodes(NODES) {
         seen.refuse(error, forest.slots() == 0 && forest.free_slots() == 0);
@@ -39,7 +39,7 @@ pub(crate) fn grow_ahead(forest: &mut MapForest<u32, u32>, seen: &mut Seen) {
     }
 }
 
-// Inserts an absent key, and repeats a refused call once.
+// Inserts an absent key, and repeats once a call that failed.
 fn put(
     map: &mut Map<u32, u32>,
     key: u32,
@@ -98,7 +98,7 @@ fn key_from(map: &Map<u32, u32>, key: u32, forest: &MapForest<u32, u32>) -> Opti
     cursor.key()
 }
 
-// The values that stay where an insertion is refused.
+// The values that stay where an insertion fails.
 fn state(
     map: &Map<u32, u32>,
     other: &Map<u32, u32>,

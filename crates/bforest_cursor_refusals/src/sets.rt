@@ -24,7 +24,7 @@ pub(crate) fn grow(forest: &mut SetForest<u32>, seen: &mut Seen) {
     seen.note(forest.free_slots() == 0);
 }
 
-/// Reserves the nodes: then no insertion is refused. In the end all nodes are free.
+/// Reserves the nodes: then no insertion fails. In the end all nodes are free.
 pub(crate) fn grow_ahead(forest: &mut SetForest<u32>, seen: &mut Seen) {
     if let Err(error) = forest.reserve_nodes(NODES) {
         seen.refuse(error, forest.slots() == 0 && forest.free_slots() == 0);
@@ -40,7 +40,7 @@ pub(crate) fn grow_ahead(forest: &mut SetForest<u32>, seen: &mut Seen) {
     }
 }
 
-// Inserts an absent key, and repeats a refused call once.
+// Inserts an absent key, and repeats once a call that failed.
 fn put(
     set: &mut Set<u32>,
     key: u32,
@@ -97,7 +97,7 @@ fn key_from(set: &Set<u32>, key: u32, forest: &SetForest<u32>) -> Option<u32> {
         .next()
 }
 
-// The values that stay where an insertion is refused.
+// The values that stay where an insertion fails.
 fn state(set: &Set<u32>, other: &Set<u32>, forest: &SetForest<u32>) -> (u32, u32, u32, u32) {
     (
         digest(set, forest),

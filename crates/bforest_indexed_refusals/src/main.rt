@@ -1,5 +1,5 @@
-//! Room that is promised ahead: handles and nodes are taken for some maps and sets of so many entries each, and then come a million insertions
-//! and removals in random ones of them, none of which may be refused. The requests for memory that come first may be refused: then nothing
+//! Room that is reserved: handles and nodes are taken for some maps and sets of so many entries each, and then come a million insertions
+//! and removals in random ones of them, none of which may fail. The requests for memory that come first may be refused: then nothing
 //! changes, and the same call succeeds when it is repeated. `tools/refuse_each` runs this with each request refused in turn, and with all
 //! refused once the room is there.
 #![tactic(auto)]

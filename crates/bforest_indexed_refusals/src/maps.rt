@@ -11,7 +11,7 @@ const ENTRIES: usize = 16;
 /// How many calls mostly insert, and then mostly remove.
 const STRETCH: u32 = 10_000;
 
-/// Takes the room for all maps, and repeats what was refused.
+/// Takes the room for all maps, and repeats what failed.
 pub(crate) fn reserve(maps: &mut Maps<u32, u32, ()>, seen: &mut Seen) {
     if maps.reserve_for(MAPS, ENTRIES).is_err() {
         seen.refuse(maps.slots() == 0 && maps.is_empty());

@@ -11,7 +11,7 @@ const KEYS: usize = 33;
 /// How many calls mostly insert, and then mostly remove.
 const STRETCH: u32 = 10_000;
 
-/// Takes the room for all sets, and repeats what was refused.
+/// Takes the room for all sets, and repeats what failed.
 pub(crate) fn reserve(sets: &mut Sets<u32, ()>, seen: &mut Seen) {
     if sets.reserve_for(SETS, KEYS).is_err() {
         seen.refuse(sets.slots() == 0 && sets.is_empty());

@@ -8,7 +8,7 @@ ghost use Rattle.std.specs.Prelude.{IfOk, IsOk, length, ◌-◌, ◌<◌, ◌≡
 use bforest::MapCursorMut;
 use bforest_indexed::{Comparator, Edit, Maps, OutOfMemory};
 
-/// Inserts an entry where there is room for `room.0` maps of `room.1` entries each, and stays within these numbers: that is never refused.
+/// Inserts an entry where there is room for `room.0` maps of `room.1` entries each, and stays within these numbers: that never fails.
 pub fn insert_in_room<K: Copy, V: Copy, C: Comparator<K>>(
     maps: &mut Maps<K, V, C>,
     room: (usize, usize),
@@ -23,7 +23,7 @@ pub fn insert_in_room<K: Copy, V: Copy, C: Comparator<K>>(
     maps.insert(index, entry.0, entry.1)
 }
 
-/// Makes that room, and inserts the entry: where the room could be made, the insertion is not refused.
+/// Makes that room, and inserts the entry: where the room could be made, the insertion does not fail.
 pub fn make_room_and_insert<K: Copy, V: Copy, C: Comparator<K>>(
     maps: &mut Maps<K, V, C>,
     room: (usize, usize),

@@ -1,4 +1,4 @@
-//! Tests of `bforest_indexed`: callers that are proved, and room that is taken ahead at a tight limit.
+//! Tests of `bforest_indexed`: callers that are proved, and room that is reserved at a tight limit.
 #![tactic(auto)]
 
 pub mod callers;

@@ -1,8 +1,8 @@
-//! Room that is taken ahead at a tight limit.
+//! Room that is reserved at a tight limit.
 
 use bforest_indexed::{Maps, OutOfMemory, Sets};
 
-// Ten maps of at most 20 entries have at most 80 nodes, so no insertion is refused: in each turn the least keys go, and greater ones come.
+// Ten maps of at most 20 entries have at most 80 nodes, so no insertion fails: in each turn the least keys go, and greater ones come.
 #[test]
 fn maps_in_their_room_refuse_nothing(rt: HostRuntime) {
     let mut maps: Maps<u32, u32, ()> = Maps::with_node_limit(rt.alloc(), (), 80);

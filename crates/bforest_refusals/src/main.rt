@@ -1,4 +1,4 @@
-//! Insertions into a map that grows to three levels, beside another map of the forest. One may be refused for want of memory: then nothing
+//! Insertions into a map that grows to three levels, beside another map of the forest. One may fail for want of memory: then nothing
 //! changes, and the same insertion succeeds when it is repeated. Then removals, a retain and clears, which take no memory.
 //! `tools/refuse_each` runs this with each request for memory refused in turn, and with all refused once the maps are built.
 #![tactic(auto)]
@@ -32,7 +32,7 @@ fn digest(map: &Numbers, forest: &MapForest<u32, u32>) -> u32 {
     digest
 }
 
-/// Inserts an absent key, and repeats a refused call once. Checks that another map stays.
+/// Inserts an absent key, and repeats once a call that failed. Checks that another map stays.
 fn insert(
     map: &mut Numbers,
     key: u32,

@@ -24,7 +24,7 @@ pub(crate) trait Handle<V: Spelled>: Collection<u32, V> {
     fn none() -> Self
         ensures empty { Self.number result ≡ None };
 
-    /// The levels of the handle's tree, and the counts of the table.
+    /// The height of the handle's tree, and the counts of the table.
     fn counts(&self, forest: &Self::Forest) -> Counts
         requires fits { Self.fits }
         requires live { IsLive (Self.trees forest.now) (Self.number self.now) }
@@ -75,7 +75,7 @@ impl<V: Spelled, T: Handle<V>> Handles<V, T> {
         self.handle(h).is_live(&self.forest)
     }
 
-    /// The levels of a handle's tree, and the counts of the table.
+    /// The height of a handle's tree, and the counts of the table.
     fn stat(&self, h: usize) -> Told<V>
         ensures { Tells T.most T.READS (answer_text V.value_text V.entry_text V.old_text)
             self.now (Stat h) (told_text V.value_text V.entry_text V.old_text result) self.now }

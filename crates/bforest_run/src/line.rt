@@ -8,7 +8,7 @@ pub(crate) enum Line<V: Copy> {
     Made(Call<u32, V>),
     /// Whether a handle is empty or names a tree.
     Holds(usize),
-    /// The levels of a tree, and the counts of the table.
+    /// The height of a tree, and the counts of the table.
     Stat(usize),
 }
 

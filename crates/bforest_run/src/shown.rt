@@ -35,7 +35,7 @@ impl fmt::Display for Refusal {
     }
 }
 
-/// The number of levels of a tree, of slots of the table, and of free slots.
+/// The height of a tree, and the numbers of slots of the table and of free slots.
 #[derive(Clone, Copy)]
 pub(crate) struct Counts {
     pub(crate) levels: usize,

@@ -101,7 +101,7 @@ pub(crate) enum Told<V: Copy> {
     Answer(Answer<u32, V>),
     /// Whether a handle is live.
     Truth(bool),
-    /// The levels of a tree, and the counts of the table.
+    /// The height of a tree, and the counts of the table.
     Counts(Counts),
 }
 

@@ -33,7 +33,7 @@ impl fmt::Display for BookAnswer {
     }
 }
 
-/// Why a call was refused.
+/// Why a call failed.
 #[derive(Clone, Copy)]
 struct Why(BookError);
 

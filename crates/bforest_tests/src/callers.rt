@@ -45,7 +45,7 @@ pub fn insert_and_get_other<K: Copy, V: Copy, C: Comparator<K>>(
     Ok(map.get(other, forest, comp))
 }
 
-/// Removes a key, and answers the value that it had. Then it is absent.
+/// Removes a key, and returns the value that it had. Then it is absent.
 pub fn remove_and_get<K: Copy, V: Copy, C: Comparator<K>>(
     map: &mut Map<K, V>,
     key: K,
@@ -61,7 +61,7 @@ pub fn remove_and_get<K: Copy, V: Copy, C: Comparator<K>>(
     (value, map.get(key, forest, comp))
 }
 
-/// Replaces the value of a key that is present: that is never refused.
+/// Replaces the value of a key that is present: that never fails.
 pub fn overwrite<K: Copy, V: Copy, C: Comparator<K>>(
     map: &mut Map<K, V>,
     key: K,
@@ -78,7 +78,7 @@ pub fn overwrite<K: Copy, V: Copy, C: Comparator<K>>(
     map.insert(key, value, forest, comp)
 }
 
-/// Inserts a value into one map: another map stays live and keeps its list, whether or not the insertion is refused.
+/// Inserts a value into one map: another map stays live and keeps its list, whether or not the insertion fails.
 pub fn insert_beside<K: Copy, V: Copy, C: Comparator<K>>(
     map: &mut Map<K, V>,
     other: &Map<K, V>,

@@ -1,4 +1,4 @@
-//! Insertions that the limit on nodes refuses.
+//! Insertions that fail by the limit on nodes.
 
 use crate::checked::{NumberForest, try_insert};
 use bforest::{Map, MapForest, OutOfMemory};

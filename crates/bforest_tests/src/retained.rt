@@ -4,7 +4,7 @@ use crate::checked::{NumberForest, ascending, entries};
 use bforest::MapForest;
 use std::test::Fail;
 
-// The value of each key becomes the number of its call: each entry is asked once, in order.
+// The value of each key becomes the number of its call: it is called on each entry once, in order.
 #[test]
 fn each_entry_is_asked_once_and_in_order(rt: HostRuntime) -> Result<(), Fail> {
     let mut forest: NumberForest = MapForest::new(rt.alloc());

@@ -29,7 +29,7 @@ fn each_node_holds_as_few_as_it_may(rt: HostRuntime) {
     }
 }
 
-// A map of at most 20 entries has at most 8 nodes, so none of these insertions is refused: in each turn the least keys go, and greater
+// A map of at most 20 entries has at most 8 nodes, so none of these insertions fails: in each turn the least keys go, and greater
 // ones come.
 #[test]
 fn a_map_never_needs_more(rt: HostRuntime) {

@@ -9,7 +9,7 @@ use std::alloc::Global;
 use std::marker::Model;
 use std::ops::Bound;
 
-/// One map in a forest of its own. Its type states that its keys increase, and no call has to be asked for it.
+/// One map in a forest of its own. Its type states that its keys increase, and no call has to require it.
 #[derive(Drop)]
 pub(crate) struct OneMap {
     forest: MapForest<u32, u32>,

@@ -7,7 +7,7 @@ use bforest::{OutOfMemory, Set, SetForest};
 use std::alloc::Global;
 use std::marker::Model;
 
-/// One set in a forest of its own. Its type states that its keys increase, and no call has to be asked for it.
+/// One set in a forest of its own. Its type states that its keys increase, and no call has to require it.
 #[derive(Drop)]
 pub(crate) struct OneSet {
     forest: SetForest<u32>,

@@ -9,7 +9,7 @@ use std::alloc::{AllocError, Global};
 use std::marker::Model;
 
 /// Many maps in one forest. The type states that the keys of each increase, and that no two maps are one tree: a call on one map leaves all
-/// others, and no call has to be asked for it.
+/// others, and no call has to require it.
 #[derive(Drop)]
 pub(crate) struct Smalls {
     forest: MapForest<u32, u32>,

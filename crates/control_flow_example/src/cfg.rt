@@ -111,7 +111,7 @@ impl Cfg {
         Ok(())
     }
 
-    /// Splits a block: its edges are moved to its tail, another block, and a branch leads there. If refused, some edges may be moved
+    /// Splits a block: its edges are moved to its tail, another block, and a branch leads there. If it fails, some edges may be moved
     /// already.
     pub(crate) fn split(&mut self, block: u32, branch: u32, tail: u32) -> Result<(), OutOfMemory>
         requires block { block < blocks self.old }

@@ -2,7 +2,7 @@
 
 use bforest::OutOfMemory;
 
-/// Why a call on books was refused. The call changed nothing. Where several apply, the first in this order is returned.
+/// Why a call on books failed. The call changed nothing. Where several apply, the first in this order is returned.
 #[derive(Clone, Copy, Debug, PartialEq, Eq)]
 pub enum BookError {
     /// There is no resource of this number.

@@ -1,4 +1,4 @@
-//! Bookings of one resource that grow its map to three levels, beside a booking of another. One call may be refused for want of memory:
+//! Bookings of one resource that grow its map to three levels, beside a booking of another. One call may fail for want of memory:
 //! then nothing changes, and the same call succeeds when it is repeated. Then all bookings are cancelled. `tools/refuse_each` runs this
 //! with
 //! each request for memory refused in turn.
@@ -18,7 +18,7 @@ struct Seen {
     is_right: bool,
 }
 
-/// Books of two resources. A refused call is repeated once.
+/// Books of two resources. A call that failed is repeated once.
 fn two_resources(alloc: Global, seen: &mut Seen) -> Result<Books, AllocError> {
     match Books::new(alloc, 2) {
         Ok(books) => Ok(books),
@@ -49,7 +49,7 @@ fn is_booked(books: &Books, count: u64, other: Option<(u64, u64)>) -> bool {
     books.at(1, 7) == Ok(other)
 }
 
-/// Books an interval of either resource, and repeats a refused call once. `before` says what is booked before.
+/// Books an interval of either resource, and repeats once a call that failed. `before` says what is booked before.
 fn book(
     books: &mut Books,
     resource: u32,

@@ -5,7 +5,7 @@ ghost use Rattle.std.specs.Prelude.{IfOk, OnOk, Some, ◌<◌, ◌≡◌, ◌≢
 
 use interval_books::{BookError, Books};
 
-/// Books an interval and asks for one of its moments: the interval is found.
+/// Books an interval and looks one of its moments up: the interval is found.
 pub fn book_and_ask(
     books: &mut Books,
     resource: u32,

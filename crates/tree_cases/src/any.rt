@@ -98,7 +98,7 @@ impl AnyTree {
         each!(self, tree => tree.root())
     }
 
-    /// The number of levels of the tree, of slots of the pool, and of its free slots.
+    /// The height of the tree, and the numbers of slots of the pool and of its free slots.
     pub(crate) fn sizes(&self) -> (usize, u32, u32) {
         each!(self, tree => (tree.levels(), tree.slots(), tree.free()))
     }

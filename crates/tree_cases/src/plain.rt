@@ -29,7 +29,7 @@ impl Plain {
         self.list.as_slice()
     }
 
-    /// How many levels the tree has.
+    /// The height of the tree.
     pub fn levels(&self) -> usize {
         self.sizes.len()
     }

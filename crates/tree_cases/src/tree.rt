@@ -118,7 +118,7 @@ impl<const N: usize> Tree<N> {
         Some(self.root?.number())
     }
 
-    /// The number of levels of the tree.
+    /// The height of the tree.
     pub(crate) fn levels(&self) -> usize {
         match self.root {
             Some(root) => self.pool.levels(root),

@@ -84,13 +84,13 @@ impl Trial {
         Ok(out.push_str("ok")?)
     }
 
-    // Writes the counts of levels and slots.
+    // Writes the height and the counts of slots.
     fn tell_sizes(&self, out: &mut String) -> Result<(), Stop> {
         let (levels, slots, free) = self.tree.sizes();
         Ok(write!(out, "levels {levels} slots {slots} free {free}")?)
     }
 
-    // Inserts keys, each with itself as value, until one is refused.
+    // Inserts keys, each with itself as value, until one fails.
     fn insert_all(&mut self, alloc: Global, words: &[&str], out: &mut String) -> Result<(), Stop> {
         for key in &keys(alloc, words)? {
             if let Err(refused) = self.insert(alloc, *key, *key, out)? {
@@ -161,7 +161,7 @@ impl Trial {
         Ok(out.push_str("ok")?)
     }
 
-    // Inserts an entry into both. The tree refuses it exactly where the plain program needs more nodes than the table has room for.
+    // Inserts an entry into both. It fails in the tree exactly where the plain program needs more nodes than the table has room for.
     fn insert(
         &mut self,
         alloc: Global,
@@ -244,7 +244,7 @@ fn behind(list: &[(u32, u32)], key: u32) -> Option<(u32, u32)> {
     list.iter().find(|entry| entry.0 > key).copied()
 }
 
-// The answer to an insertion that was refused.
+// The answer to an insertion that failed.
 fn refusal(refused: OutOfMemory) -> &'static str {
     match refused {
         OutOfMemory::Full => "full",

@@ -25,7 +25,7 @@ pub fn insert_by_cursor<K: Copy, V: Copy, C: Comparator<K>>(
     map.cursor_mut(forest, comp).try_insert(key, value)
 }
 
-/// Inserts by a cursor, which leaves each other map as it is, whether or not the insertion is refused.
+/// Inserts by a cursor, which leaves each other map as it is, whether or not the insertion fails.
 pub fn insert_by_cursor_beside<K: Copy, V: Copy, C: Comparator<K>>(
     map: &mut Map<K, V>,
     entry: (K, V),

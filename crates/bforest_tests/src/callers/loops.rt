@@ -117,7 +117,7 @@ pub fn goto_end_by_steps<K: Copy, V: Copy, C: Comparator<K>>(cursor: &mut MapCur
 }
 
 /// Takes entries from a range, from its front or from its back as each step says. The entries from the front, those left and those from the
-/// back, the last first, make up the range: each entry is taken once, whichever ends are asked.
+/// back, the last first, make up the range: each entry is taken once, whichever ends they are taken from.
 pub fn take_from_ends<K: Copy, V: Copy, C: Comparator<K>>(
     alloc: Global,
     range: &mut MapRange<'_, K, V, C>,

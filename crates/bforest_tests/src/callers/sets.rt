@@ -22,7 +22,7 @@ pub fn insert_and_test<K: Copy, C: Comparator<K>>(
     Ok(set.contains(key, forest, comp))
 }
 
-/// Removes a key, and answers whether it was there. Then it is absent.
+/// Removes a key, and returns whether it was there. Then it is absent.
 pub fn remove_and_test<K: Copy, C: Comparator<K>>(
     set: &mut Set<K>,
     key: K,
@@ -38,7 +38,7 @@ pub fn remove_and_test<K: Copy, C: Comparator<K>>(
     (was, set.contains(key, forest, comp))
 }
 
-/// Reserves nodes and inserts a key that needs no more: where the nodes could be had, the insertion can't be refused.
+/// Reserves nodes and inserts a key that needs no more: where the nodes could be had, the insertion cannot fail.
 pub fn insert_reserved<K: Copy, C: Comparator<K>>(
     set: &mut Set<K>,
     key: K,
@@ -55,7 +55,7 @@ pub fn insert_reserved<K: Copy, C: Comparator<K>>(
     Ok(set.insert(key, forest, comp))
 }
 
-/// Makes an empty set, and asks whether it is empty.
+/// Makes an empty set, and tests whether it is empty.
 pub fn make_empty<K: Copy>() -> (Set<K>, bool)
     ensures set { result.0 ≡ None }
     ensures empty { result.1 ≡ true }
