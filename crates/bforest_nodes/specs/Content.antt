@@ -63,7 +63,8 @@ module _ {K V : Type 0} where
   keys_of (Leaf keys vals) = keys
   keys_of (Free next) = []
 
-  -- an inner node has one child more than keys, and at most 8; a leaf has as many values as keys, and at most n
+  -- an inner node has one child more than keys, and at most 8; a leaf has as many values as keys, and at most
+  -- n
   abbrev pub HasShape : ℕ → Content K V → Type 0
   HasShape n (Inner keys children) = (length children ≡ length keys + 1) × (length children ≤ 8)
   HasShape n (Leaf keys vals) = (length keys ≡ length vals) × (length keys ≤ n)
@@ -125,23 +126,23 @@ module _ {K V : Type 0} where
   without_entry (Leaf keys vals) index = Leaf (remove keys index) (remove vals index)
   without_entry (Free next) index = Free next
 
-  -- What putting a value in at a key returns, from the result of a search for the key, where at most n entries fit. It is the old value,
-  -- nothing if there is room for the key, or the key's place if there is none
+  -- the answer of putting a value in at a key, from the answer of a search for the key, where at most n
+  -- entries fit: the old value, nothing if there is room for the key, or the key's place if there is none
   abbrev pub put_answer : ℕ → Content K V → Result ℕ ℕ → Result (Option V) ℕ
   put_answer n node (Ok index) = Ok (slice_get (vals_of node) index)
   put_answer n node (Err index) = if nat_lt (entry_count node) n then Ok None else Err index
 
-  -- the node after a value was put in at a key, from the result of a search for the key
+  -- the node after a value was put in at a key, from the answer of a search for the key
   abbrev pub with_put : ℕ → Content K V → Result ℕ ℕ → K → V → Content K V
   with_put n node (Ok index) key value = with_value node index value
   with_put n node (Err index) key value = if nat_lt (entry_count node) n then with_entry node index key value else node
 
-  -- the result of taking a key out, from the result of a search for it: its place and its value, or nothing
+  -- the answer of taking a key out, from the answer of a search for it: its place and its value, or nothing
   abbrev pub take_answer : Content K V → Result ℕ ℕ → Option (ℕ × V)
   take_answer node (Ok index) = option_map (λ v. (index, v)) (slice_get (vals_of node) index)
   take_answer node (Err index) = None
 
-  -- the node after a key was taken out, from the result of a search for it
+  -- the node after a key was taken out, from the answer of a search for it
   abbrev pub with_taken : Content K V → Result ℕ ℕ → Content K V
   with_taken node (Ok index) = without_entry node index
   with_taken node (Err index) = node
@@ -199,7 +200,7 @@ module _ {K V : Type 0} where
         × IsCut (joined left key right) (left_share (entry_count left + entry_count right)) new_left kept new_right
         × (joined new_left kept new_right ≡ joined left key right)
 
--- the result after the entry at this index was removed, with this number left and this capacity
+-- the answer after the entry at this index was removed, with this number left and this capacity
 abbrev pub removed_answer : ℕ → ℕ → ℕ → Removed
 removed_answer most index left =
     if nat_le most (2 * left) then (if index == left then Rightmost else Healthy)

@@ -122,14 +122,14 @@ impl<K: Copy, V: Copy, const N: usize> NodeData<K, V, N> {
         }
     }
 
-    /// Makes the slot free, whatever it held, with `next` after it in the free list. For the pool alone.
+    /// Makes the slot free, whatever it held, with `next` after it in the chain. For the pool alone.
     pub fn make_free(&mut self, next: PackedNode)
         ensures { self.new ≡ Free next }
     {
         self.state = State::Vacant(next);
     }
 
-    /// The node after this one in the free list. For the pool alone.
+    /// The node after this free one in the chain. For the pool alone.
     pub fn next_free(&self) -> PackedNode
         requires { IsFree self.now }
         ensures { self.now ≡ Free result }

@@ -11,7 +11,7 @@ const SHORT: usize = 8;
 /// Room for `N` elements. Those after the ones that count have no meaning.
 ///
 /// A move whose length is fixed takes a few instructions, and one of another length calls a function of memory. Therefore the numbers of
-/// elements that splitting and sharing move most often have a branch of their own, which moves elements without meaning too.
+/// elements that halving and sharing move most often have a branch of their own, which moves elements without meaning too.
 #[derive(Clone, Copy)]
 pub(crate) struct Row<T, const N: usize> {
     pub(crate) items: [T; N],
