@@ -48,11 +48,11 @@ impl<K: Copy, V: Copy, C: Comparator<K>> Model for Maps<K, V, C> {
 
     ghost invariant = { λ m. AreKept MAP_LEAF (C.order m.order)
         (record {
-      forest = m.forest;
-      order = m.order;
-      handles = m.maps.items;
-      held = vec_capacity m.maps;
-    }) };
+          forest = m.forest;
+          order = m.order;
+          handles = m.maps.items;
+          held = vec_capacity m.maps;
+        }) };
 }
 
 impl<K: Copy, V: Copy, C: Comparator<K>> Maps<K, V, C> {

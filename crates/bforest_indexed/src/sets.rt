@@ -47,11 +47,11 @@ impl<K: Copy, C: Comparator<K>> Model for Sets<K, C> {
 
     ghost invariant = { λ m. AreKept SET_LEAF (C.order m.order)
         (record {
-      forest = m.forest;
-      order = m.order;
-      handles = m.sets.items;
-      held = vec_capacity m.sets;
-    }) };
+          forest = m.forest;
+          order = m.order;
+          handles = m.sets.items;
+          held = vec_capacity m.sets;
+        }) };
 }
 
 impl<K: Copy, C: Comparator<K>> Sets<K, C> {
