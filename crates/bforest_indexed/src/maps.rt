@@ -366,6 +366,7 @@ impl<K: Copy, V: Copy, C: Comparator<K>> Maps<K, V, C> {
         ensures reserves { Reserves (table self.old) n result (table self.new) }
         ensures keeps { KeepsAll self.old self.new }
         ensures count { count self.new ≡ count self.old }
+        ensures memory { memory self.new ≡ memory self.old }
     {
         self.forest.reserve_nodes(n)
     }

@@ -333,6 +333,7 @@ impl<K: Copy, C: Comparator<K>> Sets<K, C> {
         ensures reserves { Reserves (table self.old) n result (table self.new) }
         ensures keeps { KeepsAll self.old self.new }
         ensures count { count self.new ≡ count self.old }
+        ensures memory { memory self.new ≡ memory self.old }
     {
         self.forest.reserve_nodes(n)
     }

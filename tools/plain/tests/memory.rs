@@ -63,7 +63,7 @@ fn a_reservation_takes_the_nodes_and_no_more() {
             made.reserve_for(maps, entries).unwrap();
             made
         });
-        assert_eq!(held, nodes * MAP_NODE + maps.max(FEWEST) * HANDLE, "{maps} maps of {entries} entries");
+        assert_eq!(held, nodes * MAP_NODE + maps * HANDLE, "{maps} maps of {entries} entries");
     }
     let (_forest, held) = made(|| {
         let mut forest: SetForest<u32> = SetForest::new();
@@ -73,10 +73,10 @@ fn a_reservation_takes_the_nodes_and_no_more() {
     assert_eq!(held, 1000 * SET_NODE);
     let (_sets, held) = made(|| {
         let mut sets: Sets<u32, ()> = Sets::new(());
-        sets.reserve_for(FEWEST, 100).unwrap();
+        sets.reserve_for(3, 100).unwrap();
         sets
     });
-    assert_eq!(held, FEWEST * (18 * SET_NODE + HANDLE));
+    assert_eq!(held, 3 * (18 * SET_NODE + HANDLE));
 }
 
 #[test]

@@ -7,4 +7,4 @@ invariant_of-self g c = (kept-all _ _ c.reserve_nodes.ensures c.self.invariant).
 
 pub returns : goal.returns
 returns g c = let kept = kept-all _ _ c.reserve_nodes.ensures c.self.invariant in
-    rw (← c.self.view_is) (record { reserves = c.reserve_nodes.ensures; keeps = kept.1; count = refl })
+    rw (← c.self.view_is) (record { reserves = c.reserve_nodes.ensures; keeps = kept.1; count = refl; memory = refl })
