@@ -227,21 +227,22 @@ fn a_list_of_any_length_is_made(rt: HostRuntime) {
     }
 }
 
-#[test]
-fn a_set_is_looked_up_from_below(rt: HostRuntime) {
-    let alloc = rt.alloc();
+/// Looks a key up from below among three keys of a set, in one list of calls, and returns the last answer.
+fn last_up_to(alloc: Global, k: u32) -> Result<Option<Answer<u32, ()>>, AllocError> {
     let mut forest = SetForest::new(alloc);
     let mut handles = [Set::new()];
     let calls = [
         insert(0, 10, ()),
         insert(0, 20, ()),
         insert(0, 30, ()),
-        Call::GetOrLess {
-            h: 0,
-            c: 0,
-            k: 25u32,
-        },
+        Call::GetOrLess { h: 0, c: 0, k },
     ];
-    let answers = run_set(alloc, &calls, &[()], &mut handles, &mut forest).unwrap();
-    assert_eq!(rt; answers.get(3), Some(&Answer::Pair(Some((20, ())))));
+    let mut answers = run_set(alloc, &calls, &[()], &mut handles, &mut forest)?;
+    Ok(answers.pop())
+}
+
+#[test]
+fn a_set_is_looked_up_from_below(rt: HostRuntime) {
+    let found = Some(Answer::Pair(Some((20, ()))));
+    assert_eq!(rt; last_up_to(rt.alloc(), 25), Ok(found));
 }

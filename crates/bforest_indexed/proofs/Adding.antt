@@ -1,6 +1,6 @@
 -- A list to which values that pass a test are added, one after another, and what that leaves of handles.
 use Rattle.bforest_indexed.specs.Handles.{Adds}
-use Rattle.std.proofs.Common.{Bool, Err, IsTrue, List, None, Ok, OnErr, OnOk, Option, Result, [], ap, get_or, length, refl, rules, subst, suc, sym, zero, ℕ, ◌++◌, ◌+◌, ◌∙◌, ◌∷◌, ◌≡◌, ◌≤◌, ◌↔◌, ◌==◌}
+use Rattle.std.proofs.Common.{Bool, Err, IsOk, IsTrue, List, None, Ok, OnErr, OnOk, Option, Result, [], ap, arith, get_or, length, refl, rules, subst, suc, sym, zero, ℕ, ◌++◌, ◌+◌, ◌<◌, ◌∙◌, ◌∷◌, ◌≡◌, ◌≤◌, ◌↔◌, ◌==◌}
 use Rattle.std.proofs.lemmas.List.{append-nil, append_assoc, length-append}
 use Rattle.std.specs.List.{AllByRecursion}
 
@@ -60,6 +60,11 @@ module _ {E : Type 0} (hs qs : List (Option ℕ)) (n : ℕ) where
   pub tried-more : (r : Result (Unit {0}) E) → OnOk r (Adds (λ h. h ≡ None) hs n qs) → OnOk r (length qs ≡ length hs + n)
   tried-more (Ok done) adds = more-handles hs qs n adds
   tried-more (Err e) adds = tt
+
+-- a call that fails only where too little memory is held succeeds where there is enough
+pub enough-ok : {T E : Type 0} (r : Result T E) {held n : ℕ} → OnErr r (held < n) → n ≤ held → IsOk r
+enough-ok (Ok x) short enough = refl
+enough-ok (Err e) short enough = absurd (omega (arith, short, enough))
 
 -- one empty handle more changes no index
 pub pushed : (hs held qs : List (Option ℕ)) (h : Option ℕ) → h ≡ None → held ≡ hs → qs ≡ held ++ h ∷ [] → (i : ℕ) → get_or qs i None ≡ get_or hs i None

@@ -112,10 +112,13 @@ module _ {K X C : Type 0} {most : ℕ} {cmp : K → K → Ordering} {m : Indexed
     of-missing : (P : ℕ → Type 0) → P n → (p : ℕ) → IsMostFor most most_entries p → P (missing lists p m)
     of-missing P said p also = subst (λ q. P (missing lists q m)) (sym (one-most p also)) (subst P n-is said)
 
+    keeps-held : {held : ℕ} {r : Result (Unit {0}) OutOfMemory} → Reserves (table m) n r f' → KeepsAll m (record m { forest = f'; held = held })
+    keeps-held given = let kept = (kept-all m f' given a).1 in record { lists = kept.lists; sizes = kept.sizes; same_comparator = kept.same_comparator }
+
     asked : {held : ℕ} (r : Result (Unit {0}) OutOfMemory) → Reserves (table m) n r f' → Holds lists (memory m) held → lists ≤ held
         → ReservesFor most lists most_entries m r (record m { forest = f'; held = held })
     asked {held} (Ok done) given holds indices = let added = added-free given in record {
-      keeps = (kept-all m f' given a).1;
+      keeps = keeps-held given;
       same_count = refl;
       same_limit = given.keeps.limit;
       room = (nodes, enough, omega (arith, n-is, given.slots, a.account));
@@ -133,7 +136,7 @@ module _ {K X C : Type 0} {most : ℕ} {cmp : K → K → Ordering} {m : Indexed
       memory = λ is. absurd (ok-memory done is);
     }
     asked {held} (Err e) given holds indices = let added = added-free given in record {
-      keeps = (kept-all m f' given a).1;
+      keeps = keeps-held given;
       same_count = refl;
       same_limit = given.keeps.limit;
       room = tt;
@@ -157,20 +160,20 @@ module _ {K X C : Type 0} {most : ℕ} {cmp : K → K → Ordering} {m : Indexed
         → IsErrAnd r (λ y. y ≡ why) → ReservesFor most lists most_entries m r m
     refused-full bound r why given err = subst (λ q. ReservesFor most lists most_entries m q m) (sym (error-is r why Full given.0 err)) (too-many bound (omega (arith, limit-is, given.1)))
 
-    module _ (slots : ℕ) (product : (slots ≡ lists * nodes) × (slots ≤ limit)) (hs : List (Option ℕ)) (same : hs ≡ m.handles) {held : ℕ} where
+    module _ (slots : ℕ) (product : (slots ≡ lists * nodes) × (slots ≤ limit)) (hs : List (Option ℕ)) (same : hs ≡ m.handles) where
       within : lists * nodes ≤ limit_of (table m)
       within = omega (arith, product.0, product.1, limit-is)
 
-      pub refused-memory : (r : Result (Unit {0}) OutOfMemory) (why : OutOfMemory) → (why ≡ Memory) × (memory m < lists) → held ≡ memory m → IsErrAnd r (λ y. y ≡ why)
+      pub refused-memory : {held : ℕ} (r : Result (Unit {0}) OutOfMemory) (why : OutOfMemory) → (why ≡ Memory) × (memory m < lists) → held ≡ memory m → IsErrAnd r (λ y. y ≡ why)
           → ReservesFor most lists most_entries m r (record m { handles = hs; held = held })
-      refused-memory r why given kept err =
+      refused-memory {held} r why given kept err =
           let is : m ≡ record m { handles = hs; held = held } = λ j. record m { handles = sym same j; held = sym kept j } in
           subst (λ q. ReservesFor most lists most_entries m r q) is
           (subst (λ q. ReservesFor most lists most_entries m q m) (sym (error-is r why Memory given.0 err)) (no-memory within given.1))
 
-      pub reserved : (used n : ℕ) → used ≡ nodes_in_use m → n ≡ slots - used → (f' : Forest K X) (r : Result (Unit {0}) OutOfMemory) → Reserves (table m) n r f'
+      pub reserved : {held : ℕ} (used n : ℕ) → used ≡ nodes_in_use m → n ≡ slots - used → (f' : Forest K X) (r : Result (Unit {0}) OutOfMemory) → Reserves (table m) n r f'
           → Holds lists (memory m) held → lists ≤ held → ReservesFor most lists most_entries m r (record m { forest = f'; handles = hs; held = held })
-      reserved used n used-is n-is f' r given holds indices = subst (λ qs. ReservesFor most lists most_entries m r (record m { forest = f'; handles = qs; held = held })) (sym same)
+      reserved {held} used n used-is n-is f' r given holds indices = subst (λ qs. ReservesFor most lists most_entries m r (record m { forest = f'; handles = qs; held = held })) (sym same)
           (asked within n (omega (arith, n-is, used-is, product.0)) f' r given holds indices)
 
 -- the forest was asked for slots, and the handles stay

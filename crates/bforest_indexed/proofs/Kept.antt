@@ -117,10 +117,10 @@ module _ {K X C : Type 0} where
   }
 
   -- a call that was refused left each handle
-  pub refused-same : {E : Type 0} (m : Indexed K X C) (qs : List (Option ℕ)) {held : ℕ} (r : Result (Unit {0}) E) → OnErr r (qs ≡ m.handles) → OnErr r (held ≡ memory m)
+  pub refused-same : {E : Type 0} (m : Indexed K X C) (qs : List (Option ℕ)) (held : ℕ) (r : Result (Unit {0}) E) → OnErr r (qs ≡ m.handles) → OnErr r (held ≡ memory m)
       → OnErr r (record m { handles = qs; held = held } ≡ m)
-  refused-same m qs (Ok done) same kept = tt
-  refused-same m qs (Err e) same kept = λ j. record m { handles = same j; held = kept j }
+  refused-same m qs held (Ok done) same kept = tt
+  refused-same m qs held (Err e) same kept = λ j. record m { handles = same j; held = kept j }
 
   -- the tree of i is now that of h' in the forest f'
   abbrev pub with_tree : Indexed K X C → ℕ → Forest K X → Option ℕ → Indexed K X C
