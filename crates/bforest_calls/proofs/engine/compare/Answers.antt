@@ -59,8 +59,7 @@ returns-in_err-given-clause-room g c =
     let passed = c.unnamed.ensures.made c.in_default.is in
     let there = order-there order comps c.args.c c.if-c-comps.false in
     let tested = number-lent t.number t.numbers laws.counted laws.at xs c.args.h passed.0 c.index-handles-h.result in
-    on_err_from c.from_residual.result (asks-room t.READS (map order comps) c.args.h c.args.c (record { forest = forest; handles = t.numbers xs })
-    (
+    on_err_from c.from_residual.result (asks-room t.READS (map order comps) c.args.h c.args.c (record { forest = forest; handles = t.numbers xs }) (
       passed.0,
       there,
       passed.1,
