@@ -27,8 +27,8 @@ pub trait Edit<K: Copy, V: Copy, C: Comparator<K>>: Drop {
         requires end { spot cursor.old ≡ length (entries cursor.old) }
         requires fits { MapsFitInMemory K.row V.row }
         ensures edits { Edits MAP_LEAF C.order cursor.old cursor.new }
-        ensures leaves { leaves self (forest_now cursor.old) (map_now cursor.old) result (forest_now cursor.new)
-            (map_now cursor.new) };
+        ensures leaves { leaves self (forest_now cursor.old) (map_now cursor.old) result
+            (forest_now cursor.new) (map_now cursor.new) };
 }
 
 /// Lends a writing cursor of a map to some work, and returns what that returns.
