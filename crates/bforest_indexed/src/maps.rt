@@ -375,13 +375,13 @@ impl<K: Copy, V: Copy, C: Comparator<K>> Maps<K, V, C> {
     /// maps and none has more entries.
     ///
     /// The table gets as many slots as such maps can have nodes, which is [`bforest::Map::nodes_for`] each, those in use included; and
-    /// memory for the handles of so many maps is taken. Where there is room already, no slot is added. [`Maps::clear_all`] gives the
-    /// room back.
+    /// memory for the handles of so many maps is taken, so that [`Maps::grow_to`] of so many succeeds. Where there is room already, no slot
+    /// is added. [`Maps::clear_all`] gives the slots back.
     ///
     /// # Errors
     ///
     /// [`OutOfMemory::Full`] where the limit does not allow so many slots, which is tested first, and [`OutOfMemory::Memory`] where there
-    /// is no memory; no map and no slot has changed then.
+    /// is no memory. No map and no slot has changed then; after `Memory` more memory for handles may be held.
     pub fn reserve_for(&mut self, maps: usize, entries: usize) -> Result<(), OutOfMemory>
         ensures { ReservesFor MAP_LEAF maps entries self.old result self.new }
     {

@@ -342,13 +342,13 @@ impl<K: Copy, C: Comparator<K>> Sets<K, C> {
     /// sets and none has more keys.
     ///
     /// The table gets as many slots as such sets can have nodes, which is [`bforest::Set::nodes_for`] each, those in use included; and
-    /// memory for the handles of so many sets is taken. Where there is room already, no slot is added. [`Sets::clear_all`] gives the
-    /// room back.
+    /// memory for the handles of so many sets is taken, so that [`Sets::grow_to`] of so many succeeds. Where there is room already, no slot
+    /// is added. [`Sets::clear_all`] gives the slots back.
     ///
     /// # Errors
     ///
     /// [`OutOfMemory::Full`] where the limit does not allow so many slots, which is tested first, and [`OutOfMemory::Memory`] where there
-    /// is no memory; no set and no slot has changed then.
+    /// is no memory. No set and no slot has changed then; after `Memory` more memory for handles may be held.
     pub fn reserve_for(&mut self, sets: usize, keys: usize) -> Result<(), OutOfMemory>
         ensures { ReservesFor SET_LEAF sets keys self.old result self.new }
     {
