@@ -16,7 +16,6 @@ use Rattle.std.proofs.lemmas.List.Edits.{length-insert, length-remove}
 use Rattle.std.proofs.lemmas.List.Sums.{count_by-le-length}
 use Rattle.std.specs.Ordering.{is_lt}
 use Rattle.std.specs.declared.cmp.Ordering.{Ordering}
-
 -- a table that holds as much memory as before has not grown
 pub use Rattle.bforest_core.proofs.table.Allocating.{grows-not}
 
