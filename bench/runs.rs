@@ -43,11 +43,11 @@ pub struct Work {
     pub turns: u32,
 }
 
-// A generator of numbers, equal to that of `bforest_workloads_bench`.
-struct Random(u64);
+/// A generator of numbers, equal to that of `bforest_workloads_bench`.
+pub struct Random(pub u64);
 
 impl Random {
-    fn below(&mut self, bound: u32) -> u32 {
+    pub fn below(&mut self, bound: u32) -> u32 {
         let mut x = self.0;
         x ^= x << 13;
         x ^= x >> 7;
@@ -57,8 +57,8 @@ impl Random {
     }
 }
 
-// The key at an index of a large map or set.
-fn key_at(index: u32, is_mixed: bool) -> u32 {
+/// The key at an index of a large map or set.
+pub fn key_at(index: u32, is_mixed: bool) -> u32 {
     if !is_mixed {
         return index;
     }
@@ -306,8 +306,8 @@ fn live_ranges<R: Ranges>(ranges: &mut R, work: Work) -> u64 {
     sum
 }
 
-// Makes a run on the value of `new`, which is dropped after the time is taken. Where `is_kept`, it is not dropped at all.
-fn timed<M>(new: impl FnOnce() -> M, run: impl FnOnce(&mut M) -> u64, is_kept: bool) -> (u64, Duration) {
+/// Makes a run on the value of `new`, which is dropped after the time is taken. Where `is_kept`, it is not dropped at all.
+pub fn timed<M>(new: impl FnOnce() -> M, run: impl FnOnce(&mut M) -> u64, is_kept: bool) -> (u64, Duration) {
     let start = Instant::now();
     let mut made = new();
     let sum = run(&mut made);

@@ -1,12 +1,16 @@
-//! The sides of the benchmark, and the maps and sets of `std` and of the Rust original (if present).
+//! The sides of the benchmark, by their names.
 
 #[cfg(library)]
 use crate::library;
-use crate::others::{OneMap, Vecs};
-use crate::runs::{added, run_on, run_small, Many, Maps, Ranges, Sets, Work, EDITED};
 #[cfg(original)]
-use cranelift_bforest::{Map, MapForest, Set, SetForest};
-use std::collections::{BTreeMap, BTreeSet};
+use crate::original::{OriginalMaps, OriginalSets, OriginalSide};
+use crate::others::{OneMap, Vecs};
+#[cfg(package)]
+use crate::package::{PackageMaps, PackageSets, PackageSide};
+use crate::programs::{liveness, marks, matching, registers, timed_rounds};
+use crate::runs::{run_on, run_small, Work};
+use crate::standard::{StdMaps, StdSets, StdSide};
+use crate::uses::{use_on, Job};
 use std::hint::black_box;
 use std::time::Duration;
 
@@ -16,6 +20,8 @@ pub fn run(side: &str, work: Work, is_kept: bool) -> Option<(u64, Duration)> {
     Some(match side {
         #[cfg(library)]
         "bforest" => library::run(black_box(work), false),
+        #[cfg(package)]
+        "package" => run_on::<PackageMaps, PackageSets>(black_box(work), is_kept),
         "BTreeMap" => run_on::<StdMaps, StdSets>(black_box(work), is_kept),
         #[cfg(original)]
         "original" => run_on::<OriginalMaps, OriginalSets>(black_box(work), is_kept),
@@ -28,18 +34,51 @@ pub fn run(side: &str, work: Work, is_kept: bool) -> Option<(u64, Duration)> {
     })
 }
 
+/// Makes a run of single calls on a side, named as in a table, and returns its checksum and its time. The static library has none.
+#[inline(never)]
+pub fn run_use(side: &str, job: Job, is_kept: bool) -> Option<(u64, Duration)> {
+    Some(match side {
+        #[cfg(package)]
+        "package" => use_on::<PackageSide>(black_box(job), is_kept),
+        "BTreeMap" => use_on::<StdSide>(black_box(job), is_kept),
+        #[cfg(original)]
+        "original" => use_on::<OriginalSide>(black_box(job), is_kept),
+        _ => return None,
+    })
+}
+
+// Makes so many rounds of a program over its input, on the side whose module is named.
+macro_rules! rounds_of {
+    ($program:ident, $side:expr, $size:expr, $rounds:expr, $maps:ident) => {{
+        let input = $program::input($size);
+        Some(match $side {
+            #[cfg(package)]
+            "package" => timed_rounds($rounds, || $program::run::<$program::package::$maps>(black_box(&input))),
+            "BTreeMap" => timed_rounds($rounds, || $program::run::<$program::standard::$maps>(black_box(&input))),
+            #[cfg(original)]
+            "original" => timed_rounds($rounds, || $program::run::<$program::original::$maps>(black_box(&input))),
+            _ => return None,
+        })
+    }};
+}
+
+/// Makes so many rounds of a program, on an input of this size, and returns their checksum and their time, without that of the input.
+#[inline(never)]
+pub fn run_program(side: &str, program: &str, size: u32, rounds: u32) -> Option<(u64, Duration)> {
+    match program {
+        "liveness" => rounds_of!(liveness, side, size, rounds, Live),
+        "registers" => rounds_of!(registers, side, size, rounds, Registers),
+        "matching" => rounds_of!(matching, side, size, rounds, Levels),
+        "marks" => rounds_of!(marks, side, size, rounds, ByPosition),
+        _ => None,
+    }
+}
+
 /// Maps or sets of a side, and the forest that they lie in.
 pub struct Held<F, M> {
     pub forest: F,
     pub maps: M,
 }
-
-type StdMaps = Held<(), Vec<BTreeMap<u32, u32>>>;
-type StdSets = Held<(), Vec<BTreeSet<u32>>>;
-#[cfg(original)]
-type OriginalMaps = Held<MapForest<u32, u32>, Vec<Map<u32, u32>>>;
-#[cfg(original)]
-type OriginalSets = Held<SetForest<u32>, Vec<Set<u32>>>;
 
 /// Implements `Many` for maps with values `$value` in a forest `$new`: what each call does with the forest and with the map that it names, and which
 /// numbers a walk adds to its checksum.
@@ -47,9 +86,9 @@ macro_rules! many {
     ($held:ty, $value:ty, $new:expr, $(where $v:ident: $bound:path,)?
      |$forest:pat_param, $map:ident, $key:ident, $given:pat_param|
      insert => $insert:expr, get => $get:expr, remove => $remove:expr, clear => $clear:expr, walk => $numbers:expr $(,)?) => {
-        impl$(<$v: $bound>)? Many<$value> for $held {
+        impl$(<$v: $bound>)? $crate::runs::Many<$value> for $held {
             fn new(count: u32) -> Self {
-                Held { forest: $new, maps: (0..count).map(|_| Default::default()).collect() }
+                $crate::sides::Held { forest: $new, maps: (0..count).map(|_| Default::default()).collect() }
             }
 
             fn insert(&mut self, map: u32, $key: u32, $given: $value) -> Option<$value> {
@@ -75,158 +114,9 @@ macro_rules! many {
 
             fn walk(&self, map: u32, sum: u64) -> u64 {
                 let (Some($map), $forest) = (self.maps.get(map as usize), &self.forest) else { return sum };
-                $numbers.fold(sum, added)
+                $numbers.fold(sum, $crate::runs::added)
             }
         }
     };
 }
 pub(crate) use many;
-
-many! { StdMaps, u32, (), |_, map, key, value|
-    insert => map.insert(key, value),
-    get => map.get(&key).copied(),
-    remove => map.remove(&key),
-    clear => map.clear(),
-    walk => map.iter().map(|(key, value)| key ^ value),
-}
-
-many! { StdSets, (), (), |_, set, key, _|
-    insert => (!set.insert(key)).then_some(()),
-    get => set.contains(&key).then_some(()),
-    remove => set.remove(&key).then_some(()),
-    clear => set.clear(),
-    walk => set.iter().map(|key| *key),
-}
-
-#[cfg(original)]
-many! { OriginalMaps, u32, MapForest::new(), |forest, map, key, value|
-    insert => map.insert(key, value, forest, &()),
-    get => map.get(key, forest, &()),
-    remove => map.remove(key, forest, &()),
-    clear => map.clear(forest),
-    walk => map.iter(forest).map(|(key, value)| key ^ value),
-}
-
-#[cfg(original)]
-many! { OriginalSets, (), SetForest::new(), |forest, set, key, _|
-    insert => (!set.insert(key, forest, &())).then_some(()),
-    get => set.contains(key, forest, &()).then_some(()),
-    remove => set.remove(key, forest, &()).then_some(()),
-    clear => set.clear(forest),
-    walk => set.iter(forest),
-}
-
-// The checksum `$sum` with a number of each entry of a map, if there is this map.
-macro_rules! add_all {
-    ($sum:ident, $found:expr, |$map:ident| $entries:expr, |$entry:pat_param| $number:expr) => {{
-        let mut sum = $sum;
-        if let Some($map) = $found {
-            for $entry in $entries {
-                sum = added(sum, $number);
-            }
-        }
-        sum
-    }};
-}
-
-impl Maps for StdMaps {
-    fn read_on(&self, map: u32, sum: u64) -> u64 {
-        add_all!(sum, self.maps.get(map as usize), |map| map.range(..), |(key, value)| key.wrapping_add(*value))
-    }
-
-    fn read_back(&self, map: u32, sum: u64) -> u64 {
-        add_all!(sum, self.maps.get(map as usize), |map| map.range(..).rev(), |(key, value)| key.wrapping_add(*value))
-    }
-}
-
-#[cfg(original)]
-impl Maps for OriginalMaps {
-    fn read_on(&self, map: u32, sum: u64) -> u64 {
-        let Some(map) = self.maps.get(map as usize) else { return sum };
-        let mut cursor = map.cursor(&self.forest, &());
-        let (Some(value), Some(key)) = (cursor.goto_first(), cursor.key()) else { return sum };
-        let mut sum = added(sum, key.wrapping_add(value));
-        while let Some((key, value)) = cursor.next() {
-            sum = added(sum, key.wrapping_add(value));
-        }
-        sum
-    }
-
-    fn read_back(&self, map: u32, mut sum: u64) -> u64 {
-        let Some(map) = self.maps.get(map as usize) else { return sum };
-        let mut cursor = map.cursor(&self.forest, &());
-        while let Some((key, value)) = cursor.prev() {
-            sum = added(sum, key.wrapping_add(value));
-        }
-        sum
-    }
-}
-
-impl Sets for StdSets {
-    fn edit(&mut self, set: u32, first: u32) -> u32 {
-        let Some(set) = self.maps.get_mut(set as usize) else { return 0 };
-        let new = (0..EDITED).filter(|step| set.insert(first.wrapping_add(*step))).count();
-        let mut gone = 0;
-        for _ in 0..EDITED {
-            if let Some(key) = set.range(first..).next().copied() {
-                gone += usize::from(set.remove(&key));
-            }
-        }
-        (new + gone) as u32
-    }
-}
-
-#[cfg(original)]
-impl Sets for OriginalSets {
-    fn edit(&mut self, set: u32, first: u32) -> u32 {
-        let Some(set) = self.maps.get_mut(set as usize) else { return 0 };
-        let mut cursor = set.cursor(&mut self.forest, &());
-        let mut count = 0;
-        for step in 0..EDITED {
-            count += u32::from(cursor.insert(first.wrapping_add(step)));
-            cursor.next();
-        }
-        cursor.goto(first);
-        for _ in 0..EDITED {
-            count += u32::from(cursor.remove().is_some());
-        }
-        count
-    }
-}
-
-impl Ranges for StdMaps {
-    fn put(&mut self, entries: &[(u32, u32)]) -> u32 {
-        entries.iter().filter(|entry| self.maps[0].insert(entry.0, entry.1).is_none()).count() as u32
-    }
-
-    fn end_at(&self, point: u32) -> Option<u32> {
-        self.maps[0].range(..=point).next_back().map(|entry| *entry.1)
-    }
-
-    fn ends(&self, from: u32, to: u32) -> [Option<(u32, u32)>; 2] {
-        let mut range = self.maps[0].range(from..=to).map(|entry| (*entry.0, *entry.1));
-        [range.next(), range.next_back()]
-    }
-}
-
-#[cfg(original)]
-impl Ranges for OriginalMaps {
-    fn put(&mut self, entries: &[(u32, u32)]) -> u32 {
-        let mut cursor = self.maps[0].cursor_mut(&mut self.forest, &());
-        let mut count = 0;
-        for entry in entries {
-            count += u32::from(cursor.insert(entry.0, entry.1).is_none());
-            cursor.next();
-        }
-        count
-    }
-
-    fn end_at(&self, point: u32) -> Option<u32> {
-        self.maps[0].get_or_less(point, &self.forest, &()).map(|entry| entry.1)
-    }
-
-    fn ends(&self, from: u32, to: u32) -> [Option<(u32, u32)>; 2] {
-        let mut range = self.maps[0].range(from..=to, &self.forest, &());
-        [range.next(), range.next_back()]
-    }
-}

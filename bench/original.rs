@@ -1,0 +1,194 @@
+//! Maps and sets of the Rust original, `cranelift-bforest`: a forest and handles.
+
+use crate::runs::{added, Maps, Ranges, Sets, EDITED};
+use crate::sides::{many, Held};
+use crate::uses::{FunctionMaps, Layout, RankedMaps, Side, Uses, WideKey, WideMaps, WideValue, FUNCTION};
+use cranelift_bforest::{Comparator, Map, MapForest, Set, SetForest};
+use std::cmp::Ordering;
+
+pub type OriginalMaps = Held<MapForest<u32, u32>, Vec<Map<u32, u32>>>;
+pub type OriginalSets = Held<SetForest<u32>, Vec<Set<u32>>>;
+
+many! { OriginalMaps, u32, MapForest::new(), |forest, map, key, value|
+    insert => map.insert(key, value, forest, &()),
+    get => map.get(key, forest, &()),
+    remove => map.remove(key, forest, &()),
+    clear => map.clear(forest),
+    walk => map.iter(forest).map(|(key, value)| key ^ value),
+}
+
+many! { OriginalSets, (), SetForest::new(), |forest, set, key, _|
+    insert => (!set.insert(key, forest, &())).then_some(()),
+    get => set.contains(key, forest, &()).then_some(()),
+    remove => set.remove(key, forest, &()).then_some(()),
+    clear => set.clear(forest),
+    walk => set.iter(forest),
+}
+
+impl Maps for OriginalMaps {
+    fn read_on(&self, map: u32, sum: u64) -> u64 {
+        let Some(map) = self.maps.get(map as usize) else { return sum };
+        let mut cursor = map.cursor(&self.forest, &());
+        let (Some(value), Some(key)) = (cursor.goto_first(), cursor.key()) else { return sum };
+        let mut sum = added(sum, key.wrapping_add(value));
+        while let Some((key, value)) = cursor.next() {
+            sum = added(sum, key.wrapping_add(value));
+        }
+        sum
+    }
+
+    fn read_back(&self, map: u32, mut sum: u64) -> u64 {
+        let Some(map) = self.maps.get(map as usize) else { return sum };
+        let mut cursor = map.cursor(&self.forest, &());
+        while let Some((key, value)) = cursor.prev() {
+            sum = added(sum, key.wrapping_add(value));
+        }
+        sum
+    }
+}
+
+impl Sets for OriginalSets {
+    fn edit(&mut self, set: u32, first: u32) -> u32 {
+        let Some(set) = self.maps.get_mut(set as usize) else { return 0 };
+        let mut cursor = set.cursor(&mut self.forest, &());
+        let mut count = 0;
+        for step in 0..EDITED {
+            count += u32::from(cursor.insert(first.wrapping_add(step)));
+            cursor.next();
+        }
+        cursor.goto(first);
+        for _ in 0..EDITED {
+            count += u32::from(cursor.remove().is_some());
+        }
+        count
+    }
+}
+
+impl Ranges for OriginalMaps {
+    fn put(&mut self, entries: &[(u32, u32)]) -> u32 {
+        let mut cursor = self.maps[0].cursor_mut(&mut self.forest, &());
+        let mut count = 0;
+        for entry in entries {
+            count += u32::from(cursor.insert(entry.0, entry.1).is_none());
+            cursor.next();
+        }
+        count
+    }
+
+    fn end_at(&self, point: u32) -> Option<u32> {
+        self.maps[0].get_or_less(point, &self.forest, &()).map(|entry| entry.1)
+    }
+
+    fn ends(&self, from: u32, to: u32) -> [Option<(u32, u32)>; 2] {
+        let mut range = self.maps[0].range(from..=to, &self.forest, &());
+        [range.next(), range.next_back()]
+    }
+}
+
+impl Uses for OriginalMaps {
+    fn load(&mut self, map: u32, entries: &[(u32, u32)]) {
+        for (key, value) in entries {
+            self.maps[map as usize].insert(*key, *value, &mut self.forest, &());
+        }
+    }
+
+    fn update(&mut self, map: u32, key: u32) {
+        let mut cursor = self.maps[map as usize].cursor_mut(&mut self.forest, &());
+        if cursor.goto(key).is_some() {
+            if let Some(value) = cursor.value_mut() {
+                *value += 1;
+            }
+        }
+    }
+
+    fn entry(&mut self, map: u32, key: u32, value: u32) -> u32 {
+        let map = &mut self.maps[map as usize];
+        if let Some(found) = map.get(key, &self.forest, &()) {
+            return found;
+        }
+        map.insert(key, value, &mut self.forest, &());
+        value
+    }
+
+    fn first_of(&self, map: u32, key: u32) -> Option<(u32, u32)> {
+        self.maps[map as usize].range(key.., &self.forest, &()).next()
+    }
+
+    fn three_of(&self, map: u32, key: u32, sum: u64) -> u64 {
+        let range = self.maps[map as usize].range(key.., &self.forest, &());
+        range.take(3).fold(sum, |sum, (key, value)| added(sum, key ^ value))
+    }
+
+    fn at_or_after(&self, map: u32, key: u32) -> Option<(u32, u32)> {
+        self.first_of(map, key)
+    }
+
+    fn walk_back(&self, map: u32, sum: u64) -> u64 {
+        let range = self.maps[map as usize].range(.., &self.forest, &());
+        range.rev().fold(sum, |sum, (key, value)| added(sum, key ^ value))
+    }
+}
+
+pub struct OriginalSide;
+
+impl Side for OriginalSide {
+    type Maps = OriginalMaps;
+    type Wide = Held<MapForest<WideKey, WideValue>, Vec<Map<WideKey, WideValue>>>;
+    type Ranked = Ranked;
+    type Function = OriginalSide;
+}
+
+impl WideMaps for Held<MapForest<WideKey, WideValue>, Vec<Map<WideKey, WideValue>>> {
+    fn new(count: u32) -> Self {
+        Held { forest: MapForest::new(), maps: (0..count).map(|_| Map::new()).collect() }
+    }
+
+    fn insert(&mut self, map: u32, key: WideKey, value: WideValue) {
+        self.maps[map as usize].insert(key, value, &mut self.forest, &());
+    }
+
+    fn get(&self, map: u32, key: WideKey) -> Option<WideValue> {
+        self.maps[map as usize].get(key, &self.forest, &())
+    }
+}
+
+impl Comparator<u32> for Layout {
+    fn cmp(&self, a: u32, b: u32) -> Ordering {
+        let (a, b) = (a as usize, b as usize);
+        self.block[a].cmp(&self.block[b]).then_with(|| self.place[a].cmp(&self.place[b]))
+    }
+}
+
+/// Maps whose keys are the numbers of instructions: the comparator knows their layout.
+pub struct Ranked {
+    forest: MapForest<u32, u32>,
+    maps: Vec<Map<u32, u32>>,
+    layout: Layout,
+}
+
+impl RankedMaps for Ranked {
+    fn new(count: u32, layout: Layout) -> Self {
+        Ranked { forest: MapForest::new(), maps: (0..count).map(|_| Map::new()).collect(), layout }
+    }
+
+    fn insert(&mut self, map: u32, inst: u32, value: u32) {
+        self.maps[map as usize].insert(inst, value, &mut self.forest, &self.layout);
+    }
+
+    fn get(&self, map: u32, inst: u32) -> Option<u32> {
+        self.maps[map as usize].get(inst, &self.forest, &self.layout)
+    }
+}
+
+impl FunctionMaps for OriginalSide {
+    fn made_and_dropped(entries: &[(u32, u32)]) -> u64 {
+        let mut forest = MapForest::new();
+        let mut maps: [Map<u32, u32>; FUNCTION as usize] = Default::default();
+        for map in &mut maps {
+            for (key, value) in entries {
+                map.insert(*key, *value, &mut forest, &());
+            }
+        }
+        maps.iter().fold(0, |sum, map| added(sum, map.cursor(&forest, &()).prev().map_or(7, |entry| entry.1)))
+    }
+}

@@ -1,0 +1,170 @@
+//! Maps and sets of Rust's standard library: a `BTreeMap` or a `BTreeSet` for each.
+
+use crate::runs::{added, Maps, Ranges, Sets, EDITED};
+use crate::sides::{many, Held};
+use crate::uses::{FunctionMaps, Layout, RankedMaps, Side, Uses, WideKey, WideMaps, WideValue, FUNCTION};
+use std::collections::{BTreeMap, BTreeSet};
+
+pub type StdMaps = Held<(), Vec<BTreeMap<u32, u32>>>;
+pub type StdSets = Held<(), Vec<BTreeSet<u32>>>;
+
+many! { StdMaps, u32, (), |_, map, key, value|
+    insert => map.insert(key, value),
+    get => map.get(&key).copied(),
+    remove => map.remove(&key),
+    clear => map.clear(),
+    walk => map.iter().map(|(key, value)| key ^ value),
+}
+
+many! { StdSets, (), (), |_, set, key, _|
+    insert => (!set.insert(key)).then_some(()),
+    get => set.contains(&key).then_some(()),
+    remove => set.remove(&key).then_some(()),
+    clear => set.clear(),
+    walk => set.iter().map(|key| *key),
+}
+
+// The checksum `$sum` with a number of each entry of a map, if there is this map.
+macro_rules! add_all {
+    ($sum:ident, $found:expr, |$map:ident| $entries:expr, |$entry:pat_param| $number:expr) => {{
+        let mut sum = $sum;
+        if let Some($map) = $found {
+            for $entry in $entries {
+                sum = added(sum, $number);
+            }
+        }
+        sum
+    }};
+}
+
+impl Maps for StdMaps {
+    fn read_on(&self, map: u32, sum: u64) -> u64 {
+        add_all!(sum, self.maps.get(map as usize), |map| map.range(..), |(key, value)| key.wrapping_add(*value))
+    }
+
+    fn read_back(&self, map: u32, sum: u64) -> u64 {
+        add_all!(sum, self.maps.get(map as usize), |map| map.range(..).rev(), |(key, value)| key.wrapping_add(*value))
+    }
+}
+
+impl Sets for StdSets {
+    fn edit(&mut self, set: u32, first: u32) -> u32 {
+        let Some(set) = self.maps.get_mut(set as usize) else { return 0 };
+        let new = (0..EDITED).filter(|step| set.insert(first.wrapping_add(*step))).count();
+        let mut gone = 0;
+        for _ in 0..EDITED {
+            if let Some(key) = set.range(first..).next().copied() {
+                gone += usize::from(set.remove(&key));
+            }
+        }
+        (new + gone) as u32
+    }
+}
+
+impl Ranges for StdMaps {
+    fn put(&mut self, entries: &[(u32, u32)]) -> u32 {
+        entries.iter().filter(|entry| self.maps[0].insert(entry.0, entry.1).is_none()).count() as u32
+    }
+
+    fn end_at(&self, point: u32) -> Option<u32> {
+        self.maps[0].range(..=point).next_back().map(|entry| *entry.1)
+    }
+
+    fn ends(&self, from: u32, to: u32) -> [Option<(u32, u32)>; 2] {
+        let mut range = self.maps[0].range(from..=to).map(|entry| (*entry.0, *entry.1));
+        [range.next(), range.next_back()]
+    }
+}
+
+impl Uses for StdMaps {
+    fn load(&mut self, map: u32, entries: &[(u32, u32)]) {
+        self.maps[map as usize] = entries.iter().copied().collect();
+    }
+
+    fn update(&mut self, map: u32, key: u32) {
+        if let Some(value) = self.maps[map as usize].get_mut(&key) {
+            *value += 1;
+        }
+    }
+
+    fn entry(&mut self, map: u32, key: u32, value: u32) -> u32 {
+        *self.maps[map as usize].entry(key).or_insert(value)
+    }
+
+    fn first_of(&self, map: u32, key: u32) -> Option<(u32, u32)> {
+        self.maps[map as usize].range(key..).next().map(|(key, value)| (*key, *value))
+    }
+
+    fn three_of(&self, map: u32, key: u32, sum: u64) -> u64 {
+        self.maps[map as usize].range(key..).take(3).fold(sum, |sum, (key, value)| added(sum, key ^ value))
+    }
+
+    fn at_or_after(&self, map: u32, key: u32) -> Option<(u32, u32)> {
+        self.first_of(map, key)
+    }
+
+    fn walk_back(&self, map: u32, sum: u64) -> u64 {
+        self.maps[map as usize].range(..).rev().fold(sum, |sum, (key, value)| added(sum, key ^ value))
+    }
+}
+
+pub struct StdSide;
+
+impl Side for StdSide {
+    type Maps = StdMaps;
+    type Wide = Vec<BTreeMap<WideKey, WideValue>>;
+    type Ranked = Ranked;
+    type Function = StdSide;
+}
+
+impl WideMaps for Vec<BTreeMap<WideKey, WideValue>> {
+    fn new(count: u32) -> Self {
+        (0..count).map(|_| BTreeMap::new()).collect()
+    }
+
+    fn insert(&mut self, map: u32, key: WideKey, value: WideValue) {
+        self[map as usize].insert(key, value);
+    }
+
+    fn get(&self, map: u32, key: WideKey) -> Option<WideValue> {
+        self[map as usize].get(&key).copied()
+    }
+}
+
+/// Maps whose keys carry the block and the place of an instruction: each call looks these up once.
+pub struct Ranked {
+    maps: Vec<BTreeMap<(u32, u32), u32>>,
+    layout: Layout,
+}
+
+impl Layout {
+    fn rank(&self, inst: u32) -> (u32, u32) {
+        (self.block[inst as usize], self.place[inst as usize])
+    }
+}
+
+impl RankedMaps for Ranked {
+    fn new(count: u32, layout: Layout) -> Self {
+        Ranked { maps: (0..count).map(|_| BTreeMap::new()).collect(), layout }
+    }
+
+    fn insert(&mut self, map: u32, inst: u32, value: u32) {
+        self.maps[map as usize].insert(self.layout.rank(inst), value);
+    }
+
+    fn get(&self, map: u32, inst: u32) -> Option<u32> {
+        self.maps[map as usize].get(&self.layout.rank(inst)).copied()
+    }
+}
+
+impl FunctionMaps for StdSide {
+    fn made_and_dropped(entries: &[(u32, u32)]) -> u64 {
+        let mut maps: [BTreeMap<u32, u32>; FUNCTION as usize] = Default::default();
+        for map in &mut maps {
+            for (key, value) in entries {
+                map.insert(*key, *value);
+            }
+        }
+        maps.iter().fold(0, |sum, map| added(sum, map.last_key_value().map_or(7, |entry| *entry.1)))
+    }
+}
