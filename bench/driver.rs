@@ -1,6 +1,11 @@
 //! `driver SIDE KIND NUMBER.. [REPEATS]` makes a run, and prints its checksum and the most memory that the process held; or, with REPEATS,
-//! makes it so often in a row, and prints its checksum and its average time. `bench/run` chooses runs, and makes tables of them. The numbers
-//! are those of a `Work`, those of a `Job`, or the size and the rounds of a program.
+//! makes it so often in a row, and prints its checksum and its average time. `bench/run` chooses runs, and makes tables of them.
+//!
+//! There are three drivers of this text, since what one kind of runs calls changes how the compiler inlines the calls of another: for whole
+//! runs (the numbers are those of a `Work`), by `--cfg calls` for single calls (a `Job`), and by `--cfg programs` for programs (the size of
+//! the input and the rounds).
+
+#![allow(dead_code, reason = "each of the drivers makes one kind of runs")]
 
 #[cfg(library)]
 mod library;
@@ -15,10 +20,7 @@ mod sides;
 mod standard;
 mod uses;
 
-use runs::{Kind, Work};
-use sides::{run, run_program, run_use};
 use std::time::Duration;
-use uses::{Job, Use};
 
 // The most memory that this process has held, in bytes.
 fn most_memory() -> Option<u64> {
@@ -31,17 +33,24 @@ fn most_memory() -> Option<u64> {
 type Run<'a> = Box<dyn Fn(bool) -> Option<(u64, Duration)> + 'a>;
 
 // The run of these words on a side, and the numbers behind its own.
-fn named<'a>(side: &'a str, kind: &'a str, numbers: &'a [u32]) -> Option<(Run<'a>, &'a [u32])> {
-    if let (Some(kind), [size, looks, walks, turns, repeats @ ..]) = (Kind::named(kind), numbers) {
-        let work = Work { kind, size: *size, looks: *looks, walks: *walks, turns: *turns };
-        return Some((Box::new(move |is_kept| run(side, work, is_kept)), repeats));
-    }
-    if let (Some(what), [maps, entries, rounds, repeats @ ..]) = (Use::named(kind), numbers) {
-        let job = Job { what, maps: *maps, entries: *entries, rounds: *rounds };
-        return Some((Box::new(move |is_kept| run_use(side, job, is_kept)), repeats));
-    }
+#[cfg(not(any(calls, programs)))]
+fn named<'a>(side: &'a str, kind: &str, numbers: &'a [u32]) -> Option<(Run<'a>, &'a [u32])> {
+    let [size, looks, walks, turns, repeats @ ..] = numbers else { return None };
+    let work = runs::Work { kind: runs::Kind::named(kind)?, size: *size, looks: *looks, walks: *walks, turns: *turns };
+    Some((Box::new(move |is_kept| sides::run(side, work, is_kept)), repeats))
+}
+
+#[cfg(calls)]
+fn named<'a>(side: &'a str, kind: &str, numbers: &'a [u32]) -> Option<(Run<'a>, &'a [u32])> {
+    let [maps, entries, rounds, repeats @ ..] = numbers else { return None };
+    let job = uses::Job { what: uses::Use::named(kind)?, maps: *maps, entries: *entries, rounds: *rounds };
+    Some((Box::new(move |is_kept| sides::run_use(side, job, is_kept)), repeats))
+}
+
+#[cfg(programs)]
+fn named<'a>(side: &'a str, program: &'a str, numbers: &'a [u32]) -> Option<(Run<'a>, &'a [u32])> {
     let [size, rounds, repeats @ ..] = numbers else { return None };
-    Some((Box::new(move |_| run_program(side, kind, *size, *rounds)), repeats))
+    Some((Box::new(move |_| sides::run_program(side, program, *size, *rounds)), repeats))
 }
 
 // Makes the run of these words, and prints what it tells.
