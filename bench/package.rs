@@ -89,12 +89,14 @@ impl Ranges for PackageMaps {
 }
 
 impl Uses for PackageMaps {
+    #[inline(never)]
     fn load(&mut self, map: u32, entries: &[(u32, u32)]) {
         for (key, value) in entries {
             self.maps[map as usize].insert(*key, *value, &mut self.forest, &()).expect(ROOM);
         }
     }
 
+    #[inline(never)]
     fn update(&mut self, map: u32, key: u32) {
         let mut cursor = self.maps[map as usize].cursor_mut(&mut self.forest, &());
         if cursor.goto(key).is_some() {
@@ -104,23 +106,28 @@ impl Uses for PackageMaps {
         }
     }
 
+    #[inline(never)]
     fn entry(&mut self, map: u32, key: u32, value: u32) -> u32 {
         self.maps[map as usize].get_or_insert(key, value, &mut self.forest, &()).expect(ROOM)
     }
 
+    #[inline(never)]
     fn first_of(&self, map: u32, key: u32) -> Option<(u32, u32)> {
         self.maps[map as usize].range(key.., &self.forest, &()).next()
     }
 
+    #[inline(never)]
     fn three_of(&self, map: u32, key: u32, sum: u64) -> u64 {
         let range = self.maps[map as usize].range(key.., &self.forest, &());
         range.take(3).fold(sum, |sum, (key, value)| added(sum, key ^ value))
     }
 
+    #[inline(never)]
     fn at_or_after(&self, map: u32, key: u32) -> Option<(u32, u32)> {
         self.maps[map as usize].get_or_greater(key, &self.forest, &())
     }
 
+    #[inline(never)]
     fn walk_back(&self, map: u32, sum: u64) -> u64 {
         let range = self.maps[map as usize].range(.., &self.forest, &());
         range.rev().fold(sum, |sum, (key, value)| added(sum, key ^ value))
@@ -141,10 +148,12 @@ impl WideMaps for Held<MapForest<WideKey, WideValue>, Vec<Map<WideKey, WideValue
         Held { forest: MapForest::new(), maps: (0..count).map(|_| Map::new()).collect() }
     }
 
+    #[inline(never)]
     fn insert(&mut self, map: u32, key: WideKey, value: WideValue) {
         self.maps[map as usize].insert(key, value, &mut self.forest, &()).expect(ROOM);
     }
 
+    #[inline(never)]
     fn get(&self, map: u32, key: WideKey) -> Option<WideValue> {
         self.maps[map as usize].get(key, &self.forest, &())
     }
@@ -169,10 +178,12 @@ impl RankedMaps for Ranked {
         Ranked { forest: MapForest::new(), maps: (0..count).map(|_| Map::new()).collect(), layout }
     }
 
+    #[inline(never)]
     fn insert(&mut self, map: u32, inst: u32, value: u32) {
         self.maps[map as usize].insert(inst, value, &mut self.forest, &self.layout).expect(ROOM);
     }
 
+    #[inline(never)]
     fn get(&self, map: u32, inst: u32) -> Option<u32> {
         self.maps[map as usize].get(inst, &self.forest, &self.layout)
     }

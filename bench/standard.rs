@@ -77,32 +77,39 @@ impl Ranges for StdMaps {
 }
 
 impl Uses for StdMaps {
+    #[inline(never)]
     fn load(&mut self, map: u32, entries: &[(u32, u32)]) {
         self.maps[map as usize] = entries.iter().copied().collect();
     }
 
+    #[inline(never)]
     fn update(&mut self, map: u32, key: u32) {
         if let Some(value) = self.maps[map as usize].get_mut(&key) {
             *value += 1;
         }
     }
 
+    #[inline(never)]
     fn entry(&mut self, map: u32, key: u32, value: u32) -> u32 {
         *self.maps[map as usize].entry(key).or_insert(value)
     }
 
+    #[inline(never)]
     fn first_of(&self, map: u32, key: u32) -> Option<(u32, u32)> {
         self.maps[map as usize].range(key..).next().map(|(key, value)| (*key, *value))
     }
 
+    #[inline(never)]
     fn three_of(&self, map: u32, key: u32, sum: u64) -> u64 {
         self.maps[map as usize].range(key..).take(3).fold(sum, |sum, (key, value)| added(sum, key ^ value))
     }
 
+    #[inline(never)]
     fn at_or_after(&self, map: u32, key: u32) -> Option<(u32, u32)> {
         self.first_of(map, key)
     }
 
+    #[inline(never)]
     fn walk_back(&self, map: u32, sum: u64) -> u64 {
         self.maps[map as usize].range(..).rev().fold(sum, |sum, (key, value)| added(sum, key ^ value))
     }
@@ -122,10 +129,12 @@ impl WideMaps for Vec<BTreeMap<WideKey, WideValue>> {
         (0..count).map(|_| BTreeMap::new()).collect()
     }
 
+    #[inline(never)]
     fn insert(&mut self, map: u32, key: WideKey, value: WideValue) {
         self[map as usize].insert(key, value);
     }
 
+    #[inline(never)]
     fn get(&self, map: u32, key: WideKey) -> Option<WideValue> {
         self[map as usize].get(&key).copied()
     }
@@ -148,10 +157,12 @@ impl RankedMaps for Ranked {
         Ranked { maps: (0..count).map(|_| BTreeMap::new()).collect(), layout }
     }
 
+    #[inline(never)]
     fn insert(&mut self, map: u32, inst: u32, value: u32) {
         self.maps[map as usize].insert(self.layout.rank(inst), value);
     }
 
+    #[inline(never)]
     fn get(&self, map: u32, inst: u32) -> Option<u32> {
         self.maps[map as usize].get(&self.layout.rank(inst)).copied()
     }

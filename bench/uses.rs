@@ -1,4 +1,5 @@
-//! Runs of single calls, as programs make them: on many maps of equal size, with one call on each map in turn.
+//! Runs of single calls, as programs make them: on many maps of equal size, with one call on each map in turn. What a side does in these
+//! traits is not inlined into the loop: in a program a call stands among others, in a function that makes it once.
 
 use crate::runs::{added, key_at, timed, Many, Random};
 use std::time::Duration;
