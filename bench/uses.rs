@@ -37,8 +37,8 @@ impl Use {
     }
 }
 
-/// A whole run: `maps` maps, filled with `entries` entries each, and then so many rounds of the use. `Forests` fills nothing before: each of
-/// its maps stands for `FUNCTION` maps that are made and dropped together.
+/// A whole run: `maps` maps, filled with `entries` entries each, and then so many rounds of the use. `Forests` fills nothing before: each
+/// of its maps stands for `FUNCTION` maps that are made and dropped together.
 #[derive(Clone, Copy)]
 pub struct Job {
     pub what: Use,
