@@ -25,13 +25,13 @@ unwrap-requires c =
 
 pub invariant_of-self-2 : goal.invariant_of-self-2
 invariant_of-self-2 c =
-    added-kept c.self.invariant c.reserve_nodes.ensures.keeps c.reserve_nodes.ensures.count (in-blocks _ _ c.self.view_is c.args.from c.requires.from) (in-blocks _ _ c.self.view_is c.args.to c.requires.to)
+    added-kept c.self.invariant c.reserve_nodes.ensures.keeps c.reserve_nodes.ensures.count (in-blocks c.self.inside.successors c.self.inside.predecessors c.self.view_is c.args.from c.requires.from) (in-blocks c.self.inside.successors c.self.inside.predecessors c.self.view_is c.args.to c.requires.to)
     c.insert-2.ensures (c.insert-2.ensures.succeeds (enough-after c.args.from c.args.to c.reserve_nodes.ensures.keeps c.levels-levels.ensures.count c.in_ok-reserve_nodes.ensures.reserves.free))
     c.insert.ensures (is_ok c.in_ok-insert.was)
 
 pub returns-clause-added : goal.returns-clause-added
 returns-clause-added c =
-    added-graph c.self.invariant c.reserve_nodes.ensures.keeps c.reserve_nodes.ensures.count (in-blocks _ _ c.self.view_is c.args.from c.requires.from) (in-blocks _ _ c.self.view_is c.args.to c.requires.to)
+    added-graph c.self.invariant c.reserve_nodes.ensures.keeps c.reserve_nodes.ensures.count (in-blocks c.self.inside.successors c.self.inside.predecessors c.self.view_is c.args.from c.requires.from) (in-blocks c.self.inside.successors c.self.inside.predecessors c.self.view_is c.args.to c.requires.to)
     c.insert-2.ensures (c.insert-2.ensures.succeeds (enough-after c.args.from c.args.to c.reserve_nodes.ensures.keeps c.levels-levels.ensures.count c.in_ok-reserve_nodes.ensures.reserves.free))
     c.insert.ensures (is_ok c.in_ok-insert.was)
     ∙ ap (λ (g : Graph). with_edge g c.args.from c.args.branch c.args.to) c.self.view_is
