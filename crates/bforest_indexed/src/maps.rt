@@ -83,6 +83,7 @@ impl<K: Copy, V: Copy, C: Comparator<K>> Maps<K, V, C> {
     /// Returns how many maps there are, empty ones included. Constant time.
     pub fn len(&self) -> usize
         ensures count { result ≡ count self.now }
+        ensures held { count self.now ≤ memory self.now }
     {
         self.maps.len()
     }

@@ -82,6 +82,7 @@ impl<K: Copy, C: Comparator<K>> Sets<K, C> {
     /// Returns how many sets there are, empty ones included. Constant time.
     pub fn len(&self) -> usize
         ensures count { result ≡ count self.now }
+        ensures held { count self.now ≤ memory self.now }
     {
         self.sets.len()
     }

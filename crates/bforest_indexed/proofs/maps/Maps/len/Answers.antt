@@ -1,5 +1,6 @@
 use Rattle.bforest_indexed.proofs.maps.Maps.len.Goals as goal
-use Rattle.std.proofs.Common.{◌∙◌}
+use Rattle.std.proofs.Common.{arith, ◌∙◌}
 
 pub returns : goal.returns
-returns g c = record { count = rw (← c.self.view_is) (c.len.ensures ∙ c.self.inside.maps.ok.0) }
+returns g c = let held = c.self.inside.maps.ok in
+    rw (← c.self.view_is) (record { count = c.len.ensures ∙ held.0; held = omega (arith, held.0, held.1) })
