@@ -4,7 +4,7 @@ use borrow.Author.Tests.{ltb-true, ltb-false}
 use lib.Dec.{ltb}
 use Rattle.std.specs.Option.{option_map_or}
 use Rattle.std.proofs.lemmas.Bool.{cases_Bool}
-use Rattle.std.proofs.lemmas.List.{take_all}
+use Rattle.std.proofs.lemmas.List.{get_or_default, take_all}
 use Rattle.std.proofs.lemmas.Option.{slice_get-get_or, slice_get_past}
 use Rattle.std.proofs.lemmas.List.Sorted.{searchable_from_sorted}
 use Rattle.std.specs.declared.cmp.Ordering.{Ordering}
@@ -90,6 +90,27 @@ module _ {K : Type 0} (cmp : K → K → Ordering) where
         (λ t. test_at i false (ltb-true i (length ks) t) (ap is_eq (p.1 i k (omega arith) (ltb-true i (length ks) t))))
         (λ t. ap (λ o. option_map_or (λ x. is_eq (cmp x k)) o false) (slice_get_past ks i (ltb-false i (length ks) t)))
         (cases_Bool (ltb i (length ks)))))
+
+    -- a scan in which the first i keys are less
+    module _ (i : ℕ) (low : (j : ℕ) (d : K) → j < i → is_lt (cmp (get_or ks j d) k) ≡ true) where
+      stopped_at : i ≤ length ks → ((d : K) → i < length ks → is_lt (cmp (get_or ks i d) k) ≡ false) → count_less cmp ks k ≡ i
+      stopped_at within here = count_less-from_parts ks k i within low (λ j d le in_list. not_before i j d le in_list (here d (omega arith)))
+
+      -- it stopped at an equal key
+      pub stopped-equal : (x : K) → i < length ks → x ≡ get_or ks i x → cmp x k ≡ Equal → Ok i ≡ search_of cmp ks k
+      stopped-equal x within read e =
+          let same : (d : K) → cmp (get_or ks i d) k ≡ Equal = λ d. ap (λ y. cmp y k) (get_or_default ks i d x within ∙ sym read) ∙ e in
+          sym (by_test i true (stopped_at (omega arith) (λ d _. ap is_lt (same d))) (test_at i true within (ap is_eq (same k))))
+
+      -- it stopped at a greater key
+      pub stopped-greater : (x : K) → i < length ks → x ≡ get_or ks i x → cmp x k ≡ Greater → Err i ≡ search_of cmp ks k
+      stopped-greater x within read e =
+          let more : (d : K) → cmp (get_or ks i d) k ≡ Greater = λ d. ap (λ y. cmp y k) (get_or_default ks i d x within ∙ sym read) ∙ e in
+          sym (by_test i false (stopped_at (omega arith) (λ d _. ap is_lt (more d))) (test_at i false within (ap is_eq (more k))))
+
+      -- it came to the end
+      pub stopped-end : i ≡ length ks → Err i ≡ search_of cmp ks k
+      stopped-end e = sym (by_test i false (stopped_at (omega (arith, e)) (λ d lt. absurd (omega (arith, e, lt)))) (ap (λ o. option_map_or (λ x. is_eq (cmp x k)) o false) (slice_get_past ks i (omega (arith, e)))))
 
   -- the answer of a scan of all n keys, from a test of the key after the lesser ones
   module _ (ks : List K) (k : K) (n i : ℕ) (all : length ks ≤ n) (count : i ≡ count_less cmp (take n ks) k) where

@@ -7,6 +7,7 @@ ghost use Rattle.std.specs.Prelude.{false, get_or, if◌then◌else◌, length, 
 ghost use Rattle.std.specs.declared.cmp.Ordering.{Ordering};
 
 use std::cmp::{Ord, Ordering};
+use std::mem::size_of_val;
 
 /// An order of keys, with whatever it needs to compare them.
 ///
@@ -79,13 +80,33 @@ pub trait Comparator<K: Copy> {
     ghost total: { (c : Self) → IsTotalOrder (order c) };
 }
 
+// The size in bytes above which keys are compared one after another, up to the first that is not less.
+const WIDE: usize = 8;
+
+// Finds a key in a slice whose keys strictly increase, with one comparison for each key up to the first that is not less.
+fn scan<K: Copy + Ord>(k: K, s: &[K]) -> Result<usize, usize>
+    ensures { IsStrictlySortedBy K.cmp s.now → result ≡ search_of K.cmp s.now k }
+{
+    let mut at = 0;
+    for x in s {
+        match (*x).cmp(&k) {
+            Ordering::Less => {}
+            Ordering::Equal => return Ok(at),
+            Ordering::Greater => return Err(at),
+        }
+        at += 1;
+    }
+    Err(at)
+}
+
 // The length above which a row of an odd length is searched in one of its halves.
 const LONG: usize = 8;
 
 /// The keys' own order, by `Ord`.
 ///
 /// A search in a slice compares with each key once, and then with one of them once more. A search in a node's row compares with the first
-/// key and the last valid one, and only between these two with all other keys of the row, or of one half of a long row.
+/// key and the last valid one, and only between these two with all other keys of the row, or of one half of a long row. Keys of more than 8
+/// bytes are compared in their order, up to the first that is not less.
 impl<K: Copy + Ord> Comparator<K> for () {
     ghost order = { λ _. K.cmp };
 
@@ -116,7 +137,12 @@ impl<K: Copy + Ord> Comparator<K> for () {
         count
     }
 
+    // Inlined, as is what it calls: where the row's length is known, its indices need no test.
+    #[inline(always)]
     fn search_prefix(&self, k: K, row: &[K], len: usize) -> Result<usize, usize> {
+        if size_of_val(&k) > WIDE {
+            return scan(k, &row[..len]);
+        }
         let at = lower_bound(k, row, len);
         if at < len && row[at] == k {
             Ok(at)
@@ -125,7 +151,14 @@ impl<K: Copy + Ord> Comparator<K> for () {
         }
     }
 
+    #[inline(always)]
     fn upper_bound_prefix(&self, k: K, row: &[K], len: usize) -> usize {
+        if size_of_val(&k) > WIDE {
+            return match scan(k, &row[..len]) {
+                Ok(at) => at.saturating_add(1),
+                Err(at) => at,
+            };
+        }
         if len == 0 || row[0] > k {
             return 0;
         }

@@ -3,10 +3,14 @@ ghost use Rattle.std.specs.Prelude.{◌≡◌, ◌+◌, ◌-◌, ◌<◌, ◌≤
 ghost use Rattle.std.specs.Borrow.{sem};
 
 use crate::lent;
+use std::mem::size_of_val;
 
 /// The most elements of a row that moves them by a choice for each place. The places are the same at each call, so that the compiler needs
 /// neither a loop nor a branch.
 const SHORT: usize = 8;
+
+/// The most bytes of such a row. Wider elements are moved by a function of memory, and only those that have to move.
+const NARROW: usize = 96;
 
 /// Room for `N` elements. Those after the ones that count have no meaning.
 ///
@@ -75,16 +79,24 @@ impl<T: Copy, const N: usize> Row<T, N> {
         self.items[len] = x;
     }
 
+    // Whether the elements are many or wide, so that they are moved by a function of memory.
+    #[inline(always)]
+    fn is_large(&self) -> bool {
+        N > SHORT || size_of_val(&self.items) > NARROW
+    }
+
     /// Inserts an element at an index of the first `len`.
     pub(crate) fn insert(&mut self, len: usize, index: usize, x: T)
         requires room { len < N }
         requires within { index ≤ len }
         ensures { take (len + 1) self.new.items ≡ insert (take len self.old.items) index x }
     {
-        if N > SHORT {
-            self.items.copy_within(index..len, index + 1);
-        } else if index < len {
-            shift_up(&mut self.items, index);
+        if index < len {
+            if self.is_large() {
+                self.items.copy_within(index..len, index + 1);
+            } else {
+                shift_up(&mut self.items, index);
+            }
         }
         self.items[index] = x;
     }
@@ -96,7 +108,7 @@ impl<T: Copy, const N: usize> Row<T, N> {
         requires within { index < len }
         ensures { take (len - 1) self.new.items ≡ remove (take len self.old.items) index }
     {
-        if N > SHORT {
+        if self.is_large() {
             self.items.copy_within(index + 1..len, index);
         } else if index == 0 {
             self.items.copy_within(1..N, 0);

@@ -1,9 +1,26 @@
-use Rattle.std.proofs.Common.{◌-◌, ◌<◌, true, false, get_or, ap, sym, ◌∙◌, inl, inr, arith}
+use Rattle.std.proofs.Common.{◌-◌, ◌<◌, true, false, get_or, not, take, ap, sym, ◌∙◌, inl, inr, arith}
+use Rattle.std.proofs.lemmas.List.{length-take-le}
+use Rattle.std.proofs.lemmas.List.Sums.{count_by-le-length}
 use Rattle.std.proofs.lemmas.Bool.Decides.{eqb_tells}
 use Rattle.std.specs.Ordering.{is_gt}
 use Rattle.bforest_nodes.proofs.Bounds.{told-gt, told-le, up_to-at, up_to-before}
 use Rattle.bforest_nodes.proofs.comparator.UnitComparator.upper_bound_prefix.Goals.{then-len-eq0-via-then-len-eq0, then-len-eq0-via-else-len-eq0+then-gt}
+use Rattle.bforest_nodes.proofs.Searched.{up_to-absent, up_to-found}
 use Rattle.bforest_nodes.proofs.comparator.UnitComparator.upper_bound_prefix.Goals as goal
+
+pub returns-in-Ok : goal.returns-in-Ok
+returns-in-Ok g c = λ sorted.
+    let cmp = g.K.Ord.cmp in
+    let keys = take c.args.len c.args.row.now in
+    let found = up_to-found cmp c.args.k g.met.K.Ord.total keys c.in-Ok.at sorted (sym (c.scan.ensures sorted) ∙ c.in-Ok.is) in
+    let least = count_by-le-length (λ x. not (is_gt (cmp x c.args.k))) keys in
+    let len = length-take-le c.args.len c.args.row.now c.requires in
+    let fits = c.ranges.len.fits in
+    omega (arith, found, least, len, fits, c.saturating_add.ensures)
+
+pub returns-in-Err : goal.returns-in-Err
+returns-in-Err g c = λ sorted.
+    sym (up_to-absent g.K.Ord.cmp c.args.k g.met.K.Ord.total (take c.args.len c.args.row.now) c.in-Err.at sorted (sym (c.scan.ensures sorted) ∙ c.in-Err.is))
 
 pub returns-then-len-eq0 : goal.returns-then-len-eq0
 returns-then-len-eq0 g c = λ sorted.
