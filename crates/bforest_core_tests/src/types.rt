@@ -3,10 +3,10 @@ use crate::nodes::{assert_leaf, leaf_of, leaf_with, numbered};
 use bforest_core::{Node, NodeData, PackedNode, Path, Removed, SetValue};
 use std::mem::size_of;
 
-// A node of a map of small numbers is one cache line, and a node of a set of such four bytes more.
+// A node of a map or of a set of small numbers is one cache line.
 const _: () = prove!(size_of::<NodeData<u32, u32, 7>>() == 64);
 
-const _: () = prove!(size_of::<NodeData<u32, SetValue, 15>>() == 68);
+const _: () = prove!(size_of::<NodeData<u32, SetValue, 15>>() == 64);
 
 #[test]
 fn values_of_a_leaf_are_written(rt: HostRuntime) {

@@ -8,24 +8,24 @@ use Rattle.bforest_nodes.specs.declared.node.State.TheVariants.{Entries}
 use Rattle.bforest_nodes.proofs.States.{entries_full, entries_room}
 use Rattle.bforest_nodes.specs.declared.entries.Entries.{Entries as LeafEntries}
 
-module _ {K V : Type 0} {n : ℕ} (e : LeafEntries K V n) {answer s : Result ℕ ℕ} (found : answer ≡ s) where
+module _ {K V : Type 0} {n : ℕ} (size : ℕ) (e : LeafEntries K V n) {answer s : Result ℕ ℕ} (found : answer ≡ s) where
   abbrev leaf : Content K V
-  leaf = Leaf (take e.size e.keys.items) (take e.size e.vals.items)
+  leaf = Leaf (take size e.keys.items) (take size e.vals.items)
 
   module _ {index : ℕ} (is : answer ≡ Ok index) where
-    pub replaced-answer : {old : V} → slice_get (take e.size e.vals.items) index ≡ Some old → Ok (Some old) ≡ put_answer n leaf s
+    pub replaced-answer : {old : V} → slice_get (take size e.vals.items) index ≡ Some old → Ok (Some old) ≡ put_answer n leaf s
     replaced-answer old = sym (ap (put_answer n leaf) (sym found ∙ is) ∙ ap Ok old)
 
-    pub replaced-node : (key : K) (value : V) (vals : List V) → take e.size vals ≡ slice_set (take e.size e.vals.items) index value
-        → Leaf (take e.size e.keys.items) (take e.size vals) ≡ with_put n leaf s key value
-    replaced-node key value vals set = ap (Leaf (take e.size e.keys.items)) set ∙ sym (ap (λ z. with_put n leaf z key value) (sym found ∙ is))
+    pub replaced-node : (key : K) (value : V) (vals : List V) → take size vals ≡ slice_set (take size e.vals.items) index value
+        → Leaf (take size e.keys.items) (take size vals) ≡ with_put n leaf s key value
+    replaced-node key value vals set = ap (Leaf (take size e.keys.items)) set ∙ sym (ap (λ z. with_put n leaf z key value) (sym found ∙ is))
 
-    pub taken-answer : {old : V} → slice_get (take e.size e.vals.items) index ≡ Some old → Some (index, old) ≡ take_answer leaf s
+    pub taken-answer : {old : V} → slice_get (take size e.vals.items) index ≡ Some old → Some (index, old) ≡ take_answer leaf s
     taken-answer old = sym (ap (take_answer leaf) (sym found ∙ is) ∙ ap (option_map (λ v. (index, v))) old)
 
-    pub taken-node : (keys : List K) (vals : List V) → take (e.size - 1) keys ≡ remove (take e.size e.keys.items) index
-        → take (e.size - 1) vals ≡ remove (take e.size e.vals.items) index → Leaf (take (e.size - 1) keys) (take (e.size - 1) vals) ≡ with_taken leaf s
-    taken-node keys vals fewer rest = ap (λ z. Leaf z (take (e.size - 1) vals)) fewer ∙ ap (Leaf (remove (take e.size e.keys.items) index)) rest
+    pub taken-node : (keys : List K) (vals : List V) → take (size - 1) keys ≡ remove (take size e.keys.items) index
+        → take (size - 1) vals ≡ remove (take size e.vals.items) index → Leaf (take (size - 1) keys) (take (size - 1) vals) ≡ with_taken leaf s
+    taken-node keys vals fewer rest = ap (λ z. Leaf z (take (size - 1) vals)) fewer ∙ ap (Leaf (remove (take size e.keys.items) index)) rest
         ∙ sym (ap (with_taken leaf) (sym found ∙ is))
 
   -- the key is absent
@@ -37,29 +37,29 @@ module _ {K V : Type 0} {n : ℕ} (e : LeafEntries K V n) {answer s : Result ℕ
     absent-node = sym (ap (with_taken leaf) (sym found ∙ is))
 
     -- there is room for it
-    module _ (few : e.size < n) where
+    module _ (few : size < n) where
       room : nat_lt (entry_count leaf) n ≡ true
       room = elim (leb_tells (suc (entry_count leaf)) n) [
         | inl w ↦ w.0
-        | inr w ↦ absurd (let least = w.1 in let most = entries_room (Entries e) e leaf refl refl few in omega (arith, least, most))
+        | inr w ↦ absurd (let least = w.1 in let most = entries_room (Entries size e) size e leaf refl refl few in omega (arith, least, most))
       ]
 
       pub new-answer : Ok None ≡ put_answer n leaf s
       new-answer = sym (ap (put_answer n leaf) (sym found ∙ is) ∙ ap (λ b. if b then Ok None else Err index) room)
 
       pub new-node : (key : K) (value : V) (keys : List K) (vals : List V)
-          → take (e.size + 1) keys ≡ insert (take e.size e.keys.items) index key
-          → take (e.size + 1) vals ≡ insert (take e.size e.vals.items) index value
-          → Leaf (take (e.size + 1) keys) (take (e.size + 1) vals) ≡ with_put n leaf s key value
+          → take (size + 1) keys ≡ insert (take size e.keys.items) index key
+          → take (size + 1) vals ≡ insert (take size e.vals.items) index value
+          → Leaf (take (size + 1) keys) (take (size + 1) vals) ≡ with_put n leaf s key value
       new-node key value keys vals more rest =
-          ap (λ z. Leaf z (take (e.size + 1) vals)) more ∙ ap (Leaf (insert (take e.size e.keys.items) index key)) rest
+          ap (λ z. Leaf z (take (size + 1) vals)) more ∙ ap (Leaf (insert (take size e.keys.items) index key)) rest
           ∙ sym (ap (λ z. with_put n leaf z key value) (sym found ∙ is) ∙ ap (λ b. if b then with_entry leaf index key value else leaf) room)
 
     -- the leaf is full
-    module _ (room : length e.keys.items ≡ n) (full : n ≤ e.size) where
+    module _ (room : length e.keys.items ≡ n) (full : n ≤ size) where
       short : nat_lt (entry_count leaf) n ≡ false
       short = elim (leb_tells (suc (entry_count leaf)) n) [
-        | inl w ↦ absurd (entries_full (Entries e) e leaf refl refl room full w.1)
+        | inl w ↦ absurd (entries_full (Entries size e) size e leaf refl refl room full w.1)
         | inr w ↦ w.0
       ]
 

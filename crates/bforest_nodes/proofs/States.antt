@@ -17,21 +17,21 @@ within_front count xs i within = omega (arith, length-take count xs)
 
 module _ {K V : Type 0} {n : ℕ} where
   -- a leaf's state is entries
-  pub entries_of_leaf : (s : State K V n) → ((e : LeafEntries K V n) → s ≡ Entries e → ⊥) → IsLeaf (content_of s) → ⊥
+  pub entries_of_leaf : (s : State K V n) → ((size : ℕ) (e : LeafEntries K V n) → s ≡ Entries size e → ⊥) → IsLeaf (content_of s) → ⊥
   entries_of_leaf (Branch size keys tree) other leaf = leaf
-  entries_of_leaf (Entries e) other leaf = other e refl
+  entries_of_leaf (Entries size e) other leaf = other size e refl
   entries_of_leaf (Vacant next) other leaf = leaf
 
   -- an inner node's state is a branch
   pub branch_of_inner : (s : State K V n) → ((size : ℕ) (keys : Row K 7) (tree : Row Node 8) → s ≡ Branch size keys tree → ⊥) → IsInner (content_of s) → ⊥
   branch_of_inner (Branch size keys tree) other inner = other size keys tree refl
-  branch_of_inner (Entries e) other inner = inner
+  branch_of_inner (Entries size e) other inner = inner
   branch_of_inner (Vacant next) other inner = inner
 
   -- a free node's state is vacant
   pub vacant_of_free : (s : State K V n) → ((next : PackedNode) → s ≡ Vacant next → ⊥) → IsFree (content_of s) → ⊥
   vacant_of_free (Branch size keys tree) other free = free
-  vacant_of_free (Entries e) other free = free
+  vacant_of_free (Entries size e) other free = free
   vacant_of_free (Vacant next) other free = other next refl
 
   -- a branch of eight children has seven keys
@@ -42,22 +42,22 @@ module _ {K V : Type 0} {n : ℕ} where
       omega (arith, length-take (size + 1) tree.items)
 
   -- a full leaf has n entries
-  pub full_entries : (s : State K V n) (e : LeafEntries K V n) (whole : Content K V) → content_of s ≡ whole → s ≡ Entries e → Fits s → entry_count whole ≡ n → e.size ≡ n
-  full_entries s e whole view is fits full =
-      let most : e.size ≤ n = rw is at fits in
-      let keys : length (take e.size e.keys.items) ≡ n = rw (← view, is) at full in
-      omega (arith, length-take e.size e.keys.items)
+  pub full_entries : (s : State K V n) (size : ℕ) (e : LeafEntries K V n) (whole : Content K V) → content_of s ≡ whole → s ≡ Entries size e → Fits s → entry_count whole ≡ n → size ≡ n
+  full_entries s size e whole view is fits full =
+      let most : size ≤ n = rw is at fits in
+      let keys : length (take size e.keys.items) ≡ n = rw (← view, is) at full in
+      omega (arith, length-take size e.keys.items)
 
   -- an index among a leaf's entries
-  pub entries_within : (s : State K V n) (e : LeafEntries K V n) (whole : Content K V) (i : ℕ) → content_of s ≡ whole → s ≡ Entries e → i < entry_count whole → i < e.size
-  entries_within s e whole i view is within = within_front e.size e.keys.items i (rw (← view, is) at within)
+  pub entries_within : (s : State K V n) (size : ℕ) (e : LeafEntries K V n) (whole : Content K V) (i : ℕ) → content_of s ≡ whole → s ≡ Entries size e → i < entry_count whole → i < size
+  entries_within s size e whole i view is within = within_front size e.keys.items i (rw (← view, is) at within)
 
   -- there is no entry behind a leaf's last
-  pub no_key : (s : State K V n) (e : LeafEntries K V n) (whole : Content K V) (i : ℕ) → content_of s ≡ whole → s ≡ Entries e → e.size ≤ i → None ≡ slice_get (keys_of whole) i
-  no_key s e whole i view is behind = rw (← view, is) (sym (slice_get_past (take e.size e.keys.items) i (omega (arith, behind, length-take e.size e.keys.items))))
+  pub no_key : (s : State K V n) (size : ℕ) (e : LeafEntries K V n) (whole : Content K V) (i : ℕ) → content_of s ≡ whole → s ≡ Entries size e → size ≤ i → None ≡ slice_get (keys_of whole) i
+  no_key s size e whole i view is behind = rw (← view, is) (sym (slice_get_past (take size e.keys.items) i (omega (arith, behind, length-take size e.keys.items))))
 
-  pub no_value : (s : State K V n) (e : LeafEntries K V n) (whole : Content K V) (i : ℕ) → content_of s ≡ whole → s ≡ Entries e → e.size ≤ i → None ≡ slice_get (vals_of whole) i
-  no_value s e whole i view is behind = rw (← view, is) (sym (slice_get_past (take e.size e.vals.items) i (omega (arith, behind, length-take e.size e.vals.items))))
+  pub no_value : (s : State K V n) (size : ℕ) (e : LeafEntries K V n) (whole : Content K V) (i : ℕ) → content_of s ≡ whole → s ≡ Entries size e → size ≤ i → None ≡ slice_get (vals_of whole) i
+  no_value s size e whole i view is behind = rw (← view, is) (sym (slice_get_past (take size e.vals.items) i (omega (arith, behind, length-take size e.vals.items))))
 
   -- an index among an inner node's children
   pub children_within : (s : State K V n) (size : ℕ) (keys : Row K 7) (tree : Row Node 8) (whole : Content K V) (i : ℕ) → content_of s ≡ whole → s ≡ Branch size keys tree → i < entry_count whole → i < size + 1
@@ -68,11 +68,11 @@ module _ {K V : Type 0} {n : ℕ} where
   keys_within s size keys tree whole i view is within = within_front size keys.items i (rw (← view, is) at within)
 
   -- a leaf less than half full has a size below half
-  pub under_half : (s : State K V n) (e : LeafEntries K V n) (whole : Content K V) → content_of s ≡ whole → s ≡ Entries e → Fits s → length e.keys.items ≡ n → 2 * entry_count whole < n → 2 * e.size < n
-  under_half s e whole view is fits room under =
-      let most : e.size ≤ n = rw is at fits in
-      let keys : 2 * length (take e.size e.keys.items) < n = rw (← view, is) at under in
-      omega (arith, length-take e.size e.keys.items)
+  pub under_half : (s : State K V n) (size : ℕ) (e : LeafEntries K V n) (whole : Content K V) → content_of s ≡ whole → s ≡ Entries size e → Fits s → length e.keys.items ≡ n → 2 * entry_count whole < n → 2 * size < n
+  under_half s size e whole view is fits room under =
+      let most : size ≤ n = rw is at fits in
+      let keys : 2 * length (take size e.keys.items) < n = rw (← view, is) at under in
+      omega (arith, length-take size e.keys.items)
 
   -- an inner node less than half full has few children
   pub few_children : (s : State K V n) (size : ℕ) (keys : Row K 7) (tree : Row Node 8) (whole : Content K V) → content_of s ≡ whole → s ≡ Branch size keys tree → Fits s → length tree.items ≡ 8 → entry_count whole < 4 → size + 1 < 4
@@ -86,8 +86,8 @@ module _ {K V : Type 0} {n : ℕ} where
   right_most s size keys tree is fits = rw is at fits
 
   -- the entries of a leaf fit
-  pub entries_most : (s : State K V n) (e : LeafEntries K V n) → s ≡ Entries e → Fits s → e.size ≤ n
-  entries_most s e is fits = rw is at fits
+  pub entries_most : (s : State K V n) (size : ℕ) (e : LeafEntries K V n) → s ≡ Entries size e → Fits s → size ≤ n
+  entries_most s size e is fits = rw is at fits
 
   -- an index among an inner node's keys, or just past them
   pub keys_upto : (s : State K V n) (size : ℕ) (keys : Row K 7) (tree : Row Node 8) (whole : Content K V) (i : ℕ) → content_of s ≡ whole → s ≡ Branch size keys tree → i ≤ length (keys_of whole) → i ≤ size
@@ -96,10 +96,10 @@ module _ {K V : Type 0} {n : ℕ} where
       omega (arith, length-take size keys.items)
 
   -- an index among a leaf's entries, or just past them
-  pub entries_upto : (s : State K V n) (e : LeafEntries K V n) (whole : Content K V) (i : ℕ) → content_of s ≡ whole → s ≡ Entries e → i ≤ entry_count whole → i ≤ e.size
-  entries_upto s e whole i view is within =
-      let upto : i ≤ length (take e.size e.keys.items) = rw (← view, is) at within in
-      omega (arith, length-take e.size e.keys.items)
+  pub entries_upto : (s : State K V n) (size : ℕ) (e : LeafEntries K V n) (whole : Content K V) (i : ℕ) → content_of s ≡ whole → s ≡ Entries size e → i ≤ entry_count whole → i ≤ size
+  entries_upto s size e whole i view is within =
+      let upto : i ≤ length (take size e.keys.items) = rw (← view, is) at within in
+      omega (arith, length-take size e.keys.items)
 
   -- whether an inner node has room
   pub branch_room : (s : State K V n) (size : ℕ) (keys : Row K 7) (tree : Row Node 8) (whole : Content K V) → content_of s ≡ whole → s ≡ Branch size keys tree → size < 7 → entry_count whole < 8
@@ -113,15 +113,15 @@ module _ {K V : Type 0} {n : ℕ} where
       omega (arith, length-take (size + 1) tree.items)
 
   -- whether a leaf has room
-  pub entries_room : (s : State K V n) (e : LeafEntries K V n) (whole : Content K V) → content_of s ≡ whole → s ≡ Entries e → e.size < n → entry_count whole < n
-  entries_room s e whole view is room =
-      let count : length (take e.size e.keys.items) < n = omega (arith, length-take e.size e.keys.items) in
+  pub entries_room : (s : State K V n) (size : ℕ) (e : LeafEntries K V n) (whole : Content K V) → content_of s ≡ whole → s ≡ Entries size e → size < n → entry_count whole < n
+  entries_room s size e whole view is room =
+      let count : length (take size e.keys.items) < n = omega (arith, length-take size e.keys.items) in
       rw (← view, is) count
 
-  pub entries_full : (s : State K V n) (e : LeafEntries K V n) (whole : Content K V) → content_of s ≡ whole → s ≡ Entries e → length e.keys.items ≡ n → n ≤ e.size → entry_count whole < n → ⊥
-  entries_full s e whole view is room full few =
-      let count : length (take e.size e.keys.items) < n = rw (← view, is) at few in
-      omega (arith, length-take e.size e.keys.items)
+  pub entries_full : (s : State K V n) (size : ℕ) (e : LeafEntries K V n) (whole : Content K V) → content_of s ≡ whole → s ≡ Entries size e → length e.keys.items ≡ n → n ≤ size → entry_count whole < n → ⊥
+  entries_full s size e whole view is room full few =
+      let count : length (take size e.keys.items) < n = rw (← view, is) at few in
+      omega (arith, length-take size e.keys.items)
 
   -- the shape of an inner node whose keys and children were read
   pub branch_shape : (s : State K V n) (size : ℕ) (keys : Row K 7) (tree : Row Node 8) (whole : Content K V) (ks : List K) (cs : List ℕ)

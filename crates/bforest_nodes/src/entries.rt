@@ -4,10 +4,9 @@ ghost use Rattle.std.specs.Prelude.{◌≡◌, ◌≤◌, take};
 
 use crate::row::Row;
 
-/// Room for `N` entries, of which the first `size` count.
+/// Room for `N` entries. The node knows how many of them count.
 #[derive(Drop)]
 pub(crate) struct Entries<K, V, const N: usize> {
-    pub(crate) size: u8,
     pub(crate) keys: Row<K, N>,
     pub(crate) vals: Row<V, N>,
 }
@@ -16,13 +15,12 @@ impl<K: Copy, V: Copy, const N: usize> Entries<K, V, N> {
     ghost use Rattle.bforest_nodes.specs.LendingEntries.{lends_front_vals};
 
     /// The keys, and the values for writing.
-    pub(crate) fn parts_mut(&mut self) -> (&[K], &mut [V])
-        requires { self.old.size ≤ N }
+    pub(crate) fn parts_mut(&mut self, len: usize) -> (&[K], &mut [V])
+        requires { len ≤ N }
         ensures* writes_back { sem 𝓛 (lends_front_vals K.row V.row N.row self.entry result.1) }
-        ensures keys { result.0.now ≡ take self.old.size self.old.keys.items }
-        ensures vals { result.1.now ≡ take self.old.size self.old.vals.items }
+        ensures keys { result.0.now ≡ take len self.old.keys.items }
+        ensures vals { result.1.now ≡ take len self.old.vals.items }
     {
-        let len = self.size as usize;
         (self.keys.front(len), self.vals.front_mut(len))
     }
 }

@@ -43,7 +43,7 @@ pub struct SplitOff<K> {
 #[derive(Drop)]
 enum State<K, V, const N: usize> {
     Branch(u8, Row<K, 7>, Row<Node, 8>),
-    Entries(Entries<K, V, N>),
+    Entries(u8, Entries<K, V, N>),
     Vacant(PackedNode),
 }
 
@@ -105,7 +105,7 @@ impl<K: Copy, V: Copy, const N: usize> NodeData<K, V, N> {
     {
         match &self.state {
             State::Branch(..) => self.unwrap_inner().1.len(),
-            State::Entries(_) => self.unwrap_leaf().1.len(),
+            State::Entries(..) => self.unwrap_leaf().1.len(),
             State::Vacant(_) => unreachable!(),
         }
     }
@@ -117,7 +117,7 @@ impl<K: Copy, V: Copy, const N: usize> NodeData<K, V, N> {
     {
         match &self.state {
             State::Branch(size, _, tree) => tree.front(*size as usize + 1).len() == INNER_SIZE,
-            State::Entries(Entries { size, keys, .. }) => keys.front(*size as usize).len() == N,
+            State::Entries(size, Entries { keys, .. }) => keys.front(*size as usize).len() == N,
             State::Vacant(_) => unreachable!(),
         }
     }
@@ -153,11 +153,13 @@ impl<K: Copy, V: Copy, const N: usize> NodeData<K, V, N> {
     pub fn leaf(&mut self, key: K, value: V)
         ensures node { self.new ≡ Leaf (key ∷ []) (value ∷ []) }
     {
-        self.state = State::Entries(Entries {
-            size: 1,
-            keys: Row { items: [key; N] },
-            vals: Row { items: [value; N] },
-        });
+        self.state = State::Entries(
+            1,
+            Entries {
+                keys: Row { items: [key; N] },
+                vals: Row { items: [value; N] },
+            },
+        );
     }
 
     /// The keys and the children of an inner node.
@@ -181,7 +183,7 @@ impl<K: Copy, V: Copy, const N: usize> NodeData<K, V, N> {
         ensures shape { HasShape N self.now }
     {
         match &self.state {
-            State::Entries(Entries { size, keys, vals }) => {
+            State::Entries(size, Entries { keys, vals }) => {
                 (keys.front(*size as usize), vals.front(*size as usize))
             }
             _ => unreachable!(),
@@ -219,7 +221,7 @@ impl<K: Copy, V: Copy, const N: usize> NodeData<K, V, N> {
         ensures most { result.0 ≤ 255 }
     {
         match &self.state {
-            State::Entries(Entries { size, keys, vals }) => {
+            State::Entries(size, Entries { keys, vals }) => {
                 let len = *size as usize;
                 match comp.search_prefix(key, &keys.items, len) {
                     Ok(index) => (index, Some(vals.at(len, index))),
@@ -248,7 +250,7 @@ impl<K: Copy, V: Copy, const N: usize> NodeData<K, V, N> {
         ensures most { (index : ℕ) → result ≡ Err index → index ≤ 255 }
     {
         match &mut self.state {
-            State::Entries(Entries { size, keys, vals }) => {
+            State::Entries(size, Entries { keys, vals }) => {
                 let count = *size as usize;
                 match comp.search_prefix(key, &keys.items, count) {
                     Ok(index) => {
@@ -282,7 +284,7 @@ impl<K: Copy, V: Copy, const N: usize> NodeData<K, V, N> {
         ensures most { IfSome result (λ e. e.0 ≤ 255) }
     {
         match &mut self.state {
-            State::Entries(Entries { size, keys, vals }) => {
+            State::Entries(size, Entries { keys, vals }) => {
                 let len = *size as usize;
                 match comp.search_prefix(key, &keys.items, len) {
                     Ok(index) => {
@@ -307,7 +309,7 @@ impl<K: Copy, V: Copy, const N: usize> NodeData<K, V, N> {
         ensures value { slice_get (vals_of self.old) index ≡ Some result.now }
     {
         match &mut self.state {
-            State::Entries(entries) => entries.vals.at_mut(index),
+            State::Entries(_, entries) => entries.vals.at_mut(index),
             _ => unreachable!(),
         }
     }
@@ -319,8 +321,9 @@ impl<K: Copy, V: Copy, const N: usize> NodeData<K, V, N> {
         ensures value { self.old ≡ Leaf result.0.now result.1.now }
         ensures shape { HasShape N self.old }
     {
+        let len = self.entries();
         match &mut self.state {
-            State::Entries(entries) => entries.parts_mut(),
+            State::Entries(_, entries) => entries.parts_mut(len),
             _ => unreachable!(),
         }
     }
@@ -357,7 +360,7 @@ impl<K: Copy, V: Copy, const N: usize> NodeData<K, V, N> {
         ensures value { slice_get (vals_of self.now) index ≡ Some result.1 }
     {
         match &self.state {
-            State::Entries(Entries { size, keys, vals }) => {
+            State::Entries(size, Entries { keys, vals }) => {
                 let len = *size as usize;
                 (keys.at(len, index), vals.at(len, index))
             }
@@ -373,7 +376,7 @@ impl<K: Copy, V: Copy, const N: usize> NodeData<K, V, N> {
         ensures most { IsSome result → index < 255 }
     {
         match &self.state {
-            State::Entries(Entries { size, keys, vals }) => {
+            State::Entries(size, Entries { keys, vals }) => {
                 let len = *size as usize;
                 if index < len {
                     let key = keys.at(len, index);
@@ -405,7 +408,7 @@ impl<K: Copy, V: Copy, const N: usize> NodeData<K, V, N> {
         ensures key { slice_get (keys_of self.now) 0 ≡ Some result }
     {
         match &self.state {
-            State::Entries(Entries { size, keys, .. }) => keys.at(*size as usize, 0),
+            State::Entries(size, Entries { keys, .. }) => keys.at(*size as usize, 0),
             _ => unreachable!(),
         }
     }
@@ -418,7 +421,7 @@ impl<K: Copy, V: Copy, const N: usize> NodeData<K, V, N> {
         ensures node { self.new ≡ (if result then with_entry self.old index key value else self.old) }
     {
         match &mut self.state {
-            State::Entries(Entries { size, keys, vals }) => {
+            State::Entries(size, Entries { keys, vals }) => {
                 let len = *size as usize;
                 if len >= N {
                     return false;
@@ -485,7 +488,7 @@ impl<K: Copy, V: Copy, const N: usize> NodeData<K, V, N> {
         ensures node { self.new ≡ without_entry self.old index }
     {
         match &mut self.state {
-            State::Entries(Entries { size, keys, vals }) => {
+            State::Entries(size, Entries { keys, vals }) => {
                 let len = *size as usize;
                 keys.remove(len, index);
                 vals.remove(len, index);
@@ -552,14 +555,16 @@ impl<K: Copy, V: Copy, const N: usize> NodeData<K, V, N> {
         ensures cut { IsCut self.old result.lhs_entries self.new result.crit_key rhs.new }
     {
         match &mut self.state {
-            State::Entries(Entries { size, keys, vals }) => {
+            State::Entries(size, Entries { keys, vals }) => {
                 let len = *size as usize;
                 let half = left_half_of(len, insert_index);
-                rhs.state = State::Entries(Entries {
-                    size: (len - half) as u8,
-                    keys: keys.tail(len, half),
-                    vals: vals.tail(len, half),
-                });
+                rhs.state = State::Entries(
+                    (len - half) as u8,
+                    Entries {
+                        keys: keys.tail(len, half),
+                        vals: vals.tail(len, half),
+                    },
+                );
                 *size = half as u8;
                 SplitOff {
                     lhs_entries: half,
@@ -634,10 +639,10 @@ impl<K: Copy, V: Copy, const N: usize> NodeData<K, V, N> {
     {
         match (&mut self.state, &mut rhs.state) {
             (
-                State::Entries(Entries { size, keys, vals }),
+                State::Entries(size, Entries { keys, vals }),
                 State::Entries(
+                    right_size,
                     Entries {
-                        size: right_size,
                         keys: right_keys,
                         vals: right_vals,
                     },

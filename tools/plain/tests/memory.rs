@@ -41,7 +41,7 @@ static ALLOCATOR: Counting = Counting;
 
 /// What a node of a map takes, with keys and values of 4 bytes, what one of a set takes, and a handle.
 const MAP_NODE: usize = 64;
-const SET_NODE: usize = 68;
+const SET_NODE: usize = 64;
 const HANDLE: usize = 4;
 
 /// How many nodes a table has memory for at least, where it has any.

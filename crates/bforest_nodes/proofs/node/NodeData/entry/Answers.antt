@@ -12,7 +12,7 @@ pub returns-clause-value : goal.returns-clause-value
 returns-clause-value g c = search rules
 
 pub at-requires : goal.at-requires
-at-requires g c = search (rules, entries_within _ _ _ _ c.self.view_is c.in-Entries.is c.requires.within)
+at-requires g c = search (rules, entries_within _ _ _ _ _ c.self.view_is c.in-Entries.is c.requires.within)
 
 pub at-requires-in-Entries : goal.at-requires-in-Entries
-at-requires-in-Entries g c = search (rules, entries_within _ _ _ _ c.self.view_is c.in-Entries.is c.requires.within)
+at-requires-in-Entries g c = search (rules, entries_within _ _ _ _ _ c.self.view_is c.in-Entries.is c.requires.within)

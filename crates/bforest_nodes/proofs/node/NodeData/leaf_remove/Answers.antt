@@ -7,7 +7,7 @@ unreachable-requires g c = entries_of_leaf c.self.inside.state c.in_default.not-
 
 pub returns-clause-answer : goal.returns-clause-answer
 returns-clause-answer g c =
-    let count : length (take c.in-Entries.field-0.size c.in-Entries.field-0.keys.items) ≡ c.in-Entries.field-0.size = search rules in
+    let count : length (take c.in-Entries.size c.in-Entries.field-1.keys.items) ≡ c.in-Entries.size = search rules in
     rw (← c.self.view_is, c.in-Entries.is, count) c.answer_of.ensures
 
 pub returns-clause-node : goal.returns-clause-node
@@ -15,15 +15,15 @@ returns-clause-node g c = rw (← c.self.view_is, c.in-Entries.is, c.remove.ensu
 
 pub remove-requires : goal.remove-requires
 remove-requires g c =
-    let within = entries_within c.self.inside.state c.in-Entries.field-0 c.args.self.now c.args.index c.self.view_is c.in-Entries.is c.requires.within in
-    (search rules, (entries_most c.self.inside.state c.in-Entries.field-0 c.in-Entries.is c.self.invariant.1, omega (arith, within)))
+    let within = entries_within c.self.inside.state c.in-Entries.size c.in-Entries.field-1 c.args.self.now c.args.index c.self.view_is c.in-Entries.is c.requires.within in
+    (search rules, (entries_most c.self.inside.state c.in-Entries.size c.in-Entries.field-1 c.in-Entries.is c.self.invariant.1, omega (arith, within)))
 
 pub remove-requires-in-Entries : goal.remove-requires-in-Entries
 remove-requires-in-Entries g c =
-    let within = entries_within c.self.inside.state c.in-Entries.field-0 c.args.self.now c.args.index c.self.view_is c.in-Entries.is c.requires.within in
-    (search rules, (entries_most c.self.inside.state c.in-Entries.field-0 c.in-Entries.is c.self.invariant.1, omega (arith, within)))
+    let within = entries_within c.self.inside.state c.in-Entries.size c.in-Entries.field-1 c.args.self.now c.args.index c.self.view_is c.in-Entries.is c.requires.within in
+    (search rules, (entries_most c.self.inside.state c.in-Entries.size c.in-Entries.field-1 c.in-Entries.is c.self.invariant.1, omega (arith, within)))
 
 pub overflow_sub-size : goal.overflow_sub-size
 overflow_sub-size g c =
-    let within = entries_within c.self.inside.state c.in-Entries.field-0 c.args.self.now c.args.index c.self.view_is c.in-Entries.is c.requires.within in
+    let within = entries_within c.self.inside.state c.in-Entries.size c.in-Entries.field-1 c.args.self.now c.args.index c.self.view_is c.in-Entries.is c.requires.within in
     omega (arith, within)

@@ -13,14 +13,16 @@ returns g c =
     let e = c.in-Entries.entries in
     let keys = e.keys.items in
     let vals = e.vals.items in
+    let size = c.in-Entries.field-0 in
     let fits = (rw c.in-Entries.is at c.self.invariant).1 in
-    let keys_room : e.size ≤ length keys = search rules in
-    let vals_room : e.size ≤ length vals = search rules in
-    let keys_count = length-take-le e.size keys keys_room in
-    let vals_count = length-take-le e.size vals vals_room in
-    let keys_read : c.parts_mut.result.0.now ≡ take e.size keys = rw c.in-Entries.is at c.parts_mut.ensures.keys in
-    let vals_read : c.parts_mut.result.1.now ≡ take e.size vals = rw c.in-Entries.is at c.parts_mut.ensures.vals in (
-      (refl, λ w. rw (← c.self.view_is, c.in-Entries.is) (ap (Leaf (take e.size keys)) (over_front e.size vals w vals_room))),
+    let keys_room : size ≤ length keys = search rules in
+    let vals_room : size ≤ length vals = search rules in
+    let keys_count = length-take-le size keys keys_room in
+    let vals_count = length-take-le size vals vals_room in
+    let len : c.entries-len.result ≡ size = (rw c.in-Entries.is at c.entries-len.ensures.value) ∙ keys_count in
+    let keys_read : c.parts_mut.result.0.now ≡ take size keys = (rw c.in-Entries.is at c.parts_mut.ensures.keys) ∙ ap (λ n. take n keys) len in
+    let vals_read : c.parts_mut.result.1.now ≡ take size vals = (rw c.in-Entries.is at c.parts_mut.ensures.vals) ∙ ap (λ n. take n vals) len in (
+      (refl, λ w. rw (← c.self.view_is, c.in-Entries.is) (ap (Leaf (take size keys)) (over_front size vals w vals_room))),
       record {
         writes_back = tt;
         value = rw (← c.self.view_is, c.in-Entries.is) (λ i. Leaf (sym keys_read i) (sym vals_read i));

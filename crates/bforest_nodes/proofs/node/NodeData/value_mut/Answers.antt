@@ -15,9 +15,9 @@ returns g c =
     let keys = e.keys.items in
     let vals = e.vals.items in
     let within = rw (← c.self.view_is, c.in-Entries.is) at c.requires.within in
-    let count = length-take e.size keys in
-    let below : c.args.index < e.size = omega arith in
+    let count = length-take c.in-Entries.field-0 keys in
+    let below : c.args.index < c.in-Entries.field-0 = omega arith in
     let read : slice_get vals c.args.index ≡ Some c.at_mut.result.now = rw c.in-Entries.is at c.at_mut.ensures.value in (
-      (refl, λ w. rw (← c.self.view_is, c.in-Entries.is) (ap (Leaf (take e.size keys)) (take-set-lt e.size vals c.args.index w below))),
-      record { writes_back = tt; value = rw (← c.self.view_is, c.in-Entries.is) (get_front e.size vals c.args.index below ∙ read) },
+      (refl, λ w. rw (← c.self.view_is, c.in-Entries.is) (ap (Leaf (take c.in-Entries.field-0 keys)) (take-set-lt c.in-Entries.field-0 vals c.args.index w below))),
+      record { writes_back = tt; value = rw (← c.self.view_is, c.in-Entries.is) (get_front c.in-Entries.field-0 vals c.args.index below ∙ read) },
     )
