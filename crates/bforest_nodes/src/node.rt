@@ -149,6 +149,23 @@ impl<K: Copy, V: Copy, const N: usize> NodeData<K, V, N> {
         self.state = State::Branch(1, Row { items: [key; 7] }, tree);
     }
 
+    /// A leaf of one entry.
+    #[inline(always)]
+    pub fn new_leaf(key: K, value: V) -> Self
+        requires capacity { IsLeafCapacity N }
+        ensures node { result ≡ Leaf (key ∷ []) (value ∷ []) }
+    {
+        NodeData {
+            state: State::Entries(
+                1,
+                Entries {
+                    keys: Row { items: [key; N] },
+                    vals: Row { items: [value; N] },
+                },
+            ),
+        }
+    }
+
     /// Makes the slot a leaf of one entry, whatever it held.
     pub fn leaf(&mut self, key: K, value: V)
         ensures node { self.new ≡ Leaf (key ∷ []) (value ∷ []) }
