@@ -17,6 +17,7 @@ pub mod Turns
 pub mod Turning
 pub mod Standing
 pub mod Nearby
+pub mod Behind
 pub mod Codes
 pub mod Ranks
 pub mod Branches

@@ -8,6 +8,8 @@ use Rattle.bforest_core.specs.Sizes.{growth, need, shrink}
 use Rattle.bforest_core.specs.Table.{NeedsGrowth, Table, free_count, room}
 use Rattle.bforest_core.specs.Trees.{tree_of}
 use Rattle.bforest_core.specs.declared.path.Path.{Path}
+use Rattle.std.specs.declared.cmp.Ordering.{Ordering}
+use Rattle.std.specs.declared.cmp.Ordering.TheVariants.{Greater}
 use Rattle.bforest_core.specs.declared.pool.OutOfMemory.{OutOfMemory}
 use Rattle.bforest_core.specs.declared.pool.OutOfMemory.TheVariants.{Full, Memory}
 
@@ -78,6 +80,12 @@ module _ {K V : Type 0} where
   pub record StandingUnder {n : ℕ} (table : Table K V) (root : ℕ) (path : Path K V n) : Type 0 where
     pub place : ℕ
     pub at : StandsAt table root path place
+
+  -- the path stands on an entry under this root, whose key is less than this one
+  pub record StandsBefore {n : ℕ} (cmp : K → K → Ordering) (table : Table K V) (root : ℕ) (path : Path K V n) (key : K) : Type 0 where
+    pub place : ℕ
+    pub on : StandsOn table root path place
+    pub less : IfSome (slice_get (list_under table root) place) (λ entry. cmp key entry.0 ≡ Greater)
 
   -- the root and the place where an entry may be inserted at a path
   pub record Placing {n : ℕ} (table : Table K V) (path : Path K V n) : Type 0 where

@@ -255,6 +255,22 @@ pub(crate) fn leaf_key<K: Copy, V: Copy, const N: usize>(pool: &NodePool<K, V, N
     pool.node(node).leaf_crit_key()
 }
 
+// The index of a leaf's last entry, and its key.
+pub(crate) fn last_key<K: Copy, V: Copy, const N: usize>(
+    pool: &NodePool<K, V, N>,
+    node: Node,
+) -> (usize, K)
+    requires { (keys : List K) × (vals : List V) × (slice_get pool.now.nodes node ≡ Some (Leaf keys vals))
+        × (0 < length keys) }
+    ensures index { (keys : List K) (vals : List V) → slice_get pool.now.nodes node ≡ Some (Leaf keys vals)
+        → result.0 ≡ length keys - 1 }
+    ensures key { (keys : List K) (vals : List V) → slice_get pool.now.nodes node ≡ Some (Leaf keys vals)
+        → slice_get keys (length keys - 1) ≡ Some result.1 }
+{
+    let index = last_index(pool, node);
+    (index, pool.node(node).entry(index).0)
+}
+
 // The entry of a leaf at `index`, or `None` if there is none.
 pub(crate) fn leaf_entry<K: Copy, V: Copy, const N: usize>(
     pool: &NodePool<K, V, N>,

@@ -1,6 +1,6 @@
 -- A key near the entry where a path stands.
 use Rattle.bforest_core.proofs.Words.{place-here, place-later, ◌≡◌, ◌≢◌, ℕ, zero, suc, ◌+◌, ◌-◌, ◌≤◌, ◌<◌, true, false, List, [], ◌∷◌, get_or, length}
-use Rattle.bforest_core.proofs.Words.{length-append, drop, slice_get, Option, Some, None, refl, sym, subst, ap, ◌∙◌, arith, Row, IsTotalOrder}
+use Rattle.bforest_core.proofs.Words.{length-append, drop, slice_get, IfSome, Option, Some, None, refl, sym, subst, ap, ◌∙◌, arith, Row, IsTotalOrder}
 use Rattle.bforest_core.proofs.Words.{IsStrictlySortedBy, AllByRecursion, is_some, option_map, is_lt, ordering_reverse, drop_all, Path, IsUpTo, Solid, flat}
 use Rattle.bforest_core.proofs.Words.{half_of, node, StandsAt, StandsOn, index_of, leaf_of, list_under, entry_before, leaf_content, Table, IsUnion, tree_of}
 use Rattle.bforest_core.proofs.{Words.{IsIncreasing, entry_for, is_present, place, value_for}, rows.LevelRows.{FitRow-split, some_leaf}}
@@ -26,6 +26,12 @@ upto_at cmp key [] p e here t = absurd cc
 upto_at cmp key (x ∷ es) zero e here t = cc
 upto_at cmp key (x ∷ es) (suc p) e here t = upto_at cmp key es p e here t
 
+-- a property of all keys of a list holds of each
+pub all_at : {K X : Type 0} (P : K → Type 0) (es : List (K × X)) (p e : _) → AllByRecursion P (keys_of es) → slice_get es p ≡ Some e → P e.0
+all_at P [] p e h here = absurd cc
+all_at P (x ∷ es) zero e h here = rw (← some_same here) h.0
+all_at P (x ∷ es) (suc p) e h here = all_at P es p e h.1 here
+
 module _ {K X : Type 0} {cmp : K → K → Ordering} (o : IsTotalOrder cmp) (key : K) where
   -- a search that passes a lesser first entry
   later : (e : K × X) {es : List (K × X)} → cmp e.0 key ≡ Less → {p found : _} → Finds cmp es key p found → Finds cmp (e ∷ es) key (suc p) found
@@ -35,11 +41,6 @@ module _ {K X : Type 0} {cmp : K → K → Ordering} (o : IsTotalOrder cmp) (key
   finds_first : (es : List (K × X)) → IsIncreasing cmp es → IsUpTo cmp es key → Finds cmp es key 0 None
   finds_first es h up = let high = all_greater o es key h (λ y c is. subst (λ z. IsUpTo cmp z key) is up) in
       record { place_is = place_between o [] [] es key h tt high; entry_is = entry_between o [] [] es key h tt high }
-
-  all_at : (P : K → Type 0) (es : List (K × X)) (p e : _) → AllByRecursion P (keys_of es) → slice_get es p ≡ Some e → P e.0
-  all_at P [] p e h here = absurd cc
-  all_at P (x ∷ es) zero e h here = rw (← some_same here) h.0
-  all_at P (x ∷ es) (suc p) e h here = all_at P es p e h.1 here
 
   -- a search from an entry on that is not greater, as in the whole list
   behind : (es : List (K × X)) (p e : _) → slice_get es p ≡ Some e → IsIncreasing cmp es → cmp e.0 key ≢ Greater → (n found : _) → (IsIncreasing cmp (e ∷ drop (suc p) es) → Finds cmp (e ∷ drop (suc p) es) key n found) → Finds cmp es key (p + n) found
@@ -142,6 +143,10 @@ module _ {K V : Type 0} {n : ℕ} {table : Table K V} {root : ℕ} {path : Path 
     -- the entry read in the leaf is the entry of the list
     pub here-entry : slice_get (list_under table root) p ≡ Some e
     here-entry = entry_read union.1.capacity (on-tree union path on) read_is
+
+    -- the entry is less than a key
+    pub before-key : (cmp : K → K → Ordering) (key : K) → cmp key e.0 ≡ Greater → IfSome (slice_get (list_under table root) p) (λ entry. cmp key entry.0 ≡ Greater)
+    before-key cmp key t = subst (λ o. IfSome o (λ entry. cmp key entry.0 ≡ Greater)) (sym here-entry) t
 
     module _ {cmp : K → K → Ordering} (o : IsTotalOrder cmp) (key : K) where
       -- the entry has an equal key

@@ -3,17 +3,18 @@ ghost use Rattle.std.specs.Prelude.{◌≡◌, IsTrue, false, true};
 ghost use Rattle.bforest_nodes.specs.Entries.{IsIncreasing, is_present, place, value_for};
 ghost use Rattle.bforest_core.specs.Trees.{IsUnion, is_root};
 
+use crate::access::{last_key, look_up};
 use crate::path::Path;
 use crate::pool::NodePool;
 use bforest_nodes::{Comparator, Node};
 use std::cmp::Ordering;
 
 impl<K: Copy, V: Copy, const N: usize> Path<K, V, N> {
-    ghost use Rattle.bforest_core.specs.Paths.{IsPlaced, StandingUnder, StandsOn, list_under};
+    ghost use Rattle.bforest_core.specs.Paths.{IsPlaced, StandingUnder, StandsBefore, StandsOn, list_under};
 
-    /// Goes where `find` goes and returns the same, but looks first where the path stands: it compares `key` with the entry here and with
-    /// the previous one, and at the end with the last entry alone. Where `key` is one of these or belongs between them, it stops there.
-    /// Else it searches the whole tree.
+    /// Goes where `find` goes and returns the same, but looks first where the path stands: it compares `key` with the entry here, and then
+    /// with the previous one where `key` is less, and with the leaf's last where it is greater. At the end it compares with the last entry
+    /// alone. Where `key` belongs between these it searches at most the leaf, and else the whole tree.
     pub fn find_here<C: Comparator<K>>(
         &mut self,
         key: K,
@@ -36,7 +37,7 @@ impl<K: Copy, V: Copy, const N: usize> Path<K, V, N> {
             match comp.cmp(key, here.0) {
                 Ordering::Less => {}
                 Ordering::Equal => return Some(here.1),
-                Ordering::Greater => return self.find(key, root, pool, comp),
+                Ordering::Greater => return self.find_behind(key, root, pool, comp),
             }
         }
         let Some(before) = self.prev(root, pool) else {
@@ -50,5 +51,34 @@ impl<K: Copy, V: Copy, const N: usize> Path<K, V, N> {
                 None
             }
         }
+    }
+
+    // Goes where `find` goes and returns the same, for a key that is greater than that of the entry here. Where the key is not greater than
+    // the leaf's last, the leaf alone is searched.
+    fn find_behind<C: Comparator<K>>(
+        &mut self,
+        key: K,
+        root: Node,
+        pool: &NodePool<K, V, N>,
+        comp: &C,
+    ) -> Option<V>
+        requires union { IsUnion N pool.now }
+        requires root { IsTrue (is_root pool.now.nodes root) }
+        requires behind { StandsBefore (C.order comp.now) pool.now root self.old key }
+        requires increasing { IsIncreasing (C.order comp.now) (list_under pool.now root) }
+        ensures value { result ≡ value_for (C.order comp.now) (list_under pool.now root) key }
+        ensures present { is_present (C.order comp.now) (list_under pool.now root) key ≡ true
+            → StandsOn pool.now root self.new (place (C.order comp.now) (list_under pool.now root) key) }
+        ensures absent { is_present (C.order comp.now) (list_under pool.now root) key ≡ false
+            → IsPlaced pool.now root self.new (place (C.order comp.now) (list_under pool.now root) key) }
+    {
+        let leaf = self.node[0];
+        let (last, last_key) = last_key(pool, leaf);
+        if self.entry[0] as usize == last || comp.cmp(key, last_key).is_gt() {
+            return self.find(key, root, pool, comp);
+        }
+        let (index, value) = look_up(pool, leaf, key, comp);
+        self.set_index(index);
+        value
     }
 }

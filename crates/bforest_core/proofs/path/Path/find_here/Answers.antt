@@ -1,4 +1,4 @@
-use Rattle.bforest_core.proofs.walks.Nearby.{before-equal, before-greater, before-none, behind-low, here-equal, here-greater, here-leaf, no-value, none-left}
+use Rattle.bforest_core.proofs.walks.Nearby.{before-equal, before-greater, before-key, before-none, behind-low, here-equal, here-greater, here-leaf, no-value, none-left}
 use Rattle.bforest_core.proofs.{Words.{list_under, rules, sym, ◌∙◌, arith}, path.Path.find_here.Goals.{then-self-gt0+in-Less, else-self-gt0}}
 use Rattle.bforest_core.proofs.walks.Nearby.{some-on}
 use Rattle.bforest_core.proofs.path.Path.find_here.Goals as goal
@@ -11,6 +11,10 @@ pub returns-in-Equal : goal.returns-in-Equal
 returns-in-Equal g c = let at = c.requires.stands in let on = some-on c.args.pool.now c.args.self.now at.at c.if-self-gt0.true in
     let e = here-equal c.requires.union on c.entry_here-here.ensures (g.met.C.Comparator.total c.args.comp.now) c.args.key c.requires.increasing (sym c.cmp.ensures ∙ c.in-Equal.is) in
     record { value = e.value; present = e.present; absent = e.absent }
+
+pub find_behind-requires : goal.find_behind-requires
+find_behind-requires g c = let r = c.requires in let at = r.stands in let on = some-on c.args.pool.now c.args.self.now at.at c.if-self-gt0.true in
+    (search rules, (search rules, (r.union, (r.root, (record { place = at.place; on = on; less = before-key r.union on c.entry_here-here.ensures (g.C.Comparator.order c.args.comp.now) c.args.key (sym c.cmp.ensures ∙ c.in-Greater.is) }, r.increasing)))))
 
 pub returns-in-Greater : goal.returns-in-Greater
 returns-in-Greater g c = record { value = search rules; present = search rules; absent = search rules }
