@@ -4,7 +4,7 @@ ghost use Rattle.bforest_core.specs.Trees.{IsUnion, is_root};
 ghost use Rattle.bforest_trees.specs.Forest.{IsLive, list_of};
 ghost use Rattle.bforest_trees.specs.Layout.{Entered, IsReader, Opens, left_of};
 ghost use Rattle.std.specs.Iterator.{YieldsFirst};
-ghost use Rattle.std.specs.Prelude.{IsTrue, List, Some, [], false, length, slice_get, true, ◌+◌, ◌<◌, ◌≡◌};
+ghost use Rattle.std.specs.Prelude.{IsTrue, List, Some, [], false, length, slice_get, true, ◌+◌, ◌<◌, ◌≡◌, ◌≤◌};
 
 use crate::trees::Trees;
 use bforest_core::{Node, NodePool, PackedNode, Spot};
@@ -78,24 +78,25 @@ impl<'a, K: Copy, V: Copy, const N: usize> Reader<'a, K, V, N> {
         ensures steps { YieldsFirst (left_of trees.now) self.old result self.new }
         ensures reader { IsReader trees.now self.new }
     {
-        if self.is_left(&trees.pool) {
+        if self.index < self.keys.len() {
+            return Some(self.take_first());
+        }
+        if self.enter_next(&trees.pool) {
             Some(self.take_first())
         } else {
             None
         }
     }
 
-    // Whether an entry is left. At the end of a leaf the reader goes to the next leaf.
+    // Goes to the next leaf. Returns whether there is one.
     #[inline(always)]
-    fn is_left(&mut self, pool: &'a NodePool<K, V, N>) -> bool
+    fn enter_next(&mut self, pool: &'a NodePool<K, V, N>) -> bool
         requires reader { IsReader pool.now self.old }
+        requires read { length self.old.keys.now ≤ self.old.index }
         ensures entered { result ≡ true → Entered pool.now (left_of pool.now self.old) self.new }
         ensures none { result ≡ false → left_of pool.now self.old ≡ [] }
         ensures same { result ≡ false → self.new ≡ self.old }
     {
-        if self.index < self.keys.len() {
-            return true;
-        }
         match self.spot.next(self.root, pool) {
             Some((spot, leaf)) => {
                 *self = Reader::at(self.root, spot, leaf, pool);
@@ -114,7 +115,8 @@ impl<'a, K: Copy, V: Copy, const N: usize> Reader<'a, K, V, N> {
         ensures value { slice_get self.old.vals.now self.old.index ≡ Some result.1 }
         ensures rest { self.new ≡ record self.old { index = self.old.index + 1 } }
     {
-        let entry = (self.keys[self.index], self.vals[self.index]);
+        let vals = &self.vals[..self.keys.len()];
+        let entry = (self.keys[self.index], vals[self.index]);
         self.index += 1;
         entry
     }
