@@ -13,7 +13,7 @@ MODEL = r"^impl[^\n{]*\bModel for [^\n{]*\{"
 # what no plain Rust has outside of a comment
 LEFT = re.compile(r"[^\x00-\x7f]|\b(?:ghost|requires|ensures|decreases|invariant|tactic|Model|Global|rt;)\b|derive\(Drop")
 # What a public function of the forest requires of its handle, and of its handle's keys.
-LIVE, SEARCHABLE = r"requires (?:live )?\{ (?:IsLive|IsSearchable) ", r"requires \{ IsSearchable "
+LIVE, SEARCHABLE = r"requires (?:live |searchable )?\{ (?:IsLive|IsSearchable) ", r"requires (?:searchable )?\{ IsSearchable "
 IS_LIVE, IS_ORDERED = "The call requires that the handle is live", " and that its keys increase under the comparator"
 PANICS = "Else it may panic; debug builds often do so at once: [what a call requires](crate#what-a-call-requires)."
 GUARD = "forest.trees.expect_live(self.root);"

@@ -1,7 +1,7 @@
 //! Handles of maps.
 ghost use Rattle.bforest_nodes.specs.Entries.{IsIncreasing, value_for};
 ghost use Rattle.bforest.specs.Bounds.{entries_between, entry_at_least, entry_at_most};
-ghost use Rattle.bforest.specs.Calls.{Clears, Filters, GetsOrInserts, Inserts, Pops, Removes};
+ghost use Rattle.bforest.specs.Calls.{Clears, Filters, GetsOrInserts, Inserts, Pops, Removes, Updates};
 ghost use Rattle.bforest.specs.Cursor.{IsCursor, comparator, forest_loan, forest_now, map_loan, map_now, spot};
 ghost use Rattle.bforest.specs.Forest.{Forest, IsLive, IsSearchable, first_level, list_of, sizes_of};
 ghost use Rattle.bforest.specs.Memory.{MapsFitInMemory};
@@ -10,7 +10,7 @@ ghost use Rattle.bforest.specs.Room.{IsEnoughFor, IsMetBy};
 ghost use Rattle.std.specs.Option.{option_map_or};
 ghost use Rattle.std.specs.declared.cmp.Ordering.{Ordering};
 ghost use Rattle.std.specs.Ordering.{is_lt};
-ghost use Rattle.std.specs.Prelude.{IsTrue, None, [], true, ◌↔◌, length, slice_get, ◌+◌, ◌-◌, ◌/◌, ◌<◌, ◌^◌, ◌≡◌, ◌≤◌};
+ghost use Rattle.std.specs.Prelude.{IsTrue, None, Some, [], true, ◌↔◌, length, slice_get, ◌+◌, ◌-◌, ◌/◌, ◌<◌, ◌^◌, ◌≡◌, ◌≤◌};
 
 use crate::map_cursor::MapCursor;
 use crate::map_cursor_mut::MapCursorMut;
@@ -100,6 +100,26 @@ impl<K: Copy, V: Copy> Map<K, V> {
         ensures value { result ≡ value_for (C.order comp.now) (list_of forest.now self.now) key }
     {
         forest.trees.get(self.root, key, comp)
+    }
+
+    /// Replaces the value of the entry whose key compares equal to `key` by what `change` returns of it, and returns that, or `None` where
+    /// there is no such entry. No other entry changes, and no node.
+    ///
+    /// One search, as in [`Map::get`]. `change` is called once where the entry is there, else never, and before anything is written: where
+    /// it panics, in the package, the map is as it was.
+    pub fn update<C: Comparator<K>, F: FnOnce(V) -> V>(
+        &mut self,
+        key: K,
+        change: F,
+        forest: &mut MapForest<K, V>,
+        comp: &C,
+    ) -> Option<V>
+        requires searchable { IsSearchable (C.order comp.now) forest.old self.old }
+        requires callable { (v : V) → value_for (C.order comp.now) (list_of forest.old self.old) key ≡ Some v
+            → F.pre change v }
+        ensures { Updates F.FnOnce (C.order comp.now) forest.old self.old key change result forest.new self.new }
+    {
+        forest.trees.update(self.root, key, change, comp)
     }
 
     /// Returns the last entry whose key is not greater than `key`, as it is stored, or `None` where each key is greater.

@@ -8,5 +8,6 @@ pub mod Reserved
 pub mod Planting
 pub mod Account
 pub mod Written
+pub mod Updating
 pub mod Opened
 pub mod Sweep

@@ -14,3 +14,4 @@ pub mod Removal
 pub mod Paths
 pub mod Spots
 pub mod Leaves
+pub mod Updates

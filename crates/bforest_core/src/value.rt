@@ -1,12 +1,13 @@
 //! The value of a key, and the last entry up to a key.
-ghost use Rattle.std.specs.Prelude.{◌≡◌, IsTrue, List, slice_get, Some};
+ghost use Rattle.std.specs.Prelude.{◌≡◌, ℕ, IsTrue, List, slice_get, Some};
 ghost use Rattle.bforest_nodes.specs.Content.{IsLeafCapacity};
 ghost use Rattle.bforest_nodes.specs.Entries.{IsIncreasing, value_for};
 ghost use Rattle.bforest_core.specs.Descent.{SearchThrough};
-ghost use Rattle.bforest_core.specs.Leaves.{entry_up_to};
+ghost use Rattle.bforest_core.specs.Leaves.{SearchEndsAt, entry_up_to};
 ghost use Rattle.bforest_core.specs.Levels.{LevelNode, flat};
 ghost use Rattle.bforest_core.specs.Place.{leaf_content};
 ghost use Rattle.bforest_core.specs.Trees.{IsUnion, is_root, tree_of};
+ghost use Rattle.bforest_core.specs.Updates.{UpdatesUnder};
 
 use crate::access::{follow, leaf_entry, look_up};
 use crate::pool::NodePool;
@@ -39,6 +40,55 @@ impl<K: Copy, V: Copy, const N: usize> NodePool<K, V, N> {
         }
         let (_, child) = follow(self, node, key, comp);
         self.value_below(key, child, depth + 1, comp)
+    }
+
+    /// Replaces the value of a key in the tree under `root` by what `change` returns of it, and returns that, or `None` if the key is
+    /// absent. `change` is called before anything is written. Reads one node of each level, and keeps no path.
+    pub fn update<C: Comparator<K>, F: FnOnce(V) -> V>(
+        &mut self,
+        key: K,
+        root: Node,
+        change: F,
+        comp: &C,
+    ) -> Option<V>
+        requires union { IsUnion N self.old }
+        requires root { IsTrue (is_root self.old.nodes root) }
+        requires increasing { IsIncreasing (C.order comp.now) (flat (tree_of self.old.nodes root).leaves) }
+        requires callable { (v : V) → value_for (C.order comp.now) (flat (tree_of self.old.nodes root).leaves)
+            key ≡ Some v → F.pre change v }
+        ensures { UpdatesUnder F.FnOnce N (C.order comp.now) self.old self.new root key change result }
+    {
+        let leaf = self.leaf_of(key, root, comp);
+        let (index, value) = look_up(self, leaf, key, comp);
+        let changed = change(value?);
+        *self.value_mut(leaf, index) = changed;
+        Some(changed)
+    }
+
+    // The leaf in which a search for `key` in the tree under `root` ends.
+    fn leaf_of<C: Comparator<K>>(&self, key: K, root: Node, comp: &C) -> Node
+        requires union { IsUnion N self.now }
+        requires root { IsTrue (is_root self.now.nodes root) }
+        requires increasing { IsIncreasing (C.order comp.now) (flat (tree_of self.now.nodes root).leaves) }
+        ensures leaf { (place : ℕ) × SearchEndsAt (C.order comp.now) self.now root key place result }
+    {
+        self.leaf_below(key, root, 0, comp)
+    }
+
+    // The leaf in which a search for `key` ends, which goes through `node`; `depth` levels are above it.
+    fn leaf_below<C: Comparator<K>>(&self, key: K, node: Node, depth: usize, comp: &C) -> Node
+        requires capacity { IsLeafCapacity N }
+        requires through { (root : ℕ) × SearchThrough (C.order comp.now) N self.now.nodes
+            (tree_of self.now.nodes root).leaves key node depth }
+        ensures { (root : ℕ) → SearchThrough (C.order comp.now) N self.now.nodes
+            (tree_of self.now.nodes root).leaves key node depth
+            → (place : ℕ) × SearchEndsAt (C.order comp.now) self.now root key place result }
+    {
+        if !self.node(node).is_inner() {
+            return node;
+        }
+        let (_, child) = follow(self, node, key, comp);
+        self.leaf_below(key, child, depth + 1, comp)
     }
 
     /// The last entry in the tree under `root` whose key is not greater than `key`. Reads one node of each level, and keeps no path.

@@ -29,6 +29,19 @@ fn a_tried_insertion_answers_the_old_value(rt: HostRuntime) {
 }
 
 #[test]
+fn an_update_replaces_the_value_of_its_key_alone(rt: HostRuntime) {
+    let mut forest: NumberForest = MapForest::new(rt.alloc());
+    let mut map = Map::new();
+    assert_eq!(rt; map.insert(5, 50, &mut forest, &()), Ok(None));
+    assert_eq!(rt;
+        map.update(5, |value| value / 2, &mut forest, &()),
+        Some(25)
+    );
+    assert_eq!(rt; map.update(4, |value| value / 2, &mut forest, &()), None);
+    assert_eq!(rt; map.get(5, &forest, &()), Some(25));
+}
+
+#[test]
 fn an_iterator_ends_once(rt: HostRuntime) {
     let mut forest: NumberForest = MapForest::new(rt.alloc());
     let mut map = Map::new();

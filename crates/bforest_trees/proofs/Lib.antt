@@ -31,3 +31,4 @@ pub mod Ranging
 pub mod Peeking
 pub mod Popping
 pub mod Ensuring
+pub mod Updating

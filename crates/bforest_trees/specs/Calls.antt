@@ -4,9 +4,10 @@ use Rattle.bforest_core.specs.Sizes.{shrink}
 use Rattle.bforest_core.specs.declared.pool.OutOfMemory.TheVariants.{Full, Memory}
 use Rattle.bforest_core.specs.declared.pool.OutOfMemory.{OutOfMemory}
 use Rattle.bforest_nodes.specs.Entries.{IsIncreasing, cut, put, value_for}
-use Rattle.bforest_trees.specs.Forest.{Becomes, Forest, Gives, GrowsFor, IsLive, IsTooMany, Keeps, NeedsGrowth, Takes, free_of, list_of, need_of, sizes_of, sizes_with, sizes_without, slots_of}
+use Rattle.bforest_trees.specs.Forest.{Becomes, Forest, Gives, GrowsFor, IsLive, IsTooMany, Keeps, NeedsGrowth, Takes, free_of, list_of, memory_of, need_of, sizes_of, sizes_with, sizes_without, slots_of}
 use Rattle.bforest_trees.specs.Retain.{Retains}
-use Rattle.std.specs.Prelude.{Bool, Err, IfOk, IsOk, IsSome, None, Ok, OnErr, OnOk, Option, Result, [], if◌then◌else◌, length, nat_lt, remove, slice_get, unwrap_or, ◌+◌, ◌-◌, ◌<◌, ◌↔◌, ◌≡◌, ◌≤◌, ℕ}
+use Rattle.std.specs.Fn.{FnOnceReturns, Once}
+use Rattle.std.specs.Prelude.{Bool, Err, IfOk, IfSome, IsOk, IsSome, None, Ok, OnErr, OnOk, Option, Result, Some, [], if◌then◌else◌, length, nat_lt, remove, slice_get, unwrap_or, ◌+◌, ◌-◌, ◌<◌, ◌↔◌, ◌≡◌, ◌≤◌, ℕ}
 use Rattle.std.specs.declared.cmp.Ordering.{Ordering}
 
 module _ {K X : Type 0} where
@@ -57,6 +58,21 @@ module _ {K X : Type 0} where
     pub same_levels : SameLevels f h f' h'
     pub all_stay : length (list_of f' h') ≡ length (list_of f h) → h' ≡ h
     pub account : Gives (sizes_of f h) (sizes_of f' h') f f'
+    pub increasing : (order : K → K → Ordering) → IsIncreasing order (list_of f h) → IsIncreasing order (list_of f' h')
+
+  -- the value of the key k of h became what a call of q with it returned, which is returned, and all nodes stay; or the key is absent, and
+  -- nothing changed
+  pub record Updates {F : Type 0} (g : Once F (X × Unit {0}) X) (cmp : K → K → Ordering) (f : Forest K X) (h : Option ℕ) (k : K) (q : F) (result : Option X) (f' : Forest K X) (h' : Option ℕ) : Type 0 where
+    pub called : IfSome result (λ w. (v : X) × (value_for cmp (list_of f h) k ≡ Some v) × FnOnceReturns g q (v, tt) w)
+    pub put : IfSome result (λ w. Becomes f h f' h' (put cmp (list_of f h) k w))
+    pub handle : h' ≡ h
+    pub sizes : sizes_of f' h' ≡ sizes_of f h
+    pub slots : slots_of f' ≡ slots_of f
+    pub free : free_of f' ≡ free_of f
+    pub memory : memory_of f' ≡ memory_of f
+    pub absent : result ≡ None → value_for cmp (list_of f h) k ≡ None
+    pub absent_forest : result ≡ None → f' ≡ f
+    pub live : IsLive f' h'
     pub increasing : (order : K → K → Ordering) → IsIncreasing order (list_of f h) → IsIncreasing order (list_of f' h')
 
 -- the result of an insertion of an absent key, from that of a call that returns the value

@@ -128,6 +128,8 @@ pub enum Call {
     PopLast,
     /// A set inserts the key.
     GetOrInsert(Entry),
+    /// The bits by which the value changes. A set tests for the key.
+    Update(Entry),
     /// All entries.
     Iter,
     /// Entries within bounds; of each step whether it is one from behind.
@@ -440,6 +442,13 @@ impl<C: Order> Subject for Model<'_, C> {
                 Some(stored) => vec![Answer::Put(Ok(Some(stored.1)))],
                 None => vec![Answer::Put(self.insert(at, *entry).map(|_| Some(entry.1)))],
             },
+            Call::Update((key, bits)) => {
+                let stored = self.lists[at].entries.get_mut(&self.order.rank(*key));
+                vec![Answer::Value(stored.map(|it| {
+                    it.1 ^= bits;
+                    it.1
+                }))]
+            }
             Call::Iter => self.lists[at].entries.values().map(|it| Answer::Entry(Some(*it))).collect(),
             Call::Range(low, high, ends) => self.range(at, *low, *high, ends),
             Call::Read(steps) | Call::Edit(steps) => {
@@ -535,6 +544,7 @@ impl<C: Order> Subject for Maps<'_, C> {
             Call::PopFirst => vec![Answer::Entry(map.pop_first(forest))],
             Call::PopLast => vec![Answer::Entry(map.pop_last(forest))],
             Call::GetOrInsert((key, value)) => vec![Answer::Put(map.get_or_insert(*key, *value, forest, order).map(Some))],
+            Call::Update((key, bits)) => vec![Answer::Value(map.update(*key, |it| it ^ bits, forest, order))],
             Call::Iter => {
                 assert!(map.increases(forest, order) && map.is_empty() == map.iter(forest).next().is_none());
                 map.iter(forest).map(|it| Answer::Entry(Some(it))).collect()
@@ -625,6 +635,7 @@ impl<C: Order> Subject for Sets<'_, C> {
             Call::PopFirst => vec![as_entry(set.pop_first(forest))],
             Call::PopLast => vec![as_entry(set.pop_last(forest))],
             Call::GetOrInsert((key, _)) => vec![Answer::Put(set.insert(*key, forest, order).map(|_| Some(0)))],
+            Call::Update((key, _)) => vec![as_value(set.contains(*key, forest, order))],
             Call::Iter => {
                 assert!(set.increases(forest, order) && set.is_empty() == set.iter(forest).next().is_none());
                 set.iter(forest).map(|it| as_entry(Some(it))).collect()
@@ -722,7 +733,8 @@ impl Draw {
         match random.below(64) {
             0..=27 => Call::Insert((key, self.value(random))),
             28..=31 => Call::GetOrInsert((key, self.value(random))),
-            32..=35 => Call::Get(key),
+            32..=33 => Call::Get(key),
+            34..=35 => Call::Update((key, self.value(random))),
             36..=39 => Call::GetOrLess(key),
             40..=42 => Call::GetOrGreater(key),
             43 => Call::Ends,

@@ -50,6 +50,17 @@ fn a_comparator_that_panics_changes_nothing() {
 }
 
 #[test]
+fn a_change_that_panics_leaves_the_map_as_it_was() {
+    set_hook(Box::new(|_| {}));
+    let (mut map, mut forest) = filled();
+    for key in 0..200 {
+        let made = catch_unwind(AssertUnwindSafe(|| map.update(key, |_| panic!("no value"), &mut forest, &())));
+        assert_eq!(made.is_err(), key % 2 == 0);
+        assert!(map.iter(&forest).eq((0..200).step_by(2).map(|it| (it, it))));
+    }
+}
+
+#[test]
 fn a_predicate_that_panics_leaves_a_forest_that_can_be_cleared() {
     set_hook(Box::new(|_| {}));
     for asked in 0..100 {

@@ -1,16 +1,16 @@
 -- Writing the value of an entry of a tree, which keeps its nodes and keys.
-use Rattle.bforest_core.proofs.Words.{numbers_of, ◌≡◌, ℕ, zero, suc, ◌+◌, ◌<◌, List, [], ◌∷◌, ◌++◌, map, length, get_or, set, slice_get, Some, refl, sym, ap}
+use Rattle.bforest_core.proofs.Words.{IsTrue, is_root, numbers_of, ◌≡◌, ℕ, zero, suc, ◌+◌, ◌<◌, List, [], ◌∷◌, ◌++◌, map, length, get_or, set, slice_get, Some, refl, sym, ap}
 use Rattle.bforest_core.proofs.Words.{◌∙◌, length-set, arith, flat_map, Table, IsUsed, IsEntryAt, value_at, with_node, with_value_at, value_at_place, node}
 use Rattle.bforest_core.proofs.Words.{flat, head_of, heads, sizes, sizes_of, numbers, Tree, half_of, leaf_content, entry_keys, entry_items, count, IsAt}
 use Rattle.bforest_core.proofs.{Words.{root_above, tree_of, IsUnion, Changes, StandsUnder}, union.Roots.{exchanged, exchanged-changes}}
-use Rattle.bforest_core.proofs.{walks.Entered.leaf_here, rows.LevelRows.{flat-append, heads-append, sizes-append, numbers-append, FitRow-split, FitRow-join}}
+use Rattle.bforest_core.proofs.{rows.LevelRows.{flat-append, heads-append, sizes-append, numbers-append, FitRow-split, FitRow-join}}
 use Rattle.bforest_core.proofs.{walks.RowNodes.entry_at, table.Stored.{keys_count, item_count}, walks.LeafSearch.items-read, union.Unions.{Rooted, rooted}}
-use Rattle.bforest_core.proofs.{table.Tables.{count-append, count-row, rows-same, is_used}, union.Exchange.IsPlanted, rows.Zipper.apart_here}
+use Rattle.bforest_core.proofs.{table.Tables.{count-append, count-row, row-split, rows-same, is_used}, union.Exchange.IsPlanted, rows.Zipper.apart_here}
 use Rattle.bforest_core.proofs.{walks.Steps.read, table.Read.slot-is, table.Trading.{not_there, trades-wider, puts, row-put}}
 use Rattle.bforest_nodes.specs.Entries.{with_value}
 
 module _ {K X : Type 0} where
-  keys-written : (es : List (K × X)) (i : ℕ) (v : X) → entry_keys (with_value es i v) ≡ entry_keys es
+  pub keys-written : (es : List (K × X)) (i : ℕ) (v : X) → entry_keys (with_value es i v) ≡ entry_keys es
   keys-written [] i v = refl
   keys-written (e ∷ es) zero v = refl
   keys-written (e ∷ es) (suc i) v = cc (keys-written es i v)
@@ -40,34 +40,31 @@ module _ {K X : Type 0} where
   written-behind (e ∷ es) fs zero i v is = absurd (omega arith)
   written-behind (e ∷ es) fs (suc p) i v is = cc (written-behind es fs p i v (omega arith))
 
-module _ {K V : Type 0} {most : ℕ} {table : Table K V} {root place path indices size : _} (union : IsUnion most table) (s : StandsUnder table.nodes root path indices size place) where
+-- an entry of a leaf of a tree
+module _ {K V : Type 0} {most : ℕ} {table : Table K V} (root : ℕ) {n i place : ℕ} (union : IsUnion most table) (is : IsTrue (is_root table.nodes root)) (at : IsAt (tree_of table.nodes root).leaves n i place) where
   abbrev r : Rooted most table root (tree_of table.nodes root)
-  r = rooted _ _ _ union s.root_is
+  r = rooted _ _ _ union is
 
-  abbrev at : IsAt (tree_of table.nodes root).leaves (get_or path 0 0) (get_or indices 0 0) place
-  at = s.stands.leaf
-
-  leaf_at : slice_get table.nodes (get_or path 0 0) ≡ Some (leaf_content at.entries)
-  leaf_at = (leaf_here union.1.capacity (record { tree = _; place = place; fit = r.fit; inside = r.inside; stands = s.stands })).slot_is
+  leaf_at : slice_get table.nodes n ≡ Some (leaf_content at.entries)
+  leaf_at = (row-split leaf_content table.nodes at.before (node n at.entries ∷ at.after) (rw (← at.row_is) r.inside.leaves_in)).1.0
 
   -- the leaf occurs once among the numbers of the tree and the chain
-  once_here : (count (get_or path 0 0) (numbers at.before) + count (get_or path 0 0) (numbers at.after) ≡ 0) × (count (get_or path 0 0) (flat_map numbers (tree_of table.nodes root).above) ≡ 0) × (count (get_or path 0 0) table.chain ≡ 0)
-  once_here = apart_here (get_or path 0 0) at.before at.entries at.after (flat_map numbers (tree_of table.nodes root).above) table.chain (rw (← at.row_is) r.apart)
+  once_here : (count n (numbers at.before) + count n (numbers at.after) ≡ 0) × (count n (flat_map numbers (tree_of table.nodes root).above) ≡ 0) × (count n table.chain ≡ 0)
+  once_here = apart_here n at.before at.entries at.after (flat_map numbers (tree_of table.nodes root).above) table.chain (rw (← at.row_is) r.apart)
 
-  -- the path's leaf is used, and has an entry at the path's index
-  pub entry-used : IsUsed table (get_or path 0 0) × IsEntryAt table.nodes (get_or path 0 0) (get_or indices 0 0)
-  entry-used = (is_used _ _ _ leaf_at once_here.2, record { content = leaf_content at.entries; is = leaf_at; leaf = tt; within = omega (arith, at.within, keys_count at.entries) })
+  -- the leaf is used, and has an entry at the index
+  pub place-used : IsUsed table n × IsEntryAt table.nodes n i
+  place-used = (is_used _ _ _ leaf_at once_here.2, record { content = leaf_content at.entries; is = leaf_at; leaf = tt; within = omega (arith, at.within, keys_count at.entries) })
 
-  -- the value at the path's index is the value at the place
-  pub value-under : value_at table.nodes (get_or path 0 0) (get_or indices 0 0) ≡ value_at_place (flat (tree_of table.nodes root).leaves) place
-  value-under = let x = read _ _ at.within in
-      simp (leaf_at, items-read at.entries (get_or indices 0 0), x.1, at.place_is, entry_at at.before (get_or path 0 0) at.entries at.after (get_or indices 0 0) at.row_is x.1)
+  -- the value at the index is the value at the place
+  pub place-value : value_at table.nodes n i ≡ value_at_place (flat (tree_of table.nodes root).leaves) place
+  place-value = let x = read _ _ at.within in
+      simp (leaf_at, items-read at.entries i, x.1, at.place_is, entry_at at.before n at.entries at.after i at.row_is x.1)
 
-  -- writing the value writes it at the place of the tree's list
-  pub value-written : (v : V) → Changes most table (with_value_at table (get_or path 0 0) (get_or indices 0 0) v) root root
-      (with_value (flat (tree_of table.nodes root).leaves) place v) (sizes_of (tree_of table.nodes root))
-      × StandsUnder (with_value_at table (get_or path 0 0) (get_or indices 0 0) v).nodes root path indices size place
-  value-written v = let n = get_or path 0 0 in let i = get_or indices 0 0 in let tree = tree_of table.nodes root in let new = with_value_at table n i v in
+  -- writing the value writes it at the place of the tree's list, in the same nodes
+  pub place-written : (v : V) → Changes most table (with_value_at table n i v) root root (with_value (flat (tree_of table.nodes root).leaves) place v) (sizes_of (tree_of table.nodes root))
+      × (tree_of (with_value_at table n i v).nodes root ≡ record { leaves = at.before ++ node n (with_value at.entries i v) ∷ at.after; above = (tree_of table.nodes root).above })
+  place-written v = let tree = tree_of table.nodes root in let new = with_value_at table n i v in
       let w = puts table new n (leaf_content (with_value at.entries i v)) (leaf_content at.entries) leaf_at (ap (λ z. with_node table n z)
       (simp (slot-is table.nodes n leaf_at, keys-written at.entries i v, items-written at.entries i v))) in
       let row' = at.before ++ node n (with_value at.entries i v) ∷ at.after in let tree' : Tree K V = record { leaves = row'; above = tree.above } in
@@ -101,15 +98,31 @@ module _ {K V : Type 0} {most : ℕ} {table : Table K V} {root place path indice
         count-append m (numbers tree.leaves) (flat_map numbers tree.above),
         ap (λ z. count m (z ++ flat_map numbers tree.above)) ns,
       )) w.frees in
-      let e = exchanged root union s.root_is p frees in
-      let changes = exchanged-changes e same_root w.limit_is in let tree_is = ap (tree_of new.nodes) (sym same_root) ∙ e.tree_is in (
-        rw (← ss) (rw (← fl) changes),
-        record {
-          root_is = changes.root_is;
-          stands = rw tree_is (record {
-            leaf = record { before = at.before; entries = with_value at.entries i v; after = at.after; row_is = refl; within = omega (arith, at.within, length-written at.entries i v); place_is = at.place_is };
-            above = s.stands.above;
-            size_is = s.stands.size_is;
-          });
-        },
-      )
+      let e = exchanged root union is p frees in
+      (rw (← ss) (rw (← fl) (exchanged-changes e same_root w.limit_is)), ap (tree_of new.nodes) (sym same_root) ∙ e.tree_is)
+
+-- the entry on which a path stands
+module _ {K V : Type 0} {most : ℕ} {table : Table K V} {root place path indices size : _} (union : IsUnion most table) (s : StandsUnder table.nodes root path indices size place) where
+  -- the path's leaf is used, and has an entry at the path's index
+  pub entry-used : IsUsed table (get_or path 0 0) × IsEntryAt table.nodes (get_or path 0 0) (get_or indices 0 0)
+  entry-used = place-used _ union s.root_is s.stands.leaf
+
+  -- the value at the path's index is the value at the place
+  pub value-under : value_at table.nodes (get_or path 0 0) (get_or indices 0 0) ≡ value_at_place (flat (tree_of table.nodes root).leaves) place
+  value-under = place-value _ union s.root_is s.stands.leaf
+
+  -- writing the value writes it at the place of the tree's list, and the path stands there as before
+  pub value-written : (v : V) → Changes most table (with_value_at table (get_or path 0 0) (get_or indices 0 0) v) root root
+      (with_value (flat (tree_of table.nodes root).leaves) place v) (sizes_of (tree_of table.nodes root))
+      × StandsUnder (with_value_at table (get_or path 0 0) (get_or indices 0 0) v).nodes root path indices size place
+  value-written v = let at = s.stands.leaf in let i = get_or indices 0 0 in let w = place-written _ union s.root_is at v in (
+    w.0,
+    record {
+      root_is = w.0.root_is;
+      stands = rw w.1 (record {
+        leaf = record { before = at.before; entries = with_value at.entries i v; after = at.after; row_is = refl; within = omega (arith, at.within, length-written at.entries i v); place_is = at.place_is };
+        above = s.stands.above;
+        size_is = s.stands.size_is;
+      });
+    },
+  )

@@ -20,7 +20,7 @@ module _ {K V : Type 0} where
       let p = absent_at cmp es key i (sym (absent refl) ∙ search_of-keys_of cmp es key) in (p.0, sym (value_for-absent cmp es key p.1))
 
 -- a mapped answer is there exactly if the answer is
-some-mapped : {A B : Type 0} (f : A → B) (o : Option A) → is_some (option_map f o) ≡ is_some o
+pub some-mapped : {A B : Type 0} (f : A → B) (o : Option A) → is_some (option_map f o) ≡ is_some o
 some-mapped f None = refl
 some-mapped f (Some x) = refl
 

@@ -172,3 +172,12 @@ pub both-end : {K V : Type 0} {cmp : K → K → Ordering} {table : Table K V} {
     → EndsOn cmp table.nodes (tree_of table.nodes root).leaves (tree_of table.nodes root).above to last leaf'
     → EndsBothAt cmp table root from to first leaf last leaf'
 both-end is e h = record { front_at = spot-found is e; first_ends = search-leaf is e; back_at = spot-found is h; last_ends = search-leaf is h }
+
+-- where a search from the root down ends, without its spot
+pub ends-here : {K V : Type 0} {cmp : K → K → Ordering} (o : IsTotalOrder cmp) {most : ℕ} (capacity : IsLeafCapacity most) {table : Table K V} {root key number depth : _}
+    (t : SearchThrough cmp most table.nodes (tree_of table.nodes root).leaves key number depth) {content : Content K V} (found : slice_get table.nodes number ≡ Some content)
+    (other : IsInner content → ⊥) → SearchEndsAt cmp table root key (length (step-leaf o capacity t found other).at.before) number
+ends-here o capacity t found other = let s = step-leaf o capacity t found other in let at = s.at in record {
+  leaf = record { before = at.before; entries = at.e ∷ at.es; after = at.after; leaves_are = at.row_is; at = refl; slot_is = s.slot_is; some = omega arith };
+  tells = narrowed o capacity t found other;
+}

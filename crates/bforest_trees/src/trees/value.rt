@@ -1,16 +1,17 @@
-//! The value of the entry where a path stands, for writing.
-ghost use Rattle.bforest_trees.specs.Forest.{list_of};
+//! Changing a value: that of the entry where a path stands, and that of a key.
+ghost use Rattle.bforest_trees.specs.Calls.{Updates};
+ghost use Rattle.bforest_trees.specs.Forest.{IsLive, list_of};
 ghost use Rattle.bforest_trees.specs.Lending.{lends_entry};
 ghost use Rattle.bforest_trees.specs.Place.{IsWritten, OnSpot};
 ghost use Rattle.bforest_core.specs.Paths.{index_of, leaf_of};
 ghost use Rattle.bforest_core.specs.Table.{with_value_at};
 ghost use Rattle.bforest_core.specs.declared.path.Path.{Path};
-ghost use Rattle.bforest_nodes.specs.Entries.{value_at_place};
+ghost use Rattle.bforest_nodes.specs.Entries.{IsIncreasing, value_at_place, value_for};
 ghost use Rattle.std.specs.Borrow.{sem};
 ghost use Rattle.std.specs.Prelude.{Option, Some, ◌≡◌, ℕ};
 
 use crate::trees::Trees;
-use bforest_core::Node;
+use bforest_core::{Comparator, Node, PackedNode};
 
 impl<K: Copy, V: Copy, const N: usize> Trees<K, V, N> {
     /// A reference to the value of the entry where a path stands, given the path's leaf and its index there.
@@ -25,5 +26,26 @@ impl<K: Copy, V: Copy, const N: usize> Trees<K, V, N> {
             → (w : V) → IsWritten self.old (with_value_at self.old leaf index w) h path at.place w }
     {
         self.pool.value_mut(leaf, index)
+    }
+
+    /// Replaces the value of a key by what `change` returns of it, and returns that, or `None` if the key is absent. `change` is called
+    /// before anything is written.
+    pub fn update<C: Comparator<K>, F: FnOnce(V) -> V>(
+        &mut self,
+        handle: PackedNode,
+        key: K,
+        change: F,
+        comp: &C,
+    ) -> Option<V>
+        requires live { IsLive self.old handle }
+        requires increasing { IsIncreasing (C.order comp.now) (list_of self.old handle) }
+        requires callable { (v : V) → value_for (C.order comp.now) (list_of self.old handle) key ≡ Some v
+            → F.pre change v }
+        ensures { Updates F.FnOnce (C.order comp.now) self.old handle key change result self.new handle }
+    {
+        match handle.expand() {
+            Some(root) => self.pool.update(key, root, change, comp),
+            None => None,
+        }
     }
 }
