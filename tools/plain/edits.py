@@ -158,7 +158,7 @@ EDITS = {
         (r"slots\.reserve_exact\(", "slots.try_reserve_exact(", 1),
         (r"fn hold<T>\(slots: &mut Vec<T>, more: usize\) -> Result<\(\), AllocError>", "fn hold<T>(slots: &mut Vec<T>, more: usize) -> Result<(), TryReserveError>", 1),
         (r"NodeData::new\(alloc\)\.unwrap\(\)", "NodeData::new()", 1),
-        (r"nodes\.push_reserved\(node\)", "nodes.push(node)", 1),
+        (r"nodes\.push_reserved\(", "nodes.push(", 2),
     ],
     "bforest_trees/lib.rt": [
         BEHIND_FIRST,

@@ -6,6 +6,7 @@ pub mod Unions
 pub mod Roots
 pub mod Reserved
 pub mod Planting
+pub mod NewLeaf
 pub mod Account
 pub mod Written
 pub mod Updating

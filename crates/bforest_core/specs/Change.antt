@@ -1,9 +1,11 @@
 -- What a call that changes one tree of a table states of it and of the others.
-use Rattle.std.specs.Prelude.{◌≡◌, ◌≢◌, ℕ, ◌+◌, ◌-◌, ◌<◌, ◌↔◌, ◌++◌, ◌∷◌, [], IfSome, IsTrue, List, None, Option, Some, drop, get_or, length, remove, slice_get}
+use Rattle.std.specs.Prelude.{◌≡◌, ◌≢◌, ℕ, ◌+◌, ◌-◌, ◌<◌, ◌≤◌, ◌↔◌, ◌++◌, ◌∷◌, [], Err, IfOk, IfSome, IsOk, IsTrue, OnErr, OnOk, Result, List, None, Option, Some, drop, get_or, length, remove, slice_get}
 use Rattle.std.specs.List.{sum_by}
 use Rattle.bforest_core.specs.Sizes.{shrink}
-use Rattle.bforest_core.specs.Table.{GrowsFor, Table, slot_count, free_count, reserved, with_node}
-use Rattle.bforest_nodes.specs.Content.{Content, without_entry}
+use Rattle.bforest_core.specs.Table.{GrowsFor, IsUsed, NeedsGrowth, Table, front_of, room, slot_count, free_count, reserved, with_front, with_node}
+use Rattle.bforest_core.specs.declared.pool.OutOfMemory.{OutOfMemory}
+use Rattle.bforest_core.specs.declared.pool.OutOfMemory.TheVariants.{Full, Memory}
+use Rattle.bforest_nodes.specs.Content.{Content, Leaf, without_entry}
 use Rattle.bforest_core.specs.Climb.{nodes_up}
 use Rattle.bforest_core.specs.Levels.{flat, sizes_of}
 use Rattle.bforest_core.specs.Place.{IsPathAt, PlacedAt, PointsAt, Stands, count, leaf_content}
@@ -44,6 +46,19 @@ module _ {K V : Type 0} where
     pub changes : Changes most old new root root (entry ∷ []) ((1 ∷ []) ∷ [])
     pub fresh : ¬ IsTrue (is_root old.nodes root)
     pub takes : TakesNodes 1 old new
+
+  -- a leaf of one entry was made in the front of the free list, or in a new slot where no node was free, and its number is returned; or
+  -- memory or the limit is too small, and nothing changed
+  pub record AllocatesLeaf (most : ℕ) (old new : Table K V) (key : K) (value : V) (result : Result ℕ OutOfMemory) : Type 0 where
+    pub node : IfOk result (λ node. front_of (reserved old 1 new.memory).chain ≡ Some node)
+    pub ok : OnOk result (new ≡ with_front (reserved old 1 new.memory) (reserved old 1 new.memory).chain (Leaf (key ∷ []) (value ∷ [])))
+    pub growth : GrowsFor 1 old new
+    pub err : OnErr result (new ≡ old)
+    pub full : (result ≡ Err Full) ↔ (room old < 1)
+    pub memory : result ≡ Err Memory → NeedsGrowth 1 old
+    pub enough : 1 ≤ free_count old → IsOk result
+    pub used : IfOk result (λ node. IsUsed new node)
+    pub planted : IsUnion most old → IfOk result (λ node. Plants most old new node (key, value))
 
   -- the tree under a root is removed; every other root keeps its tree
   pub record Ends (most : ℕ) (old new : Table K V) (root : ℕ) : Type 0 where

@@ -2,7 +2,7 @@
 ghost use Rattle.std.specs.Prelude.{◌≡◌, ◌≢◌, ℕ, ◌*◌, ◌+◌, ◌-◌, ◌<◌, ◌≤◌, ◌↔◌, ◌++◌, length, max, IsTrue, IsOk, IfOk, OnOk, OnErr, Ok, Err, Some, None, [], ◌∷◌, slice_get, slice_set, vec_len, vec_capacity};
 ghost use Rattle.std.specs.Borrow.{sem, LendsBoth, Array};
 ghost use Rattle.bforest_nodes.specs.Content.{Inner, Leaf, IsLeafCapacity};
-ghost use Rattle.bforest_core.specs.Change.{KeepsTrees, Plants};
+ghost use Rattle.bforest_core.specs.Change.{AllocatesLeaf, KeepsTrees};
 ghost use Rattle.bforest_core.specs.Trees.{IsUnion};
 ghost use Rattle.bforest_core.specs.Table.{slot_count, free_count, room, GrowsFor, NeedsGrowth, IsUsed, IsTable, reserved, without_front, with_front, with_freed, fresh_nodes, front_of, front_of_new, IsFullAt, IsSplitAt, IsUnderflowedAt, IsBalancedAt, IsEntryAt, value_at};
 
@@ -176,24 +176,30 @@ impl<K: Copy, V: Copy, const N: usize> NodePool<K, V, N> {
     ///
     /// The errors of `reserve(1)`. After either the pool is as before.
     pub fn alloc_node(&mut self, key: K, value: V) -> Result<Node, OutOfMemory>
-        ensures node { IfOk result
-            (λ node. front_of (reserved self.old 1 self.new.memory).chain ≡ Some node) }
-        ensures ok { OnOk result (self.new
-            ≡ with_front (reserved self.old 1 self.new.memory) (reserved self.old 1 self.new.memory).chain
-            (Leaf (key ∷ []) (value ∷ []))) }
-        ensures growth { GrowsFor 1 self.old self.new }
-        ensures err { OnErr result (self.new ≡ self.old) }
-        ensures full { (result ≡ Err OutOfMemory.Full) ↔ (room self.old < 1) }
-        ensures memory { result ≡ Err OutOfMemory.Memory → NeedsGrowth 1 self.old }
-        ensures enough { 1 ≤ free_count self.old → IsOk result }
-        ensures used { IfOk result (λ node. IsUsed self.new node) }
-        ensures planted { IsUnion N self.old
-            → IfOk result (λ node. Plants N self.old self.new node (key, value)) }
+        ensures { AllocatesLeaf N self.old self.new key value result }
     {
-        self.reserve(1)?;
+        if self.free == 0 {
+            return self.push_leaf(key, value);
+        }
         let node = self.take_slot();
         self.node_mut(node).leaf(key, value);
         Ok(node)
+    }
+
+    // Adds a slot that is a leaf of one entry, where no node is free.
+    fn push_leaf(&mut self, key: K, value: V) -> Result<Node, OutOfMemory>
+        requires none { free_count self.old ≡ 0 }
+        ensures { AllocatesLeaf N self.old self.new key value result }
+    {
+        let number = self.nodes.len() as u32;
+        if number == self.limit {
+            Err(OutOfMemory::Full)
+        } else if hold(&mut self.nodes, 1).is_err() {
+            Err(OutOfMemory::Memory)
+        } else {
+            self.nodes.push_reserved(NodeData::new_leaf(key, value));
+            Ok(Node::new(number))
+        }
     }
 
     /// Makes the front of the free list an inner node of two children, and returns its number. Takes no memory.

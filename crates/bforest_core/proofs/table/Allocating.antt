@@ -1,9 +1,9 @@
 -- Taking a free node and reserving nodes, over plain values.
 use Rattle.bforest_core.proofs.Words.{◌≡◌, ◌↔◌, ℕ, ◌-◌, ◌≤◌, ◌<◌, List, [], ◌∷◌, length, length-set}
-use Rattle.bforest_core.proofs.Words.{append-nil, Some, Result, Err, IsErrAnd, sym, ap, ◌∙◌, arith, ◌+◌, refl}
+use Rattle.bforest_core.proofs.Words.{append-nil, Some, Result, Err, Ok, true, false, IsErrAnd, sym, ap, ◌∙◌, arith, ◌+◌, refl}
 use Rattle.bforest_core.proofs.Words.{err_from_is_err_and, Content, GrowsFor, IsPool, chain_from, slots_with, Table, IsUsed, NeedsGrowth, room, reserved, front_of, with_node}
 use Rattle.bforest_core.proofs.Words.{with_front, without_front}
-use Rattle.std.proofs.{Common.{max, ◌*◌}, Math.Nat.{le-max_left, le-max_right}}
+use Rattle.std.proofs.{Common.{max, ◌*◌, OnErr, OnOk, is_err}, Math.Nat.{le-max_left}}
 use Rattle.bforest_core.proofs.{Words.{free_count, length-append, down_from, slot_count}, table.Pools.with_front-is, table.Chains.length-down_from}
 
 -- a result that is an error equal to `y` is `Err y`
@@ -13,6 +13,15 @@ err_is r y h = let e = err_from_is_err_and r h in cc
 -- an error that a call passes on is a given one exactly if the received one is
 pub err_iff : {A B E : Type 0} (r : Result A E) (e f : E) → r ≡ Err e → (r ≡ Err f) ↔ (◌≡◌ {A = Result B E} (Err e) (Err f))
 err_iff r e f is = (λ same. (let s : e ≡ f = cc in ap Err s), λ same. (let s : e ≡ f = cc in cc))
+
+-- what a result says where it is an error, and where it is none
+pub on-failed : {T E : Type 0} (r : Result T E) {P : Type 0} → is_err r ≡ true → OnErr r P → P
+on-failed (Ok x) is said = absurd cc
+on-failed (Err e) is said = said
+
+pub on-passed : {T E : Type 0} (r : Result T E) {P : Type 0} → is_err r ≡ false → OnOk r P → P
+on-passed (Ok x) is said = said
+on-passed (Err e) is said = absurd cc
 
 module _ {K V : Type 0} where
   -- writing the node taken from the front of the chain
