@@ -11,6 +11,7 @@ pub mod Steps
 pub mod Entered
 pub mod Forking
 pub mod Leading
+pub mod EndLeaves
 pub mod Leaves
 pub mod Backward
 pub mod Turns

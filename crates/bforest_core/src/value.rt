@@ -1,17 +1,17 @@
 //! The value of a key, and the last entry up to a key.
-ghost use Rattle.std.specs.Prelude.{◌≡◌, ℕ, IsTrue, List, slice_get, Some};
+ghost use Rattle.std.specs.Prelude.{◌≡◌, ◌≤◌, ◌+◌, ◌-◌, ℕ, IsTrue, List, length, slice_get, Some};
 ghost use Rattle.bforest_nodes.specs.Content.{IsLeafCapacity};
 ghost use Rattle.bforest_nodes.specs.Entries.{IsIncreasing, value_for};
-ghost use Rattle.bforest_core.specs.Descent.{SearchThrough};
+ghost use Rattle.bforest_core.specs.Descent.{HasBelow, IsFirst, IsLast, OnBelow, SearchThrough};
 ghost use Rattle.bforest_core.specs.Leaves.{SearchEndsAt, entry_up_to};
-ghost use Rattle.bforest_core.specs.Levels.{LevelNode, flat};
+ghost use Rattle.bforest_core.specs.Levels.{LevelNode, flat, heads};
 ghost use Rattle.bforest_core.specs.Place.{leaf_content};
+ghost use Rattle.bforest_core.specs.Spots.{NumberAt};
 ghost use Rattle.bforest_core.specs.Trees.{IsUnion, is_root, tree_of};
 ghost use Rattle.bforest_core.specs.Updates.{UpdatesUnder};
 
-use crate::access::{follow, leaf_entry, look_up};
+use crate::access::{child, follow, last_index, leaf_entry, look_up};
 use crate::pool::NodePool;
-use crate::spot::Spot;
 use bforest_nodes::{Comparator, Node};
 
 impl<K: Copy, V: Copy, const N: usize> NodePool<K, V, N> {
@@ -65,6 +65,57 @@ impl<K: Copy, V: Copy, const N: usize> NodePool<K, V, N> {
         Some(changed)
     }
 
+    /// The first entry in the tree under `root`. Reads one node of each level.
+    pub fn first_entry(&self, root: Node) -> (K, V)
+        requires union { IsUnion N self.now }
+        requires root { IsTrue (is_root self.now.nodes root) }
+        ensures entry { slice_get (flat (tree_of self.now.nodes root).leaves) 0 ≡ Some result }
+    {
+        let leaf = self.first_leaf(root, 0);
+        self.node(leaf).entry(0)
+    }
+
+    /// The last entry in the tree under `root`. Reads one node of each level.
+    pub fn last_entry(&self, root: Node) -> (K, V)
+        requires union { IsUnion N self.now }
+        requires root { IsTrue (is_root self.now.nodes root) }
+        ensures entry { slice_get (flat (tree_of self.now.nodes root).leaves)
+            (length (flat (tree_of self.now.nodes root).leaves) - 1) ≡ Some result }
+    {
+        let leaf = self.last_leaf(root, 0);
+        let last = last_index(self, leaf);
+        self.node(leaf).entry(last)
+    }
+
+    // The first leaf below a node; `depth` levels are above the node.
+    fn first_leaf(&self, node: Node, depth: usize) -> Node
+        requires capacity { IsLeafCapacity N }
+        requires under { (level : ℕ) × HasBelow N self.now.nodes IsFirst node level × (depth + level ≤ 16) }
+        ensures { (level : ℕ) → OnBelow N self.now.nodes IsFirst node level
+            (λ leaves lower top. NumberAt (heads leaves) 0 result) }
+    {
+        if !self.node(node).is_inner() {
+            return node;
+        }
+        let first = child(self, node, 0);
+        self.first_leaf(first, depth + 1)
+    }
+
+    // The last leaf below a node; `depth` levels are above the node.
+    fn last_leaf(&self, node: Node, depth: usize) -> Node
+        requires capacity { IsLeafCapacity N }
+        requires under { (level : ℕ) × HasBelow N self.now.nodes IsLast node level × (depth + level ≤ 16) }
+        ensures { (level : ℕ) → OnBelow N self.now.nodes IsLast node level
+            (λ leaves lower top. NumberAt (heads leaves) (length leaves - 1) result) }
+    {
+        if !self.node(node).is_inner() {
+            return node;
+        }
+        let index = last_index(self, node);
+        let last = child(self, node, index);
+        self.last_leaf(last, depth + 1)
+    }
+
     // The leaf in which a search for `key` in the tree under `root` ends.
     fn leaf_of<C: Comparator<K>>(&self, key: K, root: Node, comp: &C) -> Node
         requires union { IsUnion N self.now }
@@ -99,7 +150,7 @@ impl<K: Copy, V: Copy, const N: usize> NodePool<K, V, N> {
         ensures entry { result
             ≡ entry_up_to (C.order comp.now) (flat (tree_of self.now.nodes root).leaves) key }
     {
-        let (_, leaf) = Spot::find(key, root, self, comp);
+        let leaf = self.leaf_of(key, root, comp);
         self.entry_in_leaf(key, leaf, comp)
     }
 

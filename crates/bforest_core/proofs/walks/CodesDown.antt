@@ -1,10 +1,10 @@
 -- The way down to the first leaf below a node, and to the last, as a spot: each answer of `first_below` and `last_below` is one of these.
 use Rattle.bforest_core.proofs.Words.{HasUnder, IsLeafAt, IsSpotAt, IsWay, NodeOver, NumberAt, OnUnder, Sided, leaf_count, ◌≡◌, ℕ, suc, ◌+◌, ◌-◌, ◌≤◌, ◌<◌}
-use Rattle.bforest_core.proofs.Words.{List, [], ◌∷◌, ◌++◌, IsTrue, length, slice_get, Some, refl, sym, ap, ◌∙◌, arith, append_assoc, length-append, Heads, Row}
-use Rattle.bforest_core.proofs.Words.{Rows, Content, IsInner, IsLeafCapacity, IsUnion, flat, heads, node, IsFirst, IsLast, append-nil, Table, is_root}
-use Rattle.bforest_core.proofs.{Words.tree_of, rows.LevelRows.some_leaf, walks.RowNodes.no_heads, walks.Standing.under-root, union.Unions.is-rooted}
+use Rattle.bforest_core.proofs.Words.{List, [], ◌∷◌, ◌++◌, IsTrue, length, slice_get, Some, refl, sym, ap, ◌∙◌, arith, append_assoc, Heads, Row}
+use Rattle.bforest_core.proofs.Words.{Rows, Content, IsInner, IsLeafCapacity, IsUnion, flat, heads, IsFirst, IsLast, append-nil, Table, is_root}
+use Rattle.bforest_core.proofs.{Words.tree_of, walks.Standing.under-root, union.Unions.is-rooted}
 use Rattle.bforest_core.proofs.walks.TopNode.{InnerUnder, LeafUnder, inner_under, leaf_under, node_held, head_at}
-use Rattle.bforest_core.proofs.{table.Stored.{item_count, slice_get_at}, walks.Leading.{Turns, child_under}, walks.Codes.{IsBelow, code-low, leaf-at, way-below}}
+use Rattle.bforest_core.proofs.{table.Stored.{item_count, slice_get_at}, walks.Leading.{Turns, child_under, last-place}, walks.Codes.{IsBelow, code-low, leaf-at, way-below}}
 use Rattle.bforest_core.proofs.walks.Reading.{ChildAsked, ChildRead, LastAsked}
 use Rattle.bforest_core.specs.declared.spot.Spot.{Spot}
 
@@ -44,8 +44,7 @@ module _ {K V : Type 0} {most : ℕ} {slots : List (Content K V)} (capacity : Is
     )
 
     ends : d.after ≡ [] → length d.before ≡ length leaves - 1
-    ends none = let a = ended.at in let after = no_heads _ _ (some_leaf capacity) _ a.after_fit (a.after_is ∙ none) in
-        omega (arith, ap length after, ap length a.row_is, length-append a.before (node number (a.e ∷ a.es) ∷ a.after))
+    ends none = last-place capacity ended none
 
   pub first-here : OnUnder most slots IsFirst spot number (FirstSaid spot number)
   first-here leaves rows d = way-here d (ap length d.side)

@@ -65,6 +65,12 @@ module _ {K V : Type 0} {most : ℕ} {slots : List (Content K V)} {leaves : Row 
         entries_above = λ i low. d.entries_above i (omega arith) ∙ entries i (λ z. omega arith);
       }
 
+-- the last leaf stands at the last place
+pub last-place : {K V : Type 0} {most : ℕ} {slots : List (Content K V)} {leaves : Row K V} {number : ℕ} {n : NodeOver most slots leaves number} → IsLeafCapacity most
+    → LeafUnder n → n.after ≡ [] → length n.before ≡ length leaves - 1
+last-place {number} capacity s none = let a = s.at in let after = no_heads _ _ (some_leaf capacity) _ a.after_fit (a.after_is ∙ none) in
+    omega (arith, ap length after, ap length a.row_is, length-append a.before (node number (a.e ∷ a.es) ∷ a.after))
+
 module _ {K V : Type 0} (most : ℕ) (slots : List (Content K V)) (Side : Heads K → Heads K → Type 0) (place : Row K V → ℕ)
     (number index : ℕ) where
   -- The way down one side of a tree goes on from a node to its child at this index. In a leaf it ends at this index, and

@@ -14,8 +14,10 @@ impl<K: Copy, V: Copy, const N: usize> Trees<K, V, N> {
         requires live { IsLive self.now handle }
         ensures entry { result ≡ slice_get (list_of self.now handle) 0 }
     {
-        let mut look = Look::end();
-        look.first(handle, self)
+        match handle.expand() {
+            Some(root) => Some(self.pool.first_entry(root)),
+            None => None,
+        }
     }
 
     /// The last entry. Reads one node of each level.
@@ -23,8 +25,10 @@ impl<K: Copy, V: Copy, const N: usize> Trees<K, V, N> {
         requires live { IsLive self.now handle }
         ensures entry { result ≡ slice_get (list_of self.now handle) (length (list_of self.now handle) - 1) }
     {
-        let mut look = Look::end();
-        look.prev(handle, self)
+        match handle.expand() {
+            Some(root) => Some(self.pool.last_entry(root)),
+            None => None,
+        }
     }
 
     /// The first entry whose key is not less than `key`, by one search and at most one step to the next leaf.

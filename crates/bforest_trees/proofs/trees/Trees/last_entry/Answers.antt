@@ -1,14 +1,13 @@
-use Rattle.bforest_trees.proofs.Peeking.{before-end}
+use Rattle.bforest_trees.proofs.Changed.{seen-as}
 use Rattle.bforest_trees.proofs.trees.Trees.last_entry.Goals as goal
-use Rattle.bforest_trees.specs.Forest.{list_of}
-use Rattle.std.proofs.Common.{length, rules, ◌∙◌}
+use Rattle.std.proofs.Common.{rules, sym, ◌∙◌}
 
-pub prev-requires : goal.prev-requires
-prev-requires g c =
-    let es = list_of c.args.self.now c.args.handle in
-    (search rules, (c.requires.live, record { place = length es; is = c.end-look.ensures.look c.args.self.now c.args.handle }))
+pub last_entry-requires : goal.last_entry-requires
+last_entry-requires g c =
+    let s = seen-as c.self.view_is (sym c.expand.ensures.value ∙ c.in-Some.is) c.requires.live in
+    (search rules, (c.self.invariant, s.root))
 
-pub returns : goal.returns
-returns g c =
-    let es = list_of c.args.self.now c.args.handle in
-    record { entry = c.prev.ensures.value (record { place = length es; is = c.end-look.ensures.look c.args.self.now c.args.handle }) ∙ before-end es }
+pub returns-in-Some : goal.returns-in-Some
+returns-in-Some g c =
+    let s = seen-as c.self.view_is (sym c.expand.ensures.value ∙ c.in-Some.is) c.requires.live in
+    record { entry = rw (← s.list) (sym c.last_entry.ensures.entry) }

@@ -1,0 +1,19 @@
+use Rattle.bforest_core.proofs.{Words.{rules, ◌+◌, arith, refl}, walks.Reading.not_so, walks.TopNode.{node_within}, walks.Leading.first-turns, walks.EndLeaves.{end-asks, end-below, end-low, end-on, first-ends}}
+use Rattle.bforest_core.proofs.pool.NodePool.+first_leaf.Goals as goal
+
+pub node-requires : goal.node-requires
+node-requires g t c = (search rules, (search rules, node_within c.requires.capacity c.requires.under.1.1))
+
+pub returns-then-not-is_inner : goal.returns-then-not-is_inner
+returns-then-not-is_inner g t c = first-ends c.requires.capacity c.node.ensures.value (not_so c.if-not-is_inner.true c.is_inner.ensures.inner)
+
+pub child-first-requires : goal.child-first-requires
+child-first-requires g t c = (search rules, end-asks c.requires.capacity c.node.ensures.value (c.is_inner.ensures.inner.0 c.if-not-is_inner.false) first-turns _ c.requires.under)
+
+pub first_leaf-requires : goal.first_leaf-requires
+first_leaf-requires g t c κs within = let inner = c.is_inner.ensures.inner.0 c.if-not-is_inner.false in let turns = first-turns in
+    let low = end-low c.requires.capacity c.node.ensures.value inner turns _ c.requires.under in
+    (omega (arith, low), (within.0, (within.1, ((λ a m. search rules), (search rules, (c.requires.capacity, end-below c.requires.capacity c.node.ensures.value inner turns _ c.requires.under c.child-first.ensures (c.args.depth + 1) refl))))))
+
+pub returns : goal.returns
+returns g t c = end-on c.requires.capacity c.node.ensures.value (c.is_inner.ensures.inner.0 c.if-not-is_inner.false) first-turns c.child-first.ensures c.first_leaf.ensures
