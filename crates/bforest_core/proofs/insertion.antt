@@ -7,3 +7,4 @@ pub mod HalvingNode
 pub mod LeafSpot
 pub mod Insertion
 pub mod LeafPut
+pub mod OnWay

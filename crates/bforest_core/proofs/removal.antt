@@ -15,3 +15,4 @@ pub mod LeafAt
 pub mod Taking
 pub mod RemovingEmptied
 pub mod LeafEmptied
+pub mod OnWay

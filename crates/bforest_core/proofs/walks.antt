@@ -27,3 +27,4 @@ pub mod Cousins
 pub mod OnLevel
 pub mod Following
 pub mod Searches
+pub mod Ways

@@ -15,3 +15,4 @@ pub mod Paths
 pub mod Spots
 pub mod Leaves
 pub mod Updates
+pub mod Ways

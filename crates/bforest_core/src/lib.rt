@@ -15,6 +15,6 @@ mod trees;
 mod value;
 
 pub use bforest_nodes::{Comparator, Node, NodeData, PackedNode, Removed, SetValue, SplitOff};
-pub use path::Path;
+pub use path::{Path, Way};
 pub use pool::{NodePool, OutOfMemory};
 pub use spot::Spot;

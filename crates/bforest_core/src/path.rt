@@ -11,9 +11,11 @@ mod rebalance;
 mod remove;
 mod step;
 mod value;
+mod way;
 
 use bforest_nodes::Node;
 use std::marker::PhantomData;
+pub use way::Way;
 
 /// The greatest height of a tree, and so of a path.
 const MAX_LEVELS: usize = 17;

@@ -16,7 +16,9 @@ use Rattle.bforest_core.specs.Paths.{IsPlaced, OnEntry, Placing, Pointing, Stand
 use Rattle.bforest_core.specs.Sizes.{growth, need}
 use Rattle.bforest_core.specs.Table.{slot_count}
 use Rattle.bforest_core.specs.Trees.{IsUnion, is_root, slot}
+use Rattle.bforest_core.specs.Ways.{EndsOnWay}
 use Rattle.bforest_core.specs.declared.path.Path.{Path}
+use Rattle.bforest_core.specs.declared.path.way.Way.{Way}
 use Rattle.bforest_core.specs.declared.pool.OutOfMemory.TheVariants.{Full, Memory}
 use Rattle.bforest_core.specs.declared.pool.OutOfMemory.{OutOfMemory}
 use Rattle.bforest_nodes.proofs.Ordered.{IsIncreasing-put}
@@ -27,6 +29,11 @@ use Rattle.std.specs.Cmp.{IsTotalOrder}
 use Rattle.std.proofs.Common.{Err, IsOk, IsTrue, List, [], None, Ok, Option, Result, Some, ap, arith, false, insert, length, refl, slice_get, subst, sym, true, ◌<◌, ◌∙◌, ◌≡◌, ◌≢◌, ◌≤◌, ◌↔◌, ℕ}
 use Rattle.std.specs.declared.cmp.Ordering.{Ordering}
 
+-- the key is absent in the list of a root
+pub record IsGone {K X : Type 0} (cmp : K → K → Ordering) (f : Forest K X) (n : ℕ) (k : K) : Type 0 where
+  pub live : list_at f n ≢ []
+  pub none : value_for cmp (list_under f n) k ≡ None
+
 module _ {K X : Type 0} {most : ℕ} (cmp : K → K → Ordering) (f : Forest K X) (n : ℕ) (k : K) (path : Path K X most) where
   -- the key has this value in the list of a root, and the path stands on its entry
   pub record OnKey (old : X) : Type 0 where
@@ -36,8 +43,8 @@ module _ {K X : Type 0} {most : ℕ} (cmp : K → K → Ordering) (f : Forest K 
 
   -- the key is absent, and the path is placed for it
   pub record AtGap : Type 0 where
-    pub live : list_at f n ≢ []
-    pub none : value_for cmp (list_under f n) k ≡ None
+    pub gap : IsGone cmp f n k
+    pub open gap use *
     pub placed : IsPlaced f n path (place cmp (list_under f n) k)
 
 module _ {K X : Type 0} {most : ℕ} (cmp : K → K → Ordering) {f : Forest K X} {n : ℕ} (k : K) {path : Path K X most} (live : list_at f n ≢ []) {found : Option X} (value : found ≡ value_for cmp (list_under f n) k) where
@@ -46,7 +53,7 @@ module _ {K X : Type 0} {most : ℕ} (cmp : K → K → Ordering) {f : Forest K 
   key-found present {old} is = let has = sym value ∙ is in record { live = live; value = has; on = present (present-some cmp (list_under f n) k old has) }
 
   pub key-missed : (is_present cmp (list_under f n) k ≡ false → IsPlaced f n path (place cmp (list_under f n) k)) → found ≡ None → AtGap cmp f n k path
-  key-missed absent is = let has = sym value ∙ is in record { live = live; none = has; placed = absent (absent-none cmp (list_under f n) k has) }
+  key-missed absent is = let has = sym value ∙ is in record { gap = record { live = live; none = has }; placed = absent (absent-none cmp (list_under f n) k has) }
 
 module _ {K X : Type 0} {most : ℕ} {cmp : K → K → Ordering} {f : Forest K X} {n : ℕ} {k : K} {path : Path K X most} {old : X} (s : OnKey cmp f n k path old) where
   abbrev pub on-key : OnEntry f path
@@ -65,7 +72,7 @@ module _ {K X : Type 0} {most : ℕ} {cmp : K → K → Ordering} {f : Forest K 
   pub key-spot : (f' : Forest K X) → StandsOn f' n path (place cmp (list_under f n) k) → IsSpot f' (Some n) path (place cmp (list_at f n) k)
   key-spot f' on = rw (list-root f n (live-root f n s.live)) (on-at f' path on)
 
-module _ {K X : Type 0} {most : ℕ} {cmp : K → K → Ordering} {f : Forest K X} {n : ℕ} {k : K} {path : Path K X most} (s : AtGap cmp f n k path) where
+module _ {K X : Type 0} {cmp : K → K → Ordering} {f : Forest K X} {n : ℕ} {k : K} (s : IsGone cmp f n k) where
   abbrev at : ℕ
   at = place cmp (list_under f n) k
 
@@ -78,38 +85,43 @@ module _ {K X : Type 0} {most : ℕ} {cmp : K → K → Ordering} {f : Forest K 
   none : value_for cmp (list_at f n) k ≡ None
   none = subst (λ (l : List (K × X)). value_for cmp l k ≡ None) (sym (list-root f n root)) s.none
 
-  needs : need_of most cmp f (Some n) k ≡ need most at (sizes_under f n)
-  needs = need-absent most cmp f n k root gone
+  needs : (most : ℕ) → need_of most cmp f (Some n) k ≡ need most at (sizes_under f n)
+  needs most = need-absent most cmp f n k root gone
 
-  abbrev pub at-key : Placing f path
-  at-key = record { root = n; place = at; placed = s.placed }
-
-  -- the path points to the key's place where nothing has changed
-  abbrev pub to-key : {f' : Forest K X} {path' : Path K X most} → f' ≡ f → path' ≡ path → Pointing f' path'
-  to-key same is = record { root = n; place = at; to = rw (same, is) (placed-points f path s.placed) }
-
-  module _ {result : Result ℕ OutOfMemory} (full : (result ≡ Err Full) ↔ IsTooMany (need most at (sizes_under f n)) f) where
+  module _ {most : ℕ} {result : Result ℕ OutOfMemory} (full : (result ≡ Err Full) ↔ IsTooMany (need most at (sizes_under f n)) f) where
     -- `insert` of an absent key that was refused
     pub refused : IsIncreasing cmp (list_at f n) → {x : X} {err : OutOfMemory} → result ≡ Err err → (result ≡ Err Memory → NeedsGrowth (need most at (sizes_under f n)) f) → (need most at (sizes_under f n) ≤ free_of f → IsOk result) → Inserts most cmp f (Some n) k x (Err err) f (Some n)
     refused up {x} {err} said memory enough =
         inserts-err most cmp f k x (Some n) err up none
-        (λ e. rw needs (full.0 (said ∙ ap Err e)), λ low. let same = full.1 (rw needs at low) in cc)
-        (λ e. rw needs (memory (said ∙ ap Err e)))
-        (λ low. not-ok result err said (enough (rw needs at low)))
+        (λ e. rw (needs most) (full.0 (said ∙ ap Err e)), λ low. let same = full.1 (rw (needs most) at low) in cc)
+        (λ e. rw (needs most) (memory (said ∙ ap Err e)))
+        (λ low. not-ok result err said (enough (rw (needs most) at low)))
 
     -- `insert` of an absent key that succeeded
     pub added : IsTotalOrder cmp → IsIncreasing cmp (list_at f n) → {x : X} {root' : ℕ} → result ≡ Ok root' → {f' : Forest K X} → Changes most f f' n root' (insert (list_under f n) at (k, x)) (growth most at (sizes_under f n)) → TakesNodes (need most at (sizes_under f n)) f f' →
         (root' ≡ n) ↔ (length (growth most at (sizes_under f n)) ≡ length (sizes_under f n)) → Inserts most cmp f (Some n) k x (Ok None) f' (Some root')
     added total up {x} {root'} said {f'} changes takes same =
-        inserts-ok most cmp f k x n f' root' None none (put-new most cmp f n k root gone f' root' x changes takes same) (IsIncreasing-put cmp total _ k x up) (λ low. let bad = full.1 (rw needs at low) in cc)
+        inserts-ok most cmp f k x n f' root' None none (put-new most cmp f n k root gone f' root' x changes takes same) (IsIncreasing-put cmp total _ k x up) (λ low. let bad = full.1 (rw (needs most) at low) in cc)
+
+module _ {K X : Type 0} {most : ℕ} {cmp : K → K → Ordering} {f : Forest K X} {n : ℕ} {k : K} {path : Path K X most} (s : AtGap cmp f n k path) where
+  abbrev pub at-key : Placing f path
+  at-key = record { root = n; place = place cmp (list_under f n) k; placed = s.placed }
+
+  -- the path points to the key's place where nothing has changed
+  abbrev pub to-key : {f' : Forest K X} {path' : Path K X most} → f' ≡ f → path' ≡ path → Pointing f' path'
+  to-key same is = record { root = n; place = place cmp (list_under f n) k; to = rw (same, is) (placed-points f path s.placed) }
 
   -- after an insertion the path stands at the key's place
-  pub new-spot : (f' : Forest K X) {root' : ℕ} {path' : Path K X most} → StandsOn f' root' path' at → IsSpot f' (Some root') path' (place cmp (list_at f n) k)
-  new-spot f' {root'} {path'} on = rw (list-root f n root) (on-at f' path' on)
+  pub new-spot : (f' : Forest K X) {root' : ℕ} {path' : Path K X most} → StandsOn f' root' path' (place cmp (list_under f n) k) → IsSpot f' (Some root') path' (place cmp (list_at f n) k)
+  new-spot f' {root'} {path'} on = rw (list-root f n (root s.gap)) (on-at f' path' on)
 
   -- after a refusal the path stands at the key's place
-  pub old-spot : {path' : Path K X most} → StandsAt f n path' at → IsSpot f (Some n) path' (place cmp (list_at f n) k)
-  old-spot stands = rw (list-root f n root) stands
+  pub old-spot : {path' : Path K X most} → StandsAt f n path' (place cmp (list_under f n) k) → IsSpot f (Some n) path' (place cmp (list_at f n) k)
+  old-spot stands = rw (list-root f n (root s.gap)) stands
+
+-- a search ends in the leaf of a way, by the leaf's number
+pub ends-there : {K X : Type 0} {cmp : K → K → Ordering} {f : Forest K X} {n : ℕ} {k : K} {way : Way} (w : EndsOnWay cmp f n k way) {leaf : ℕ} → leaf ≡ way.leaf → EndsIn cmp f n k leaf w.path w.indices w.size
+ends-there w is = rw is w.ends
 
 -- where a leaf was written with one search, the value was replaced or the key inserted
 module _ {K X : Type 0} {most : ℕ} {cmp : K → K → Ordering} (total : IsTotalOrder cmp) {f f' : Forest K X} {n : ℕ} (live : list_at f n ≢ []) (up : IsIncreasing cmp (list_at f n)) {k : K} {x : X}

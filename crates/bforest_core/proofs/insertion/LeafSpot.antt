@@ -10,7 +10,7 @@ use Rattle.bforest_core.proofs.removal.Collapse.{heads-flat, topped-sizes}
 
 module _ {K V : Type 0} {t : Table K V} {path indices : List ℕ} {size : ℕ} where
   -- the rows above a level, under another first key of its first node
-  first_rekeyed : (count up : ℕ) (rows : Rows K) (a : Heads K) (x : K × ℕ) (b : Heads K) (key : K) → length rows ≡ count → length a ≡ 0 →
+  pub first_rekeyed : (count up : ℕ) (rows : Rows K) (a : Heads K) (x : K × ℕ) (b : Heads K) (key : K) → length rows ≡ count → length a ≡ 0 →
       Above t path indices up size rows (a ++ x ∷ b) (length a) →
       Rekeyed t t path indices up size rows (a ++ (key, x.1) ∷ b) (length a)
   first_rekeyed zero up rows a x b key none front p =

@@ -133,7 +133,7 @@ module _ {K V X : Type 0} {content : List (K × X) → Content K V} {half most :
   halves = before ++ node node_was (first ∷ lefts) ∷ node right (next ∷ rights) ∷ after
 
   -- the levels above gained the right half
-  rise : {v : Table K V} {ms'' js'' : List ℕ} {size' : ℕ} {taken : List ℕ} (size2 : ℕ) → size2 ≡ size →
+  pub rise : {v : Table K V} {ms'' js'' : List ℕ} {size' : ℕ} {taken : List ℕ} (size2 : ℕ) → size2 ≡ size →
       Grown u v ms' js' ms'' js'' (up + 1) size2 size' rest (heads before ++ (first.0, node_was) ∷ (key, right) ∷ heads after)
       (if moved then suc (length (heads before)) else length (heads before)) (gain_above (Some (length (heads before))) (map sizes rest)) taken →
       Raised content half most t v ms js ms'' js'' up size size' row rows list p (gain.1 ∷ gain_above gain.0 (map sizes rows)) (right ∷ taken)

@@ -307,7 +307,7 @@ fn index_behind(index: usize, moved: bool) -> usize
 }
 
 // The first key of a leaf whose first key was `first`, after an insertion at the index.
-fn first_key<K: Copy>(index: usize, key: K, first: K) -> K
+pub(super) fn first_key<K: Copy>(index: usize, key: K, first: K) -> K
     ensures front { index ≡ 0 → result ≡ key }
     ensures behind { 0 < index → result ≡ first }
 {

@@ -11,7 +11,7 @@ ghost use Rattle.std.specs.declared.cmp.Ordering.{Ordering};
 ghost use Rattle.std.specs.Prelude.{None, Some, [], ◌≡◌, ◌≢◌, ℕ};
 
 use crate::trees::Trees;
-use bforest_core::{Comparator, Node, OutOfMemory, PackedNode, Path};
+use bforest_core::{Comparator, Node, OutOfMemory, PackedNode, Path, Way};
 
 impl<K: Copy, V: Copy, const N: usize> Trees<K, V, N> {
     /// Inserts a value at a key as `insert` does, for a caller that uses no path. A leaf is searched and written in one call, and a tree of
@@ -86,13 +86,13 @@ impl<K: Copy, V: Copy, const N: usize> Trees<K, V, N> {
         ensures { Inserts N (C.order comp.now) self.old (Some root) key value result
             self.new handle.new }
     {
-        let mut path = Path::default();
-        let leaf = path.find_leaf(key, root, &self.pool, comp);
-        match self.pool.put_in_leaf(leaf, key, value, comp) {
+        let way = Way::find(key, root, &self.pool, comp);
+        match self.pool.put_in_leaf(way.leaf(), key, value, comp) {
             Ok(old) => Ok(old),
             Err(index) => {
-                path.set_index(index);
-                self.put_at(handle, &mut path, key, value)
+                let root = self.pool.put_on(&way, index, root, key, value)?;
+                *handle = PackedNode::some(root);
+                Ok(None)
             }
         }
     }

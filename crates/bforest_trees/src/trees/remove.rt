@@ -7,7 +7,7 @@ ghost use Rattle.bforest_nodes.specs.Entries.{IsIncreasing};
 ghost use Rattle.std.specs.Prelude.{Some, [], ◌≡◌, ◌≢◌};
 
 use crate::trees::{Trees, packed};
-use bforest_core::{Comparator, Node, PackedNode, Path};
+use bforest_core::{Comparator, Node, PackedNode, Way};
 
 impl<K: Copy, V: Copy, const N: usize> Trees<K, V, N> {
     // Removes a key from the tree under a root, and returns its value.
@@ -43,11 +43,9 @@ impl<K: Copy, V: Copy, const N: usize> Trees<K, V, N> {
         requires increasing { IsIncreasing (C.order comp.now) (list_at self.old root) }
         ensures { Removes N (C.order comp.now) self.old (Some root) key result self.new handle.new }
     {
-        let mut path = Path::default();
-        let leaf = path.find_leaf(key, root, &self.pool, comp);
-        let taken = self.pool.take_from_leaf(leaf, key, comp)?;
-        path.set_index(taken.0);
-        *handle = packed(path.heal(root, &mut self.pool));
+        let way = Way::find(key, root, &self.pool, comp);
+        let taken = self.pool.take_from_leaf(way.leaf(), key, comp)?;
+        *handle = packed(self.pool.heal_on(&way, taken.0, root));
         Some(taken.1)
     }
 

@@ -29,7 +29,7 @@ returns-in_err-root g c =
     let e = at-key s in
     rw (handed-on c.from_residual.ensures.1, c.requires.root, c.in_err-root.ensures.refused_pool, ← c.self.view_is)
     (was-refused g.row.N (g.C.Comparator.order c.args.comp.now) c.self.inside.pool (Some c.args.root) c.args.key c.args.value c.in_err-root.field-0.0 c.self.inside.pool (Some c.args.root) s.live
-    (refused s (c.insert.ensures.full e) (rw (← c.self.view_is) at c.requires.increasing) c.in_err-root.was (c.insert.ensures.memory e) (c.insert.ensures.enough e)))
+    (refused s.gap (c.insert.ensures.full e) (rw (← c.self.view_is) at c.requires.increasing) c.in_err-root.was (c.insert.ensures.memory e) (c.insert.ensures.enough e)))
 
 pub invariant_of-self-2 : goal.invariant_of-self-2
 invariant_of-self-2 g c =
@@ -42,5 +42,5 @@ returns g c =
     let e = at-key s in
     rw (c.some.ensures.node, ← c.self.view_is)
     (was-inserted g.row.N (g.C.Comparator.order c.args.comp.now) c.self.inside.pool (Some c.args.root) c.args.key c.args.value c.insert.new.pool (Some c.in_ok-root.root)
-    (added s (c.insert.ensures.full e) (g.met.C.Comparator.total c.args.comp.now) (rw (← c.self.view_is) at c.requires.increasing) c.in_ok-root.was
+    (added s.gap (c.insert.ensures.full e) (g.met.C.Comparator.total c.args.comp.now) (rw (← c.self.view_is) at c.requires.increasing) c.in_ok-root.was
     (c.in_ok-root.ensures.inserted e) (c.in_ok-root.ensures.account e) (c.in_ok-root.ensures.same_root e)))

@@ -43,7 +43,7 @@ returns-in-Err-clause-inserted g c =
     let s = key-missed (g.C.Comparator.order c.args.comp.now) c.args.key (rw (← c.self.view_is) at c.requires.live) c.find_here.ensures.value c.find_here.ensures.absent c.in_default.is in
     let e = at-key s in
     rw (c.requires.root, c.in-Err.ensures.refused_pool, ← c.self.view_is)
-    (refused s (c.insert.ensures.full e) (rw (← c.self.view_is) at c.requires.increasing) c.in-Err.is (c.insert.ensures.memory e) (c.insert.ensures.enough e))
+    (refused s.gap (c.insert.ensures.full e) (rw (← c.self.view_is) at c.requires.increasing) c.in-Err.is (c.insert.ensures.memory e) (c.insert.ensures.enough e))
 
 pub returns-in-Err-clause-spot : goal.returns-in-Err-clause-spot
 returns-in-Err-clause-spot g c =
@@ -60,7 +60,7 @@ pub returns-clause-inserted : goal.returns-clause-inserted
 returns-clause-inserted g c =
     let s = key-missed (g.C.Comparator.order c.args.comp.now) c.args.key (rw (← c.self.view_is) at c.requires.live) c.find_here.ensures.value c.find_here.ensures.absent c.in_default.is in
     let e = at-key s in
-    rw (c.some.ensures.node, ← c.self.view_is) (added s (c.insert.ensures.full e) (g.met.C.Comparator.total c.args.comp.now)
+    rw (c.some.ensures.node, ← c.self.view_is) (added s.gap (c.insert.ensures.full e) (g.met.C.Comparator.total c.args.comp.now)
     (rw (← c.self.view_is) at c.requires.increasing) c.in-Ok.is (c.in-Ok.ensures.inserted e) (c.in-Ok.ensures.account e) (c.in-Ok.ensures.same_root e))
 
 pub returns-clause-spot : goal.returns-clause-spot

@@ -12,8 +12,8 @@ insert_full-requires g c =
 pub returns-in_err-root : goal.returns-in_err-root
 returns-in_err-root g c = let told = c.in_err-root.ensures in
     rw (handed-on c.from_residual.ensures.1, told.refused_pool, ← c.self.view_is) (λ root order is live total up none placed.
-    let s : AtGap order c.self.inside.pool root c.args.key c.args.path.now = record { live = live; none = none; placed = placed } in
-    rw is (refused s (told.full (at-key s)) up refl (told.memory (at-key s)) (told.enough (at-key s))))
+    let s : AtGap order c.self.inside.pool root c.args.key c.args.path.now = record { gap = record { live = live; none = none }; placed = placed } in
+    rw is (refused s.gap (told.full (at-key s)) up refl (told.memory (at-key s)) (told.enough (at-key s))))
 
 pub invariant_of-self-2 : goal.invariant_of-self-2
 invariant_of-self-2 g c =
@@ -23,5 +23,5 @@ invariant_of-self-2 g c =
 pub returns : goal.returns
 returns g c = let told = c.in_ok-root.ensures in
     rw (c.some.ensures.node, ← c.self.view_is) (λ root order is live total up none placed.
-    let s : AtGap order c.self.inside.pool root c.args.key c.args.path.now = record { live = live; none = none; placed = placed } in
-    added s (told.full (at-key s)) total up refl (told.inserted (at-key s)) (told.account (at-key s)) (told.same_root (at-key s)))
+    let s : AtGap order c.self.inside.pool root c.args.key c.args.path.now = record { gap = record { live = live; none = none }; placed = placed } in
+    added s.gap (told.full (at-key s)) total up refl (told.inserted (at-key s)) (told.account (at-key s)) (told.same_root (at-key s)))

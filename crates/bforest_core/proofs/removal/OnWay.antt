@@ -1,0 +1,107 @@
+-- Restoring a tree whose leaf at the end of a way lost an entry: the answers of `heal_near`, `heal_far` and `heal_on`.
+use Rattle.bforest_core.proofs.Words.{◌≡◌, ℕ, zero, suc, ◌+◌, ◌-◌, ◌*◌, ◌/◌, ◌%◌, ◌^◌, ◌≤◌, ◌<◌, List, [], ◌∷◌, ◌++◌, drop, length, get_or, slice_get, Some}
+use Rattle.bforest_core.proofs.Words.{eqb_tells, false≢true, inl, inr, nat_eq, true, refl, sym, ap, ◌∙◌, arith, Rows, Table, OneAbove, StandsAbove, LeadsUp, TakenOn, ShrinksOn, Inner, Leaf}
+use Rattle.bforest_core.proofs.Words.{IsUsed, with_node, with_key, entry_keys, entry_items, inner_content, HasOthers, LeafLoss, StandsIn}
+use Rattle.bforest_core.proofs.{removal.Asked.{Counts, NodeAt, some_first}, removal.Healing.{counted_asks, kept, others, root_was, stood_in}, removal.LeafAt.{leaf_at}}
+use Rattle.bforest_core.proofs.{removal.Lifted.{above_written, rekey_parent}, removal.Taking.{LeafKeyAt, above_asks, ahead, behind, first_asks}, rows.Zipper.{spot}}
+use Rattle.bforest_core.proofs.{table.Trading.puts, table.Tables.is_used, table.Stored.{key_count, some_same}, walks.TopNode.none_flat, walks.Ways.{leads-up, stands-points, up-digit}}
+use Rattle.bforest_core.proofs.insertion.LeafSpot.{first_rekeyed}
+use Rattle.bforest_core.specs.declared.path.way.Way.{Way}
+
+-- where all indices of a path are 0, it stands at the first place
+leftmost : {K : Type 0} (path indices : List ℕ) (level : ℕ) (rows : Rows K) (place : ℕ) → ((i : ℕ) → level ≤ i → i < level + length rows → get_or indices i 0 ≡ 0) →
+    StandsAbove path indices level rows place → place ≡ 0
+leftmost path indices level [] place none s = s
+leftmost path indices level (row ∷ rows) place none s = let at = s.0 in
+    let first = leftmost path indices (suc level) rows (length at.before) (λ i high low. none i (omega arith) (omega arith)) s.1 in
+    omega (arith, at.place_is, none level (omega arith) (omega arith), none_flat at.before first)
+
+-- what the digits of 0 are
+zero-digits : (code level : ℕ) → code ≡ 0 → code / 2 ^ (3 * level) ≡ 0
+zero-digits code zero none = omega (arith, none)
+zero-digits code (suc level) none = sym (up-digit code level) ∙ zero-digits (code / 8) level (omega (arith, none))
+
+pub zero-is : (code : ℕ) → nat_eq code 0 ≡ true → code ≡ 0
+zero-is code is = elim (eqb_tells code 0) [ inl w ↦ w.1 | inr w ↦ absurd (false≢true (sym w.0 ∙ is)) ]
+
+leaf-keys : {K V : Type 0} {keys keys' : List K} {vals vals' : List V} → Leaf keys vals ≡ Leaf keys' vals' → keys ≡ keys'
+leaf-keys e = cc
+
+module _ {K V : Type 0} {most : ℕ} {old now : Table K V} {root place index : ℕ} {way : Way} (t : TakenOn most old now root way index place) where
+  open t use {path, indices, size, follows as f, taken as e}
+
+  -- the path leads up to the root still
+  pub taken-up : LeadsUp now.nodes root path indices size
+  taken-up = let s = stood_in e in let d = leaf_at s in let a = above_written (puts _ _ _ _ _ e.leaf.slot_was e.leaf.new_is) d.none_rows d.above in
+      leads-up e.union.1.capacity s.fit a.over.inside (root_was e) (stands-points s.stands)
+
+  -- the leaf, as it is read
+  pub leaf-asks : NodeAt now way.leaf
+  leaf-asks = counted_asks e _ (sym f.leaf_is)
+
+  -- the digit of the leaf's parent
+  digit-is : {digit : ℕ} → digit ≡ way.code / 2 ^ (3 * 0) % 8 → 0 < digit → (0 < way.height) × (get_or indices 1 0 ≡ digit)
+  digit-is {digit} is some = let high : ¬ (way.height ≡ 0) = λ none. omega (arith, is, (f.alone none).0) in
+      (omega (arith, high), f.digits 0 (omega (arith, high)) ∙ sym is)
+
+  -- the indices above the leaf where the code is 0
+  zero-index : way.code ≡ 0 → (level : ℕ) → 1 ≤ level → level < size → get_or indices level 0 ≡ 0
+  zero-index none zero some low = absurd (omega arith)
+  zero-index none (suc level) some low = f.digits level (omega (arith, f.size_is)) ∙ ap (λ z. z % 8) (zero-digits way.code level none)
+
+  module _ {m : ℕ} (value : Counts now way.leaf m) (many : most / 2 < m) where
+    has : HasOthers old now path indices
+    has = others e _ (sym f.leaf_is) m value (λ none. omega arith)
+
+    -- the leaf is full enough, and the rows above it have its first key
+    shrinks-on : {new : Table K V} → ((t tree place : _) → StandsIn most t path indices size tree place → HasOthers t now path indices
+        → LeafLoss most t new path indices size tree place) → ShrinksOn most old new root place path size (Some root)
+    shrinks-on {new} renews = record { nodes = path; same = λ i low. refl; shrinks = kept e _ (sym f.leaf_is) m value (λ none. omega arith) new renews many }
+
+    -- an entry behind the first was lost
+    pub healed-behind : 0 < index → ShrinksOn most old now root place path size (Some root)
+    healed-behind some = shrinks-on (λ was tree at s h. behind s h (omega (arith, t.index_is)))
+
+    module _ (first : index ≤ 0) where
+      index-none : get_or indices 0 0 ≤ 0
+      index-none = omega (arith, t.index_is)
+
+      pub first-key-asks : LeafKeyAt now way.leaf 0
+      first-key-asks = rw (← f.leaf_is) (first_asks (stood_in e) 0 (omega (arith, f.wide)) has index-none)
+
+      -- the rows above, with the leaf's old first key
+      over : OneAbove now path indices 1 size
+      over = above_asks (stood_in e) has index-none
+
+      -- the leaf's parent, where the leaf is not its first child
+      module _ {digit : ℕ} (is : digit ≡ way.code / 2 ^ (3 * 0) % 8) (some : 0 < digit) where
+        parent-is : get_or path 1 0 ≡ way.parent
+        parent-is = f.parent_is (digit-is is some).0
+
+        parent-low : 1 < size
+        parent-low = omega (arith, f.size_is, (digit-is is some).0)
+
+        pub key-asks : IsUsed now way.parent × ((keys : List K) × (children : List ℕ) × (slice_get now.nodes way.parent ≡ Some (Inner keys children)) × (digit - 1 < length keys))
+        key-asks = let o = over in let d = spot o.before o.x o.after o.above parent-low in let es = d.l ++ o.x ∷ d.r in
+            rw (← parent-is) (
+              is_used now (get_or path 1 0) (inner_content es) d.slot_is d.none_chain,
+              (drop 1 (entry_keys es), entry_items es, d.slot_is, omega (arith, key_count es, d.count_is, (digit-is is some).1, some)),
+            )
+
+        pub healed-key : {key : K} {new : Table K V} → ((keys : List K) (vals : List V) → slice_get now.nodes way.leaf ≡ Some (Leaf keys vals) → slice_get keys 0 ≡ Some key) →
+            ((keys : List K) (children : List ℕ) → slice_get now.nodes way.parent ≡ Some (Inner keys children) → new ≡ with_node now way.parent (with_key (Inner keys children) (digit - 1) key)) →
+            ShrinksOn most old new root place path size (Some root)
+        healed-key {key} {new} reads writes = shrinks-on (λ was tree at s h. ahead s 0 (omega (arith, f.wide)) h index-none new key (rw f.leaf_is reads)
+            (λ o. let d = spot o.before o.x o.after o.above parent-low in let es = d.l ++ o.x ∷ d.r in let first = (digit-is is some).1 in
+            rekey_parent d new key (omega (arith, first, some))
+            (writes (drop 1 (entry_keys es)) (entry_items es) (ap (slice_get now.nodes) (sym parent-is) ∙ d.slot_is)
+            ∙ ap (λ z. with_node now z (with_key (inner_content es) (digit - 1) key)) (sym parent-is)
+            ∙ ap (λ z. with_node now (get_or path 1 0) (with_key (inner_content es) (z - 1) key)) (sym first))))
+
+      -- the leaf is the first of the tree
+      pub healed-first : way.code ≡ 0 → ShrinksOn most old now root place path size (Some root)
+      healed-first none = shrinks-on (λ was tree at s h. let a = first_asks s 0 (omega (arith, f.wide)) h index-none in let k = some_first a.0 a.3 in
+          ahead s 0 (omega (arith, f.wide)) h index-none now k.0 (λ keys vals is. let same = some_same (sym is ∙ a.2) in
+          let front : keys ≡ k.0 ∷ k.1 = leaf-keys same ∙ k.2 in ap (λ z. slice_get z 0) front)
+          (λ o. let front = leftmost path indices 1 o.rows (length o.before) (λ i high low. zero-index none i high (omega (arith, o.above.height))) o.above.stands in
+          first_rekeyed (length o.rows) 1 o.rows o.before o.x o.after k.0 refl front o.above))
