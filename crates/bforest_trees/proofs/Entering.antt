@@ -16,7 +16,7 @@ use Rattle.bforest_core.specs.Paths.{IsPlaced, OnEntry, Placing, Pointing, Stand
 use Rattle.bforest_core.specs.Sizes.{growth, need}
 use Rattle.bforest_core.specs.Table.{slot_count}
 use Rattle.bforest_core.specs.Trees.{IsUnion, is_root, slot}
-use Rattle.bforest_core.specs.Ways.{EndsOnWay}
+use Rattle.bforest_core.specs.Ways.{EndsOnWay, InsertsAt}
 use Rattle.bforest_core.specs.declared.path.Path.{Path}
 use Rattle.bforest_core.specs.declared.path.way.Way.{Way}
 use Rattle.bforest_core.specs.declared.pool.OutOfMemory.TheVariants.{Full, Memory}
@@ -102,6 +102,14 @@ module _ {K X : Type 0} {cmp : K → K → Ordering} {f : Forest K X} {n : ℕ} 
         (root' ≡ n) ↔ (length (growth most at (sizes_under f n)) ≡ length (sizes_under f n)) → Inserts most cmp f (Some n) k x (Ok None) f' (Some root')
     added total up {x} {root'} said {f'} changes takes same =
         inserts-ok most cmp f k x n f' root' None none (put-new most cmp f n k root gone f' root' x changes takes same) (IsIncreasing-put cmp total _ k x up) (λ low. let bad = full.1 (rw (needs most) at low) in cc)
+
+  -- the same, from what an insertion at a way says, by a table that is f
+  module _ {most : ℕ} {mid f' : Forest K X} (same : mid ≡ f) (up : IsIncreasing cmp (list_at f n)) {x : X} where
+    pub refused-on : {err : OutOfMemory} → InsertsAt most mid f' n at k x (Err err) → Inserts most cmp f (Some n) k x (Err err) f (Some n)
+    refused-on {err} put = let t = subst (λ z. InsertsAt most z f' n at k x (Err err)) same put in refused t.full up refl t.memory t.enough
+
+    pub added-on : IsTotalOrder cmp → {root' : ℕ} → InsertsAt most mid f' n at k x (Ok root') → Inserts most cmp f (Some n) k x (Ok None) f' (Some root')
+    added-on total {root'} put = let t = subst (λ z. InsertsAt most z f' n at k x (Ok root')) same put in added t.full total up refl t.inserted t.account t.same_root
 
 module _ {K X : Type 0} {most : ℕ} {cmp : K → K → Ordering} {f : Forest K X} {n : ℕ} {k : K} {path : Path K X most} (s : AtGap cmp f n k path) where
   abbrev pub at-key : Placing f path

@@ -9,7 +9,7 @@ use Rattle.std.proofs.Common.{rules}
 
 pub find-way-requires : goal.find-way-requires
 find-way-requires g c =
-    (search rules, (search rules, (c.self.invariant, search-asks _ _ c.self.view_is c.requires.live c.requires.increasing)))
+    (search rules, (c.self.invariant, search-asks _ _ c.self.view_is c.requires.live c.requires.increasing))
 
 pub take_from_leaf-requires : goal.take_from_leaf-requires
 take_from_leaf-requires g c = let w = c.find-way.ensures.ends in
@@ -18,7 +18,7 @@ take_from_leaf-requires g c = let w = c.find-way.ensures.ends in
 pub heal_on-requires : goal.heal_on-requires
 heal_on-requires g c = let w = c.find-way.ensures.ends in let took = c.take_from_leaf.ensures.taken c.args.root _ _ _ (ends-there w c.leaf.ensures.leaf) in
     let lost = lost (rw (← c.self.view_is) at c.requires.live) (rw (← c.self.view_is) at c.requires.increasing) took c.in_ok-taken.was in
-    (search rules, (?, (c.self.inside.pool, place (g.C.Comparator.order c.args.comp.now) (list_under c.self.inside.pool c.args.root) c.args.key, taken-on w lost)))
+    (search rules, (rw c.in_ok-taken.was at c.take_from_leaf.ensures.most, (c.self.inside.pool, place (g.C.Comparator.order c.args.comp.now) (list_under c.self.inside.pool c.args.root) c.args.key, taken-on w lost)))
 
 pub invariant_of-self : goal.invariant_of-self
 invariant_of-self g c = let w = c.find-way.ensures.ends in
