@@ -358,6 +358,7 @@ impl<K: Copy, V: Copy> Map<K, V> {
     /// At most two searches, as in [`Map::get`], and one comparison; the steps compare nothing. From an included key to another the
     /// searches go down together as far as they go the same way. A start behind the end, or two excluded bounds that compare equal, give an
     /// empty range.
+    #[inline(always)]
     pub fn range<'a, C: Comparator<K>>(
         &self,
         bounds: (Bound<K>, Bound<K>),

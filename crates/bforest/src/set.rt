@@ -298,6 +298,7 @@ impl<K: Copy> Set<K> {
     /// At most two searches, as in [`Set::contains`], and one comparison; the steps compare nothing. From an included key to another the
     /// searches go down together as far as they go the same way. A start behind the end, or two excluded bounds that compare equal, give an
     /// empty range.
+    #[inline(always)]
     pub fn range<'a, C: Comparator<K>>(
         &self,
         bounds: (Bound<K>, Bound<K>),

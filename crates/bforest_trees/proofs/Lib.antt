@@ -26,8 +26,8 @@ pub mod Writing
 pub mod Taking
 pub mod Slices
 pub mod Between
-pub mod Beside
 pub mod Ranging
+pub mod Beside
 pub mod Peeking
 pub mod Popping
 pub mod Ensuring

@@ -82,38 +82,6 @@ impl<'a, K: Copy, V: Copy> Look<'a, K, V> {
         (self.keys[self.index], self.vals[self.index])
     }
 
-    // Whether another look into the same list is at the same place: at one index of one leaf, or at the end, where it holds no key.
-    #[inline(always)]
-    pub(crate) fn is_same(&self, other: &Look<'a, K, V>) -> bool
-        ensures same { (table : Forest K V) (handle : Option ℕ) (at place : ℕ)
-            → IsLook table handle self.now at → IsLook table handle other.now place
-            → IsTrue result ↔ (at ≡ place) }
-    {
-        self.index == other.index
-            && self.spot.code() == other.spot.code()
-            && self.keys.len() == other.keys.len()
-    }
-
-    // Whether another look into the same list is at a place in front of it.
-    #[inline(always)]
-    pub(crate) fn is_behind(&self, other: &Look<'a, K, V>) -> bool
-        ensures behind { (table : Forest K V) (handle : Option ℕ) (at place : ℕ)
-            → IsLook table handle self.now at → IsLook table handle other.now place
-            → IsTrue result ↔ (place < at) }
-    {
-        if other.keys.is_empty() {
-            return false;
-        }
-        if self.keys.is_empty() {
-            return true;
-        }
-        let (here, there) = (self.spot.code(), other.spot.code());
-        if here == there {
-            return other.index < self.index;
-        }
-        there < here
-    }
-
     /// Goes to the first entry and returns it. In an empty list that is the end.
     #[inline(always)]
     pub fn first<const N: usize>(
@@ -204,7 +172,7 @@ impl<'a, K: Copy, V: Copy> Look<'a, K, V> {
 
     // Goes to the next entry, or from the last entry to the end. Returns whether there is a next one.
     #[inline(always)]
-    pub(crate) fn step_on<const N: usize>(
+    fn step_on<const N: usize>(
         &mut self,
         handle: PackedNode,
         pool: &'a NodePool<K, V, N>,
@@ -402,7 +370,7 @@ impl<'a, K: Copy, V: Copy> Look<'a, K, V> {
 
     // Goes to the place of a key in the list under a root, from the leaf in which a search for the key ends, and returns its value.
     #[inline(always)]
-    pub(crate) fn settle<const N: usize, C: Comparator<K>>(
+    fn settle<const N: usize, C: Comparator<K>>(
         &mut self,
         root: Node,
         spot: Spot,

@@ -1,24 +1,27 @@
-use Rattle.bforest_trees.proofs.Between.{slice-between}
-use Rattle.bforest_trees.proofs.Ranging.{made, none-left}
+use Rattle.std.proofs.Common.{rules, IfSome, IsTrue, List, None, Option, Some, [], false, length, slice_get, slice_range, take, true, ◌-◌, ◌<◌, ◌≡◌, ◌≢◌, ◌≤◌, ℕ, ◌+◌, ◌*◌, ◌/◌, ◌%◌, Bool, nat_eq, nat_lt, ◌∷◌, ◌++◌, slice_index_or, slice_set, bit_and, bit_or, Fits, w8, w32, w64, Bor, MutBor}
+use Rattle.bforest_trees.specs.Bounds.{entries_between}
+use Rattle.bforest_trees.specs.Forest.{IsLive, list_of}
+use Rattle.bforest_trees.specs.Range.{IsFresh, IsOpen, IsRange, back_held, back_leaf, front_held, left_in, leaf_behind, limit_of_end, limit_of_start, limit_place}
+use Rattle.bforest_core.specs.Paths.{list_under}
+use Rattle.bforest_core.specs.Place.{entry_items, entry_keys, leaf_content}
+use Rattle.bforest_core.specs.Spots.{IsLeafAt, IsSpotAt, leaf_count}
+use Rattle.bforest_core.specs.Trees.{IsUnion, is_root}
+use Rattle.bforest_nodes.specs.Entries.{IsIncreasing}
+use Rattle.std.specs.Iterator.{YieldsFirst, YieldsLast}
 use Rattle.bforest_trees.proofs.trees.Trees.range.Goals as goal
-use Rattle.bforest_trees.specs.Bounds.{end_place, start_place}
-use Rattle.bforest_trees.specs.Forest.{list_of}
-use Rattle.std.proofs.Common.{sym, ◌∙◌}
 
-pub returns-in-Some : goal.returns-in-Some
-returns-in-Some g c =
-    let cmp = g.C.Comparator.order c.args.comp.now in
-    let list = list_of c.args.self.now c.args.handle in
-    let b = c.args.bounds in
-    let looks = rw c.in-Some.is at c.ends_at.ensures.some in
-    let runs = c.clear_crossed.ensures.runs c.args.self.now c.args.handle (start_place cmp b.0 list) (end_place cmp b.1 list) c.requires.live looks.0 looks.1 in
-    record { left = runs.left ∙ sym (slice-between cmp (g.met.C.Comparator.total c.args.comp.now) b.0 b.1 list c.requires.increasing); range = runs.range }
+-- src/trees/range.rt:456:27
+pub narrow-requires : goal.narrow-requires
+narrow-requires g c = ?
 
-pub returns-in-None : goal.returns-in-None
-returns-in-None g c =
-    let front = c.end.ensures.look c.args.self.now c.args.handle in
-    let back = c.end-in-None.ensures.look c.args.self.now c.args.handle in
-    record {
-      left = none-left _ _ c.requires.live (record { front = c.end.result; back = c.end-in-None.result }) front back ∙ sym (c.ends_at.ensures.none c.in-None.is);
-      range = (made _ _ c.requires.live (record { front = c.end.result; back = c.end-in-None.result }) front back).range;
-    }
+-- src/trees/range.rt:440:5
+pub returns-in-None-clause-left : goal.returns-in-None-clause-left
+returns-in-None-clause-left g c = ?
+
+-- src/trees/range.rt:440:5
+pub returns-in-None-clause-range : goal.returns-in-None-clause-range
+returns-in-None-clause-range g c = ?
+
+-- src/trees/range.rt:440:5
+pub returns-in-Some-clause-left : goal.returns-in-Some-clause-left
+returns-in-Some-clause-left g c = ?
