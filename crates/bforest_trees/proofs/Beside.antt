@@ -17,20 +17,20 @@ use Rattle.std.proofs.Common.{Bool, List, Some, [], ap, append-nil, append_assoc
 use Rattle.std.proofs.lemmas.Bool.{cases_lt, false≢true}
 use Rattle.std.proofs.lemmas.List.{length-map}
 
-abbrev leaves : {K X : Type 0} → Forest K X → ℕ → List (LevelNode K X)
+abbrev pub leaves : {K X : Type 0} → Forest K X → ℕ → List (LevelNode K X)
 leaves f root = (tree_of f.nodes root).leaves
 
 module _ {K X : Type 0} {f : Forest K X} {root : ℕ} where
-  leaf-read : {p number : ℕ} (l : IsLeafAt f root p number) → slice_get (leaves f root) p ≡ Some (node number l.entries)
+  pub leaf-read : {p number : ℕ} (l : IsLeafAt f root p number) → slice_get (leaves f root) p ≡ Some (node number l.entries)
   leaf-read {p = p} {number = number} l =
       let all = l.before ++ node number l.entries ∷ l.after in
       ap (λ z. slice_get z p) l.leaves_are ∙ ap (λ z. slice_get all z) (sym l.at) ∙ seam_is l.before (node number l.entries) l.after
 
-  leaf-low : {p number : ℕ} → IsLeafAt f root p number → p < leaf_count f root
+  pub leaf-low : {p number : ℕ} → IsLeafAt f root p number → p < leaf_count f root
   leaf-low {number = number} l = omega (arith, l.at, ap length l.leaves_are, length-append l.before (node number l.entries ∷ l.after))
 
   -- leaves at one place have one code
-  one-code : {a b : Spot} {p q : ℕ} (x : IsSpotAt f root a p) (y : IsSpotAt f root b q) → p ≡ q → a.code ≡ b.code
+  pub one-code : {a b : Spot} {p q : ℕ} (x : IsSpotAt f root a p) (y : IsSpotAt f root b q) → p ≡ q → a.code ≡ b.code
   one-code {a = a} {b = b} x y same = elim (cases_lt a.code b.code) [
     | inl less ↦ absurd (omega (arith, same, leaf-less x y less))
     | inr ge ↦ elim (cases_lt b.code a.code) [

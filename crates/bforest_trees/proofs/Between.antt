@@ -120,11 +120,11 @@ module _ {K : Type 0} (cmp : K → K → Ordering) (o : IsTotalOrder cmp) where
       searched b e = ap (λ z. if z then Ok (place cmp es a) else Err (place cmp es a)) e
 
       -- where a key is present, its end place is one behind its own place
-      up-to-present : is_present cmp es a ≡ true → end_place cmp (Included a) es ≡ suc (place cmp es a)
+      pub up-to-present : is_present cmp es a ≡ true → end_place cmp (Included a) es ≡ suc (place cmp es a)
       up-to-present here = end-counted a es ∙ up_to-found cmp a o (keys_of es) (place cmp es a) h (search_of-keys_of cmp es a ∙ searched true here)
 
       -- where a key is absent, its end place is its own place
-      up-to-absent : is_present cmp es a ≡ false → end_place cmp (Included a) es ≡ place cmp es a
+      pub up-to-absent : is_present cmp es a ≡ false → end_place cmp (Included a) es ≡ place cmp es a
       up-to-absent gone = end-counted a es ∙ keys-up_to-absent cmp a o (keys_of es) (place cmp es a) h (search_of-keys_of cmp es a ∙ searched false gone)
 
       -- where a search found a key, one step leads to its end place
@@ -151,36 +151,3 @@ module _ {K : Type 0} (cmp : K → K → Ordering) (o : IsTotalOrder cmp) where
           go : (b : Bool) → is_present cmp es a ≡ b → entry_up_to cmp es a ≡ entry_at_most cmp es a
           go true here = (λ j. if here j then slice_get es (place cmp es a) else entry_before es (place cmp es a)) ∙ sym (at-most-before ∙ ap (entry_before es) (up-to-present here))
           go false gone = (λ j. if gone j then slice_get es (place cmp es a) else entry_before es (place cmp es a)) ∙ sym (at-most-before ∙ ap (entry_before es) (up-to-absent gone))
-
-module _ {K : Type 0} (cmp : K → K → Ordering) (o : IsTotalOrder cmp) (from to : K) (crossed : is_gt (cmp from to) ≡ true) where
-  -- where the end is in front of the start, each key from the start on is behind the end
-  past-end : (k : K) → is_le (cmp from k) ≡ true → cmp to k ≡ Less
-  past-end k inside = go (cmp from k) refl
-    where
-      greater : (r : Ordering) → is_gt r ≡ true → r ≡ Greater
-      greater Less e = absurd (cc)
-      greater Equal e = absurd (cc)
-      greater Greater e = refl
-
-      less : cmp to from ≡ Less
-      less = o.antisymm to from ∙ ap ordering_reverse (greater (cmp from to) crossed)
-
-      go : (r : Ordering) → cmp from k ≡ r → cmp to k ≡ Less
-      go Less f = o.trans to from k less f
-      go Equal f = sym (alike_right o from k to f) ∙ less
-      go Greater f = absurd (let bad : false ≡ true = sym (ap is_le f) ∙ inside in cc)
-
-  -- no key passes the test of the start and is not past the end
-  none-past : {X : Type 0} (t : Ordering → Bool) → t Less ≡ true → (e : K × X) → (is_le (cmp from e.0) && not (t (cmp to e.0))) ≡ false
-  none-past t less e = go (is_le (cmp from e.0)) refl
-    where
-      go : (b : Bool) → is_le (cmp from e.0) ≡ b → (is_le (cmp from e.0) && not (t (cmp to e.0))) ≡ false
-      go true inside = ap (λ c. is_le (cmp from e.0) && not c) (ap t (past-end e.0 inside) ∙ less) ∙ and_false (is_le (cmp from e.0))
-      go false outside = ap (λ b. b && not (t (cmp to e.0))) outside
-
-  -- between bounds that are the wrong way round there is no entry
-  pub none-through : {X : Type 0} (es : List (K × X)) → entries_between cmp (Included from) (Included to) es ≡ []
-  none-through es = filter-no (λ e. is_from_start cmp (Included from) e.0 && not (is_past_end cmp (Included to) e.0)) (none-past is_lt refl) es
-
-  pub none-between : {X : Type 0} (es : List (K × X)) → entries_between cmp (Included from) (Excluded to) es ≡ []
-  none-between es = filter-no (λ e. is_from_start cmp (Included from) e.0 && not (is_past_end cmp (Excluded to) e.0)) (none-past is_le refl) es

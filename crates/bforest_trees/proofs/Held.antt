@@ -33,7 +33,7 @@ module _ {K V : Type 0} (table : Table K V) {root place number : ℕ} (l : IsLea
   start-is = ap (λ z. length (flat (take place z))) l.leaves_are ∙ ap (λ z. length (flat z)) (take_at l.before (node number l.entries ∷ l.after) place l.at)
 
   -- the list is cut at the leaf
-  list-is : list_under table root ≡ flat l.before ++ (l.entries ++ flat l.after)
+  pub list-is : list_under table root ≡ flat l.before ++ (l.entries ++ flat l.after)
   list-is = ap (λ z. flat z) l.leaves_are ∙ flat-append l.before (node number l.entries ∷ l.after)
 
   -- how many entries are in front of what is behind the leaf

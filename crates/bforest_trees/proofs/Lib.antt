@@ -26,8 +26,10 @@ pub mod Writing
 pub mod Taking
 pub mod Slices
 pub mod Between
+pub mod Limits
 pub mod Ranging
 pub mod Beside
+pub mod Narrowing
 pub mod Peeking
 pub mod Popping
 pub mod Ensuring

@@ -10,7 +10,7 @@ use Rattle.bforest_nodes.proofs.Seams.{last_taken}
 use Rattle.std.proofs.Common.{Bool, List, None, Option, Some, [], ap, append-nil, append_assoc, arith, drop, false, if◌then◌else◌, length, refl, slice_get, slice_index_or, slice_range, subst, suc, sym, take, true, zero, ◌+◌, ◌++◌, ◌-◌, ◌<◌, ◌∙◌, ◌∷◌, ◌≡◌, ◌≢◌, ◌≤◌, ℕ}
 use Rattle.std.proofs.Math.Seq.{drop-length}
 use Rattle.std.proofs.lemmas.Bool.{false≢true}
-use Rattle.std.proofs.lemmas.List.{drop-append-le, length-take}
+use Rattle.std.proofs.lemmas.List.{drop-append-le, length-map, length-take}
 use Rattle.std.specs.Iterator.{YieldsFirst, YieldsLast}
 use Rattle.std.specs.Option.{is_some}
 
@@ -34,7 +34,7 @@ module _ {A : Type 0} where
   pub range-none : (xs : List A) (i j : ℕ) → j ≤ i → slice_range xs i j ≡ []
   range-none xs i j low = let n : j - i ≡ 0 = omega (arith, low) in ap (λ k. take k (drop i xs)) n
 
-  no-part : (n : ℕ) → take {A = A} n [] ≡ []
+  pub no-part : (n : ℕ) → take {A = A} n [] ≡ []
   no-part zero = refl
   no-part (suc n) = refl
 
@@ -90,6 +90,10 @@ module _ {K X : Type 0} where
   pairs-take [] (suc n) = refl
   pairs-take (e ∷ es) zero = refl
   pairs-take (e ∷ es) (suc n) = ap (λ l. e ∷ l) (pairs-take es n)
+
+  -- the keys of entries, cut
+  pub cut-count : (es : List (K × X)) (n : ℕ) → n ≤ length es → {ks : List K} → ks ≡ entry_keys es → n ≡ length (take n ks)
+  cut-count es n low {ks} is = omega (arith, low, length-take n ks, ap length is, length-map es (λ e. e.0))
 
   -- the last entry from an index on
   pub pairs-last-from : (ks : List K) (vs : List X) (i : ℕ) (k : K) (v : X) → i < length ks → length ks ≤ length vs

@@ -1,6 +1,6 @@
 -- The way down to the leaf in which a search ends: each answer of `value_below` and, as a spot, of `find_below` is one of these.
 use Rattle.bforest_core.proofs.Words.{EndsBothAt, entry_items, entry_keys, IsSpotAt, leaf_place, length-map, ◌≡◌, ℕ, suc, ◌≤◌, ◌<◌, List, [], ◌∷◌, ◌++◌}
-use Rattle.bforest_core.proofs.Words.{IsTrue, length, slice_get, Some, refl, sym, ap, ◌∙◌, arith, append-nil, Row, Rows, Content, EndsOn, Inner, IsInner}
+use Rattle.bforest_core.proofs.Words.{IsTrue, is_gt, false, length, slice_get, Some, refl, sym, ap, ◌∙◌, arith, append-nil, Row, Rows, Content, EndsOn, Inner, IsInner}
 use Rattle.bforest_core.proofs.Words.{IsIncreasing, IsTotalOrder, IsStrictlySortedBy, IsUnion, Narrows, SearchAt, SearchEndsAt, SearchThrough, Table}
 use Rattle.bforest_core.proofs.{Words.{child_index, flat, is_root, leaf_content, place, tree_of, IsLeafCapacity}, union.Unions.is-rooted}
 use Rattle.bforest_core.proofs.{walks.Codes.{IsBelow, code-low}, table.Stored.item_count, walks.Cousins.place-is, walks.Whole.all_through, walks.Reading.ChildRead}
@@ -170,8 +170,8 @@ pub both-end : {K V : Type 0} {cmp : K → K → Ordering} {table : Table K V} {
     {from to : K} {first last : Spot} {leaf leaf' : ℕ}
     → EndsOn cmp table.nodes (tree_of table.nodes root).leaves (tree_of table.nodes root).above from first leaf
     → EndsOn cmp table.nodes (tree_of table.nodes root).leaves (tree_of table.nodes root).above to last leaf'
-    → EndsBothAt cmp table root from to first leaf last leaf'
-both-end is e h = record { front_at = spot-found is e; first_ends = search-leaf is e; back_at = spot-found is h; last_ends = search-leaf is h }
+    → is_gt (cmp from to) ≡ false → EndsBothAt cmp table root from to first leaf last leaf'
+both-end is e h ordered = record { front_at = spot-found is e; first_ends = search-leaf is e; back_at = spot-found is h; last_ends = search-leaf is h; ordered = ordered }
 
 -- where a search from the root down ends, without its spot
 pub ends-here : {K V : Type 0} {cmp : K → K → Ordering} (o : IsTotalOrder cmp) {most : ℕ} (capacity : IsLeafCapacity most) {table : Table K V} {root key number depth : _}

@@ -124,8 +124,7 @@ impl<'a, K: Copy, V: Copy> Ends<'a, K, V> {
     {
         let (spot, leaf) = Spot::find(stop.key, root, pool, comp);
         let index = stop.place(leaf, pool, comp);
-        self.stop_in(spot, leaf, pool);
-        self.back_keys = &self.back_keys[..index];
+        self.stop_at(spot, leaf, index, pool);
     }
 
     // Goes from all entries to those between two places. There are none where the first one is behind the second.
@@ -152,13 +151,11 @@ impl<'a, K: Copy, V: Copy> Ends<'a, K, V> {
             Some(((spot, leaf), (other, last))) => {
                 let from = start.place(leaf, pool, comp);
                 let to = stop.place(last, pool, comp);
-                self.start_at(spot, leaf, from, pool);
                 if spot.code() == other.code() {
-                    self.keys = &self.keys[..to];
-                    self.is_one = true;
+                    self.hold(spot, leaf, from, to, pool);
                 } else {
-                    self.stop_in(other, last, pool);
-                    self.back_keys = &self.back_keys[..to];
+                    self.start_at(spot, leaf, from, pool);
+                    self.stop_at(other, last, to, pool);
                 }
             }
         }
@@ -188,6 +185,52 @@ impl<'a, K: Copy, V: Copy> Ends<'a, K, V> {
         self.index = index;
         self.spot = spot;
         self.has_front = true;
+    }
+
+    // Puts the front at an index of a leaf, and the back at another one there.
+    #[inline(always)]
+    fn hold<const N: usize>(
+        &mut self,
+        spot: Spot,
+        leaf: Node,
+        from: usize,
+        to: usize,
+        pool: &'a NodePool<K, V, N>,
+    )
+        requires leaf { (entries : List (K × V))
+            × (slice_get pool.now.nodes leaf ≡ Some (leaf_content entries)) × (to ≤ length entries) }
+        ensures keys { (entries : List (K × V)) → slice_get pool.now.nodes leaf ≡ Some (leaf_content entries)
+            → self.new.keys.now ≡ take to (entry_keys entries) }
+        ensures vals { (entries : List (K × V)) → slice_get pool.now.nodes leaf ≡ Some (leaf_content entries)
+            → self.new.vals.now ≡ entry_items entries }
+        ensures rest { self.new ≡ record self.old { keys = self.new.keys; vals = self.new.vals;
+            index = from; spot = spot; has_front = true; is_one = true } }
+    {
+        self.start_at(spot, leaf, from, pool);
+        self.keys = &self.keys[..to];
+        self.is_one = true;
+    }
+
+    // Puts the back at an index of a leaf.
+    #[inline(always)]
+    fn stop_at<const N: usize>(
+        &mut self,
+        spot: Spot,
+        leaf: Node,
+        index: usize,
+        pool: &'a NodePool<K, V, N>,
+    )
+        requires leaf { (entries : List (K × V))
+            × (slice_get pool.now.nodes leaf ≡ Some (leaf_content entries)) × (index ≤ length entries) }
+        ensures keys { (entries : List (K × V)) → slice_get pool.now.nodes leaf ≡ Some (leaf_content entries)
+            → self.new.back_keys.now ≡ take index (entry_keys entries) }
+        ensures vals { (entries : List (K × V)) → slice_get pool.now.nodes leaf ≡ Some (leaf_content entries)
+            → self.new.back_vals.now ≡ entry_items entries }
+        ensures rest { self.new ≡ record self.old { back_keys = self.new.back_keys;
+            back_vals = self.new.back_vals; back_spot = spot; has_back = true } }
+    {
+        self.stop_in(spot, leaf, pool);
+        self.back_keys = &self.back_keys[..index];
     }
 
     // Puts the back behind the last entry of a leaf.

@@ -36,8 +36,9 @@ pub returns-then-not-goes_along : goal.returns-then-not-goes_along
 returns-then-not-goes_along g c = let f = c.follow-index.ensures in let inner = c.is_inner.ensures.inner.0 c.loop-index-test.true in
     let d = search-on c.loop-index.invariant.0 c.node.ensures.value inner f.index f.child {next = c.below-next.result} (search rules) in
     let a = search-asks c.loop-index.invariant.0 c.node.ensures.value inner in
-    let u = c.loop-index.invariant.1 (c.goes_along.ensures.ordered c.if-not-goes_along.true _ _ _ a.2 (f.index _ _ a.2)) in record {
-      some = both-end c.requires.root (c.find_below-first.ensures.found _ _ d.at) (c.find_below.ensures.found _ _ u.at);
+    let ordered = c.goes_along.ensures.ordered c.if-not-goes_along.true _ _ _ a.2 (f.index _ _ a.2) in
+    let u = c.loop-index.invariant.1 ordered in record {
+      some = both-end c.requires.root (c.find_below-first.ensures.found _ _ d.at) (c.find_below.ensures.found _ _ u.at) ordered;
       none = λ bad. absurd (let no = bad in cc);
     }
 
@@ -57,8 +58,8 @@ returns-then-is_gt g c = record { some = tt; none = λ none. ap is_gt (sym c.cmp
 
 pub returns : goal.returns
 returns g c = let i = c.loop-index.invariant in let other = not_so c.loop-index-test.false c.is_inner.ensures.inner in
+    let ordered = ap is_gt (sym c.cmp.ensures) ∙ sym c.is_gt.ensures ∙ c.if-is_gt.false in
     record {
-      some = both-end c.requires.root (search-ends i.0 c.node.ensures.value other)
-          (search-ends (i.1 (ap is_gt (sym c.cmp.ensures) ∙ sym c.is_gt.ensures ∙ c.if-is_gt.false)) c.node.ensures.value other);
+      some = both-end c.requires.root (search-ends i.0 c.node.ensures.value other) (search-ends (i.1 ordered) c.node.ensures.value other) ordered;
       none = λ bad. absurd (let no = bad in cc);
     }

@@ -1,19 +1,9 @@
-use Rattle.std.proofs.Common.{rules, IfSome, IsTrue, List, None, Option, Some, [], false, length, slice_get, slice_range, take, true, ◌-◌, ◌<◌, ◌≡◌, ◌≢◌, ◌≤◌, ℕ, ◌+◌, ◌*◌, ◌/◌, ◌%◌, Bool, nat_eq, nat_lt, ◌∷◌, ◌++◌, slice_index_or, slice_set, bit_and, bit_or, Fits, w8, w32, w64, Bor, MutBor}
-use Rattle.bforest_trees.specs.Bounds.{entries_between}
-use Rattle.bforest_trees.specs.Forest.{IsLive, list_of}
-use Rattle.bforest_trees.specs.Range.{IsFresh, IsOpen, IsRange, back_held, back_leaf, front_held, left_in, leaf_behind, limit_of_end, limit_of_start, limit_place}
-use Rattle.bforest_core.specs.Paths.{list_under}
-use Rattle.bforest_core.specs.Place.{entry_items, entry_keys, leaf_content}
-use Rattle.bforest_core.specs.Spots.{IsLeafAt, IsSpotAt, leaf_count}
-use Rattle.bforest_core.specs.Trees.{IsUnion, is_root}
-use Rattle.bforest_nodes.specs.Entries.{IsIncreasing}
-use Rattle.std.specs.Iterator.{YieldsFirst, YieldsLast}
+use Rattle.bforest_trees.proofs.Narrowing.{start-narrowed}
 use Rattle.bforest_trees.proofs.trees.range.Ends.start.Goals as goal
 
--- src/trees/range.rt:85:5
-pub returns-clause-left : goal.returns-clause-left
-returns-clause-left g c = ?
-
--- src/trees/range.rt:85:5
-pub returns-clause-range : goal.returns-clause-range
-returns-clause-range g c = ?
+pub returns : goal.returns
+returns g c =
+    let r = c.requires in
+    let s = c.find.ensures.leaf in
+    let n = start-narrowed c.args.pool.now c.args.root r.fresh (g.met.C.Comparator.total c.args.comp.now) r.increasing c.args.start c.find.ensures.spot s (c.place-index.ensures.place s.leaf.entries s.leaf.slot_is) (c.start_at.ensures.keys s.leaf.entries s.leaf.slot_is) (c.start_at.ensures.vals s.leaf.entries s.leaf.slot_is) c.start_at.ensures.rest in
+    record { left = n.left; range = n.range }

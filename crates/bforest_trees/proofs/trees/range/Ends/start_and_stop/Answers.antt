@@ -1,43 +1,59 @@
-use Rattle.std.proofs.Common.{rules, IfSome, IsTrue, List, None, Option, Some, [], false, length, slice_get, slice_range, take, true, ◌-◌, ◌<◌, ◌≡◌, ◌≢◌, ◌≤◌, ℕ, ◌+◌, ◌*◌, ◌/◌, ◌%◌, Bool, nat_eq, nat_lt, ◌∷◌, ◌++◌, slice_index_or, slice_set, bit_and, bit_or, Fits, w8, w32, w64, Bor, MutBor}
-use Rattle.bforest_trees.specs.Bounds.{entries_between}
-use Rattle.bforest_trees.specs.Forest.{IsLive, list_of}
-use Rattle.bforest_trees.specs.Range.{IsFresh, IsOpen, IsRange, back_held, back_leaf, front_held, left_in, leaf_behind, limit_of_end, limit_of_start, limit_place}
+use Rattle.std.proofs.Common.{rules, sym, ◌∙◌}
 use Rattle.bforest_core.specs.Paths.{list_under}
-use Rattle.bforest_core.specs.Place.{entry_items, entry_keys, leaf_content}
-use Rattle.bforest_core.specs.Spots.{IsLeafAt, IsSpotAt, leaf_count}
-use Rattle.bforest_core.specs.Trees.{IsUnion, is_root}
-use Rattle.bforest_nodes.specs.Entries.{IsIncreasing}
-use Rattle.std.specs.Iterator.{YieldsFirst, YieldsLast}
+use Rattle.bforest_trees.specs.Range.{limit_place}
+use Rattle.bforest_trees.proofs.Limits.{limits-crossed}
+use Rattle.bforest_trees.proofs.Narrowing.{both-narrowed, hold-low, hold-narrowed, none-narrowed, stop-low}
 use Rattle.bforest_trees.proofs.trees.range.Ends.start_and_stop.Goals as goal
 
--- src/trees/range.rt:157:33
-pub slice_bounds-self-end : goal.slice_bounds-self-end
-slice_bounds-self-end g c = ?
+pub returns-in-None : goal.returns-in-None
+returns-in-None g c =
+    let cmp = g.C.Comparator.order c.args.comp.now in
+    let total = g.met.C.Comparator.total c.args.comp.now in
+    let list = list_under c.args.pool.now c.args.root in
+    let n = none-narrowed c.args.pool.now c.args.root c.requires.fresh (limit_place cmp c.args.start list) (limit_place cmp c.args.stop list) (limits-crossed cmp total list c.args.start c.args.stop (c.find_both.ensures.none c.in-None.is)) in
+    record { left = n.left; range = n.range }
 
--- src/trees/range.rt:161:38
-pub slice_bounds-self-end-else-code : goal.slice_bounds-self-end-else-code
-slice_bounds-self-end-else-code g c = ?
+pub place-from-requires : goal.place-from-requires
+place-from-requires g c = let s = c.in-Some.ensures.some.first_ends in (search rules, (s.leaf.entries, s.leaf.slot_is, s.tells.increasing))
 
--- src/trees/range.rt:132:5
-pub returns-in-None-clause-left : goal.returns-in-None-clause-left
-returns-in-None-clause-left g c = ?
+pub place-to-requires : goal.place-to-requires
+place-to-requires g c = let t = c.in-Some.ensures.some.last_ends in (search rules, (t.leaf.entries, t.leaf.slot_is, t.tells.increasing))
 
--- src/trees/range.rt:132:5
-pub returns-in-None-clause-range : goal.returns-in-None-clause-range
-returns-in-None-clause-range g c = ?
+pub hold-requires : goal.hold-requires
+hold-requires g c =
+    let e = c.in-Some.ensures.some in
+    let from = c.place-from.ensures.place e.first_ends.leaf.entries e.first_ends.leaf.slot_is in
+    let to = c.place-to.ensures.place e.last_ends.leaf.entries e.last_ends.leaf.slot_is in
+    let code = sym c.code.ensures.code ∙ c.if-code.true ∙ c.code-in-Some.ensures.code in
+    (search rules, (e.first_ends.leaf.entries, e.first_ends.leaf.slot_is, hold-low c.args.pool.now c.args.root c.requires.fresh (g.met.C.Comparator.total c.args.comp.now) c.requires.increasing c.args.start c.args.stop e from to code))
 
--- src/trees/range.rt:132:5
-pub returns-then-code-clause-left : goal.returns-then-code-clause-left
-returns-then-code-clause-left g c = ?
+pub returns-then-code : goal.returns-then-code
+returns-then-code g c =
+    let e = c.in-Some.ensures.some in
+    let from = c.place-from.ensures.place e.first_ends.leaf.entries e.first_ends.leaf.slot_is in
+    let to = c.place-to.ensures.place e.last_ends.leaf.entries e.last_ends.leaf.slot_is in
+    let code = sym c.code.ensures.code ∙ c.if-code.true ∙ c.code-in-Some.ensures.code in
+    let s = e.first_ends.leaf in
+    let n = hold-narrowed c.args.pool.now c.args.root c.requires.fresh (g.met.C.Comparator.total c.args.comp.now) c.requires.increasing c.args.start c.args.stop e from to code (c.hold.ensures.keys s.entries s.slot_is) (c.hold.ensures.vals s.entries s.slot_is) c.hold.ensures.rest in
+    record { left = n.left; range = n.range }
 
--- src/trees/range.rt:132:5
-pub returns-then-code-clause-range : goal.returns-then-code-clause-range
-returns-then-code-clause-range g c = ?
+pub start_at-requires : goal.start_at-requires
+start_at-requires g c = let s = c.in-Some.ensures.some.first_ends.leaf in (search rules, (s.entries, s.slot_is))
 
--- src/trees/range.rt:132:5
-pub returns-else-code-clause-left : goal.returns-else-code-clause-left
-returns-else-code-clause-left g c = ?
+pub stop_at-requires : goal.stop_at-requires
+stop_at-requires g c =
+    let e = c.in-Some.ensures.some in
+    let t = e.last_ends.leaf in
+    (search rules, (t.entries, t.slot_is, stop-low c.args.pool.now c.args.root c.requires.fresh (g.met.C.Comparator.total c.args.comp.now) c.requires.increasing c.args.stop e.back_at e.last_ends (c.place-to.ensures.place t.entries t.slot_is)))
 
--- src/trees/range.rt:132:5
-pub returns-else-code-clause-range : goal.returns-else-code-clause-range
-returns-else-code-clause-range g c = ?
+pub returns-else-code : goal.returns-else-code
+returns-else-code g c =
+    let e = c.in-Some.ensures.some in
+    let from = c.place-from.ensures.place e.first_ends.leaf.entries e.first_ends.leaf.slot_is in
+    let to = c.place-to.ensures.place e.last_ends.leaf.entries e.last_ends.leaf.slot_is in
+    let s = e.first_ends.leaf in
+    let t = e.last_ends.leaf in
+    let n = both-narrowed c.args.pool.now c.args.root c.requires.fresh (g.met.C.Comparator.total c.args.comp.now) c.requires.increasing c.args.start c.args.stop e from to (λ same. c.if-code.false (c.code.ensures.code ∙ same ∙ sym c.code-in-Some.ensures.code))
+        (c.start_at.ensures.keys s.entries s.slot_is) (c.start_at.ensures.vals s.entries s.slot_is) c.start_at.ensures.rest
+        (c.stop_at.ensures.keys t.entries t.slot_is) (c.stop_at.ensures.vals t.entries t.slot_is) c.stop_at.ensures.rest in
+    record { left = n.left; range = n.range }

@@ -1,23 +1,16 @@
-use Rattle.std.proofs.Common.{rules, IfSome, IsTrue, List, None, Option, Some, [], false, length, slice_get, slice_range, take, true, ◌-◌, ◌<◌, ◌≡◌, ◌≢◌, ◌≤◌, ℕ, ◌+◌, ◌*◌, ◌/◌, ◌%◌, Bool, nat_eq, nat_lt, ◌∷◌, ◌++◌, slice_index_or, slice_set, bit_and, bit_or, Fits, w8, w32, w64, Bor, MutBor}
-use Rattle.bforest_trees.specs.Bounds.{entries_between}
-use Rattle.bforest_trees.specs.Forest.{IsLive, list_of}
-use Rattle.bforest_trees.specs.Range.{IsFresh, IsOpen, IsRange, back_held, back_leaf, front_held, left_in, leaf_behind, limit_of_end, limit_of_start, limit_place}
-use Rattle.bforest_core.specs.Paths.{list_under}
-use Rattle.bforest_core.specs.Place.{entry_items, entry_keys, leaf_content}
-use Rattle.bforest_core.specs.Spots.{IsLeafAt, IsSpotAt, leaf_count}
-use Rattle.bforest_core.specs.Trees.{IsUnion, is_root}
-use Rattle.bforest_nodes.specs.Entries.{IsIncreasing}
-use Rattle.std.specs.Iterator.{YieldsFirst, YieldsLast}
+use Rattle.std.proofs.Common.{rules}
+use Rattle.bforest_trees.proofs.Narrowing.{stop-low, stop-narrowed}
 use Rattle.bforest_trees.proofs.trees.range.Ends.stop.Goals as goal
 
--- src/trees/range.rt:128:26
-pub slice_bounds-self-end : goal.slice_bounds-self-end
-slice_bounds-self-end g c = ?
+pub stop_at-requires : goal.stop_at-requires
+stop_at-requires g c =
+    let r = c.requires in
+    let t = c.find.ensures.leaf in
+    (search rules, (t.leaf.entries, t.leaf.slot_is, stop-low c.args.pool.now c.args.root r.fresh (g.met.C.Comparator.total c.args.comp.now) r.increasing c.args.stop c.find.ensures.spot t (c.place-index.ensures.place t.leaf.entries t.leaf.slot_is)))
 
--- src/trees/range.rt:108:5
-pub returns-clause-left : goal.returns-clause-left
-returns-clause-left g c = ?
-
--- src/trees/range.rt:108:5
-pub returns-clause-range : goal.returns-clause-range
-returns-clause-range g c = ?
+pub returns : goal.returns
+returns g c =
+    let r = c.requires in
+    let t = c.find.ensures.leaf in
+    let n = stop-narrowed c.args.pool.now c.args.root r.fresh (g.met.C.Comparator.total c.args.comp.now) r.increasing c.args.stop c.find.ensures.spot t (c.place-index.ensures.place t.leaf.entries t.leaf.slot_is) (c.stop_at.ensures.keys t.leaf.entries t.leaf.slot_is) (c.stop_at.ensures.vals t.leaf.entries t.leaf.slot_is) c.stop_at.ensures.rest in
+    record { left = n.left; range = n.range }

@@ -1,19 +1,25 @@
-use Rattle.std.proofs.Common.{rules, IfSome, IsTrue, List, None, Option, Some, [], false, length, slice_get, slice_range, take, true, ◌-◌, ◌<◌, ◌≡◌, ◌≢◌, ◌≤◌, ℕ, ◌+◌, ◌*◌, ◌/◌, ◌%◌, Bool, nat_eq, nat_lt, ◌∷◌, ◌++◌, slice_index_or, slice_set, bit_and, bit_or, Fits, w8, w32, w64, Bor, MutBor}
-use Rattle.bforest_trees.specs.Bounds.{entries_between}
-use Rattle.bforest_trees.specs.Forest.{IsLive, list_of}
-use Rattle.bforest_trees.specs.Range.{IsFresh, IsOpen, IsRange, back_held, back_leaf, front_held, left_in, leaf_behind, limit_of_end, limit_of_start, limit_place}
-use Rattle.bforest_core.specs.Paths.{list_under}
-use Rattle.bforest_core.specs.Place.{entry_items, entry_keys, leaf_content}
-use Rattle.bforest_core.specs.Spots.{IsLeafAt, IsSpotAt, leaf_count}
-use Rattle.bforest_core.specs.Trees.{IsUnion, is_root}
-use Rattle.bforest_nodes.specs.Entries.{IsIncreasing}
-use Rattle.std.specs.Iterator.{YieldsFirst, YieldsLast}
+use Rattle.std.proofs.Common.{sym, ◌∙◌}
+use Rattle.bforest_trees.proofs.Limits.{limit-at, limit-behind, limit-missed, told-of}
+use Rattle.bforest_trees.proofs.trees.range.Limit.place.Goals.{else-self-via-then-self+else-is_some, else-self-via-else-self}
 use Rattle.bforest_trees.proofs.trees.range.Limit.place.Goals as goal
 
--- src/trees/range.rt:416:5
 pub returns-then-is_some : goal.returns-then-is_some
-returns-then-is_some g c = ?
+returns-then-is_some g c =
+    let cmp = g.C.Comparator.order c.args.comp.now in
+    let total = g.met.C.Comparator.total c.args.comp.now in
+    let l = c.look_up-index.ensures in
+    record { place = λ entries slot.
+        let t = told-of cmp total c.requires.leaf.0 c.requires.leaf.1 c.requires.leaf.2 entries slot c.node.ensures.value c.args.self.now.key l.found l.value l.absent in
+        limit-behind cmp total entries c.args.self.now t.2 (t.0, t.1) c.if-self.true (sym c.is_some.ensures ∙ c.if-is_some.true) }
 
--- src/trees/range.rt:416:5
 pub returns-else-self : goal.returns-else-self
-returns-else-self g c = ?
+returns-else-self g c =
+    let cmp = g.C.Comparator.order c.args.comp.now in
+    let total = g.met.C.Comparator.total c.args.comp.now in
+    let l = c.look_up-index.ensures in
+    record { place = λ entries slot.
+        let t = told-of cmp total c.requires.leaf.0 c.requires.leaf.1 c.requires.leaf.2 entries slot c.node.ensures.value c.args.self.now.key l.found l.value l.absent in
+        elim c.else-self.branch [
+          | else-self-via-then-self+else-is_some w ↦ limit-missed cmp total entries c.args.self.now t.2 (t.0, t.1) w.if-self.true (sym w.is_some.ensures ∙ w.if-is_some.false)
+          | else-self-via-else-self w ↦ limit-at cmp total entries c.args.self.now t.2 (t.0, t.1) w.if-self.false
+        ] }
