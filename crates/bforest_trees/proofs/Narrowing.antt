@@ -5,7 +5,8 @@ use Rattle.bforest_trees.proofs.Held.{list-is, start-behind, start-is}
 use Rattle.bforest_trees.proofs.Limits.{ends-rise, limit-in-leaf, limit-most, places-rise}
 use Rattle.bforest_trees.proofs.Ranging.{no-part, pairs-all, pairs-past, pairs-take, range-first, range-none}
 use Rattle.bforest_trees.specs.Bounds.{end_place, entries_between, start_place}
-use Rattle.bforest_trees.specs.Forest.{Forest}
+use Rattle.bforest_trees.proofs.Changed.{list-root}
+use Rattle.bforest_trees.specs.Forest.{Forest, list_of}
 use Rattle.bforest_trees.specs.Looks.{start_of}
 use Rattle.bforest_trees.specs.Range.{IsFresh, IsOpen, IsRange, back_held, back_leaf, front_held, leaf_behind, left_in, limit_of_end, limit_of_start, limit_place, pairs}
 use Rattle.bforest_trees.specs.declared.trees.range.Ends.{Ends}
@@ -146,17 +147,21 @@ module _ {K X : Type 0} (f : Forest K X) (root : ℕ) where
       };
     }
 
-    -- where the start is behind the end
-    pub none-narrowed : (s e : ℕ) → e ≤ s → Narrowed (record old { is_one = true }) s e
-    unfolding left_in
-    none-narrowed s e low = record {
-      left = (λ j. empty-front j ++ ([] ++ empty-back j)) ∙ sym (range-none (list_under f root) s e low);
-      range = record {
+    -- where nothing is left
+    module _ (h : Option ℕ) where
+      pub none-left : left_in f h (record old { is_one = true }) ≡ []
+      unfolding left_in
+      none-left = λ j. empty-front j ++ ([] ++ empty-back j)
+
+      pub none-range : IsRange f h (record old { is_one = true })
+      none-range = record {
         paired = omega (arith, ap length fresh.keys); back_paired = omega (arith, ap length fresh.back_keys);
         one = λ _. fresh.back_keys;
         between = λ other. absurd (false≢true (sym other));
-      };
-    }
+      }
+
+    pub none-narrowed : (s e : ℕ) → e ≤ s → Narrowed (record old { is_one = true }) s e
+    none-narrowed s e low = record { left = none-left (Some root) ∙ sym (range-none (list_under f root) s e low); range = none-range (Some root) }
 
     module _ {cmp : K → K → Ordering} (o : IsTotalOrder cmp) (up : IsIncreasing cmp (list_under f root)) where
       -- the front is at a limit in its leaf
@@ -297,7 +302,11 @@ module _ {K X : Type 0} (f : Forest K X) (root : ℕ) where
               };
             })
 
-  module _ {cmp : K → K → Ordering} (o : IsTotalOrder cmp) (up : IsIncreasing cmp (list_under f root)) (lo hi : Bound K) {new : Ends K X} where
+  module _ (cmp : K → K → Ordering) (lo hi : Bound K) (new : Ends K X) where
     -- the limits of bounds
-    pub bounds-told : {s e : ℕ} → Narrowed new s e → s ≡ start_place cmp lo (list_under f root) → e ≡ end_place cmp hi (list_under f root) → left_in f (Some root) new ≡ entries_between cmp lo hi (list_under f root)
-    bounds-told n from to = n.left ∙ (λ j. slice_range (list_under f root) (from j) (to j)) ∙ sym (slice-between cmp o lo hi (list_under f root) up)
+    pub bounds-told : IsTotalOrder cmp → IsIncreasing cmp (list_under f root) → {s e : ℕ} → left_in f (Some root) new ≡ slice_range (list_under f root) s e → s ≡ start_place cmp lo (list_under f root) → e ≡ end_place cmp hi (list_under f root) → left_in f (Some root) new ≡ entries_between cmp lo hi (list_under f root)
+    bounds-told o up left from to = left ∙ (λ j. slice_range (list_under f root) (from j) (to j)) ∙ sym (slice-between cmp o lo hi (list_under f root) up)
+
+    -- what is told of a root, of its handle
+    pub root-told : IsTrue (is_root f.nodes root) → {h : Option ℕ} → h ≡ Some root → left_in f (Some root) new ≡ entries_between cmp lo hi (list_under f root) → left_in f h new ≡ entries_between cmp lo hi (list_of f h)
+    root-told is {h} some left = subst (λ z. left_in f z new ≡ entries_between cmp lo hi (list_of f z)) (sym some) (left ∙ ap (λ l. entries_between cmp lo hi l) (sym (list-root f root is)))

@@ -1,27 +1,38 @@
-use Rattle.std.proofs.Common.{rules, IfSome, IsTrue, List, None, Option, Some, [], false, length, slice_get, slice_range, take, true, ◌-◌, ◌<◌, ◌≡◌, ◌≢◌, ◌≤◌, ℕ, ◌+◌, ◌*◌, ◌/◌, ◌%◌, Bool, nat_eq, nat_lt, ◌∷◌, ◌++◌, slice_index_or, slice_set, bit_and, bit_or, Fits, w8, w32, w64, Bor, MutBor}
+use Rattle.std.proofs.Common.{None, Option, Some, ap, rules, subst, sym, ◌∙◌, ◌≡◌, ℕ}
+use Rattle.bforest_nodes.specs.Entries.{IsIncreasing}
+use Rattle.bforest_trees.proofs.Changed.{list-root, live-root}
+use Rattle.bforest_trees.proofs.Narrowing.{none-left, none-range, root-told}
 use Rattle.bforest_trees.specs.Bounds.{entries_between}
 use Rattle.bforest_trees.specs.Forest.{IsLive, list_of}
-use Rattle.bforest_trees.specs.Range.{IsFresh, IsOpen, IsRange, back_held, back_leaf, front_held, left_in, leaf_behind, limit_of_end, limit_of_start, limit_place}
-use Rattle.bforest_core.specs.Paths.{list_under}
-use Rattle.bforest_core.specs.Place.{entry_items, entry_keys, leaf_content}
-use Rattle.bforest_core.specs.Spots.{IsLeafAt, IsSpotAt, leaf_count}
-use Rattle.bforest_core.specs.Trees.{IsUnion, is_root}
-use Rattle.bforest_nodes.specs.Entries.{IsIncreasing}
-use Rattle.std.specs.Iterator.{YieldsFirst, YieldsLast}
+use Rattle.bforest_trees.specs.Range.{IsRange}
 use Rattle.bforest_trees.proofs.trees.Trees.range.Goals as goal
 
--- src/trees/range.rt:456:27
 pub narrow-requires : goal.narrow-requires
-narrow-requires g c = ?
+narrow-requires g c =
+    let cmp = g.C.Comparator.order c.args.comp.now in
+    let pool = c.self.inside.pool in
+    let some : c.args.handle ≡ Some c.in-Some.root = sym c.expand.ensures.value ∙ c.in-Some.is in
+    let root = live-root pool c.in-Some.root (subst (λ (h : Option ℕ). IsLive pool h) some (rw (← c.self.view_is) at c.requires.live)) in
+    let up = subst (λ (h : Option ℕ). IsIncreasing cmp (list_of pool h)) some (rw (← c.self.view_is) at c.requires.increasing) in
+    (search rules, (c.self.invariant, (root, (subst (λ l. IsIncreasing cmp l) (list-root pool c.in-Some.root root) up, c.all-ends.ensures.fresh))))
 
--- src/trees/range.rt:440:5
-pub returns-in-None-clause-left : goal.returns-in-None-clause-left
-returns-in-None-clause-left g c = ?
+pub returns-in-None : goal.returns-in-None
+returns-in-None g c =
+    let cmp = g.C.Comparator.order c.args.comp.now in
+    let f = c.args.self.now in
+    let none : c.args.handle ≡ None = sym c.expand.ensures.value ∙ c.in-None.is in
+    record {
+      left = none-left f 0 c.all-ends.ensures.fresh c.args.handle ∙ sym (ap (λ h. entries_between cmp c.args.bounds.0 c.args.bounds.1 (list_of f h)) none);
+      range = none-range f 0 c.all-ends.ensures.fresh c.args.handle;
+    }
 
--- src/trees/range.rt:440:5
-pub returns-in-None-clause-range : goal.returns-in-None-clause-range
-returns-in-None-clause-range g c = ?
-
--- src/trees/range.rt:440:5
-pub returns-in-Some-clause-left : goal.returns-in-Some-clause-left
-returns-in-Some-clause-left g c = ?
+pub returns-in-Some : goal.returns-in-Some
+returns-in-Some g c =
+    let pool = c.self.inside.pool in
+    let some : c.args.handle ≡ Some c.in-Some.root = sym c.expand.ensures.value ∙ c.in-Some.is in
+    let root = live-root pool c.in-Some.root (subst (λ (h : Option ℕ). IsLive pool h) some (rw (← c.self.view_is) at c.requires.live)) in
+    let n = c.narrow in
+    rw (← c.self.view_is) (record {
+      left = root-told pool c.in-Some.root (g.C.Comparator.order c.args.comp.now) c.args.bounds.0 c.args.bounds.1 n.new.self root some n.ensures.left;
+      range = subst (λ (h : Option ℕ). IsRange pool h n.new.self) (sym some) n.ensures.range;
+    })
