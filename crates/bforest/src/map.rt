@@ -10,13 +10,14 @@ ghost use Rattle.bforest.specs.Room.{IsEnoughFor, IsMetBy};
 ghost use Rattle.std.specs.Option.{option_map_or};
 ghost use Rattle.std.specs.declared.cmp.Ordering.{Ordering};
 ghost use Rattle.std.specs.Ordering.{is_lt};
-ghost use Rattle.std.specs.Prelude.{IsTrue, None, Some, [], true, ◌↔◌, length, slice_get, ◌+◌, ◌-◌, ◌/◌, ◌<◌, ◌^◌, ◌≡◌, ◌≤◌};
+ghost use Rattle.std.specs.Prelude.{IsTrue, None, Some, [], true, ◌↔◌, length, reverse, slice_get, ◌+◌, ◌-◌, ◌/◌, ◌<◌, ◌^◌, ◌≡◌, ◌≤◌};
 
 use crate::map_cursor::MapCursor;
 use crate::map_cursor_mut::MapCursorMut;
 use crate::map_forest::{MAP_LEAF, MapForest};
 use crate::map_into_iter::MapIntoIter;
 use crate::map_iter::MapIter;
+use crate::map_iter_back::MapIterBack;
 use crate::map_range::MapRange;
 use crate::room::most_nodes;
 use bforest_core::{Comparator, OutOfMemory, PackedNode, Path};
@@ -343,6 +344,17 @@ impl<K: Copy, V: Copy> Map<K, V> {
         ensures fits { MapsFitInMemory K.row V.row }
     {
         MapIter::new(self, forest)
+    }
+
+    /// Returns an iterator over the entries from the last to the first. Visits one node of each level, and then each leaf once. No
+    /// comparison.
+    #[inline(always)]
+    pub fn iter_back<'a>(&self, forest: &'a MapForest<K, V>) -> MapIterBack<'a, K, V>
+        requires live { IsLive forest.now self.now }
+        ensures entries { result ≡ reverse (list_of forest.now self.now) }
+        ensures fits { MapsFitInMemory K.row V.row }
+    {
+        MapIterBack::new(self, forest)
     }
 
     /// Returns an iterator over the entries in order that owns the forest. The forest, with all its maps, is consumed. No comparison.

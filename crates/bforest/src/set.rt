@@ -10,7 +10,7 @@ ghost use Rattle.bforest.specs.Set.{AnswersKey, MayAskKey, as_popped, as_put, as
 ghost use Rattle.bforest.specs.SetCursor.{IsCursor, comparator, forest_loan, forest_now, set_loan, set_now, spot};
 ghost use Rattle.std.specs.Map.{keys_of};
 ghost use Rattle.std.specs.declared.cmp.Ordering.{Ordering};
-ghost use Rattle.std.specs.Prelude.{IsTrue, None, [], length, option_map, slice_get, ◌*◌, ◌+◌, ◌-◌, ◌/◌, ◌<◌, ◌^◌, ◌≡◌, ◌≤◌, ◌↔◌};
+ghost use Rattle.std.specs.Prelude.{IsTrue, None, [], length, reverse, option_map, slice_get, ◌*◌, ◌+◌, ◌-◌, ◌/◌, ◌<◌, ◌^◌, ◌≡◌, ◌≤◌, ◌↔◌};
 
 use crate::asked_key::AskedKey;
 use crate::entry::key_of;
@@ -19,6 +19,7 @@ use crate::room::most_nodes;
 use crate::set_cursor::SetCursor;
 use crate::set_forest::{SET_LEAF, SetForest};
 use crate::set_iter::SetIter;
+use crate::set_iter_back::SetIterBack;
 use crate::set_range::SetRange;
 use bforest_core::{Comparator, OutOfMemory, PackedNode, Path, SetValue};
 use std::default::Default;
@@ -291,6 +292,16 @@ impl<K: Copy> Set<K> {
         ensures fits { SetsFitInMemory K.row }
     {
         SetIter::new(self, forest)
+    }
+
+    /// Returns an iterator over the keys from the last to the first. Visits one node of each level, and then each leaf once. No comparison.
+    #[inline(always)]
+    pub fn iter_back<'a>(&self, forest: &'a SetForest<K>) -> SetIterBack<'a, K>
+        requires live { IsLive forest.now self.now }
+        ensures keys { result ≡ reverse (elements forest.now self.now) }
+        ensures fits { SetsFitInMemory K.row }
+    {
+        SetIterBack::new(self, forest)
     }
 
     /// Returns a double-ended iterator over the keys within both bounds, in order.

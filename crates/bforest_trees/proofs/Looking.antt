@@ -1,25 +1,30 @@
 -- A look at a place of a handle's list, and its steps within a leaf.
 use Rattle.bforest_trees.proofs.Held.{from-root, from-spot, held-paired, held-read, held-within, keyless, on-entry, start-is}
 use Rattle.bforest_trees.proofs.Changed.{list-root}
-use Rattle.bforest_trees.specs.Forest.{list_of}
-use Rattle.bforest_trees.specs.Looks.{AtLook, Holds, HoldsPlace, IsBehind, IsLook, IsPaired, LeafFrom, look_place, place_held, start_of}
+use Rattle.bforest_trees.specs.Forest.{IsLive, list_of}
+use Rattle.bforest_trees.specs.Looks.{AtLook, Holds, HoldsPlace, IsBehind, IsLook, IsPaired, LeafFrom, LooksBack, left_before, look_place, place_held, start_of}
 use Rattle.bforest_trees.specs.declared.look.Look.{Look}
 use Rattle.bforest_core.proofs.table.Stored.{read_as}
 use Rattle.bforest_core.proofs.walks.Cousins.{place-is}
 use Rattle.bforest_core.proofs.walks.LeafSearch.{looked}
+use Rattle.bforest_core.proofs.walks.Steps.{read}
 use Rattle.bforest_core.specs.Leaves.{SearchEndsAt}
 use Rattle.bforest_core.specs.Place.{entry_before}
 use Rattle.bforest_core.specs.Spots.{IsSpotAt, leaf_place}
 use Rattle.bforest_core.specs.Table.{Table}
 use Rattle.bforest_core.specs.declared.spot.Spot.{Spot}
+use Rattle.bforest_nodes.proofs.Seams.{last_taken}
 use Rattle.bforest_nodes.specs.Content.{Content, IsLeaf, keys_of, vals_of}
 use Rattle.bforest_nodes.specs.Entries.{place, value_for}
 use Rattle.bforest_nodes.specs.Search.{search_of}
-use Rattle.std.proofs.Common.{Bool, Err, IfSome, List, None, Ok, Option, Some, [], ap, arith, false, inl, inr, length, min, refl, slice_get, subst, suc, sym, true, ◌+◌, ◌-◌, ◌<◌, ◌==◌, ◌∙◌, ◌∷◌, ◌≡◌, ◌≤◌, ℕ}
+use Rattle.std.proofs.Common.{Bool, Err, IfSome, List, None, Ok, Option, Some, [], ap, arith, false, inl, inr, length, min, refl, reverse, slice_get, subst, suc, sym, take, true, ◌+◌, ◌-◌, ◌<◌, ◌==◌, ◌∙◌, ◌∷◌, ◌≡◌, ◌≤◌, ℕ}
+use Rattle.std.proofs.Math.Seq.{take-length}
 use Rattle.std.proofs.lemmas.Bool.{cases_lt, false≢true}
 use Rattle.std.proofs.lemmas.Bool.Decides.{eqb_tells}
+use Rattle.std.proofs.lemmas.List.{reverse-append}
 use Rattle.std.proofs.lemmas.List.Sums.{count_by-le-length}
 use Rattle.std.proofs.lemmas.Option.{slice_get_past, slice_get_within}
+use Rattle.std.specs.Iterator.{YieldsFirst}
 use Rattle.std.specs.List.Sorted.{IsStrictlySortedBy}
 use Rattle.std.specs.Ordering.{is_lt}
 use Rattle.std.specs.declared.cmp.Ordering.{Ordering}
@@ -197,3 +202,43 @@ pub at-bound : {K V : Type 0} {table : Table K V} {handle : Option ℕ} {root : 
     → IsLook table handle look (place bound (list_of table handle))
 at-bound {K} {V} {table} {handle} {root} {look} place {bound} {other} is same l =
     subst (λ (b : Bound K). IsLook table handle look (place b (list_of table handle))) (sym same) (subst (λ (h : Option ℕ). IsLook table h look (place other (list_of table h))) (sym is) l)
+
+-- a look that goes back through a list
+module _ {K V : Type 0} {table : Table K V} {handle : Option ℕ} {look : Look K V} where
+  -- from the end all entries are in front
+  pub back-whole : IsLook table handle look (length (list_of table handle)) → left_before table handle look ≡ reverse (list_of table handle)
+  unfolding left_before
+  back-whole l = let list = list_of table handle in ap (λ z. reverse (take z list)) (look-place-is l) ∙ ap reverse (take-length list)
+
+  pub back-ready : IsLive table handle → {place : ℕ} → IsLook table handle look place → LooksBack table handle look
+  back-ready live l = record { live = live; stands = look-stands l }
+
+  module _ (r : LooksBack table handle look) where
+    abbrev pub back-at : AtLook table handle look
+    back-at = record { place = look_place table handle look; is = r.stands }
+
+    -- a step back gives the first of the entries in front, from the last on
+    pub back-steps : (o : Option (K × V)) {new : Look K V} → ((at : AtLook table handle look) → o ≡ entry_before (list_of table handle) at.place)
+        → ((at : AtLook table handle look) → IsLook table handle new (at.place - 1)) → YieldsFirst (left_before table handle) look o new
+    unfolding left_before
+    back-steps o {new} value moved = elim (cases_lt 0 (look_place table handle look)) [
+      | inl some ↦ (
+          let list = list_of table handle in
+          let p = look_place table handle look in
+          let up : p ≡ suc (p - 1) = omega (arith, some) in
+          let here = read list (p - 1) (omega (arith, some, look-within r.stands)) in
+          let left = ap (λ z. reverse (take z list)) up ∙ ap reverse (last_taken list (p - 1) here.0 here.1) ∙ reverse-append (take (p - 1) list) (here.0 ∷ []) in
+          subst (λ (z : Option (K × V)). YieldsFirst (left_before table handle) look z new) (sym (value back-at ∙ ap (entry_before list) up ∙ here.1))
+              (left ∙ ap (λ z. here.0 ∷ reverse (take z list)) (sym (look-place-is (moved back-at))))
+          )
+      | inr none ↦ (
+          let list = list_of table handle in
+          let p : look_place table handle look ≡ 0 = omega (arith, none) in
+          let q : look_place table handle new ≡ 0 = omega (arith, none, look-place-is (moved back-at)) in
+          subst (λ (z : Option (K × V)). YieldsFirst (left_before table handle) look z new) (sym (value back-at ∙ sym (before-first list p)))
+              (ap (λ z. reverse (take z list)) p, ap (λ z. reverse (take z list)) q)
+          )
+    ]
+
+    pub back-goes : {new : Look K V} → ((at : AtLook table handle look) → IsLook table handle new (at.place - 1)) → LooksBack table handle new
+    back-goes moved = record { live = r.live; stands = look-stands (moved back-at) }

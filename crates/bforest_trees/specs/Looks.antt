@@ -5,10 +5,10 @@ use Rattle.bforest_core.specs.Spots.{HasNoParent, IsLeafAt, IsSpotAt, leaf_place
 use Rattle.bforest_core.specs.Table.{Table}
 use Rattle.bforest_core.specs.Trees.{tree_of}
 use Rattle.bforest_core.specs.declared.spot.Spot.{Spot}
-use Rattle.bforest_trees.specs.Forest.{list_of}
+use Rattle.bforest_trees.specs.Forest.{IsLive, list_of}
 use Rattle.bforest_trees.specs.declared.look.Look.{Look}
 use Rattle.std.proofs.Math.Logic.{◌⊎◌}
-use Rattle.std.specs.Prelude.{List, None, Option, Some, [], length, take, ◌+◌, ◌<◌, ◌∷◌, ◌≡◌, ◌≤◌, ℕ}
+use Rattle.std.specs.Prelude.{List, None, Option, Some, [], length, reverse, take, ◌+◌, ◌<◌, ◌∷◌, ◌≡◌, ◌≤◌, ℕ}
 
 module _ {K X : Type 0} where
   -- how many entries are in front of the leaf at this place of the leaves of the tree under a root
@@ -97,3 +97,12 @@ module _ {K X : Type 0} where
   -- the place where a look stands in the list of a handle
   abbrev pub look_place : Table K X → Option ℕ → Look K X → ℕ
   look_place table handle look = place_held table handle look.spot look.index look.keys.now
+
+  -- the entries in front of a look, from the last to the first
+  unfoldable pub left_before : Table K X → Option ℕ → Look K X → List (K × X)
+  left_before table handle look = reverse (take (look_place table handle look) (list_of table handle))
+
+  -- a look stands in the list of a live handle
+  pub record LooksBack (table : Table K X) (handle : Option ℕ) (look : Look K X) : Type 0 where
+    pub live : IsLive table handle
+    pub stands : IsLook table handle look (look_place table handle look)
