@@ -188,8 +188,10 @@ CLONED = {
     "bforest_trees/reader.rt": ["Reader"],
     "bforest/forest.rt": ["Forest"],
     "bforest/map_iter.rt": ["MapIter"],
+    "bforest/map_iter_back.rt": ["MapIterBack"],
     "bforest/map_into_iter.rt": ["MapIntoIter"],
     "bforest/set_iter.rt": ["SetIter"],
+    "bforest/set_iter_back.rt": ["SetIterBack"],
     "bforest_indexed/maps.rt": ["Maps"],
     "bforest_indexed/sets.rt": ["Sets"],
 }

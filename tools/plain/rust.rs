@@ -3,8 +3,8 @@
 use crate::bforest_core::{Node, PackedNode};
 use crate::bforest_trees::Trees;
 use crate::{
-    Comparator, Map, MapCursor, MapCursorMut, MapForest, MapIntoIter, MapIter, MapRange, Maps, OutOfMemory, Set,
-    SetCursor, SetForest, SetIter, SetRange, Sets,
+    Comparator, Map, MapCursor, MapCursorMut, MapForest, MapIntoIter, MapIter, MapIterBack, MapRange, Maps, OutOfMemory,
+    Set, SetCursor, SetForest, SetIter, SetIterBack, SetRange, Sets,
 };
 use alloc::collections::TryReserveError;
 use core::cmp::{Ordering, Reverse};
@@ -247,9 +247,11 @@ impl<K: Copy, V: Copy, const N: usize> Trees<K, V, N> {
 
 // Each iterator returns `None` again once it has returned it.
 impl<K: Copy, V: Copy> FusedIterator for MapIter<'_, K, V> {}
+impl<K: Copy, V: Copy> FusedIterator for MapIterBack<'_, K, V> {}
 impl<K: Copy, V: Copy> FusedIterator for MapIntoIter<K, V> {}
 impl<K: Copy, V: Copy, C: Comparator<K>> FusedIterator for MapRange<'_, K, V, C> {}
 impl<K: Copy> FusedIterator for SetIter<'_, K> {}
+impl<K: Copy> FusedIterator for SetIterBack<'_, K> {}
 impl<K: Copy, C: Comparator<K>> FusedIterator for SetRange<'_, K, C> {}
 
 // A handle shows the number of its root: it knows no forest, and so no entry.
@@ -373,6 +375,12 @@ impl<K: Copy, V: Copy> Debug for MapIter<'_, K, V> {
     }
 }
 
+impl<K: Copy, V: Copy> Debug for MapIterBack<'_, K, V> {
+    fn fmt(&self, f: &mut Formatter<'_>) -> fmt::Result {
+        f.debug_struct("MapIterBack").finish_non_exhaustive()
+    }
+}
+
 impl<K: Copy, V: Copy> Debug for MapIntoIter<K, V> {
     fn fmt(&self, f: &mut Formatter<'_>) -> fmt::Result {
         f.debug_struct("MapIntoIter").finish_non_exhaustive()
@@ -388,6 +396,12 @@ impl<K: Copy, V: Copy, C: Comparator<K>> Debug for MapRange<'_, K, V, C> {
 impl<K: Copy> Debug for SetIter<'_, K> {
     fn fmt(&self, f: &mut Formatter<'_>) -> fmt::Result {
         f.debug_struct("SetIter").finish_non_exhaustive()
+    }
+}
+
+impl<K: Copy> Debug for SetIterBack<'_, K> {
+    fn fmt(&self, f: &mut Formatter<'_>) -> fmt::Result {
+        f.debug_struct("SetIterBack").finish_non_exhaustive()
     }
 }
 

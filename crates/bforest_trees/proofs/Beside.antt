@@ -13,7 +13,7 @@ use Rattle.bforest_core.specs.Spots.{IsLeafAt, IsSpotAt, leaf_count, leaf_place}
 use Rattle.bforest_core.specs.Trees.{tree_of}
 use Rattle.bforest_core.specs.declared.spot.Spot.{Spot}
 use Rattle.bforest_nodes.proofs.Seams.{seam_is}
-use Rattle.std.proofs.Common.{Bool, List, Some, [], ap, append-nil, append_assoc, arith, drop, false, if◌then◌else◌, inl, inr, length, length-append, refl, slice_get, slice_range, subst, suc, sym, true, ◌+◌, ◌++◌, ◌-◌, ◌<◌, ◌∙◌, ◌∷◌, ◌≡◌, ◌≢◌, ◌≤◌, ℕ}
+use Rattle.std.proofs.Common.{Bool, List, Some, [], ap, append-nil, append_assoc, arith, drop, false, if◌then◌else◌, inl, inr, length, length-append, refl, slice_get, slice_range, subst, suc, sym, true, ◌++◌, ◌-◌, ◌<◌, ◌∙◌, ◌∷◌, ◌≡◌, ◌≢◌, ◌≤◌, ℕ}
 use Rattle.std.proofs.lemmas.Bool.{cases_lt, false≢true}
 use Rattle.std.proofs.lemmas.List.{length-map}
 
@@ -90,7 +90,6 @@ module _ {K X : Type 0} {f : Forest K X} {root : ℕ} where
           held-is : front_held there ≡ leaf.entries
           held-is = (λ j. pairs (keys j) (vals j)) ∙ pairs-all leaf.entries
 
-
           place : leaf_place f root spot ≡ p
           place = place-is on
 
@@ -147,7 +146,8 @@ module _ {K X : Type 0} {f : Forest K X} {root : ℕ} where
       met-back taken = record {
         left = sym (left-open ∙ (λ j. front_held old ++ (closed j ++ back_held old)));
         range = record {
-          paired = r.paired; back_paired = r.back_paired;
+          paired = r.paired;
+          back_paired = r.back_paired;
           one = λ _. pairs-none old.back_keys.now old.back_vals.now r.back_paired taken;
           between = λ other. absurd (false≢true (sym other));
         };

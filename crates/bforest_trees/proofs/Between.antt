@@ -1,5 +1,5 @@
 -- The entries within bounds are a slice of a list that increases.
-use Rattle.bforest_trees.proofs.Slices.{and_false, Rises, count-cons, count-same, filter-no, last-taken, slice-filter}
+use Rattle.bforest_trees.proofs.Slices.{Rises, count-cons, count-same, last-taken, slice-filter}
 use Rattle.bforest_nodes.proofs.Found.{place-present, search_of-keys_of}
 use Rattle.bforest_nodes.proofs.Searched.{up_to-absent as keys-up_to-absent, up_to-found}
 use Rattle.bforest_nodes.specs.Entries.{IsIncreasing, is_present, place, search_for, value_for}
@@ -9,7 +9,6 @@ use Rattle.bforest_trees.specs.Bounds.{end_place, entries_between, entry_at_most
 use Rattle.bforest_core.specs.Leaves.{entry_up_to}
 use Rattle.bforest_core.specs.Place.{entry_before}
 use Rattle.std.proofs.Common.{Bool, Err, List, None, Ok, Option, [], ap, arith, cond, false, if◌then◌else◌, length, min, not, refl, slice_get, slice_range, suc, sym, take, true, ◌&&◌, ◌+◌, ◌-◌, ◌∙◌, ◌∷◌, ◌≡◌, ◌≤◌}
-use Rattle.std.proofs.lemmas.Cmp.{alike_right}
 use Rattle.std.proofs.lemmas.List.Elements.{filter_agree}
 use Rattle.std.proofs.lemmas.List.Sums.{count_by-le-length}
 use Rattle.std.specs.Cmp.{IsTotalOrder}

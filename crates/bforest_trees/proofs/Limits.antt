@@ -13,12 +13,10 @@ use Rattle.bforest_core.specs.Leaves.{SearchEndsAt}
 use Rattle.bforest_core.specs.Place.{leaf_content}
 use Rattle.bforest_core.specs.Paths.{list_under}
 use Rattle.bforest_core.specs.Table.{Table}
-use Rattle.bforest_nodes.proofs.Found.{place-present}
 use Rattle.bforest_nodes.specs.Content.{Content, keys_of, vals_of}
 use Rattle.bforest_nodes.specs.Entries.{IsIncreasing, is_present, place, value_for}
 use Rattle.bforest_nodes.specs.Search.{search_of}
-use Rattle.std.proofs.Common.{Bool, Err, IfSome, List, None, Ok, Option, Some, [], ap, arith, cond, false, if◌then◌else◌, length, not, refl, slice_get, subst, suc, sym, true, ◌+◌, ◌<◌, ◌∙◌, ◌∷◌, ◌≡◌, ◌≤◌, ℕ}
-use Rattle.std.proofs.lemmas.Bool.{false≢true}
+use Rattle.std.proofs.Common.{Bool, Err, IfSome, List, None, Ok, Option, Some, [], ap, arith, cond, false, if◌then◌else◌, length, not, refl, slice_get, sym, true, ◌+◌, ◌∙◌, ◌∷◌, ◌≡◌, ◌≤◌, ℕ}
 use Rattle.std.proofs.lemmas.Cmp.{alike_right}
 use Rattle.std.proofs.lemmas.List.Sums.{count_by-le-length}
 use Rattle.std.specs.Cmp.{IsTotalOrder}
@@ -185,7 +183,7 @@ pub told-of : {K V : Type 0} (cmp : K → K → Ordering) (o : IsTotalOrder cmp)
 told-of cmp o first had up entries slot read key {found} {index} present reads absent =
     let increasing = read_as had slot (λ z. IsStrictlySortedBy cmp (keys_of z)) up in
     let t = looked cmp entries key increasing found
-        (read_as read slot (λ z. IfSome found (λ v. search_of cmp (keys_of z) key ≡ Ok index)) present)
-        (read_as read slot (λ z. IfSome found (λ v. slice_get (vals_of z) index ≡ Some v)) reads)
-        (read_as read slot (λ z. found ≡ None → search_of cmp (keys_of z) key ≡ Err index) absent) in
+    (read_as read slot (λ z. IfSome found (λ v. search_of cmp (keys_of z) key ≡ Ok index)) present)
+    (read_as read slot (λ z. IfSome found (λ v. slice_get (vals_of z) index ≡ Some v)) reads)
+    (read_as read slot (λ z. found ≡ None → search_of cmp (keys_of z) key ≡ Err index) absent) in
     (t.0, t.1, increasing)

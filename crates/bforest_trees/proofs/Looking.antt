@@ -229,14 +229,14 @@ module _ {K V : Type 0} {table : Table K V} {handle : Option ℕ} {look : Look K
           let here = read list (p - 1) (omega (arith, some, look-within r.stands)) in
           let left = ap (λ z. reverse (take z list)) up ∙ ap reverse (last_taken list (p - 1) here.0 here.1) ∙ reverse-append (take (p - 1) list) (here.0 ∷ []) in
           subst (λ (z : Option (K × V)). YieldsFirst (left_before table handle) look z new) (sym (value back-at ∙ ap (entry_before list) up ∙ here.1))
-              (left ∙ ap (λ z. here.0 ∷ reverse (take z list)) (sym (look-place-is (moved back-at))))
+          (left ∙ ap (λ z. here.0 ∷ reverse (take z list)) (sym (look-place-is (moved back-at))))
           )
       | inr none ↦ (
           let list = list_of table handle in
           let p : look_place table handle look ≡ 0 = omega (arith, none) in
           let q : look_place table handle new ≡ 0 = omega (arith, none, look-place-is (moved back-at)) in
           subst (λ (z : Option (K × V)). YieldsFirst (left_before table handle) look z new) (sym (value back-at ∙ sym (before-first list p)))
-              (ap (λ z. reverse (take z list)) p, ap (λ z. reverse (take z list)) q)
+          (ap (λ z. reverse (take z list)) p, ap (λ z. reverse (take z list)) q)
           )
     ]
 

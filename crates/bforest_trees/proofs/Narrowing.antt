@@ -3,27 +3,26 @@ use Rattle.bforest_trees.proofs.Beside.{one-code, leaf-low, leaf-read, leaves}
 use Rattle.bforest_trees.proofs.Between.{slice-between, up-to-absent, up-to-present}
 use Rattle.bforest_trees.proofs.Held.{list-is, start-behind, start-is}
 use Rattle.bforest_trees.proofs.Limits.{ends-rise, limit-in-leaf, limit-most, places-rise}
-use Rattle.bforest_trees.proofs.Ranging.{no-part, pairs-all, pairs-past, pairs-take, range-first, range-none}
+use Rattle.bforest_trees.proofs.Ranging.{no-part, pairs-all, pairs-take, range-first, range-none}
 use Rattle.bforest_trees.specs.Bounds.{end_place, entries_between, start_place}
 use Rattle.bforest_trees.proofs.Changed.{list-root}
 use Rattle.bforest_trees.specs.Forest.{Forest, list_of}
 use Rattle.bforest_trees.specs.Looks.{start_of}
-use Rattle.bforest_trees.specs.Range.{IsFresh, IsOpen, IsRange, back_held, back_leaf, front_held, leaf_behind, left_in, limit_of_end, limit_of_start, limit_place, pairs}
+use Rattle.bforest_trees.specs.Range.{IsFresh, IsRange, back_held, back_leaf, front_held, leaf_behind, left_in, limit_place, pairs}
 use Rattle.bforest_trees.specs.declared.trees.range.Ends.{Ends}
 use Rattle.bforest_trees.specs.declared.trees.range.Limit.{Limit}
 use Rattle.bforest_core.proofs.rows.LevelRows.{flat-append}
-use Rattle.bforest_core.proofs.walks.Cousins.{place-is}
 use Rattle.bforest_core.proofs.walks.Ranks.{leaf-same}
 use Rattle.bforest_core.specs.Leaves.{EndsBothAt, SearchEndsAt}
-use Rattle.bforest_core.specs.Levels.{LevelNode, flat, node}
+use Rattle.bforest_core.specs.Levels.{flat, node}
 use Rattle.bforest_core.specs.Paths.{list_under}
 use Rattle.bforest_core.specs.Place.{entry_items, entry_keys}
 use Rattle.bforest_core.specs.Spots.{IsLeafAt, IsSpotAt, leaf_count, leaf_place}
-use Rattle.bforest_core.specs.Trees.{is_root, tree_of}
+use Rattle.bforest_core.specs.Trees.{is_root}
 use Rattle.bforest_core.specs.declared.spot.Spot.{Spot}
 use Rattle.bforest_nodes.proofs.Found.{place-present}
 use Rattle.bforest_nodes.specs.Entries.{IsIncreasing, is_present, place}
-use Rattle.std.proofs.Common.{Bool, IsTrue, List, None, Option, Some, [], ap, append-nil, append_assoc, arith, drop, false, if◌then◌else◌, inl, inr, length, length-append, refl, slice_get, slice_range, subst, suc, sym, take, true, zero, ◌+◌, ◌++◌, ◌-◌, ◌<◌, ◌∙◌, ◌∷◌, ◌≡◌, ◌≢◌, ◌≤◌, ℕ}
+use Rattle.std.proofs.Common.{Bool, IsTrue, List, Option, Some, [], ap, append-nil, append_assoc, arith, drop, false, if◌then◌else◌, inl, inr, length, length-append, refl, slice_range, subst, suc, sym, take, true, zero, ◌+◌, ◌++◌, ◌-◌, ◌<◌, ◌∙◌, ◌∷◌, ◌≡◌, ◌≢◌, ◌≤◌, ℕ}
 use Rattle.std.proofs.Math.Seq.{drop-append-add, take-append-add, take-length}
 use Rattle.std.proofs.lemmas.Bool.{cases_lt, false≢true}
 use Rattle.std.proofs.lemmas.List.Sums.{count_by-le-length}
@@ -31,7 +30,6 @@ use Rattle.std.proofs.lemmas.List.{drop-append-le, length-map, length-take, take
 use Rattle.std.specs.Cmp.{IsTotalOrder}
 use Rattle.std.specs.Ordering.{is_gt, is_lt}
 use Rattle.std.specs.declared.cmp.Ordering.{Ordering}
-use Rattle.std.specs.declared.ops.Bound.TheVariants.{Included}
 use Rattle.std.specs.declared.ops.Bound.{Bound}
 
 module _ {A : Type 0} where
@@ -141,7 +139,8 @@ module _ {K X : Type 0} (f : Forest K X) (root : ℕ) where
       left = (λ j. empty-front j ++ ((if fresh.one j then [] else flat (slice_range (leaves f root) (behind-fresh j) (back-fresh j))) ++ empty-back j))
           ∙ append-nil (flat (slice_range (leaves f root) 0 (leaf_count f root))) ∙ ap (λ z. flat z) (whole (leaves f root)) ∙ sym (whole (list_under f root));
       range = record {
-        paired = omega (arith, ap length fresh.keys); back_paired = omega (arith, ap length fresh.back_keys);
+        paired = omega (arith, ap length fresh.keys);
+        back_paired = omega (arith, ap length fresh.back_keys);
         one = no-spot old.is_one fresh.one;
         between = λ _. (root, refl, record { root_is = is; front = no-spot old.has_front fresh.front; back = no-spot old.has_back fresh.back; ordered = omega (arith, behind-fresh, back-fresh) });
       };
@@ -155,7 +154,8 @@ module _ {K X : Type 0} (f : Forest K X) (root : ℕ) where
 
       pub none-range : IsRange f h (record old { is_one = true })
       none-range = record {
-        paired = omega (arith, ap length fresh.keys); back_paired = omega (arith, ap length fresh.back_keys);
+        paired = omega (arith, ap length fresh.keys);
+        back_paired = omega (arith, ap length fresh.back_keys);
         one = λ _. fresh.back_keys;
         between = λ other. absurd (false≢true (sym other));
       }

@@ -1,6 +1,6 @@
 -- Keys and values side by side, what a range holds of a leaf, and steps of either end.
 use Rattle.bforest_trees.specs.Forest.{Forest}
-use Rattle.bforest_trees.specs.Range.{IsOpen, IsRange, back_held, back_leaf, front_held, leaf_behind, left_between, left_in, pairs, root_in}
+use Rattle.bforest_trees.specs.Range.{IsRange, back_held, back_leaf, front_held, leaf_behind, left_between, left_in, pairs, root_in}
 use Rattle.bforest_trees.specs.declared.trees.range.Ends.{Ends}
 use Rattle.bforest_core.proofs.table.Lists.{drop-read}
 use Rattle.bforest_core.specs.Levels.{flat}
@@ -145,7 +145,9 @@ module _ {K X : Type 0} (f : Forest K X) (h : Option ℕ) where
 
         moved-range : IsRange f h moved
         moved-range = record {
-          paired = r.paired; back_paired = r.back_paired; one = r.one;
+          paired = r.paired;
+          back_paired = r.back_paired;
+          one = r.one;
           between = λ more. let w = r.between more in (w.0, w.1, record { root_is = w.2.root_is; front = w.2.front; back = w.2.back; ordered = w.2.ordered });
         }
 
@@ -176,7 +178,9 @@ module _ {K X : Type 0} (f : Forest K X) (h : Option ℕ) where
         last-taken o steps one = subst (λ z. StepsLast old o z) (sym is) (record {
           steps = go o (subst (λ z. YieldsLast front_held old o z) is steps);
           range = record {
-            paired = omega (arith, fewer, r.paired); back_paired = r.back_paired; one = r.one;
+            paired = omega (arith, fewer, r.paired);
+            back_paired = r.back_paired;
+            one = r.one;
             between = λ more. let w = r.between more in (w.0, w.1, record { root_is = w.2.root_is; front = w.2.front; back = w.2.back; ordered = w.2.ordered });
           };
         })
@@ -202,7 +206,9 @@ module _ {K X : Type 0} (f : Forest K X) (h : Option ℕ) where
 
         back-cut-range : IsRange f h back-cut
         back-cut-range = record {
-          paired = r.paired; back_paired = omega (arith, fewer, r.back_paired); one = back-none;
+          paired = r.paired;
+          back_paired = omega (arith, fewer, r.back_paired);
+          one = back-none;
           between = λ more. let w = r.between more in (w.0, w.1, record { root_is = w.2.root_is; front = w.2.front; back = w.2.back; ordered = w.2.ordered });
         }
 

@@ -7,7 +7,7 @@ use Rattle.bforest_trees.specs.Bounds.{end_place}
 use Rattle.bforest_trees.specs.Forest.{Forest}
 use Rattle.bforest_trees.specs.declared.trees.range.Ends.{Ends}
 use Rattle.bforest_trees.specs.declared.trees.range.Limit.{Limit}
-use Rattle.std.specs.Prelude.{Bool, IsTrue, List, None, Option, Some, [], drop, false, if◌then◌else◌, length, slice_range, suc, true, ◌++◌, ◌∷◌, ◌≡◌, ◌≤◌, ℕ}
+use Rattle.std.specs.Prelude.{IsTrue, List, None, Option, Some, [], drop, false, if◌then◌else◌, length, slice_range, suc, true, ◌++◌, ◌∷◌, ◌≡◌, ◌≤◌, ℕ}
 use Rattle.std.specs.declared.cmp.Ordering.{Ordering}
 use Rattle.std.specs.declared.ops.Bound.TheVariants.{Excluded, Included, Unbounded}
 use Rattle.std.specs.declared.ops.Bound.{Bound}

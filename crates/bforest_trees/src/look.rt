@@ -172,11 +172,7 @@ impl<'a, K: Copy, V: Copy> Look<'a, K, V> {
 
     // Goes to the next entry, or from the last entry to the end. Returns whether there is a next one.
     #[inline(always)]
-    fn step_on<const N: usize>(
-        &mut self,
-        handle: PackedNode,
-        pool: &'a NodePool<K, V, N>,
-    ) -> bool
+    fn step_on<const N: usize>(&mut self, handle: PackedNode, pool: &'a NodePool<K, V, N>) -> bool
         requires union { IsUnion N pool.now }
         requires stands { AtLook pool.now handle self.old }
         ensures look { (at : AtLook pool.now handle self.old)

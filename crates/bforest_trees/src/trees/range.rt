@@ -176,8 +176,13 @@ impl<'a, K: Copy, V: Copy> Ends<'a, K, V> {
             → self.new.keys.now ≡ entry_keys entries }
         ensures vals { (entries : List (K × V)) → slice_get pool.now.nodes leaf ≡ Some (leaf_content entries)
             → self.new.vals.now ≡ entry_items entries }
-        ensures rest { self.new ≡ record self.old { keys = self.new.keys; vals = self.new.vals;
-            index = index; spot = spot; has_front = true } }
+        ensures rest { self.new ≡ record self.old {
+          keys = self.new.keys;
+          vals = self.new.vals;
+          index = index;
+          spot = spot;
+          has_front = true;
+        } }
     {
         let (keys, vals) = pool.node(leaf).unwrap_leaf();
         self.keys = keys;
@@ -203,8 +208,14 @@ impl<'a, K: Copy, V: Copy> Ends<'a, K, V> {
             → self.new.keys.now ≡ take to (entry_keys entries) }
         ensures vals { (entries : List (K × V)) → slice_get pool.now.nodes leaf ≡ Some (leaf_content entries)
             → self.new.vals.now ≡ entry_items entries }
-        ensures rest { self.new ≡ record self.old { keys = self.new.keys; vals = self.new.vals;
-            index = from; spot = spot; has_front = true; is_one = true } }
+        ensures rest { self.new ≡ record self.old {
+          keys = self.new.keys;
+          vals = self.new.vals;
+          index = from;
+          spot = spot;
+          has_front = true;
+          is_one = true;
+        } }
     {
         self.start_at(spot, leaf, from, pool);
         self.keys = &self.keys[..to];
@@ -226,8 +237,12 @@ impl<'a, K: Copy, V: Copy> Ends<'a, K, V> {
             → self.new.back_keys.now ≡ take index (entry_keys entries) }
         ensures vals { (entries : List (K × V)) → slice_get pool.now.nodes leaf ≡ Some (leaf_content entries)
             → self.new.back_vals.now ≡ entry_items entries }
-        ensures rest { self.new ≡ record self.old { back_keys = self.new.back_keys;
-            back_vals = self.new.back_vals; back_spot = spot; has_back = true } }
+        ensures rest { self.new ≡ record self.old {
+          back_keys = self.new.back_keys;
+          back_vals = self.new.back_vals;
+          back_spot = spot;
+          has_back = true;
+        } }
     {
         self.stop_in(spot, leaf, pool);
         self.back_keys = &self.back_keys[..index];
@@ -242,8 +257,12 @@ impl<'a, K: Copy, V: Copy> Ends<'a, K, V> {
             → self.new.back_keys.now ≡ entry_keys entries }
         ensures vals { (entries : List (K × V)) → slice_get pool.now.nodes leaf ≡ Some (leaf_content entries)
             → self.new.back_vals.now ≡ entry_items entries }
-        ensures rest { self.new ≡ record self.old { back_keys = self.new.back_keys;
-            back_vals = self.new.back_vals; back_spot = spot; has_back = true } }
+        ensures rest { self.new ≡ record self.old {
+          back_keys = self.new.back_keys;
+          back_vals = self.new.back_vals;
+          back_spot = spot;
+          has_back = true;
+        } }
     {
         let (keys, vals) = pool.node(leaf).unwrap_leaf();
         self.back_keys = keys;
@@ -344,7 +363,11 @@ impl<'a, K: Copy, V: Copy> Ends<'a, K, V> {
 
     // The leaf behind the front's, and its place. Where the front has no leaf, it is the first.
     #[inline(always)]
-    fn next_leaf<const N: usize>(&self, root: Node, pool: &NodePool<K, V, N>) -> Option<(Spot, Node)>
+    fn next_leaf<const N: usize>(
+        &self,
+        root: Node,
+        pool: &NodePool<K, V, N>,
+    ) -> Option<(Spot, Node)>
         requires union { IsUnion N pool.now }
         requires gap { IsOpen pool.now root self.now }
         ensures some { IfSome result (λ found.
@@ -361,7 +384,11 @@ impl<'a, K: Copy, V: Copy> Ends<'a, K, V> {
 
     // The leaf before the back's, and its place. Where the back has no leaf, it is the last.
     #[inline(always)]
-    fn prev_leaf<const N: usize>(&self, root: Node, pool: &NodePool<K, V, N>) -> Option<(Spot, Node)>
+    fn prev_leaf<const N: usize>(
+        &self,
+        root: Node,
+        pool: &NodePool<K, V, N>,
+    ) -> Option<(Spot, Node)>
         requires union { IsUnion N pool.now }
         requires gap { IsOpen pool.now root self.now }
         ensures some { IfSome result (λ found. (0 < back_leaf pool.now root self.now)

@@ -1,4 +1,4 @@
-use Rattle.std.proofs.Common.{Option, ap, rules, subst, sym, ◌∙◌}
+use Rattle.std.proofs.Common.{ap, rules, subst, sym, ◌∙◌}
 use Rattle.std.specs.Iterator.{YieldsFirst}
 use Rattle.bforest_trees.specs.Range.{front_held}
 use Rattle.bforest_trees.proofs.Ranging.{first-beside, first-taken, front-passed, none-told, passed-asks, some-told}

@@ -1,4 +1,4 @@
-use Rattle.std.proofs.Common.{None, Option, Some, rules, subst, sym, ◌∙◌}
+use Rattle.std.proofs.Common.{rules, subst, sym, ◌∙◌}
 use Rattle.std.specs.Iterator.{YieldsLast}
 use Rattle.bforest_trees.specs.Range.{back_held}
 use Rattle.bforest_trees.proofs.Ranging.{back-beside, back-passed, back-told, last-after, last-beside, last-taken, none-told, passed-asks}

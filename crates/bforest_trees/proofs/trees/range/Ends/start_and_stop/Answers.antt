@@ -54,6 +54,6 @@ returns-else-code g c =
     let s = e.first_ends.leaf in
     let t = e.last_ends.leaf in
     let n = both-narrowed c.args.pool.now c.args.root c.requires.fresh (g.met.C.Comparator.total c.args.comp.now) c.requires.increasing c.args.start c.args.stop e from to (λ same. c.if-code.false (c.code.ensures.code ∙ same ∙ sym c.code-in-Some.ensures.code))
-        (c.start_at.ensures.keys s.entries s.slot_is) (c.start_at.ensures.vals s.entries s.slot_is) c.start_at.ensures.rest
-        (c.stop_at.ensures.keys t.entries t.slot_is) (c.stop_at.ensures.vals t.entries t.slot_is) c.stop_at.ensures.rest in
+    (c.start_at.ensures.keys s.entries s.slot_is) (c.start_at.ensures.vals s.entries s.slot_is) c.start_at.ensures.rest
+    (c.stop_at.ensures.keys t.entries t.slot_is) (c.stop_at.ensures.vals t.entries t.slot_is) c.stop_at.ensures.rest in
     record { left = n.left; range = n.range }
