@@ -2,7 +2,8 @@
 use Rattle.bforest.specs.Set.{as_popped, as_removed, the_value}
 use Rattle.bforest_nodes.specs.Entries.{is_present, value_for}
 use Rattle.std.proofs.Math.Nat.{pow-succ'}
-use Rattle.std.proofs.Common.{List, [], ◌∷◌, ◌++◌, ◌∙◌, None, Option, Some, ap, arith, refl, subst, suc, sym, zero, ◌*◌, ◌-◌, ◌<◌, ◌^◌, ◌≡◌, ◌≤◌, ℕ}
+use Rattle.std.proofs.Common.{List, [], ◌∷◌, ◌++◌, ◌∙◌, None, Option, Some, ap, arith, refl, reverse, subst, suc, sym, zero, ◌*◌, ◌-◌, ◌<◌, ◌^◌, ◌≡◌, ◌≤◌, ℕ}
+use Rattle.std.proofs.lemmas.List.{reverse-append}
 use Rattle.std.specs.Iterator.{YieldsFirst, YieldsLast}
 use Rattle.std.specs.Map.{keys_of}
 use Rattle.std.specs.Option.{is_some, option_map}
@@ -40,6 +41,12 @@ depth-eight (suc (suc q)) n two h =
 keys-append : {K X : Type 0} (es fs : List (K × X)) → keys_of (es ++ fs) ≡ keys_of es ++ keys_of fs
 keys-append [] fs = refl
 keys-append (e ∷ es) fs = ap (λ z. e.0 ∷ z) (keys-append es fs)
+
+-- the keys of a list reversed are its keys reversed
+pub keys-reverse : {K X : Type 0} (es : List (K × X)) → keys_of (reverse es) ≡ reverse (keys_of es)
+keys-reverse [] = refl
+keys-reverse (e ∷ es) =
+    ap keys_of (reverse-append (e ∷ []) es) ∙ keys-append (reverse es) (e ∷ []) ∙ ap (λ z. z ++ e.0 ∷ []) (keys-reverse es) ∙ sym (reverse-append (e.0 ∷ []) (keys_of es))
 
 -- an iterator that yields the first entry yields the first key
 pub yields-key : {K X : Type 0} (old new : List (K × X)) (o : Option (K × X)) → YieldsFirst (λ (entries : List (K × X)). entries) old o new → YieldsFirst (λ (keys : List K). keys) (keys_of old) (option_map (λ e. e.0) o) (keys_of new)
