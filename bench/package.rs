@@ -98,12 +98,7 @@ impl Uses for PackageMaps {
 
     #[inline(never)]
     fn update(&mut self, map: u32, key: u32) {
-        let mut cursor = self.maps[map as usize].cursor_mut(&mut self.forest, &());
-        if cursor.goto(key).is_some() {
-            if let Some(value) = cursor.value_mut() {
-                *value += 1;
-            }
-        }
+        _ = self.maps[map as usize].update(key, |value| value + 1, &mut self.forest, &());
     }
 
     #[inline(never)]

@@ -248,21 +248,18 @@ pub mod package {
         fn trade(&mut self, other: Place, limit: u32, mut left: u32, orders: &mut [Order]) -> u32 {
             let levels = &mut self.books[other.book][usize::from(other.is_buy)];
             while left > 0 {
-                // Most orders meet no level: only for one that does, a cursor is made.
                 let best = if other.is_buy { levels.last(&self.forest) } else { levels.first(&self.forest) };
-                if best.is_none_or(|it| !meets(!other.is_buy, limit, it.0)) {
+                let Some((price, mut level)) = best else { break };
+                if !meets(!other.is_buy, limit, price) {
                     break;
                 }
-                let mut cursor = levels.cursor_mut(&mut self.forest, &());
-                if other.is_buy {
-                    cursor.prev();
-                } else {
-                    cursor.goto_first();
-                }
-                let Some(level) = cursor.value_mut() else { break };
                 left = level.fill(left, orders);
-                if level.is_empty() {
-                    cursor.remove();
+                if !level.is_empty() {
+                    levels.update(price, |_| level, &mut self.forest, &());
+                } else if other.is_buy {
+                    levels.pop_last(&mut self.forest);
+                } else {
+                    levels.pop_first(&mut self.forest);
                 }
             }
             left
@@ -270,19 +267,25 @@ pub mod package {
 
         fn rest(&mut self, own: Place, price: u32, order: u32, orders: &mut [Order]) {
             let levels = &mut self.books[own.book][usize::from(own.is_buy)];
-            let mut level = levels.get(price, &self.forest, &()).unwrap_or(Level::EMPTY);
-            level.push(order, orders);
-            levels.insert(price, level, &mut self.forest, &()).expect(ROOM);
+            let push = |mut level: Level| {
+                level.push(order, orders);
+                level
+            };
+            if levels.update(price, push, &mut self.forest, &()).is_none() {
+                let mut level = Level::EMPTY;
+                level.push(order, orders);
+                levels.insert(price, level, &mut self.forest, &()).expect(ROOM);
+            }
         }
 
         fn cancel(&mut self, own: Place, price: u32, order: u32, orders: &mut [Order]) {
             let levels = &mut self.books[own.book][usize::from(own.is_buy)];
-            let Some(mut level) = levels.get(price, &self.forest, &()) else { return };
-            level.unlink(order, orders);
-            if level.is_empty() {
+            let unlink = |mut level: Level| {
+                level.unlink(order, orders);
+                level
+            };
+            if levels.update(price, unlink, &mut self.forest, &()).is_some_and(|level| level.is_empty()) {
                 levels.remove(price, &mut self.forest, &());
-            } else {
-                levels.insert(price, level, &mut self.forest, &()).expect(ROOM);
             }
         }
 
