@@ -367,9 +367,9 @@ impl<K: Copy, V: Copy> Map<K, V> {
 
     /// Returns a double-ended iterator over the entries within both bounds, in order.
     ///
-    /// At most two searches, as in [`Map::get`], and one comparison; the steps compare nothing. From an included key to another the
-    /// searches go down together as far as they go the same way. A start behind the end, or two excluded bounds that compare equal, give an
-    /// empty range.
+    /// At most two searches, as in [`Map::get`], and one comparison; the steps compare nothing. For an end without a bound
+    /// there is no search, and the searches for two keys go down together as far as they go the same way. A start behind the end, or two
+    /// excluded bounds that compare equal, give an empty range.
     #[inline(always)]
     pub fn range<'a, C: Comparator<K>>(
         &self,

@@ -547,7 +547,10 @@ impl<C: Order> Subject for Maps<'_, C> {
             Call::Update((key, bits)) => vec![Answer::Value(map.update(*key, |it| it ^ bits, forest, order))],
             Call::Iter => {
                 assert!(map.increases(forest, order) && map.is_empty() == map.iter(forest).next().is_none());
-                map.iter(forest).map(|it| Answer::Entry(Some(it))).collect()
+                let mut entries: Vec<_> = map.iter_back(forest).map(|it| Answer::Entry(Some(it))).collect();
+                entries.reverse();
+                assert!(map.iter(forest).map(|it| Answer::Entry(Some(it))).eq(entries.iter().cloned()));
+                entries
             }
             Call::Range(low, high, ends) => {
                 let mut range = map.range((*low, *high), forest, order);
@@ -638,7 +641,10 @@ impl<C: Order> Subject for Sets<'_, C> {
             Call::Update((key, _)) => vec![as_value(set.contains(*key, forest, order))],
             Call::Iter => {
                 assert!(set.increases(forest, order) && set.is_empty() == set.iter(forest).next().is_none());
-                set.iter(forest).map(|it| as_entry(Some(it))).collect()
+                let mut keys: Vec<_> = set.iter_back(forest).map(|it| as_entry(Some(it))).collect();
+                keys.reverse();
+                assert!(set.iter(forest).map(|it| as_entry(Some(it))).eq(keys.iter().cloned()));
+                keys
             }
             Call::Range(low, high, ends) => {
                 let mut range = set.range((*low, *high), forest, order);

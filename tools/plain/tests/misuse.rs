@@ -105,6 +105,7 @@ const OF_MAPS: [(&str, MapCall); 23] = [
     ("retain", |map, forest| map.retain(forest, |key, _| key > 1)),
     ("levels", |map, forest| _ = map.levels(forest)),
     ("iter", |map, forest| _ = map.iter(forest).count()),
+    ("iter_back", |map, forest| _ = map.iter_back(forest).count()),
     ("into_iter", |map, forest| _ = map.clone().into_iter(forest.clone()).count()),
     ("range", |map, forest| _ = map.range(..=1, forest, &()).rev().count()),
     ("cursor", |map, forest| _ = map.cursor(forest, &()).goto_first()),
@@ -114,7 +115,7 @@ const OF_MAPS: [(&str, MapCall); 23] = [
     ("debug", |map, forest| _ = format!("{:?}", map.debug(forest))),
 ];
 
-const OF_SETS: [(&str, SetCall); 18] = [
+const OF_SETS: [(&str, SetCall); 19] = [
     ("contains", |set, forest| _ = set.contains(1, forest, &())),
     ("get_or_less", |set, forest| _ = set.get_or_less(1, forest, &())),
     ("get_or_greater", |set, forest| _ = set.get_or_greater(1, forest, &())),
@@ -129,6 +130,7 @@ const OF_SETS: [(&str, SetCall); 18] = [
     ("retain", |set, forest| set.retain(forest, |key| key > 1)),
     ("levels", |set, forest| _ = set.levels(forest)),
     ("iter", |set, forest| _ = set.iter(forest).count()),
+    ("iter_back", |set, forest| _ = set.iter_back(forest).count()),
     ("range", |set, forest| _ = set.range(..=1, forest, &()).rev().count()),
     ("cursor", |set, forest| _ = set.cursor(forest, &()).goto(1)),
     ("increases", |set, forest| _ = set.increases(forest, &())),
