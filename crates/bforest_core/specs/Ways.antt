@@ -2,7 +2,7 @@
 use Rattle.std.specs.Prelude.{Bool, ◌≡◌, ℕ, suc, ◌<◌, ◌≤◌, ◌/◌, ◌%◌, ◌*◌, ◌^◌, ◌↔◌, List, length, get_or, insert, Option, Result, Err, IfOk, IsOk, OnErr, OnOk}
 use Rattle.std.specs.declared.cmp.Ordering.{Ordering}
 use Rattle.bforest_nodes.specs.Content.{Content}
-use Rattle.bforest_core.specs.Change.{Changes, EntryTaken, PlacedUnder, Shrinks, TakesNodes}
+use Rattle.bforest_core.specs.Change.{Changes, EntryTaken, PlacedUnder, Shrinks, StandsUnder, TakesNodes}
 use Rattle.bforest_core.specs.Climb.{LeafHalved, Over, Placed, SameBelow}
 use Rattle.bforest_core.specs.Descent.{SameAbove}
 use Rattle.bforest_core.specs.Leaves.{EndsIn}
@@ -61,6 +61,15 @@ module _ {K V : Type 0} where
     pub follows : Follows way path indices size
     pub index_is : get_or indices 0 0 ≡ index
     pub placed : PlacedUnder table.nodes root path indices size place
+
+  -- the entry at an index of the leaf of the way is at this place of the list under the root
+  pub record OnWay (table : Table K V) (root : ℕ) (way : Way) (index place : ℕ) : Type 0 where
+    pub path : List ℕ
+    pub indices : List ℕ
+    pub size : ℕ
+    pub follows : Follows way path indices size
+    pub index_is : get_or indices 0 0 ≡ index
+    pub stands : StandsUnder table.nodes root path indices size place
 
   -- the way leads to a leaf of a fit tree, where an entry may be inserted at this place of the tree's list, at an index of the leaf
   pub record PlacedIn (most : ℕ) (table : Table K V) (way : Way) (index : ℕ) (tree : Tree K V) (place : ℕ) : Type 0 where

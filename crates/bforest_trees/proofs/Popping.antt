@@ -3,13 +3,17 @@ use Rattle.bforest_nodes.proofs.Ordered.{IsIncreasing-remove}
 use Rattle.bforest_nodes.specs.Entries.{IsIncreasing}
 use Rattle.bforest_trees.specs.Calls.{Pops, RemovesAt}
 use Rattle.bforest_trees.proofs.Changed.{list-root, live-root}
-use Rattle.bforest_trees.specs.Forest.{Forest, IsLive, list_of}
+use Rattle.bforest_trees.proofs.Cutting.{IsTaken, shrunk}
+use Rattle.bforest_trees.proofs.Taking.{removes-end, removes-here}
+use Rattle.bforest_trees.specs.Forest.{Forest, IsLive, list_at, list_of}
 use Rattle.bforest_trees.specs.Place.{IsSpot}
 use Rattle.bforest_core.proofs.walks.Standing.{path-ended}
-use Rattle.bforest_core.specs.Paths.{IsAtEnd}
-use Rattle.bforest_core.specs.Trees.{tree_of}
+use Rattle.bforest_core.specs.Change.{Shrinks}
+use Rattle.bforest_core.specs.Paths.{IsAtEnd, list_under}
+use Rattle.bforest_core.specs.Trees.{IsUnion, tree_of}
 use Rattle.bforest_core.specs.declared.path.Path.{Path}
-use Rattle.std.proofs.Common.{None, Option, Some, ap, length, refl, slice_get, subst, sym, ◌≡◌, ℕ}
+use Rattle.std.proofs.Common.{List, None, Option, Some, [], ap, arith, length, refl, slice_get, subst, sym, ◌∙◌, ◌≡◌, ◌≢◌, ℕ}
+use Rattle.std.proofs.lemmas.Option.{slice_get_within}
 
 module _ {K X : Type 0} (most : ℕ) (f : Forest K X) (h : Option ℕ) (p : ℕ) where
   -- what a removal at a path answers and leaves, for a caller that uses no path
@@ -19,6 +23,26 @@ module _ {K X : Type 0} (most : ℕ) (f : Forest K X) (h : Option ℕ) (p : ℕ)
     removed = r;
     increasing = λ order up. subst (IsIncreasing order) (sym r.removed.list) (IsIncreasing-remove order (list_of f h) p up);
   }
+
+-- the entry at a place of the tree under a root, taken out
+module _ {K X : Type 0} {most : ℕ} {f : Forest K X} {n : ℕ} (live : list_at f n ≢ []) {p : ℕ} {x : K × X} (entry : slice_get (list_under f n) p ≡ Some x)
+    {f' : Forest K X} {path : List ℕ} {o : Option ℕ} (s : Shrinks most f f' path n p o) where
+  its-list : list_at f n ≡ list_under f n
+  its-list = list-root f n (live-root f n live)
+
+  taken-out : IsTaken most f f' (Some n) p o
+  taken-out = shrunk most f f' n p (live-root f n live) (slice_get_within (list_under f n) p x entry) path o s
+
+  pub popped : Pops most f (Some n) p (Some x) f' o
+  popped = let t = taken-out in pops most f (Some n) p (Some x) f' o (sym (ap (λ z. slice_get z p) its-list ∙ entry))
+      (removes-here most f (Some n) p f' o (omega (arith, slice_get_within (list_under f n) p x entry, ap length its-list)) t.removed t.sizes t.same_levels t.account)
+
+  pub popped-union : IsUnion most f'
+  popped-union = taken-out.union
+
+-- nothing is taken out of an empty handle
+pub popped-none : {K X : Type 0} (most : ℕ) (f : Forest K X) → Pops most f None 0 None f None
+popped-none most f = pops most f None 0 None f None refl (removes-end most f None 0 tt (omega arith))
 
 -- a path with no node stands at the length of any list
 pub end-at : {K X : Type 0} {n : ℕ} (f : Forest K X) (path : Path K X n) (h : Option ℕ) → IsLive f h → IsAtEnd path → IsSpot f h path (length (list_of f h))

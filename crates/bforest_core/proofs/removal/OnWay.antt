@@ -1,8 +1,11 @@
--- Restoring a tree whose leaf at the end of a way lost an entry: the answers of `heal_near`, `heal_far` and `heal_on`.
+-- Restoring a tree whose leaf at the end of a way lost an entry, and removing one there: the answers of `heal_near`, `heal_far` and `take_first`.
 use Rattle.bforest_core.proofs.Words.{◌≡◌, ℕ, zero, suc, ◌+◌, ◌-◌, ◌*◌, ◌/◌, ◌%◌, ◌^◌, ◌≤◌, ◌<◌, List, [], ◌∷◌, ◌++◌, drop, length, get_or, slice_get, Some}
 use Rattle.bforest_core.proofs.Words.{eqb_tells, false≢true, inl, inr, nat_eq, true, refl, sym, ap, ◌∙◌, arith, Rows, Table, OneAbove, StandsAbove, LeadsUp, TakenOn, ShrinksOn, Inner, Leaf}
 use Rattle.bforest_core.proofs.Words.{IsUsed, with_node, with_key, entry_keys, entry_items, inner_content, HasOthers, LeafLoss, StandsIn}
-use Rattle.bforest_core.proofs.{removal.Asked.{Counts, NodeAt, some_first}, removal.Healing.{counted_asks, kept, others, root_was, stood_in}, removal.LeafAt.{leaf_at}}
+use Rattle.bforest_core.proofs.Words.{Content, EntryTaken, IsLeaf, leaf_content, IsUnion, OnWay, count, entry_count, flat, length-append, slice_get_within, subst, tree_of, vals_of, without_entry}
+use Rattle.bforest_core.proofs.{removal.Removal.stands_in, walks.Entered.pair_read, walks.RowNodes.entry_at, table.Stored.keys_count}
+use Rattle.bforest_nodes.specs.Content.{keys_of}
+use Rattle.bforest_core.proofs.{removal.Asked.{Counts, NodeAt, some_first}, removal.Healing.{counted_asks, kept, others, root_was, stood_in}, removal.LeafAt.{LeafAt, leaf_at}}
 use Rattle.bforest_core.proofs.{removal.Lifted.{above_written, rekey_parent}, removal.Taking.{LeafKeyAt, above_asks, ahead, behind, first_asks}, rows.Zipper.{spot}}
 use Rattle.bforest_core.proofs.{table.Trading.puts, table.Tables.is_used, table.Stored.{key_count, some_same}, walks.TopNode.none_flat, walks.Ways.{leads-up, stands-points, up-digit}}
 use Rattle.bforest_core.proofs.insertion.LeafSpot.{first_rekeyed}
@@ -105,3 +108,52 @@ module _ {K V : Type 0} {most : ℕ} {old now : Table K V} {root place index : �
           let front : keys ≡ k.0 ∷ k.1 = leaf-keys same ∙ k.2 in ap (λ z. slice_get z 0) front)
           (λ o. let front = leftmost path indices 1 o.rows (length o.before) (λ i high low. zero-index none i high (omega (arith, o.above.height))) o.above.stands in
           first_rekeyed (length o.rows) 1 o.rows o.before o.x o.after k.0 refl front o.above))
+
+-- an entry of the leaf of a way is removed
+module _ {K V : Type 0} {most : ℕ} {t : Table K V} {root place index : ℕ} {way : Way} (union : IsUnion most t) (w : OnWay t root way index place) where
+  open w use {path, indices, size, follows as f}
+
+  at : LeafAt most t path indices size (tree_of t.nodes root) place
+  at = leaf_at (stands_in most t union w.stands)
+
+  abbrev es : List (K × V)
+  es = at.l ++ at.x ∷ at.r
+
+  slot-there : slice_get t.nodes way.leaf ≡ Some (leaf_content es)
+  slot-there = ap (slice_get t.nodes) (sym f.leaf_is) ∙ at.slot_is
+
+  low-there : index < length es
+  low-there = omega (arith, at.index_is, w.index_is, length-append at.l (at.x ∷ at.r))
+
+  -- the leaf is in the slots
+  pub leaf-within : way.leaf < length t.nodes
+  leaf-within = slice_get_within t.nodes way.leaf (leaf_content es) slot-there
+
+  pub entry-asks : {content : Content K V} → slice_get t.nodes way.leaf ≡ Some content → IsLeaf content × (index < entry_count content)
+  entry-asks {content} is = let same = some_same (sym is ∙ slot-there) in (subst IsLeaf (sym same) tt, omega (arith, ap entry_count same, keys_count es, low-there))
+
+  pub take-asks : IsUsed t way.leaf × LeafKeyAt t way.leaf index
+  take-asks = (is_used t way.leaf _ slot-there (ap (λ z. count z t.chain) (sym f.leaf_is) ∙ at.none_chain), (entry_keys es, entry_items es, slot-there, omega (arith, keys_count es, low-there)))
+
+  pub entry-taken : {new : Table K V} → ((keys : List K) (vals : List V) → slice_get t.nodes way.leaf ≡ Some (Leaf keys vals) → new ≡ with_node t way.leaf (without_entry (Leaf keys vals) index))
+      → TakenOn most t new root way index place
+  entry-taken {new} takes = record {
+    path = path;
+    indices = indices;
+    size = size;
+    follows = f;
+    index_is = w.index_is;
+    taken = record { union = union; stood = w.stands; leaf = record { entries = es; slot_was = at.slot_is; new_is = rw (f.leaf_is, w.index_is) (takes (entry_keys es) (entry_items es) slot-there) } };
+  }
+
+  -- the entry, as it was read
+  pub entry-read : {content : Content K V} {entry : K × V} → slice_get t.nodes way.leaf ≡ Some content → slice_get (keys_of content) index ≡ Some entry.0 → slice_get (vals_of content) index ≡ Some entry.1
+      → slice_get (flat (tree_of t.nodes root).leaves) place ≡ Some entry
+  entry-read {content} {entry} is key value = let same = some_same (sym is ∙ slot-there) in
+      let here = pair_read es index (ap (λ z. slice_get (keys_of z) index) (sym same) ∙ key) (ap (λ z. slice_get (vals_of z) index) (sym same) ∙ value) in
+      let there : place ≡ length (flat at.before) + index = omega (arith, at.place_is, at.index_is, w.index_is) in
+      ap (slice_get (flat (tree_of t.nodes root).leaves)) there ∙ entry_at at.before (get_or path 0 0) es at.after index at.leaves_are here
+
+-- a tree of one leaf
+pub taken-alone : {K V : Type 0} {most : ℕ} {old now : Table K V} {root place index : ℕ} {way : Way} (t : TakenOn most old now root way index place) → way.height ≡ 0 → EntryTaken most old now root place t.path t.indices 1
+taken-alone t none = let one : t.size ≡ 1 = t.follows.size_is ∙ ap suc none in rw one at t.taken

@@ -1,4 +1,4 @@
--- A path that goes a way, of which the code's digits are the indices: the answers of `find` and `go`.
+-- A path that goes a way, of which the code's digits are the indices: the answers of `find`, `first` and `go`.
 use Rattle.bforest_core.proofs.Words.{◌≡◌, ℕ, zero, suc, ◌+◌, ◌-◌, ◌*◌, ◌/◌, ◌%◌, ◌^◌, ◌≤◌, ◌<◌, List, [], ◌∷◌, ◌++◌, drop, length, get_or, set, slice_get}
 use Rattle.bforest_core.proofs.Words.{Some, option_map, inl, inr, refl, sym, ap, subst, ◌∙◌, arith, shr-shr, eqb_tells, get_or-set_other, get_or-set_same, get_or_past}
 use Rattle.bforest_core.proofs.Words.{length-set, Rows, Heads, Row, Content, IsInner, Inner, IsTrue, IsUnion, Table, is_root, tree_of, IsIncreasing, IsTotalOrder, Tree}
@@ -6,6 +6,8 @@ use Rattle.bforest_core.proofs.Words.{Coded, NumberAt, StandsAbove, Stands, Poin
 use Rattle.bforest_core.proofs.Words.{TakenOn, IsFit, FitRow, RowsIn, half_of, node, flat, heads, place, place-present, child_index, root_above, root_of, inner_content, entry_items}
 use Rattle.bforest_core.proofs.Words.{entry_keys, IsLeafCapacity}
 use Rattle.bforest_core.proofs.{walks.Searches.{CameTo, came-first, search-ends, search-on}, walks.Rising.place-le, walks.Whole.stands-pointed}
+use Rattle.bforest_core.proofs.Words.{IsFirst, IsLeafAt, IsSpotAt, OnWay}
+use Rattle.bforest_core.proofs.{walks.CodesDown.{FirstSaid, GoesDown, down-on, first-here, first-of, root-under}, walks.Leading.first-turns, walks.TopNode.none_flat}
 use Rattle.bforest_core.proofs.{walks.Reading.{ChildAsked, ChildRead}, walks.RowNodes.{NodeIn, entry_at, node-in}, walks.Steps.read, walks.LeafSearch.items-read}
 use Rattle.bforest_core.proofs.{table.Stored.{item_count, slice_get_at, some_same}, rows.LevelRows.{FitRow-split, Solid-full, heads-append, least-pos, some_leaf}}
 use Rattle.bforest_core.proofs.{removal.Asked.some_first, rows.Tops.top_rows, walks.TopNode.set_but, union.Unions.{is-rooted, rooted}}
@@ -386,3 +388,66 @@ module _ {path indices : List ℕ} {size index : ℕ} {path' indices' : List ℕ
 -- a path by which an entry may be inserted goes up from its leaf to the root
 pub placed-up : {K V : Type 0} {most : ℕ} {table : Table K V} {root index place : ℕ} {way : Way} → IsUnion most table → (w : PlacedOn table root way index place) → LeadsUp table.nodes root w.path w.indices w.size
 placed-up union w = let r = rooted _ _ _ union w.placed.root_is in leads-up union.1.capacity r.fit r.inside.rows_in r.root_is w.placed.at.points
+
+module _ {K V : Type 0} {most : ℕ} {table : Table K V} {root : ℕ} (union : IsUnion most table) (is : IsTrue (is_root table.nodes root)) {way : Way} (grand : ℕ) {at : ℕ} where
+  -- an entry of a spot's leaf, as that of a way's
+  pub spot-on-way : IsSpotAt table root (as-spot way grand) at → (l : IsLeafAt table root at way.leaf) → (way.height ≡ 0 → (way.code ≡ 0) × (way.parent ≡ way.leaf))
+      → (index : ℕ) → index < length l.entries → {place : ℕ} → place ≡ length (flat l.before) + index → OnWay table root way index place
+  spot-on-way s l alone index within {place} place_is =
+      let low : way.height ≤ 16 = omega (arith, (is-rooted root union is).low, s.height_is) in let indices = index ∷ digits 16 way.code in
+      let path = way.leaf ∷ padded 16 s.numbers in record {
+        path = path;
+        indices = indices;
+        size = suc way.height;
+        follows = record {
+          wide = ap suc (padded-length 16 s.numbers);
+          indexed = ap suc (digits-length 16 way.code);
+          leaf_is = refl;
+          parent_is = λ some. s.parent_is some;
+          digits = λ level high. digits-at 16 way.code level (omega arith);
+          alone = alone;
+          size_is = refl;
+          low = low;
+        };
+        index_is = refl;
+        stands = record {
+          root_is = is;
+          stands = record {
+            leaf = record { before = l.before; entries = l.entries; after = l.after; row_is = l.leaves_are; within = within; place_is = place_is };
+            above = coded-stands path indices s.numbers 1 (tree_of table.nodes root).above way.code (length l.before) (rw l.at s.coded)
+                (λ i high. (let up : 1 + i ≡ suc i = omega arith in (
+                  ap (λ z. get_or path z 0) up ∙ padded-at 16 s.numbers i (omega (arith, s.height_is)),
+                  ap (λ z. get_or indices z 0) up ∙ digits-at 16 way.code i (omega (arith, s.height_is)),
+                )));
+            size_is = ap suc s.height_is;
+          };
+        };
+      }
+
+-- the way down to the first leaf has come to the leaf of a way, or to what stands for it so far
+pub record Leading {K V : Type 0} (most : ℕ) (slots : List (Content K V)) (root : ℕ) (way : Way) : Type 0 where
+  pub grand : ℕ
+  pub down : GoesDown most slots IsFirst FirstSaid (as-spot (record { code = 0; leaf = root; parent = root; height = 0 }) root) root (as-spot way grand) way.leaf
+  pub alone : way.height ≡ 0 → (way.code ≡ 0) × (way.parent ≡ way.leaf)
+
+module _ {K V : Type 0} {most : ℕ} {table : Table K V} {root : ℕ} (union : IsUnion most table) (is : IsTrue (is_root table.nodes root)) where
+  pub leading-root : {way : Way} → way.code ≡ 0 → way.leaf ≡ root → way.parent ≡ root → way.height ≡ 0 → Leading most table.nodes root way
+  leading-root {way} code leaf parent height = record {
+    grand = root;
+    down = rw (code, leaf, parent, height) (record { capacity = union.1.capacity; under = root-under union is refl refl refl; ends = λ end leaf on. on });
+    alone = λ none. (code, parent ∙ sym leaf);
+  }
+
+  module _ {way : Way} (w : Leading most table.nodes root way) {content : Content K V} (found : slice_get table.nodes way.leaf ≡ Some content) where
+    pub leading-on : IsInner content → {child : ℕ} → ChildRead table.nodes way.leaf 0 child → {next : Way} → next.code ≡ way.code * 8 + 0 → next.leaf ≡ child
+        → next.parent ≡ way.leaf → next.height ≡ suc way.height → Leading most table.nodes root next
+    leading-on inner reads {next} code leaf parent height = record {
+      grand = way.parent;
+      down = subst (GoesDown most table.nodes IsFirst FirstSaid _ root (as-spot next way.parent)) (sym leaf)
+          (down-on w.down found inner first-turns reads (record { code = code; parent = parent; grand = refl; height = height }));
+      alone = λ none. absurd (omega arith);
+    }
+
+    pub leading-ends : (IsInner content → ⊥) → OnWay table root way 0 0
+    leading-ends other = let f = first-of union is refl refl (w.down.ends (as-spot way w.grand) way.leaf (first-here union.1.capacity found other (as-spot way w.grand))) in
+        spot-on-way union is w.grand f.0 f.1 w.alone 0 f.1.some (omega (arith, none_flat f.1.before f.1.at))

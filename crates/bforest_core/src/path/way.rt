@@ -1,15 +1,18 @@
 //! The way from a root down to a leaf, in one word.
-ghost use Rattle.std.specs.Prelude.{length, ◌≡◌, ℕ, suc, ◌+◌, ◌*◌, ◌/◌, ◌%◌, ◌^◌, ◌<◌, ◌≤◌, List, Some, IsTrue, true, false};
+ghost use Rattle.std.specs.Prelude.{length, slice_get, ◌≡◌, ℕ, suc, ◌+◌, ◌*◌, ◌/◌, ◌%◌, ◌^◌, ◌<◌, ◌≤◌, List, Some, IsTrue, true, false};
+ghost use Rattle.bforest_core.specs.Change.{Shrinks};
 ghost use Rattle.bforest_core.specs.Climb.{Inserted};
 ghost use Rattle.bforest_core.specs.Levels.{Tree, sizes_of};
 ghost use Rattle.bforest_core.specs.Paths.{list_under};
 ghost use Rattle.bforest_core.specs.Sizes.{need};
 ghost use Rattle.bforest_core.specs.Table.{IsFullAt, Table};
 ghost use Rattle.bforest_core.specs.Trees.{IsUnion, is_root};
-ghost use Rattle.bforest_core.specs.Ways.{EndsOnWay, Follows, HalvedOn, InsertsAt, LeadsUp, PlacedIn, PlacedOn, Retraces, ShrinksOn, TakenOn};
+ghost use Rattle.bforest_core.specs.Ways.{EndsOnWay, Follows, HalvedOn, InsertsAt, LeadsUp, OnWay, PlacedIn, PlacedOn, Retraces, ShrinksOn, TakenOn};
 ghost use Rattle.bforest_nodes.specs.Entries.{IsIncreasing};
 
-use crate::access::{child, entries, follow, leaf_key, put_child, put_entry, set_separator};
+use crate::access::{
+    child, entries, follow, leaf_key, put_child, put_entry, remove_entry, set_separator,
+};
 use crate::path::Path;
 use crate::path::insert::first_key;
 use crate::pool::{NodePool, OutOfMemory};
@@ -45,6 +48,21 @@ impl Way {
         while pool.node(way.leaf).is_inner() {
             let (index, child) = follow(pool, way.leaf, key, comp);
             way = way.below(index, child);
+        }
+        way
+    }
+
+    /// The way to the first leaf of the tree under `root`.
+    #[inline(always)]
+    pub fn first<K: Copy, V: Copy, const N: usize>(root: Node, pool: &NodePool<K, V, N>) -> Way
+        requires union { IsUnion N pool.now }
+        requires root { IsTrue (is_root pool.now.nodes root) }
+        ensures first { OnWay pool.now root result 0 0 }
+    {
+        let mut way = Way::root(root);
+        while pool.node(way.leaf).is_inner() {
+            let first = child(pool, way.leaf, 0);
+            way = way.below(0, first);
         }
         way
     }
@@ -125,6 +143,22 @@ impl<K: Copy, V: Copy, const N: usize> Path<K, V, N> {
 }
 
 impl<K: Copy, V: Copy, const N: usize> NodePool<K, V, N> {
+    /// Removes the first entry of the tree under `root`. Returns it, and the root that the tree has then, or `None` if it is empty.
+    pub fn take_first(&mut self, root: Node) -> ((K, V), Option<Node>)
+        requires union { IsUnion N self.old }
+        requires root { IsTrue (is_root self.old.nodes root) }
+        ensures entry { slice_get (list_under self.old root) 0 ≡ Some result.0 }
+        ensures taken { (nodes : List ℕ) × Shrinks N self.old self.new nodes root 0 result.1 }
+    {
+        let way = Way::first(root, self);
+        let entry = self.node(way.leaf).entry(0);
+        remove_entry(self, way.leaf, 0);
+        if way.height == 0 {
+            return (entry, self.heal_alone(root));
+        }
+        (entry, self.heal_on(&way, 0, root))
+    }
+
     /// Restores the tree under `root` after the leaf of a way lost the entry at an index, and nothing else changed. Returns the root that
     /// the tree has then, or `None` if it is empty.
     #[inline(always)]

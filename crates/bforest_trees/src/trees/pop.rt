@@ -3,7 +3,7 @@ ghost use Rattle.bforest_trees.specs.Calls.{Pops};
 ghost use Rattle.bforest_trees.specs.Forest.{IsLive, list_of};
 ghost use Rattle.std.specs.Prelude.{length, ◌-◌};
 
-use crate::trees::Trees;
+use crate::trees::{Trees, packed};
 use bforest_core::{PackedNode, Path};
 
 impl<K: Copy, V: Copy, const N: usize> Trees<K, V, N> {
@@ -12,9 +12,10 @@ impl<K: Copy, V: Copy, const N: usize> Trees<K, V, N> {
         requires live { IsLive self.old handle.old }
         ensures { Pops N self.old handle.old 0 result self.new handle.new }
     {
-        let mut path = Path::default();
-        self.first(*handle, &mut path);
-        self.take(handle, &mut path)
+        let root = handle.expand()?;
+        let (entry, left) = self.pool.take_first(root);
+        *handle = packed(left);
+        Some(entry)
     }
 
     /// Removes the last entry, and returns it. In an empty list there is none, and nothing changes.

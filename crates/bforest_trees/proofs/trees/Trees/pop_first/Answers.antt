@@ -1,15 +1,19 @@
-use Rattle.bforest_trees.proofs.Popping.{pops}
-use Rattle.bforest_trees.proofs.Spots.{spot-end}
+use Rattle.bforest_trees.proofs.Changed.{live-root}
+use Rattle.bforest_trees.proofs.Popping.{popped, popped-none, popped-union}
 use Rattle.bforest_trees.proofs.trees.Trees.pop_first.Goals as goal
-use Rattle.std.proofs.Common.{rules}
+use Rattle.std.proofs.Common.{rules, sym, ◌∙◌}
 
-pub first-requires : goal.first-requires
-first-requires g c = (search rules, (search rules, (c.requires.live, spot-end c.args.self.now c.default-path.result c.args.handle.now c.requires.live c.default-path.ensures)))
+pub take_first-entry-requires : goal.take_first-entry-requires
+take_first-entry-requires g c = let is = sym c.expand.ensures.value ∙ c.in_ok-root.was in
+    (search rules, (c.self.invariant, live-root c.self.inside.pool c.in_ok-root.root (rw (← c.self.view_is, is) at c.requires.live)))
 
-pub take-requires : goal.take-requires
-take-requires g c = (search rules, (search rules, (c.requires.live, record { place = 0; spot = c.first.ensures.spot })))
+pub returns-in_err-root : goal.returns-in_err-root
+returns-in_err-root g c = rw (c.from_residual.ensures, sym c.expand.ensures.value ∙ c.in_err-root.was) (popped-none g.row.N c.args.self.now)
+
+pub invariant_of-self : goal.invariant_of-self
+invariant_of-self g c = let is = sym c.expand.ensures.value ∙ c.in_ok-root.was in let told = c.take_first-entry.ensures in
+    popped-union (rw (← c.self.view_is, is) at c.requires.live) told.entry told.taken.1
 
 pub returns : goal.returns
-returns g c =
-    pops g.row.N c.args.self.now c.args.handle.now 0 c.take.result c.take.new.self c.take.new.handle
-    (c.take.ensures.value (record { place = 0; spot = c.first.ensures.spot })) (c.take.ensures.removed (record { place = 0; spot = c.first.ensures.spot }))
+returns g c = let is = sym c.expand.ensures.value ∙ c.in_ok-root.was in let told = c.take_first-entry.ensures in
+    rw (c.packed.ensures, is, ← c.self.view_is) (popped (rw (← c.self.view_is, is) at c.requires.live) told.entry told.taken.1)
