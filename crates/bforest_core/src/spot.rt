@@ -223,10 +223,40 @@ impl Spot {
         if self.has_prev() {
             return Some(self.prev_sibling(pool));
         }
+        self.prev_other(root, pool)
+    }
+
+    /// The leaf before, and its place, if there is one, where it has another parent.
+    #[inline(always)]
+    pub fn prev_other<K: Copy, V: Copy, const N: usize>(
+        &self,
+        root: Node,
+        pool: &NodePool<K, V, N>,
+    ) -> Option<(Spot, Node)>
+        requires union { IsUnion N pool.now }
+        requires spot { (¬ HasNoParent self.now) → (place : ℕ) × IsSpotAt pool.now root self.now place }
+        requires first { ¬ HasPrev self.now }
+        ensures some { IfSome result (λ found. (place : ℕ) → IsSpotAt pool.now root self.now place
+            → (0 < place) × IsSpotAt pool.now root found.0 (place - 1)
+            × IsLeafAt pool.now root (place - 1) found.1) }
+        ensures none { result ≡ None → (place : ℕ) → IsSpotAt pool.now root self.now place → place ≡ 0 }
+        ensures alone { HasNoParent self.now → result ≡ None }
+    {
         if self.height < 2 {
             return None;
         }
         self.prev_cousin(root, pool)
+    }
+
+    /// Whether the leaf before has the same parent, of a spot whose number is 0 where it has no parent.
+    #[inline(always)]
+    pub fn follows_sibling(&self) -> bool
+        requires plain { HasNoParent self.now → self.now.code ≡ 0 }
+        ensures prev { result ≡ true → HasPrev self.now }
+        ensures none { result ≡ false → ¬ HasPrev self.now }
+    {
+        let index = self.code % 8;
+        index > 0
     }
 
     // Whether the leaf before has the same parent.
@@ -238,9 +268,9 @@ impl Spot {
         self.height > 0 && self.code % 8 > 0
     }
 
-    // The leaf before, which has the same parent, and its place.
+    /// The leaf before, which has the same parent, and its place.
     #[inline(always)]
-    fn prev_sibling<K: Copy, V: Copy, const N: usize>(
+    pub fn prev_sibling<K: Copy, V: Copy, const N: usize>(
         &self,
         pool: &NodePool<K, V, N>,
     ) -> (Spot, Node)

@@ -4,10 +4,20 @@ use Rattle.bforest_trees.proofs.Changed.{list-root}
 use Rattle.bforest_trees.specs.Forest.{list_of}
 use Rattle.bforest_trees.specs.Looks.{AtLook, Holds, IsBehind, IsLook, LeafFrom, LeafUpTo, start_of}
 use Rattle.bforest_trees.specs.declared.look.Look.{Look}
-use Rattle.bforest_core.specs.Spots.{HasNoParent, IsLeafAt, IsSpotAt, leaf_count}
+use Rattle.bforest_core.specs.Levels.{LevelNode}
+use Rattle.bforest_core.specs.Spots.{Coded, HasNoParent, HasPrev, IsLeafAt, IsSpotAt, SpotOn, leaf_count}
 use Rattle.bforest_core.specs.Table.{Table}
+use Rattle.bforest_core.specs.Trees.{tree_of}
 use Rattle.bforest_core.specs.declared.spot.Spot.{Spot}
-use Rattle.std.proofs.Common.{IfSome, None, Option, Some, ap, arith, inl, inr, length, refl, subst, suc, sym, ◌+◌, ◌-◌, ◌<◌, ◌∙◌, ◌≡◌, ◌≤◌, ℕ}
+use Rattle.std.proofs.Common.{IfSome, List, None, Option, Some, [], ap, arith, inl, inr, length, refl, subst, suc, sym, ◌+◌, ◌-◌, ◌<◌, ◌∙◌, ◌∷◌, ◌≡◌, ◌≤◌, ℕ}
+
+-- a spot without a parent has the number 0
+plain-spot : {K V : Type 0} {table : Table K V} {root : ℕ} {spot : Spot} {place : ℕ} → IsSpotAt table root spot place → HasNoParent spot → spot.code ≡ 0
+plain-spot {K} {V} {table} {root} {spot} {place} s alone = go (tree_of table.nodes root).above (omega (arith, s.height_is, alone)) s.coded
+  where
+    go : (rows : List (List (LevelNode K ℕ))) → length rows ≡ 0 → Coded s.numbers rows spot.code place → spot.code ≡ 0
+    go [] none coded = coded.0
+    go (row ∷ rows) none coded = absurd (omega (arith, none))
 
 module _ {K V : Type 0} (table : Table K V) {handle : Option ℕ} (look : Look K V) {root : ℕ} (is : handle ≡ Some root) where
   -- the place of a look's leaf, which is asked for where it has one
@@ -102,6 +112,25 @@ module _ {K V : Type 0} (table : Table K V) {handle : Option ℕ} (look : Look K
         }
         )
   ]
+
+-- from the end of a tree, or where a leaf has no parent, no way goes to a sibling
+module _ {K V : Type 0} {table : Table K V} {handle : Option ℕ} {look : Look K V} where
+  pub plain-look : AtLook table handle look → HasNoParent look.spot → look.spot.code ≡ 0
+  plain-look at alone = elim at.is [ inl on ↦ plain-spot on.holds.from.on alone | inr end ↦ end.none.code ]
+
+  module _ (has : HasPrev look.spot) where
+    pub sibling-spot : AtLook table handle look → SpotOn table look.spot
+    sibling-spot at = elim at.is [
+      | inl on ↦ record { root = on.holds.from.root; place = on.holds.from.place; is = on.holds.from.on }
+      | inr end ↦ absurd (omega (arith, has.0, end.none.spot))
+    ]
+
+    -- the leaf before, under the same parent, ends in front of the leaf that a look holds
+    pub sibling-up-to : look.index ≡ 0 → (found : Spot × ℕ) → ((root place : ℕ) → IsSpotAt table root look.spot place → (0 < place) × IsSpotAt table root found.0 (place - 1) × IsLeafAt table root (place - 1) found.1) → (at : AtLook table handle look) → LeafUpTo table handle found.0 found.1 at.place
+    sibling-up-to first found says at = elim at.is [
+      | inl on ↦ prev-some table look on.holds.from.handle_is (Some found) (λ none. absurd (omega (arith, has.0, none))) first (says on.holds.from.root) at
+      | inr end ↦ absurd (omega (arith, has.0, end.none.spot))
+    ]
 
 -- what goes to the last entry of the leaf before
 module _ {K V : Type 0} {table : Table K V} {handle : Option ℕ} {spot : Spot} {number place : ℕ} (u : LeafUpTo table handle spot number place) {look : Look K V} (h : Holds table handle look u.start) (count : length look.keys.now ≡ length u.from.leaf.entries) where

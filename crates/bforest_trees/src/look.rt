@@ -1,7 +1,7 @@
 //! A place in a tree, to read at.
 ghost use Rattle.bforest_core.specs.Leaves.{SearchEndsAt};
 ghost use Rattle.bforest_core.specs.Place.{entry_before};
-ghost use Rattle.bforest_core.specs.Spots.{IsSpotAt, leaf_place};
+ghost use Rattle.bforest_core.specs.Spots.{HasPrev, IsSpotAt, leaf_place};
 ghost use Rattle.bforest_core.specs.Trees.{IsUnion, is_root};
 ghost use Rattle.bforest_nodes.specs.Entries.{IsIncreasing, place, value_for};
 ghost use Rattle.bforest_trees.specs.Forest.{Forest, IsLive, list_of};
@@ -290,15 +290,32 @@ impl<'a, K: Copy, V: Copy> Look<'a, K, V> {
         ensures behind { result ≡ true → (at : AtLook pool.now handle self.old) → 0 < at.place }
         ensures none { result ≡ false → (at : AtLook pool.now handle self.old) → at.place ≡ 0 }
     {
+        if self.spot.follows_sibling() {
+            let (spot, leaf) = self.spot.prev_sibling(pool);
+            self.enter_last(spot, leaf, pool);
+            return true;
+        }
         let Some((spot, leaf)) = self.leaf_before(handle, pool) else {
             return false;
         };
-        *self = Look::enter(spot, leaf, pool);
-        self.index = self.keys.len() - 1;
+        self.enter_last(spot, leaf, pool);
         true
     }
 
-    // The leaf before and its place, if there is one; from the end it is the last leaf.
+    // Goes to the last entry of a leaf.
+    #[inline(always)]
+    fn enter_last<const N: usize>(&mut self, spot: Spot, leaf: Node, pool: &'a NodePool<K, V, N>)
+        requires leaf { (handle : Option ℕ) × (place : ℕ) × LeafUpTo pool.now handle spot leaf place }
+        ensures look { (handle : Option ℕ) (place : ℕ) → LeafUpTo pool.now handle spot leaf place
+            → IsLook pool.now handle self.new (place - 1) }
+        ensures some { self.new.index < length self.new.keys.now }
+        ensures behind { (handle : Option ℕ) (place : ℕ) → LeafUpTo pool.now handle spot leaf place → 0 < place }
+    {
+        *self = Look::enter(spot, leaf, pool);
+        self.index = self.keys.len() - 1;
+    }
+
+    // The leaf before and its place, if there is one, where it has another parent; from the end it is the last leaf.
     #[inline(always)]
     fn leaf_before<const N: usize>(
         &self,
@@ -309,6 +326,7 @@ impl<'a, K: Copy, V: Copy> Look<'a, K, V> {
         requires live { IsLive pool.now handle }
         requires stands { AtLook pool.now handle self.now }
         requires first { self.now.index ≡ 0 }
+        requires other { ¬ HasPrev self.now.spot }
         ensures some { IfSome result (λ found. (at : AtLook pool.now handle self.now)
             → LeafUpTo pool.now handle found.0 found.1 at.place) }
         ensures none { result ≡ None → (at : AtLook pool.now handle self.now) → at.place ≡ 0 }
@@ -317,7 +335,7 @@ impl<'a, K: Copy, V: Copy> Look<'a, K, V> {
         if self.keys.is_empty() {
             return Some(Spot::last(root, pool));
         }
-        self.spot.prev(root, pool)
+        self.spot.prev_other(root, pool)
     }
 
     /// Goes to the place of a key, and returns its value.

@@ -17,11 +17,11 @@ last-requires g c = (search rules, (c.requires.union, live-root c.args.pool.now 
 pub returns-then-is_empty-clause-some : goal.returns-then-is_empty-clause-some
 returns-then-is_empty-clause-some g c = last-up-to c.args.pool.now c.args.self.now (sym c.expand.ensures.value ∙ c.in_ok-root.was) c.last.result.0 c.last.result.1 c.last.ensures.spot c.last.ensures.leaf (none-tested c.args.self.now.keys.now c.is_empty.result c.is_empty.ensures c.if-is_empty.true)
 
-pub prev-requires : goal.prev-requires
-prev-requires g c = (search rules, (c.requires.union, prev-asks c.args.pool.now c.args.self.now (sym c.expand.ensures.value ∙ c.in_ok-root.was) c.requires.stands.is))
+pub prev_other-requires : goal.prev_other-requires
+prev_other-requires g c = (search rules, (c.requires.union, (prev-asks c.args.pool.now c.args.self.now (sym c.expand.ensures.value ∙ c.in_ok-root.was) c.requires.stands.is, c.requires.other)))
 
 pub returns-clause-some : goal.returns-clause-some
-returns-clause-some g c = prev-some c.args.pool.now c.args.self.now (sym c.expand.ensures.value ∙ c.in_ok-root.was) c.prev.result c.prev.ensures.alone c.requires.first c.prev.ensures.some
+returns-clause-some g c = prev-some c.args.pool.now c.args.self.now (sym c.expand.ensures.value ∙ c.in_ok-root.was) c.prev_other.result c.prev_other.ensures.alone c.requires.first c.prev_other.ensures.some
 
 pub returns-clause-none : goal.returns-clause-none
-returns-clause-none g c = λ none. prev-none c.args.pool.now c.args.self.now (sym c.expand.ensures.value ∙ c.in_ok-root.was) c.requires.first (some-tested c.args.self.now.keys.now c.is_empty.result c.is_empty.ensures c.if-is_empty.false) (c.prev.ensures.none none)
+returns-clause-none g c = λ none. prev-none c.args.pool.now c.args.self.now (sym c.expand.ensures.value ∙ c.in_ok-root.was) c.requires.first (some-tested c.args.self.now.keys.now c.is_empty.result c.is_empty.ensures c.if-is_empty.false) (c.prev_other.ensures.none none)
