@@ -156,11 +156,12 @@ pub mod package {
     impl ByPosition {
         /// Takes out the marks from a position on.
         fn cut(&mut self, buffer: usize, at: Position) {
-            let marks = &mut self.buffers[buffer];
+            let mut cursor = self.buffers[buffer].cursor_mut(&mut self.forest, &());
             self.behind.clear();
-            self.behind.extend(marks.range(at.., &self.forest, &()));
-            for _ in &self.behind {
-                marks.pop_last(&mut self.forest);
+            cursor.goto(at);
+            while let Some((at, mark)) = cursor.entry() {
+                self.behind.push((at, mark));
+                cursor.remove();
             }
         }
     }
