@@ -64,6 +64,33 @@ fn insertions_near_a_cursor() {
     assert_eq!(cursor.key(), Some(85));
 }
 
+/// A key that belongs further on in the leaf where the cursor stands is compared with the entry here and the leaf's last, and then searched
+/// for in the leaf alone, whatever the height of the tree.
+#[test]
+fn insertions_further_on_in_the_leaf() {
+    /// Two, and a search among at most 7 keys.
+    const IN_LEAF: u32 = 2 + 4;
+    let counting = Counting::default();
+    let mut forest = MapForest::new();
+    let mut map = Map::new();
+    for key in (10..=10_000).step_by(10) {
+        map.insert(key, key, &mut forest, &()).unwrap();
+    }
+    let mut cursor = map.cursor_mut(&mut forest, &counting);
+    cursor.goto_first();
+    assert_eq!(counting.taken(), 0);
+    assert_eq!(cursor.insert(35, 0), Ok(None));
+    assert!(counting.taken() <= IN_LEAF);
+    assert_eq!(cursor.key(), Some(35));
+    cursor.goto_first();
+    assert_eq!(cursor.insert(35, 1), Ok(Some(0)));
+    assert!(counting.taken() <= IN_LEAF);
+    cursor.goto_first();
+    assert_eq!(cursor.insert(9_995, 0), Ok(None));
+    assert!(counting.taken() > IN_LEAF);
+    assert_eq!(cursor.key(), Some(9_995));
+}
+
 /// The same of a set, whose leaf of 16 keys became one of 10 to 80 and one of 90 to 160.
 #[test]
 fn insertions_near_a_cursor_of_a_set() {
