@@ -118,7 +118,8 @@ impl<K: Copy, V: Copy> Map<K, V> {
         requires searchable { IsSearchable (C.order comp.now) forest.old self.old }
         requires callable { (v : V) → value_for (C.order comp.now) (list_of forest.old self.old) key ≡ Some v
             → F.pre change v }
-        ensures { Updates F.FnOnce (C.order comp.now) forest.old self.old key change result forest.new self.new }
+        ensures { Updates F.FnOnce (C.order comp.now) forest.old self.old key change result forest.new
+            self.new }
     {
         forest.trees.update(self.root, key, change, comp)
     }
