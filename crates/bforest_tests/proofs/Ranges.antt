@@ -21,6 +21,14 @@ module _ {K : Type 0} (rule : K → K → Ordering) where
   abbrev pub joined_at : ℕ → K × K → List (K × K) → List (K × K)
   joined_at p range es = take p es ++ joined_from rule range (drop (suc p) es)
 
+  -- where no value is at the first place, there is nothing to join
+  pub joined-none : (es : List (K × K)) (p : ℕ) → p ≡ 0 → None ≡ value_at_place es p → es ≡ joined rule es
+  joined-none es p first none = go es (none ∙ ap (value_at_place es) first)
+    where
+      go : (xs : List (K × K)) → None ≡ value_at_place xs 0 → xs ≡ joined rule xs
+      go [] is = refl
+      go (x ∷ xs) is = absurd cc
+
   -- the range at place p ends at `end`, and joining from there on joins all
   pub record Begun (es : List (K × K)) (p : ℕ) (end : K) : Type 0 where
     pub start : K
