@@ -5,14 +5,11 @@ use Rattle.bforest_trees.specs.Calls.{Pops, RemovesAt}
 use Rattle.bforest_trees.proofs.Changed.{list-root, live-root}
 use Rattle.bforest_trees.proofs.Cutting.{IsTaken, shrunk}
 use Rattle.bforest_trees.proofs.Taking.{removes-end, removes-here}
-use Rattle.bforest_trees.specs.Forest.{Forest, IsLive, list_at, list_of}
-use Rattle.bforest_trees.specs.Place.{IsSpot}
-use Rattle.bforest_core.proofs.walks.Standing.{path-ended}
+use Rattle.bforest_trees.specs.Forest.{Forest, list_at, list_of}
 use Rattle.bforest_core.specs.Change.{Shrinks}
-use Rattle.bforest_core.specs.Paths.{IsAtEnd, list_under}
-use Rattle.bforest_core.specs.Trees.{IsUnion, tree_of}
-use Rattle.bforest_core.specs.declared.path.Path.{Path}
-use Rattle.std.proofs.Common.{List, None, Option, Some, [], ap, arith, length, refl, slice_get, subst, sym, ◌∙◌, ◌≡◌, ◌≢◌, ℕ}
+use Rattle.bforest_core.specs.Paths.{list_under}
+use Rattle.bforest_core.specs.Trees.{IsUnion}
+use Rattle.std.proofs.Common.{List, None, Option, Some, [], ap, arith, length, refl, slice_get, subst, sym, ◌-◌, ◌∙◌, ◌≡◌, ◌≢◌, ℕ}
 use Rattle.std.proofs.lemmas.Option.{slice_get_within}
 
 module _ {K X : Type 0} (most : ℕ) (f : Forest K X) (h : Option ℕ) (p : ℕ) where
@@ -37,16 +34,13 @@ module _ {K X : Type 0} {most : ℕ} {f : Forest K X} {n : ℕ} (live : list_at 
   popped = let t = taken-out in pops most f (Some n) p (Some x) f' o (sym (ap (λ z. slice_get z p) its-list ∙ entry))
       (removes-here most f (Some n) p f' o (omega (arith, slice_get_within (list_under f n) p x entry, ap length its-list)) t.removed t.sizes t.same_levels t.account)
 
+  -- the last entry
+  pub popped-last : p ≡ length (list_under f n) - 1 → Pops most f (Some n) (length (list_of f (Some n)) - 1) (Some x) f' o
+  popped-last last = subst (λ z. Pops most f (Some n) z (Some x) f' o) (last ∙ ap (λ z. length z - 1) (sym its-list)) popped
+
   pub popped-union : IsUnion most f'
   popped-union = taken-out.union
 
 -- nothing is taken out of an empty handle
 pub popped-none : {K X : Type 0} (most : ℕ) (f : Forest K X) → Pops most f None 0 None f None
 popped-none most f = pops most f None 0 None f None refl (removes-end most f None 0 tt (omega arith))
-
--- a path with no node stands at the length of any list
-pub end-at : {K X : Type 0} {n : ℕ} (f : Forest K X) (path : Path K X n) (h : Option ℕ) → IsLive f h → IsAtEnd path → IsSpot f h path (length (list_of f h))
-end-at f path None live end = (end, refl)
-end-at f path (Some root) live end =
-    let is = live-root f root live in
-    record { root_is = is; at = path-ended path.node path.entry (tree_of f.nodes root) (length (list_of f (Some root))) path.size end (ap length (list-root f root is)) }

@@ -4,9 +4,9 @@ use Rattle.bforest_core.proofs.Words.{Option, Some, None, Ok, Err, List, option_
 use Rattle.bforest_core.proofs.Words.{TakesFromLeaf, IsUnion, entry_keys, flat, is_present, leaf_content, place, search_of, tree_of, value_for, with_node}
 use Rattle.bforest_core.proofs.Words.{set-set, length-remove, ◌≢◌, ◌+◌, ◌/◌, ◌≤◌, ◌<◌, ◌∷◌, ◌++◌, arith, get_or, inl, inr, length, length-append, slice_get}
 use Rattle.bforest_core.proofs.Words.{nil_from_length, Content, Free, HasOthers, IsSingle, IsUsed, LeafLoss, Removed, Shrinks, StandsIn, Unbalanced, Table}
-use Rattle.bforest_core.proofs.{Words.{Tree, front_of, root_of, with_freed, without_entry}, table.Lists.set-kept, table.Tables.is_used}
+use Rattle.bforest_core.proofs.{Words.{Tree, suc, front_of, root_of, with_freed, without_entry}, table.Lists.set-kept, table.Tables.is_used}
 use Rattle.bforest_core.proofs.{table.Stored.keys_count, insertion.LeafPut.{index_is, slot, stands, valued}, walks.LeafSearch.items-read}
-use Rattle.bforest_core.proofs.{removal.LeafAt.{alone_last, LeafAt, leaf_at, leaf_count}, removal.Removal.{outcome, removal, stands_in}}
+use Rattle.bforest_core.proofs.{removal.LeafAt.{LeafAt, alone_last, end_last, leaf_at, leaf_count}, removal.Removal.{outcome, removal, stands_in}}
 use Rattle.bforest_core.proofs.{removal.Asked.{Counts, NodeAt, some_first}, removal.LeafEmptied.emptied_tree, removal.Removing.kept_removed}
 use Rattle.bforest_core.proofs.{removal.Taking.alone_loss, rows.Tops.root-stands, union.Unions.rooted, table.Trading.puts}
 use Rattle.std.specs.declared.cmp.Ordering.{Ordering}
@@ -91,7 +91,7 @@ module _ {K V : Type 0} {most : ℕ} {old now : Table K V} {root place path indi
   d : LeafAt most old path indices size tree place
   d = leaf_at stood_in
 
-  within : get_or indices 0 0 < length es
+  pub within : get_or indices 0 0 < length es
   within = omega (arith, d.index_is, length-append d.l (d.x ∷ d.r), leaf_count _ (d.l ++ d.x ∷ d.r) (slice_get old.nodes leaf) e.leaf.slot_was d.slot_is)
 
   slot_is : slice_get now.nodes leaf ≡ Some left
@@ -117,7 +117,7 @@ module _ {K V : Type 0} {most : ℕ} {old now : Table K V} {root place path indi
     counted_asks = (left, slot_read, λ free. free)
 
     module _ (m : ℕ) (value : Counts now read m) where
-      count_is : m + 1 ≡ length es
+      pub count_is : m + 1 ≡ length es
       count_is = omega (arith, value left slot_read, length-remove (entry_keys es) (get_or indices 0 0) (omega (arith, within, keys_count es)), keys_count es)
 
       -- the entry was the leaf's only one
@@ -142,6 +142,10 @@ module _ {K V : Type 0} {most : ℕ} {old now : Table K V} {root place path indi
         -- the tree where the leaf is still half full
         pub kept : most / 2 < m → Shrinks most old v path root place (Some root)
         kept high = settled (kept_removed stood_in lost root_was (λ z. Unit {0}) (inl (omega (arith, left_is))) (λ z is. tt))
+
+        -- the tree where the entry was its last
+        pub kept_last : suc place ≡ length (flat tree.leaves) → Shrinks most old v path root place (Some root)
+        kept_last last = settled (kept_removed stood_in lost root_was (λ z. Unit {0}) (inr (end_last lost last)) (λ z is. tt))
 
         -- the leaf is less than half full
         abbrev pub unbalanced : m ≤ most / 2 → Unbalanced most v path indices size root

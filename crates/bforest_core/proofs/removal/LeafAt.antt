@@ -2,7 +2,7 @@
 use Rattle.bforest_core.proofs.Words.{◌≡◌, ℕ, suc, ◌+◌, ◌≤◌, ◌<◌, Some, Option, List, [], ◌∷◌, ◌++◌, length, get_or, slice_get, refl, sym, ap, ◌∙◌}
 use Rattle.bforest_core.proofs.Words.{append_assoc, length-append, arith, Row, remove, Content, without_entry, Table, node, flat, heads, numbers, Tree}
 use Rattle.bforest_core.proofs.Words.{half_of, leaf_content, entry_keys, Above, StandsIn, LeafLoss, None, Bool, true, false, not, is_some, nil_from_length}
-use Rattle.bforest_core.proofs.Words.{OneAbove, NextIs, get_or_default, entry_count, Rekeyed, drop, take, length-drop, flat_map}
+use Rattle.bforest_core.proofs.Words.{OneAbove, NextIs, get_or_default, entry_count, Rekeyed, drop, take, length-drop, length-remove, flat_map}
 use Rattle.bforest_core.proofs.{table.Tables.{count-append, counts, row-split, row-same}, table.Stored.keys_count}
 use Rattle.bforest_core.proofs.{removal.Asked.{remove_at, remove_map, NodeAt, Beside, some_first, no_nodes, First}, removal.Lifted.{headed, top_one}}
 use Rattle.bforest_core.proofs.{removal.Collapse.heads-flat, rows.LevelRows.{flat-append, sizes-append, Solid-full, heads-append}}
@@ -111,6 +111,13 @@ module _ {K V : Type 0} {most : ℕ} {t v : Table K V} {path indices size tree p
   pub alone_last : size ≤ 1 → l.after ≡ []
   alone_last low = let one = top_one beside_asks.above low in
       no_nodes (half_of most) most loss_half l.after l.fits (nil_from_length (heads l.after) (omega (arith, length-append (heads l.before) ((named.0.0, get_or path 0 0) ∷ heads l.after))))
+
+  -- no leaf follows where the entry was the tree's last
+  pub end_last : suc place ≡ length (flat tree.leaves) → l.after ≡ []
+  end_last last = let left = length-remove (flat tree.leaves) place (omega (arith, last)) in
+      let parts = sym (ap length (flat-append l.before (node (get_or path 0 0) l.entries ∷ l.after))) ∙ ap length l.list_is in
+      no_nodes (half_of most) most loss_half l.after l.fits (nil_from_length (heads l.after)
+      (omega (arith, heads-flat l.after, left, parts, last, l.place_is, l.entry_was, length-append (flat l.before) (l.entries ++ flat l.after), length-append l.entries (flat l.after))))
 
   -- a leaf follows
   pub one_follows : (found : Option (K × ℕ)) (none : Bool) → Beside v path indices 1 size found → is_some found ≡ not none → none ≡ false → get_or indices 0 0 < length (l.entries ++ flat l.after)

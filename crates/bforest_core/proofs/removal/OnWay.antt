@@ -1,11 +1,11 @@
--- Restoring a tree whose leaf at the end of a way lost an entry, and removing one there: the answers of `heal_near`, `heal_far` and `take_first`.
+-- Restoring a tree whose leaf at the end of a way lost an entry, and removing one there: the answers of `heal_near`, `heal_far`, `take_first` and `take_last`.
 use Rattle.bforest_core.proofs.Words.{◌≡◌, ℕ, zero, suc, ◌+◌, ◌-◌, ◌*◌, ◌/◌, ◌%◌, ◌^◌, ◌≤◌, ◌<◌, List, [], ◌∷◌, ◌++◌, drop, length, get_or, slice_get, Some}
 use Rattle.bforest_core.proofs.Words.{eqb_tells, false≢true, inl, inr, nat_eq, true, refl, sym, ap, ◌∙◌, arith, Rows, Table, OneAbove, StandsAbove, LeadsUp, TakenOn, ShrinksOn, Inner, Leaf}
 use Rattle.bforest_core.proofs.Words.{IsUsed, with_node, with_key, entry_keys, entry_items, inner_content, HasOthers, LeafLoss, StandsIn}
 use Rattle.bforest_core.proofs.Words.{Content, EntryTaken, IsLeaf, leaf_content, IsUnion, OnWay, count, entry_count, flat, length-append, slice_get_within, subst, tree_of, vals_of, without_entry}
-use Rattle.bforest_core.proofs.{removal.Removal.stands_in, walks.Entered.pair_read, walks.RowNodes.entry_at, table.Stored.keys_count}
+use Rattle.bforest_core.proofs.{Words.{Shrinks, node}, removal.Removal.stands_in, rows.LevelRows.flat-append, walks.Entered.pair_read, walks.Reading.LastRead, walks.RowNodes.entry_at, table.Stored.keys_count}
 use Rattle.bforest_nodes.specs.Content.{keys_of}
-use Rattle.bforest_core.proofs.{removal.Asked.{Counts, NodeAt, some_first}, removal.Healing.{counted_asks, kept, others, root_was, stood_in}, removal.LeafAt.{LeafAt, leaf_at}}
+use Rattle.bforest_core.proofs.{removal.Asked.{Counts, NodeAt, some_first}, removal.Healing.{count_is, counted_asks, kept, kept_last, others, root_was, stood_in, within}, removal.LeafAt.{LeafAt, leaf_at}}
 use Rattle.bforest_core.proofs.{removal.Lifted.{above_written, rekey_parent}, removal.Taking.{LeafKeyAt, above_asks, ahead, behind, first_asks}, rows.Zipper.{spot}}
 use Rattle.bforest_core.proofs.{table.Trading.puts, table.Tables.is_used, table.Stored.{key_count, some_same}, walks.TopNode.none_flat, walks.Ways.{leads-up, stands-points, up-digit}}
 use Rattle.bforest_core.proofs.insertion.LeafSpot.{first_rekeyed}
@@ -51,6 +51,13 @@ module _ {K V : Type 0} {most : ℕ} {old now : Table K V} {root place index : �
   zero-index : way.code ≡ 0 → (level : ℕ) → 1 ≤ level → level < size → get_or indices level 0 ≡ 0
   zero-index none zero some low = absurd (omega arith)
   zero-index none (suc level) some low = f.digits level (omega (arith, f.size_is)) ∙ ap (λ z. z % 8) (zero-digits way.code level none)
+
+  -- an entry behind the first was lost, the last of the tree
+  pub healed-last : suc place ≡ length (flat (tree_of old.nodes root).leaves) → 0 < index → Shrinks most old now path root place (Some root)
+  healed-last last some = let read = leaf-asks in let m = entry_count read.0 in
+      let value : Counts now way.leaf m = λ content is. ap entry_count (some_same (sym read.1 ∙ is)) in
+      kept_last e _ (sym f.leaf_is) m value (λ none. omega (arith, count_is e _ (sym f.leaf_is) m value, within e, t.index_is)) now
+      (λ was tree at s h. behind s h (omega (arith, t.index_is))) last
 
   module _ {m : ℕ} (value : Counts now way.leaf m) (many : most / 2 < m) where
     has : HasOthers old now path indices
@@ -153,6 +160,23 @@ module _ {K V : Type 0} {most : ℕ} {t : Table K V} {root place index : ℕ} {w
       let here = pair_read es index (ap (λ z. slice_get (keys_of z) index) (sym same) ∙ key) (ap (λ z. slice_get (vals_of z) index) (sym same) ∙ value) in
       let there : place ≡ length (flat at.before) + index = omega (arith, at.place_is, at.index_is, w.index_is) in
       ap (slice_get (flat (tree_of t.nodes root).leaves)) there ∙ entry_at at.before (get_or path 0 0) es at.after index at.leaves_are here
+
+  -- the leaf has an entry
+  pub held : (content : Content K V) × (slice_get t.nodes way.leaf ≡ Some content) × (1 ≤ entry_count content)
+  held = (leaf_content es, slot-there, omega (arith, keys_count es, low-there))
+
+  -- the entry is the last of the tree
+  module _ (last : place ≡ length (flat (tree_of t.nodes root).leaves) - 1) where
+    all : length (flat (tree_of t.nodes root).leaves) ≡ length (flat at.before) + length (es ++ flat at.after)
+    all = ap (λ z. length (flat z)) at.leaves_are ∙ ap length (flat-append at.before (node (get_or path 0 0) es ∷ at.after)) ∙ length-append (flat at.before) (es ++ flat at.after)
+
+    pub ends-there : suc place ≡ length (flat (tree_of t.nodes root).leaves)
+    ends-there = omega (arith, all, last, length-append es (flat at.after), low-there)
+
+    -- its index is that of its leaf's last entry
+    pub on-last : {read : ℕ} → LastRead t.nodes way.leaf read → OnWay t root way read place
+    on-last {read} says = let is : read ≡ index = omega (arith, says (leaf_content es) slot-there, keys_count es, ends-there, all, length-append es (flat at.after), at.place_is, at.index_is, w.index_is, low-there) in
+        rw is w
 
 -- a tree of one leaf
 pub taken-alone : {K V : Type 0} {most : ℕ} {old now : Table K V} {root place index : ℕ} {way : Way} (t : TakenOn most old now root way index place) → way.height ≡ 0 → EntryTaken most old now root place t.path t.indices 1

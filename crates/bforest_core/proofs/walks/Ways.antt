@@ -1,4 +1,4 @@
--- A path that goes a way, of which the code's digits are the indices: the answers of `find`, `first` and `go`.
+-- A path that goes a way, of which the code's digits are the indices: the answers of `find`, `first`, `last` and `go`.
 use Rattle.bforest_core.proofs.Words.{◌≡◌, ℕ, zero, suc, ◌+◌, ◌-◌, ◌*◌, ◌/◌, ◌%◌, ◌^◌, ◌≤◌, ◌<◌, List, [], ◌∷◌, ◌++◌, drop, length, get_or, set, slice_get}
 use Rattle.bforest_core.proofs.Words.{Some, option_map, inl, inr, refl, sym, ap, subst, ◌∙◌, arith, shr-shr, eqb_tells, get_or-set_other, get_or-set_same, get_or_past}
 use Rattle.bforest_core.proofs.Words.{length-set, Rows, Heads, Row, Content, IsInner, Inner, IsTrue, IsUnion, Table, is_root, tree_of, IsIncreasing, IsTotalOrder, Tree}
@@ -6,10 +6,10 @@ use Rattle.bforest_core.proofs.Words.{Coded, NumberAt, StandsAbove, Stands, Poin
 use Rattle.bforest_core.proofs.Words.{TakenOn, IsFit, FitRow, RowsIn, half_of, node, flat, heads, place, place-present, child_index, root_above, root_of, inner_content, entry_items}
 use Rattle.bforest_core.proofs.Words.{entry_keys, IsLeafCapacity}
 use Rattle.bforest_core.proofs.{walks.Searches.{CameTo, came-first, search-ends, search-on}, walks.Rising.place-le, walks.Whole.stands-pointed}
-use Rattle.bforest_core.proofs.Words.{IsFirst, IsLeafAt, IsSpotAt, OnWay}
-use Rattle.bforest_core.proofs.{walks.CodesDown.{FirstSaid, GoesDown, down-on, first-here, first-of, root-under}, walks.Leading.first-turns, walks.TopNode.none_flat}
+use Rattle.bforest_core.proofs.Words.{IsFirst, IsLast, IsLeafAt, IsSpotAt, OnWay, length-append}
+use Rattle.bforest_core.proofs.{walks.CodesDown.{FirstSaid, GoesDown, LastSaid, down-on, first-here, first-of, last-here, last-of, root-under}, walks.Leading.Turns, walks.TopNode.none_flat}
 use Rattle.bforest_core.proofs.{walks.Reading.{ChildAsked, ChildRead}, walks.RowNodes.{NodeIn, entry_at, node-in}, walks.Steps.read, walks.LeafSearch.items-read}
-use Rattle.bforest_core.proofs.{table.Stored.{item_count, slice_get_at, some_same}, rows.LevelRows.{FitRow-split, Solid-full, heads-append, least-pos, some_leaf}}
+use Rattle.bforest_core.proofs.{table.Stored.{item_count, slice_get_at, some_same}, rows.LevelRows.{FitRow-split, Solid-full, flat-append, heads-append, least-pos, some_leaf}}
 use Rattle.bforest_core.proofs.{removal.Asked.some_first, rows.Tops.top_rows, walks.TopNode.set_but, union.Unions.{is-rooted, rooted}}
 use Rattle.bforest_core.specs.declared.path.way.Way.{Way}
 use Rattle.bforest_core.specs.declared.spot.Spot.{Spot}
@@ -424,30 +424,41 @@ module _ {K V : Type 0} {most : ℕ} {table : Table K V} {root : ℕ} (union : I
         };
       }
 
--- the way down to the first leaf has come to the leaf of a way, or to what stands for it so far
-pub record Leading {K V : Type 0} (most : ℕ) (slots : List (Content K V)) (root : ℕ) (way : Way) : Type 0 where
+-- the way down one side of a tree has come to the leaf of a way, or to what stands for it so far
+pub record Leading {K V : Type 0} (most : ℕ) (slots : List (Content K V)) (Side : Heads K → Heads K → Type 0) (Said : Spot → ℕ → Row K V → Rows K → Type 0) (root : ℕ) (way : Way) : Type 0 where
   pub grand : ℕ
-  pub down : GoesDown most slots IsFirst FirstSaid (as-spot (record { code = 0; leaf = root; parent = root; height = 0 }) root) root (as-spot way grand) way.leaf
+  pub down : GoesDown most slots Side Said (as-spot (record { code = 0; leaf = root; parent = root; height = 0 }) root) root (as-spot way grand) way.leaf
   pub alone : way.height ≡ 0 → (way.code ≡ 0) × (way.parent ≡ way.leaf)
 
 module _ {K V : Type 0} {most : ℕ} {table : Table K V} {root : ℕ} (union : IsUnion most table) (is : IsTrue (is_root table.nodes root)) where
-  pub leading-root : {way : Way} → way.code ≡ 0 → way.leaf ≡ root → way.parent ≡ root → way.height ≡ 0 → Leading most table.nodes root way
-  leading-root {way} code leaf parent height = record {
-    grand = root;
-    down = rw (code, leaf, parent, height) (record { capacity = union.1.capacity; under = root-under union is refl refl refl; ends = λ end leaf on. on });
-    alone = λ none. (code, parent ∙ sym leaf);
-  }
+  module _ {Side : Heads K → Heads K → Type 0} {Said : Spot → ℕ → Row K V → Rows K → Type 0} where
+    pub leading-root : Side [] [] → {way : Way} → way.code ≡ 0 → way.leaf ≡ root → way.parent ≡ root → way.height ≡ 0 → Leading most table.nodes Side Said root way
+    leading-root side {way} code leaf parent height = record {
+      grand = root;
+      down = rw (code, leaf, parent, height) (record { capacity = union.1.capacity; under = root-under union is refl refl side; ends = λ end leaf on. on });
+      alone = λ none. (code, parent ∙ sym leaf);
+    }
 
-  module _ {way : Way} (w : Leading most table.nodes root way) {content : Content K V} (found : slice_get table.nodes way.leaf ≡ Some content) where
-    pub leading-on : IsInner content → {child : ℕ} → ChildRead table.nodes way.leaf 0 child → {next : Way} → next.code ≡ way.code * 8 + 0 → next.leaf ≡ child
-        → next.parent ≡ way.leaf → next.height ≡ suc way.height → Leading most table.nodes root next
-    leading-on inner reads {next} code leaf parent height = record {
+    pub leading-on : {way : Way} (w : Leading most table.nodes Side Said root way) {content : Content K V} (found : slice_get table.nodes way.leaf ≡ Some content) → IsInner content
+        → {place : Row K V → ℕ} {index : ℕ} → Turns most table.nodes Side place way.leaf index → {child : ℕ} → ChildRead table.nodes way.leaf index child
+        → {next : Way} → next.code ≡ way.code * 8 + index → next.leaf ≡ child → next.parent ≡ way.leaf → next.height ≡ suc way.height → Leading most table.nodes Side Said root next
+    leading-on {way} w found inner turns reads {next} code leaf parent height = record {
       grand = way.parent;
-      down = subst (GoesDown most table.nodes IsFirst FirstSaid _ root (as-spot next way.parent)) (sym leaf)
-          (down-on w.down found inner first-turns reads (record { code = code; parent = parent; grand = refl; height = height }));
+      down = subst (GoesDown most table.nodes Side Said _ root (as-spot next way.parent)) (sym leaf)
+          (down-on w.down found inner turns reads (record { code = code; parent = parent; grand = refl; height = height }));
       alone = λ none. absurd (omega arith);
     }
 
-    pub leading-ends : (IsInner content → ⊥) → OnWay table root way 0 0
-    leading-ends other = let f = first-of union is refl refl (w.down.ends (as-spot way w.grand) way.leaf (first-here union.1.capacity found other (as-spot way w.grand))) in
+  module _ {way : Way} {content : Content K V} (found : slice_get table.nodes way.leaf ≡ Some content) (other : IsInner content → ⊥) where
+    pub leading-first : Leading most table.nodes IsFirst FirstSaid root way → OnWay table root way 0 0
+    leading-first w = let f = first-of union is refl refl (w.down.ends (as-spot way w.grand) way.leaf (first-here union.1.capacity found other (as-spot way w.grand))) in
         spot-on-way union is w.grand f.0 f.1 w.alone 0 f.1.some (omega (arith, none_flat f.1.before f.1.at))
+
+    pub leading-last : Leading most table.nodes IsLast LastSaid root way → (index : ℕ) × OnWay table root way index (length (flat (tree_of table.nodes root).leaves) - 1)
+    leading-last w = let f = last-of union is refl refl (w.down.ends (as-spot way w.grand) way.leaf (last-here union.1.capacity found other (as-spot way w.grand))) in
+        let l = f.1 in let index = length l.entries - 1 in
+        let row : length (tree_of table.nodes root).leaves ≡ length l.before + suc (length l.after) = ap length l.leaves_are ∙ length-append l.before (node way.leaf l.entries ∷ l.after) in
+        let all : length (flat (tree_of table.nodes root).leaves) ≡ length (flat l.before) + (length l.entries + length (flat l.after)) =
+        ap (λ z. length (flat z)) l.leaves_are ∙ simp (flat-append, length-append) in
+        let none = none_flat l.after (omega (arith, l.at, row)) in
+        (index, spot-on-way union is w.grand f.0 l w.alone index (omega (arith, l.some)) (omega (arith, all, none, l.some)))

@@ -1,5 +1,5 @@
 //! The way from a root down to a leaf, in one word.
-ghost use Rattle.std.specs.Prelude.{length, slice_get, ◌≡◌, ℕ, suc, ◌+◌, ◌*◌, ◌/◌, ◌%◌, ◌^◌, ◌<◌, ◌≤◌, List, Some, IsTrue, true, false};
+ghost use Rattle.std.specs.Prelude.{length, slice_get, ◌≡◌, ℕ, suc, ◌+◌, ◌-◌, ◌*◌, ◌/◌, ◌%◌, ◌^◌, ◌<◌, ◌≤◌, List, Some, IsTrue, true, false};
 ghost use Rattle.bforest_core.specs.Change.{Shrinks};
 ghost use Rattle.bforest_core.specs.Climb.{Inserted};
 ghost use Rattle.bforest_core.specs.Levels.{Tree, sizes_of};
@@ -11,7 +11,7 @@ ghost use Rattle.bforest_core.specs.Ways.{EndsOnWay, Follows, HalvedOn, InsertsA
 ghost use Rattle.bforest_nodes.specs.Entries.{IsIncreasing};
 
 use crate::access::{
-    child, entries, follow, leaf_key, put_child, put_entry, remove_entry, set_separator,
+    child, entries, follow, last_index, leaf_key, put_child, put_entry, remove_entry, set_separator,
 };
 use crate::path::Path;
 use crate::path::insert::first_key;
@@ -63,6 +63,22 @@ impl Way {
         while pool.node(way.leaf).is_inner() {
             let first = child(pool, way.leaf, 0);
             way = way.below(0, first);
+        }
+        way
+    }
+
+    /// The way to the last leaf of the tree under `root`.
+    #[inline(always)]
+    pub fn last<K: Copy, V: Copy, const N: usize>(root: Node, pool: &NodePool<K, V, N>) -> Way
+        requires union { IsUnion N pool.now }
+        requires root { IsTrue (is_root pool.now.nodes root) }
+        ensures last { (index : ℕ) × OnWay pool.now root result index (length (list_under pool.now root) - 1) }
+    {
+        let mut way = Way::root(root);
+        while pool.node(way.leaf).is_inner() {
+            let index = last_index(pool, way.leaf);
+            let last = child(pool, way.leaf, index);
+            way = way.below(index, last);
         }
         way
     }
@@ -157,6 +173,29 @@ impl<K: Copy, V: Copy, const N: usize> NodePool<K, V, N> {
             return (entry, self.heal_alone(root));
         }
         (entry, self.heal_on(&way, 0, root))
+    }
+
+    /// Removes the last entry of the tree under `root`. Returns it, and the root that the tree has then, or `None` if it is empty.
+    pub fn take_last(&mut self, root: Node) -> ((K, V), Option<Node>)
+        requires union { IsUnion N self.old }
+        requires root { IsTrue (is_root self.old.nodes root) }
+        ensures entry { slice_get (list_under self.old root) (length (list_under self.old root) - 1)
+            ≡ Some result.0 }
+        ensures taken { (nodes : List ℕ)
+            × Shrinks N self.old self.new nodes root (length (list_under self.old root) - 1) result.1 }
+    {
+        let way = Way::last(root, self);
+        let last = last_index(self, way.leaf);
+        let entry = self.node(way.leaf).entry(last);
+        remove_entry(self, way.leaf, last);
+        if last > 0 {
+            // The last leaf of a tree may have any number of entries.
+            return (entry, Some(root));
+        }
+        if way.height == 0 {
+            return (entry, self.heal_alone(root));
+        }
+        (entry, self.heal_far(&way, last, root))
     }
 
     /// Restores the tree under `root` after the leaf of a way lost the entry at an index, and nothing else changed. Returns the root that

@@ -4,7 +4,7 @@ ghost use Rattle.bforest_trees.specs.Forest.{IsLive, list_of};
 ghost use Rattle.std.specs.Prelude.{length, ◌-◌};
 
 use crate::trees::{Trees, packed};
-use bforest_core::{PackedNode, Path};
+use bforest_core::PackedNode;
 
 impl<K: Copy, V: Copy, const N: usize> Trees<K, V, N> {
     /// Removes the first entry, and returns it. In an empty list there is none, and nothing changes.
@@ -24,8 +24,9 @@ impl<K: Copy, V: Copy, const N: usize> Trees<K, V, N> {
         ensures { Pops N self.old handle.old (length (list_of self.old handle.old) - 1) result
             self.new handle.new }
     {
-        let mut end = Path::default();
-        self.prev(*handle, &mut end);
-        self.take(handle, &mut end)
+        let root = handle.expand()?;
+        let (last, left) = self.pool.take_last(root);
+        *handle = packed(left);
+        Some(last)
     }
 }
