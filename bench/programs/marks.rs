@@ -156,12 +156,11 @@ pub mod package {
     impl ByPosition {
         /// Takes out the marks from a position on.
         fn cut(&mut self, buffer: usize, at: Position) {
-            let mut cursor = self.buffers[buffer].cursor_mut(&mut self.forest, &());
+            let marks = &mut self.buffers[buffer];
             self.behind.clear();
-            cursor.goto(at);
-            while let Some((at, mark)) = cursor.entry() {
-                self.behind.push((at, mark));
-                cursor.remove();
+            self.behind.extend(marks.range(at.., &self.forest, &()));
+            for _ in &self.behind {
+                marks.pop_last(&mut self.forest);
             }
         }
     }
