@@ -2,6 +2,7 @@
 pub mod Removal
 pub mod Healing
 pub mod Balance
+pub mod Beside
 pub mod Rebalance
 pub mod Rebalancing
 pub mod Asked

@@ -1,14 +1,15 @@
 -- The way from a root down to a leaf in one word, the path that goes it, and what an insertion and a removal at its leaf return and leave.
-use Rattle.std.specs.Prelude.{Bool, ◌≡◌, ℕ, suc, ◌<◌, ◌≤◌, ◌/◌, ◌%◌, ◌*◌, ◌^◌, ◌↔◌, List, length, get_or, insert, Option, Result, Err, IfOk, IsOk, OnErr, OnOk}
+use Rattle.std.specs.Prelude.{Bool, ◌≡◌, ℕ, suc, ◌<◌, ◌≤◌, ◌/◌, ◌%◌, ◌*◌, ◌^◌, ◌↔◌, List, length, get_or, insert, slice_get, Option, Some, Result, Err, IfOk, IsOk, OnErr, OnOk}
 use Rattle.std.specs.declared.cmp.Ordering.{Ordering}
-use Rattle.bforest_nodes.specs.Content.{Content}
+use Rattle.bforest_nodes.specs.Content.{Content, IsLeafCapacity, entry_count}
 use Rattle.bforest_core.specs.Change.{Changes, EntryTaken, PlacedUnder, Shrinks, StandsUnder, TakesNodes}
 use Rattle.bforest_core.specs.Climb.{LeafHalved, Over, Placed, SameBelow}
 use Rattle.bforest_core.specs.Descent.{SameAbove}
 use Rattle.bforest_core.specs.Leaves.{EndsIn}
-use Rattle.bforest_core.specs.Levels.{LevelNode, Tree, most_levels}
+use Rattle.bforest_core.specs.Levels.{LevelNode, Tree, half_of, most_levels}
 use Rattle.bforest_core.specs.Paths.{list_under, sizes_under}
 use Rattle.bforest_core.specs.Place.{root_above}
+use Rattle.bforest_core.specs.Removal.{Unbalanced}
 use Rattle.bforest_core.specs.Sizes.{growth, need}
 use Rattle.bforest_core.specs.Spots.{NumberAt}
 use Rattle.bforest_core.specs.Table.{NeedsGrowth, Table, free_count, room}
@@ -98,6 +99,23 @@ module _ {K V : Type 0} where
     pub follows : Follows way path indices size
     pub index_is : get_or indices 0 0 ≡ index
     pub taken : EntryTaken most old new root place path indices size
+
+  -- a node, if it is used, has so many entries or children
+  abbrev pub CountsAt : Table K V → ℕ → ℕ → Type 0
+  CountsAt table number count = (content : Content K V) → slice_get table.nodes number ≡ Some content → count ≡ entry_count content
+
+  -- the leaf of a way lost an entry and has too few, and the rows above have its first key. It is not the last child of its parent, which
+  -- has more than 4
+  pub record ShortOn (most : ℕ) (table : Table K V) (root : ℕ) (way : Way) : Type 0 where
+    pub path : List ℕ
+    pub indices : List ℕ
+    pub size : ℕ
+    pub follows : Follows way path indices size
+    pub capacity : IsLeafCapacity most
+    pub unbalanced : Unbalanced most table path indices size root
+    pub short : length unbalanced.lost.entries < half_of most
+    pub high : 0 < way.height
+    pub children : (content : Content K V) → slice_get table.nodes way.parent ≡ Some content → (4 < entry_count content) × (suc (way.code % 8) < entry_count content)
 
   -- the tree lost that entry; the freed nodes are those of a path that goes the way
   pub record ShrinksOn (most : ℕ) (old new : Table K V) (root place : ℕ) (path : List ℕ) (size : ℕ) (result : Option ℕ) : Type 0 where

@@ -67,6 +67,16 @@ module _ {K : Type 0} where
       let b = fit_full 4 8 (omega arith) row' s'.1 in
       (omega arith, topped-sizes (heads row) (heads row') rows rows' s.2 s'.2 (omega (arith, length-sizes row, length-sizes row', ap length here)) rest t.1)
 
+  -- where the lowest row has as many nodes as before, and those above it have the same sizes
+  pub topped-above : {low low' : List ℕ} {high : List (List ℕ)} (list list' : Heads K) (rows rows' : Rows K) → Stacked list rows → Stacked list' rows' → 2 ≤ length list' →
+      map sizes rows ≡ low ∷ high → map sizes rows' ≡ low' ∷ high → length low' ≡ length low → Topped list rows → Topped list' rows'
+  topped-above list list' rows [] s s' two was is same t = tt
+  topped-above list list' [] (row' ∷ rows') s s' two was is same t = absurd cc
+  topped-above {low} {low'} list list' (row ∷ rows) (row' ∷ rows') s s' two was is same t =
+      let here : sizes row ≡ low = cc in let here' : sizes row' ≡ low' = cc in let rest : map sizes rows' ≡ map sizes rows = cc in let a = fit_full 4 8 (omega arith) row s.1 in
+      let b = fit_full 4 8 (omega arith) row' s'.1 in
+      (two, topped-sizes (heads row) (heads row') rows rows' s.2 s'.2 (omega (arith, length-sizes row, length-sizes row', ap length here, ap length here')) rest t.1)
+
   -- a path through the rows is a path through the lower ones
   pub stands-below : (path indices : List ℕ) (level : ℕ) (list : Heads K) (rows gone : Rows K) (place : ℕ) → place < length list → Stacked list rows → StandsAbove path indices level (rows ++ gone) place → StandsAbove path indices level rows place
   stands-below path indices level list [] gone place low s st = omega arith

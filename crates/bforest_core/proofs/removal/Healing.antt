@@ -4,7 +4,7 @@ use Rattle.bforest_core.proofs.Words.{Option, Some, None, Ok, Err, List, option_
 use Rattle.bforest_core.proofs.Words.{TakesFromLeaf, IsUnion, entry_keys, flat, is_present, leaf_content, place, search_of, tree_of, value_for, with_node}
 use Rattle.bforest_core.proofs.Words.{set-set, length-remove, ◌≢◌, ◌+◌, ◌/◌, ◌≤◌, ◌<◌, ◌∷◌, ◌++◌, arith, get_or, inl, inr, length, length-append, slice_get}
 use Rattle.bforest_core.proofs.Words.{nil_from_length, Content, Free, HasOthers, IsSingle, IsUsed, LeafLoss, Removed, Shrinks, StandsIn, Unbalanced, Table}
-use Rattle.bforest_core.proofs.{Words.{Tree, suc, front_of, root_of, with_freed, without_entry}, table.Lists.set-kept, table.Tables.is_used}
+use Rattle.bforest_core.proofs.{Words.{IsLeafCapacity, Loses, Tree, half_of, suc, ◌-◌, front_of, root_of, with_freed, without_entry}, table.Lists.set-kept, table.Tables.is_used}
 use Rattle.bforest_core.proofs.{table.Stored.keys_count, insertion.LeafPut.{index_is, slot, stands, valued}, walks.LeafSearch.items-read}
 use Rattle.bforest_core.proofs.{removal.LeafAt.{LeafAt, alone_last, end_last, leaf_at, leaf_count}, removal.Removal.{outcome, removal, stands_in}}
 use Rattle.bforest_core.proofs.{removal.Asked.{Counts, NodeAt, some_first}, removal.LeafEmptied.emptied_tree, removal.Removing.kept_removed}
@@ -62,6 +62,14 @@ module _ {K V : Type 0} {cmp : K → K → Ordering} (most : ℕ) {table root le
 
   pub takes-from-leaf : TakesFromLeaf cmp table root key most path indices size answer new
   takes-from-leaf = by_presence _ refl
+
+pub half_left : (n : ℕ) → IsLeafCapacity n → n - n / 2 ≡ half_of n
+half_left n c = omega (arith, c.odd)
+
+-- a leaf that lost an entry, as rebalancing it requires it
+abbrev pub leaf_loses : {K V : Type 0} {n : ℕ} {table : Table K V} {path indices : List ℕ} {size root : ℕ} → IsLeafCapacity n → Unbalanced n table path indices size root → Loses n (n - n / 2) table path indices 0 size
+leaf_loses {n} capacity u = let l = u.lost in
+    record { leaf = true; capacity = λ is. capacity; least_is = half_left n capacity; before = l.before; entries = l.entries; after = l.after; rest = l.rest; on = l.on_level; at_entry = λ some. u.at_entry (omega (arith, some, half_left n capacity)) }
 
 module _ {K V : Type 0} {most : ℕ} {old now : Table K V} {root place path indices size : _} (e : EntryTaken most old now root place path indices size) where
   abbrev tree : Tree K V
@@ -132,24 +140,31 @@ module _ {K V : Type 0} {most : ℕ} {old now : Table K V} {root place path indi
           let two = h.2 ∙ ap (λ z. h.0 ∷ z) k.2 in record { x = h.0; y = k.0; more = k.1; slot_was = cc; new_is = cc }
 
       -- the leaf has others, and the rows above have its first key
-      module _ (some : m ≢ 0) (v : _) (renews : (t tree' place' : _) → StandsIn most t path indices size tree' place' → HasOthers t now path indices → LeafLoss most t v path indices size tree' place') where
-        pub lost : LeafLoss most old v path indices size tree place
-        lost = renews old tree place stood_in (others some)
-
-        pub left_is : m ≡ length lost.entries
-        left_is = omega (arith, count_is, lost.was es e.leaf.slot_was)
+      module _ {v : Table K V} (l : LeafLoss most old v path indices size tree place) where
+        pub left_is : m ≡ length l.entries
+        left_is = omega (arith, count_is, l.was es e.leaf.slot_was)
 
         -- the tree where the leaf is still half full
-        pub kept : most / 2 < m → Shrinks most old v path root place (Some root)
-        kept high = settled (kept_removed stood_in lost root_was (λ z. Unit {0}) (inl (omega (arith, left_is))) (λ z is. tt))
+        pub kept_full : most / 2 < m → Shrinks most old v path root place (Some root)
+        kept_full high = settled (kept_removed stood_in l root_was (λ z. Unit {0}) (inl (omega (arith, left_is))) (λ z is. tt))
 
         -- the tree where the entry was its last
         pub kept_last : suc place ≡ length (flat tree.leaves) → Shrinks most old v path root place (Some root)
-        kept_last last = settled (kept_removed stood_in lost root_was (λ z. Unit {0}) (inr (end_last lost last)) (λ z is. tt))
+        kept_last last = settled (kept_removed stood_in l root_was (λ z. Unit {0}) (inr (end_last l last)) (λ z is. tt))
 
         -- the leaf is less than half full
+        abbrev pub unbalanced_by : m ≤ most / 2 → Unbalanced most v path indices size root
+        unbalanced_by low = record { old = old; tree = tree; place = place; stands = stood_in; root_is = root_was; lost = l; at_entry = λ high. absurd (omega (arith, left_is)) }
+
+      module _ (some : m ≢ 0) (v : _) (renews : (t tree' place' : _) → StandsIn most t path indices size tree' place' → HasOthers t now path indices → LeafLoss most t v path indices size tree' place') where
+        abbrev pub lost : LeafLoss most old v path indices size tree place
+        lost = renews old tree place stood_in (others some)
+
+        pub kept : most / 2 < m → Shrinks most old v path root place (Some root)
+        kept high = kept_full lost high
+
         abbrev pub unbalanced : m ≤ most / 2 → Unbalanced most v path indices size root
-        unbalanced low = record { old = old; tree = tree; place = place; stands = stood_in; root_is = root_was; lost = lost; at_entry = λ high. absurd (omega (arith, left_is)) }
+        unbalanced low = unbalanced_by lost low
 
       -- the tree of one leaf that has others
       pub alone_kept : size ≡ 1 → 0 < m → Shrinks most old now path root place (Some root)

@@ -60,7 +60,8 @@ module _ {K V : Type 0} {cap least : ℕ} {t : Table K V} {path indices up size 
   pub counted_asks : NodeAt t (get_or path up r)
   counted_asks = (content es, slot_read, s.used es)
 
-  count_read : (m : ℕ) → Counts t (get_or path up r) m → m ≡ length es
+  -- how many entries the node has
+  pub count_read : (m : ℕ) → Counts t (get_or path up r) m → m ≡ length es
   count_read m value = value (content es) slot_read ∙ s.count_is es
 
   pub named : First es

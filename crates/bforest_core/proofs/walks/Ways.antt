@@ -42,7 +42,7 @@ digits-length : (n code : ℕ) → length (digits n code) ≡ n
 digits-length zero code = refl
 digits-length (suc n) code = ap suc (digits-length n (code / 8))
 
-up-none : (code : ℕ) → code / 2 ^ (3 * 0) ≡ code
+pub up-none : (code : ℕ) → code / 2 ^ (3 * 0) ≡ code
 up-none code = omega arith
 
 pub up-digit : (code i : ℕ) → code / 8 / 2 ^ (3 * i) ≡ code / 2 ^ (3 * suc i)

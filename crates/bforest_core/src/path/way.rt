@@ -6,15 +6,18 @@ ghost use Rattle.bforest_core.specs.Levels.{Tree, sizes_of};
 ghost use Rattle.bforest_core.specs.Paths.{list_under};
 ghost use Rattle.bforest_core.specs.Sizes.{need};
 ghost use Rattle.bforest_core.specs.Table.{IsFullAt, Table};
-ghost use Rattle.bforest_core.specs.Trees.{IsUnion, is_root};
-ghost use Rattle.bforest_core.specs.Ways.{EndsOnWay, Follows, HalvedOn, InsertsAt, LeadsUp, OnWay, PlacedIn, PlacedOn, Retraces, ShrinksOn, TakenOn};
+ghost use Rattle.bforest_core.specs.Removal.{LeafLoss, Shrunk};
+ghost use Rattle.bforest_core.specs.Trees.{IsUnion, is_root, tree_of};
+ghost use Rattle.bforest_core.specs.Ways.{CountsAt, EndsOnWay, Follows, HalvedOn, InsertsAt, LeadsUp, OnWay, PlacedIn, PlacedOn, Retraces, ShortOn, ShrinksOn, TakenOn};
+ghost use Rattle.bforest_nodes.specs.Content.{Content, entry_count};
 ghost use Rattle.bforest_nodes.specs.Entries.{IsIncreasing};
 
 use crate::access::{
-    child, entries, follow, last_index, leaf_key, put_child, put_entry, remove_entry, set_separator,
+    child, entries, follow, last_index, leaf_key, put_child, put_entry, remove_child, remove_entry,
+    separator, set_separator,
 };
-use crate::path::Path;
 use crate::path::insert::first_key;
+use crate::path::{MIN_CHILDREN, Path};
 use crate::pool::{NodePool, OutOfMemory};
 use bforest_nodes::{Comparator, Node};
 
@@ -207,24 +210,28 @@ impl<K: Copy, V: Copy, const N: usize> NodePool<K, V, N> {
         ensures healed { (old : Table K V) (place : ℕ) (t : TakenOn N old self.old root way.now index place)
             → ShrinksOn N old self.new root place t.path t.size result }
     {
-        if self.heal_near(way, index) {
+        if entries(self, way.leaf) <= N / 2 {
+            return self.heal_short(way, index, root);
+        }
+        if self.renew_near(way, index) {
             return Some(root);
         }
         self.heal_far(way, index, root)
     }
 
-    // Restores the tree where at most the row of the leaf's parent has to know. Else it returns false, and changes nothing.
+    // Gives the leaf's first key, where the leaf lost its first entry and has others, to the row of its parent. Where a row further up has
+    // it, it returns false, and changes nothing.
     #[inline(always)]
-    fn heal_near(&mut self, way: &Way, index: usize) -> bool
+    fn renew_near(&mut self, way: &Way, index: usize) -> bool
         requires taken { (old : Table K V) × (root place : ℕ) × TakenOn N old self.old root way.now index place }
-        ensures healed { result ≡ true → (old : Table K V) (root place : ℕ)
+        requires some { (content : Content K V) → slice_get self.old.nodes way.now.leaf ≡ Some content
+            → 0 < entry_count content }
+        ensures renewed { result ≡ true → (old : Table K V) (root place : ℕ)
             → (t : TakenOn N old self.old root way.now index place)
-            → ShrinksOn N old self.new root place t.path t.size (Some root) }
+            → LeafLoss N old self.new t.path t.indices t.size (tree_of old.nodes root) place }
+        ensures children { (m : ℕ) → CountsAt self.old way.now.parent m → CountsAt self.new way.now.parent m }
         ensures same { result ≡ false → self.new ≡ self.old }
     {
-        if entries(self, way.leaf) <= N / 2 {
-            return false;
-        }
         if index > 0 {
             return true;
         }
@@ -236,6 +243,72 @@ impl<K: Copy, V: Copy, const N: usize> NodePool<K, V, N> {
         }
         // No row names the first leaf of a tree by its key.
         way.code == 0
+    }
+
+    // Restores the tree where the leaf has too few entries.
+    #[inline(never)]
+    fn heal_short(&mut self, way: &Way, index: usize, root: Node) -> Option<Node>
+        requires most { index ≤ 255 }
+        requires taken { (old : Table K V) × (place : ℕ) × TakenOn N old self.old root way.now index place }
+        requires short { (content : Content K V) → slice_get self.old.nodes way.now.leaf ≡ Some content
+            → entry_count content ≤ N / 2 }
+        ensures healed { (old : Table K V) (place : ℕ) (t : TakenOn N old self.old root way.now index place)
+            → ShrinksOn N old self.new root place t.path t.size result }
+    {
+        if self.heal_beside(way, index) {
+            return Some(root);
+        }
+        self.heal_far(way, index, root)
+    }
+
+    // Restores the tree where the leaf has too few entries, and no node but it, its parent and its right neighbour there has to change. Else
+    // it returns false, and changes nothing.
+    #[inline(always)]
+    fn heal_beside(&mut self, way: &Way, index: usize) -> bool
+        requires taken { (old : Table K V) × (root place : ℕ) × TakenOn N old self.old root way.now index place }
+        requires short { (content : Content K V) → slice_get self.old.nodes way.now.leaf ≡ Some content
+            → entry_count content ≤ N / 2 }
+        ensures healed { result ≡ true → (old : Table K V) (root place : ℕ)
+            → (t : TakenOn N old self.old root way.now index place)
+            → ShrinksOn N old self.new root place t.path t.size (Some root) }
+        ensures same { result ≡ false → self.new ≡ self.old }
+    {
+        if way.height == 0 {
+            return false;
+        }
+        let children = entries(self, way.parent);
+        if children <= MIN_CHILDREN {
+            return false;
+        }
+        if way.digit(0) + 1 >= children {
+            return false;
+        }
+        if !self.renew_near(way, index) {
+            return false;
+        }
+        self.balance_on(way);
+        true
+    }
+
+    // Fills the short leaf of a way from its right neighbour, or merges it into the neighbour.
+    fn balance_on(&mut self, way: &Way)
+        requires short { (root : ℕ) × ShortOn N self.old root way.now }
+        ensures { (root : ℕ) (s : ShortOn N self.old root way.now)
+            → Shrunk N s.unbalanced.old self.new s.path s.unbalanced.tree s.unbalanced.place root }
+    {
+        let digit = way.digit(0);
+        let key = separator(self, way.parent, digit);
+        let right = child(self, way.parent, digit + 1);
+        match self.balance_nodes(way.leaf, key, right) {
+            Some(new_key) => set_separator(self, way.parent, digit, new_key),
+            None => {
+                self.free_node(way.leaf);
+                // The removal of the first child takes the first separator with it, so it does not matter which key was written there.
+                let low = separator(self, way.parent, digit.saturating_sub(1));
+                set_separator(self, way.parent, digit, low);
+                let _answer = remove_child(self, way.parent, digit);
+            }
+        }
     }
 
     // Restores the tree by a path.
