@@ -32,7 +32,7 @@ LEFT_OUT = ["bforest_indexed/edit.rt"]
 UNUSED = {
     "bforest_indexed/maps.rt": ["edit"],
     "forest_run/main.rt": ["arguments", "main"],
-    "bforest_nodes/node.rt": ["unwrap_leaf_mut"],
+    "bforest_nodes/node.rt": ["unwrap_leaf_mut", "copied", "set_child"],
     "bforest_nodes/entries.rt": ["parts_mut"],
     "bforest_nodes/row.rt": ["front_mut"],
     "bforest_nodes/lent.rt": ["front_mut"],
@@ -133,7 +133,7 @@ EDITS = {
         (r"pub fn new\(_alloc: Global\) -> Result<Self, AllocError>", "pub fn new() -> Self", 1),
         (r"Ok\((NodeData \{\s*state: State::Vacant\(PackedNode::none\(\)\),\s*\})\)", r"\1", 1),
         (r" It takes no memory and always succeeds[^.]*\.", " It takes no memory.", None),
-        (r"\bunreachable!\(\)", MISUSED, 25),
+        (r"\bunreachable!\(\)", MISUSED, 26),
         # what only a caller of the prover reads
         (r"(?:\n    //[^\n]*)+\n    pub rhs_entries: usize,", "", 1),
         (r"\n *rhs_entries: len - \w+,", "", 2),

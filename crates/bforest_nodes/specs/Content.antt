@@ -120,6 +120,12 @@ module _ {K V : Type 0} where
   with_key (Leaf keys vals) index key = Leaf keys vals
   with_key (Free next) index key = Free next
 
+  -- an inner node with this child at the index
+  abbrev pub with_child_at : Content K V → ℕ → ℕ → Content K V
+  with_child_at (Inner keys children) index child = Inner keys (slice_set children index child)
+  with_child_at (Leaf keys vals) index child = Leaf keys vals
+  with_child_at (Free next) index child = Free next
+
   -- the leaf without the entry at this index
   abbrev pub without_entry : Content K V → ℕ → Content K V
   without_entry (Inner keys children) index = Inner keys children

@@ -1,5 +1,5 @@
 //! What a node holds: the children of an inner node, the entries of a leaf, or the next free slot.
-ghost use Rattle.bforest_nodes.specs.Content.{Balances, Free, HasShape, Inner, IsCut, IsFree, IsInner, IsLeaf, IsLeafCapacity, IsSameKind, Leaf, children_of, entry_capacity, entry_count, joined, keys_of, left_half, put_answer, removed_answer, take_answer, vals_of, with_child, with_entry, with_key, with_put, with_taken, without_child, without_entry};
+ghost use Rattle.bforest_nodes.specs.Content.{Balances, Free, HasShape, Inner, IsCut, IsFree, IsInner, IsLeaf, IsLeafCapacity, IsSameKind, Leaf, children_of, entry_capacity, entry_count, joined, keys_of, left_half, put_answer, removed_answer, take_answer, vals_of, with_child, with_child_at, with_entry, with_key, with_put, with_taken, without_child, without_entry};
 ghost use Rattle.bforest_nodes.specs.Search.{count_up_to, search_of};
 ghost use Rattle.std.specs.Borrow.{sem};
 ghost use Rattle.std.specs.List.Sorted.{IsStrictlySortedBy};
@@ -138,6 +138,24 @@ impl<K: Copy, V: Copy, const N: usize> NodeData<K, V, N> {
             State::Vacant(next) => *next,
             _ => unreachable!(),
         }
+    }
+
+    /// A node with the same content.
+    pub fn copied(&self) -> Self
+        ensures node { result ≡ self.now }
+    {
+        let state = match &self.state {
+            State::Branch(size, keys, tree) => State::Branch(*size, *keys, *tree),
+            State::Entries(size, Entries { keys, vals }) => State::Entries(
+                *size,
+                Entries {
+                    keys: *keys,
+                    vals: *vals,
+                },
+            ),
+            State::Vacant(next) => State::Vacant(*next),
+        };
+        NodeData { state }
     }
 
     /// Makes the slot an inner node of two children, whatever it held.
@@ -414,6 +432,18 @@ impl<K: Copy, V: Copy, const N: usize> NodeData<K, V, N> {
     {
         match &mut self.state {
             State::Branch(size, keys, _) => keys.set(*size as usize, index, key),
+            _ => unreachable!(),
+        }
+    }
+
+    /// Writes the child of an inner node at `index`.
+    pub fn set_child(&mut self, index: usize, child: Node)
+        requires inner { IsInner self.old }
+        requires within { index < entry_count self.old }
+        ensures node { self.new ≡ with_child_at self.old index child }
+    {
+        match &mut self.state {
+            State::Branch(size, _, tree) => tree.set(*size as usize + 1, index, child),
             _ => unreachable!(),
         }
     }
