@@ -12,3 +12,7 @@ pub mod Written
 pub mod Updating
 pub mod Opened
 pub mod Sweep
+pub mod Renaming
+pub mod Copying
+pub mod Counting
+pub mod Duplicating

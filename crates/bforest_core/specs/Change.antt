@@ -47,6 +47,13 @@ module _ {K V : Type 0} where
     pub fresh : ¬ IsTrue (is_root old.nodes root)
     pub takes : TakesNodes 1 old new
 
+  -- a tree with this list and these sizes is added under a number that was not a root, in nodes from the front of the
+  -- free list; slots are added to that first where fewer are free
+  pub record PlantsTree (most : ℕ) (old new : Table K V) (root : ℕ) (list : List (K × V)) (sizes : List (List ℕ)) : Type 0 where
+    pub changes : Changes most old new root root list sizes
+    pub fresh : ¬ IsTrue (is_root old.nodes root)
+    pub takes : TakesNodes (node_count sizes) old new
+
   -- a leaf of one entry was made in the front of the free list, or in a new slot where no node was free, and its number is returned; or
   -- memory or the limit is too small, and nothing changed
   pub record AllocatesLeaf (most : ℕ) (old new : Table K V) (key : K) (value : V) (result : Result ℕ OutOfMemory) : Type 0 where

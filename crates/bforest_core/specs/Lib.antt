@@ -16,3 +16,4 @@ pub mod Spots
 pub mod Leaves
 pub mod Updates
 pub mod Ways
+pub mod Copies

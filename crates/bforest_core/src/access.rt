@@ -1,7 +1,7 @@
 //! Reading and writing one node of a pool, by its number.
 ghost use Rattle.std.specs.Prelude.{◌≡◌, ℕ, ◌-◌, ◌<◌, ◌≤◌, IfSome, List, length, slice_get, Some, Err};
 ghost use Rattle.std.specs.List.Sorted.{IsStrictlySortedBy};
-ghost use Rattle.bforest_nodes.specs.Content.{Content, Inner, IsInner, IsLeafCapacity, IsFree, Leaf, with_key, without_child, without_entry, removed_answer, entry_count, put_answer, take_answer, with_put, with_taken};
+ghost use Rattle.bforest_nodes.specs.Content.{Content, Inner, IsInner, IsLeafCapacity, IsFree, Leaf, with_child_at, with_key, without_child, without_entry, removed_answer, entry_count, put_answer, take_answer, with_put, with_taken};
 ghost use Rattle.bforest_nodes.specs.Search.{search_of};
 ghost use Rattle.bforest_core.specs.Descent.{child_index};
 ghost use Rattle.bforest_nodes.specs.Entries.{IsIncreasing, place, value_for};
@@ -210,6 +210,22 @@ pub(crate) fn set_separator<K: Copy, V: Copy, const N: usize>(
         → pool.new ≡ with_node pool.old node (with_key (Inner keys children) index key) }
 {
     pool.node_mut(node).set_separator(index, key);
+}
+
+// Writes a child of an inner node.
+pub(crate) fn set_child<K: Copy, V: Copy, const N: usize>(
+    pool: &mut NodePool<K, V, N>,
+    node: Node,
+    index: usize,
+    child: Node,
+)
+    requires used { IsUsed pool.old node }
+    requires inner { (content : Content K V) × (slice_get pool.old.nodes node ≡ Some content) × IsInner content
+        × (index < entry_count content) }
+    ensures { (content : Content K V) → slice_get pool.old.nodes node ≡ Some content → pool.new
+        ≡ with_node pool.old node (with_child_at content index child) }
+{
+    pool.node_mut(node).set_child(index, child);
 }
 
 // Removes a child of an inner node, and the key before it.

@@ -7,6 +7,7 @@
 #![tactic(auto)]
 
 mod access;
+mod copy;
 mod leaf;
 mod path;
 mod pool;

@@ -1,7 +1,7 @@
 //! Numbered nodes, of which the free ones form a list.
 ghost use Rattle.std.specs.Prelude.{◌≡◌, ◌≢◌, ℕ, ◌*◌, ◌+◌, ◌-◌, ◌<◌, ◌≤◌, ◌↔◌, ◌++◌, length, max, IsTrue, IsOk, IfOk, OnOk, OnErr, Ok, Err, Some, None, [], ◌∷◌, slice_get, slice_set, vec_len, vec_capacity};
 ghost use Rattle.std.specs.Borrow.{sem, LendsBoth, Array};
-ghost use Rattle.bforest_nodes.specs.Content.{Inner, Leaf, IsLeafCapacity};
+ghost use Rattle.bforest_nodes.specs.Content.{Content, Inner, Leaf, IsLeafCapacity, children_of};
 ghost use Rattle.bforest_core.specs.Change.{AllocatesLeaf, KeepsTrees};
 ghost use Rattle.bforest_core.specs.Trees.{IsUnion};
 ghost use Rattle.bforest_core.specs.Table.{slot_count, free_count, room, GrowsFor, NeedsGrowth, IsUsed, IsTable, reserved, without_front, with_front, with_freed, fresh_nodes, front_of, front_of_new, IsFullAt, IsSplitAt, IsUnderflowedAt, IsBalancedAt, IsEntryAt, value_at};
@@ -103,6 +103,17 @@ impl<K: Copy, V: Copy, const N: usize> NodePool<K, V, N> {
         ensures value { slice_get self.now.nodes node ≡ Some result.now }
     {
         &self.nodes[node.number() as usize]
+    }
+
+    // The number of children of a node: 0 for a leaf.
+    pub(crate) fn child_count(&self, node: Node) -> usize
+        requires { node < slot_count self.now }
+        ensures value { (content : Content K V) → slice_get self.now.nodes node ≡ Some content → result
+            ≡ length (children_of content) }
+        ensures few { slot_count self.now ≤ 4294967295 }
+    {
+        let node = &self.nodes[node.number() as usize];
+        if node.is_inner() { node.entries() } else { 0 }
     }
 
     /// The content of a used slot, for writing. One index. Whatever is written, the free list stays as it is.
@@ -213,6 +224,21 @@ impl<K: Copy, V: Copy, const N: usize> NodePool<K, V, N> {
         let node = self.take_slot();
         self.node_mut(node).inner(left, key, right);
         node
+    }
+
+    // Makes the front of the free list what a used slot is, and returns its number. Takes no memory.
+    pub(crate) fn copy_node(&mut self, node: Node) -> Node
+        requires used { IsUsed self.old node }
+        requires room { 0 < free_count self.old }
+        ensures node { front_of self.old.chain ≡ Some result }
+        ensures table { (content : Content K V) → slice_get self.old.nodes node ≡ Some content
+            → self.new ≡ with_front self.old self.old.chain content }
+        ensures used { IsUsed self.new result }
+    {
+        let content = self.node(node).copied();
+        let copy = self.take_slot();
+        *self.node_mut(copy) = content;
+        copy
     }
 
     /// Splits the full node `left`, at which an insertion at `insert_index` had no room. The right half is in the front of the free list,

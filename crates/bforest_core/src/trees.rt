@@ -76,16 +76,6 @@ impl<K: Copy, V: Copy, const N: usize> NodePool<K, V, N> {
         self.free_node(node);
     }
 
-    // The number of children of a node: 0 for a leaf.
-    fn child_count(&self, node: Node) -> usize
-        requires { node < slot_count self.now }
-        ensures { (content : Content K V) → slice_get self.now.nodes node ≡ Some content → result
-            ≡ length (children_of content) }
-    {
-        let node = self.node(node);
-        if node.is_inner() { node.entries() } else { 0 }
-    }
-
     // Whether an inner node names this node.
     fn is_child(&self, node: Node) -> bool
         ensures { IsTrue result ↔ (0 < count node (flat_map children_of self.now.nodes)) }

@@ -35,7 +35,7 @@ free_under-node-requires g t c = let w = c.requires.under in let s = c.loop-inde
 pub free_under-child-child-requires : goal.free_under-child-child-requires
 free_under-child-child-requires g t c = let w = c.requires.under in let s = c.loop-index.invariant w.0 w.1 w.4 (under-open c.requires.capacity w.3) in
     let content : c.node.result.now ≡ s.opened.content = some_same (sym c.node.ensures.value ∙ s.slot_is) in
-    let n = c.child_count-index-end.ensures s.opened.content s.opened.slot_is in let inner = inner-children _ (omega arith) in
+    let n = c.child_count-index-end.ensures.value s.opened.content s.opened.slot_is in let inner = inner-children _ (omega arith) in
     (search rules, (subst IsInner (sym content) inner.0, (let e = ap entry_count content in omega arith)))
 
 pub free_under-free_below-requires : goal.free_under-free_below-requires
@@ -64,5 +64,5 @@ free_under-free_node-requires g t c = let w = c.requires.under in let s = c.loop
 pub free_under-returns : goal.free_under-returns
 free_under-returns g t c = λ leaves lower first under apart.
     let one = c.requires.capacity in let s = c.loop-index.invariant leaves lower apart (under-open one under) in let all = sweep-last one _ _ _ _
-    (omega (arith, c.child_count-index-end.ensures s.opened.content s.opened.slot_is, ap length s.opened.children_are, length-map s.opened.top (λ (e : g.row.K.Denot × ℕ). e.1))) s.swept in
+    (omega (arith, c.child_count-index-end.ensures.value s.opened.content s.opened.slot_is, ap length s.opened.children_are, length-map s.opened.top (λ (e : g.row.K.Denot × ℕ). e.1))) s.swept in
     rw c.free_node.ensures.freed (gives-down s all)
