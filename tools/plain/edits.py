@@ -25,20 +25,19 @@ extern crate alloc;
 
 '''
 
-# What the package does not have: there `cursor_mut` of `Maps`, in `rust.rs`, lends a cursor; and no handle calls the copy of a tree.
-LEFT_OUT = ["bforest_indexed/edit.rt", "bforest_core/copy.rt"]
+# What the package does not have: there `cursor_mut` of `Maps`, in `rust.rs`, lends a cursor.
+LEFT_OUT = ["bforest_indexed/edit.rt"]
 
 # Functions that the package does not call.
 UNUSED = {
     "bforest_indexed/maps.rt": ["edit"],
     "forest_run/main.rt": ["arguments", "main"],
-    "bforest_nodes/node.rt": ["unwrap_leaf_mut", "copied", "set_child"],
+    "bforest_nodes/node.rt": ["unwrap_leaf_mut"],
     "bforest_nodes/entries.rt": ["parts_mut"],
     "bforest_nodes/row.rt": ["front_mut"],
     "bforest_nodes/lent.rt": ["front_mut"],
     "bforest_core/path/insert.rt": ["needed"],
-    "bforest_core/access.rt": ["set_child"],
-    "bforest_core/pool.rt": ["new", "copy_node"],
+    "bforest_core/pool.rt": ["new"],
 }
 
 USE_GLOBAL = (r"^use std::alloc::Global;\n", "", 1)
@@ -141,7 +140,6 @@ EDITS = {
     ],
     "bforest_core/lib.rt": [
         BEHIND_FIRST,
-        (r"^mod copy;\n", "", 1),
         (r"Comparator, Node, NodeData, PackedNode, Removed, SetValue, SplitOff,?", "Comparator, Node, PackedNode, SetValue", 1),
     ],
     # What the search alone uses, which goes with it.

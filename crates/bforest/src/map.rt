@@ -1,7 +1,7 @@
 //! Handles of maps.
 ghost use Rattle.bforest_nodes.specs.Entries.{IsIncreasing, value_for};
 ghost use Rattle.bforest.specs.Bounds.{entries_between, entry_at_least, entry_at_most};
-ghost use Rattle.bforest.specs.Calls.{Clears, Filters, GetsOrInserts, Inserts, Pops, Removes, Updates};
+ghost use Rattle.bforest.specs.Calls.{Clears, Clones, Filters, GetsOrInserts, Inserts, Pops, Removes, Updates};
 ghost use Rattle.bforest.specs.Cursor.{IsCursor, comparator, forest_loan, forest_now, map_loan, map_now, spot};
 ghost use Rattle.bforest.specs.Forest.{Forest, IsLive, IsSearchable, first_level, list_of, sizes_of};
 ghost use Rattle.bforest.specs.Memory.{MapsFitInMemory};
@@ -284,6 +284,27 @@ impl<K: Copy, V: Copy> Map<K, V> {
         ensures { Clears forest.old self.old forest.new self.new }
     {
         forest.trees.free_tree(&mut self.root);
+    }
+
+    /// Returns a map of the same entries in a tree of its own, whose nodes have the same sizes. A change of either map is not seen in the
+    /// other.
+    ///
+    /// Takes exactly as many nodes as this map has, none for an empty one, and makes sure of them before it copies the first. Reads each
+    /// node once to count it and once to copy it, as it lies. No comparison.
+    ///
+    /// # Errors
+    ///
+    /// [`OutOfMemory::Full`] where the forest's limit does not allow as many nodes again as this map has. [`OutOfMemory::Memory`] where the
+    /// table had to grow and there was no memory for it. The forest is unchanged then.
+    pub fn deep_clone(&self, forest: &mut MapForest<K, V>) -> Result<Self, OutOfMemory>
+        requires live { IsLive forest.old self.now }
+        ensures { Clones forest.old self.now result forest.new }
+    {
+        let copy = forest.trees.copy_tree(self.root)?;
+        Ok(Map {
+            root: copy,
+            mark: PhantomData,
+        })
     }
 
     /// Keeps the entries for which the predicate returns `true`, with the value as the predicate left it, and removes all others.

@@ -1,7 +1,7 @@
 //! Handles of sets.
 ghost use Rattle.bforest_nodes.specs.Entries.{IsIncreasing, is_present};
 ghost use Rattle.bforest.specs.Bounds.{entries_between, entry_at_least, entry_at_most};
-ghost use Rattle.bforest.specs.Calls.{Clears, Filters, Inserts, Pops, Removes};
+ghost use Rattle.bforest.specs.Calls.{Clears, Clones, Filters, Inserts, Pops, Removes};
 ghost use Rattle.bforest.specs.Forest.{Forest, IsLive, IsSearchable, first_level, list_of, sizes_of};
 ghost use Rattle.bforest.specs.Memory.{SetsFitInMemory};
 ghost use Rattle.bforest.specs.Retain.{MayAskEach};
@@ -235,6 +235,27 @@ impl<K: Copy> Set<K> {
         ensures { Clears forest.old self.old forest.new self.new }
     {
         forest.trees.free_tree(&mut self.root);
+    }
+
+    /// Returns a set of the same keys in a tree of its own, whose nodes have the same sizes. A change of either set is not seen in the
+    /// other.
+    ///
+    /// Takes exactly as many nodes as this set has, none for an empty one, and makes sure of them before it copies the first. Reads each
+    /// node once to count it and once to copy it, as it lies. No comparison.
+    ///
+    /// # Errors
+    ///
+    /// [`OutOfMemory::Full`] where the forest's limit does not allow as many nodes again as this set has. [`OutOfMemory::Memory`] where the
+    /// table had to grow and there was no memory for it. The forest is unchanged then.
+    pub fn deep_clone(&self, forest: &mut SetForest<K>) -> Result<Self, OutOfMemory>
+        requires live { IsLive forest.old self.now }
+        ensures { Clones forest.old self.now result forest.new }
+    {
+        let copy = forest.trees.copy_tree(self.root)?;
+        Ok(Set {
+            root: copy,
+            mark: PhantomData,
+        })
     }
 
     /// Keeps the keys for which the predicate returns `true`, and removes all others.

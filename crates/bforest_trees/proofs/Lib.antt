@@ -34,3 +34,4 @@ pub mod Peeking
 pub mod Popping
 pub mod Ensuring
 pub mod Updating
+pub mod Cloning

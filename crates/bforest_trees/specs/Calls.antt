@@ -4,7 +4,7 @@ use Rattle.bforest_core.specs.Sizes.{shrink}
 use Rattle.bforest_core.specs.declared.pool.OutOfMemory.TheVariants.{Full, Memory}
 use Rattle.bforest_core.specs.declared.pool.OutOfMemory.{OutOfMemory}
 use Rattle.bforest_nodes.specs.Entries.{IsIncreasing, cut, put, value_for}
-use Rattle.bforest_trees.specs.Forest.{Becomes, Forest, Gives, GrowsFor, IsLive, IsTooMany, Keeps, NeedsGrowth, Takes, free_of, list_of, memory_of, need_of, sizes_of, sizes_with, sizes_without, slots_of}
+use Rattle.bforest_trees.specs.Forest.{Becomes, Forest, Gives, GrowsFor, IsLive, IsTooMany, Keeps, NeedsGrowth, Takes, free_of, list_of, memory_of, need_of, nodes_of, sizes_of, sizes_with, sizes_without, slots_of}
 use Rattle.bforest_trees.specs.Retain.{Retains}
 use Rattle.std.specs.Fn.{FnOnceReturns, Once}
 use Rattle.std.specs.Prelude.{Bool, Err, IfOk, IfSome, IsOk, IsSome, None, Ok, OnErr, OnOk, Option, Result, Some, [], if◌then◌else◌, length, nat_lt, remove, slice_get, unwrap_or, ◌+◌, ◌-◌, ◌<◌, ◌↔◌, ◌≡◌, ◌≤◌, ℕ}
@@ -43,6 +43,21 @@ module _ {K X : Type 0} where
     pub refused : OnErr result (f' ≡ f)
     pub full : (result ≡ Err Full) ↔ IsTooMany n f
     pub memory : result ≡ Err Memory → NeedsGrowth n f
+
+  -- a second tree with the list of h, in nodes of the same sizes, was added under the handle that is returned, and the tree of h stays; or
+  -- the call was refused, and nothing changed
+  pub record Clones (f : Forest K X) (h : Option ℕ) (result : Result (Option ℕ) OutOfMemory) (f' : Forest K X) : Type 0 where
+    pub copied : IfOk result (λ h'. Becomes f None f' h' (list_of f h))
+    pub sizes : IfOk result (λ h'. sizes_of f' h' ≡ sizes_of f h)
+    pub increasing : IfOk result (λ h'. (order : K → K → Ordering) → IsIncreasing order (list_of f h) → IsIncreasing order (list_of f' h'))
+    pub stays : IsLive f' h
+    pub same_list : list_of f' h ≡ list_of f h
+    pub same_sizes : sizes_of f' h ≡ sizes_of f h
+    pub account : OnOk result (Takes (nodes_of f h) f f')
+    pub full : (result ≡ Err Full) ↔ IsTooMany (nodes_of f h) f
+    pub memory : result ≡ Err Memory → NeedsGrowth (nodes_of f h) f
+    pub succeeds : nodes_of f h ≤ free_of f → IsOk result
+    pub refused : OnErr result (f' ≡ f)
 
   -- the tree of h was removed
   pub record Clears (f : Forest K X) (h : Option ℕ) (f' : Forest K X) (h' : Option ℕ) : Type 0 where

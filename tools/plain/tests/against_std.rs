@@ -141,6 +141,8 @@ pub enum Call {
     /// Keeps the entries whose key has none of these bits; the value that they get, if they get one.
     Retain(u32, Option<u32>),
     Clear,
+    /// A copy of the map or set of this handle, in place of what was there.
+    Copy(usize),
     /// The forest's own `clear`, after which all handles are empty.
     Wipe,
     Reserve(u32),
@@ -169,7 +171,7 @@ pub trait Subject {
 // The definitions.
 
 /// The sizes of a tree's nodes, level by level, the leaves first: of each leaf its entries, of each other node its children.
-#[derive(Default)]
+#[derive(Clone, Default)]
 struct Sizes(Vec<Vec<usize>>);
 
 impl Sizes {
@@ -262,7 +264,7 @@ fn most(height: usize, leaf: usize) -> usize {
 }
 
 /// A map of the definitions: its entries by the rank of their keys, all ranks in order, and the sizes.
-#[derive(Default)]
+#[derive(Clone, Default)]
 struct Listed {
     entries: BTreeMap<i64, Entry>,
     ranks: Vec<i64>,
@@ -334,6 +336,15 @@ impl<'a, C: Order> Model<'a, C> {
     fn clear(&mut self, at: usize) {
         let list = std::mem::take(&mut self.lists[at]);
         self.free += list.sizes.nodes();
+    }
+
+    fn copy(&mut self, from: usize, to: usize) -> Result<(), OutOfMemory> {
+        let copy = self.lists[from].clone();
+        self.reserve(copy.sizes.nodes())?;
+        self.free -= copy.sizes.nodes();
+        self.clear(to);
+        self.lists[to] = copy;
+        Ok(())
     }
 
     fn retain(&mut self, at: usize, bits: u32, put: Option<u32>) {
@@ -463,6 +474,7 @@ impl<C: Order> Subject for Model<'_, C> {
                 self.clear(at);
                 vec![Answer::Done]
             }
+            Call::Copy(from) => vec![Answer::Reserved(self.copy(*from, at))],
             Call::Wipe => {
                 self.lists.fill_with(Listed::default);
                 (self.slots, self.free) = (0, 0);
@@ -491,6 +503,13 @@ pub struct Maps<'a, C> {
 impl<'a, C: Order> Maps<'a, C> {
     pub fn new(order: &'a C, limit: u32) -> Self {
         Maps { order, forest: MapForest::with_node_limit(limit), maps: (0..HANDLES).map(|_| Map::new()).collect() }
+    }
+
+    fn copy(&mut self, from: usize, to: usize) -> Result<(), OutOfMemory> {
+        let copy = self.maps[from].deep_clone(&mut self.forest)?;
+        self.maps[to].clear(&mut self.forest);
+        self.maps[to] = copy;
+        Ok(())
     }
 
     fn read(&self, at: usize, steps: &[Step]) -> Vec<Answer> {
@@ -569,6 +588,7 @@ impl<C: Order> Subject for Maps<'_, C> {
                 map.clear(forest);
                 vec![Answer::Done]
             }
+            Call::Copy(from) => vec![Answer::Reserved(self.copy(*from, at))],
             Call::Wipe => {
                 forest.clear();
                 assert_eq!(forest.holds(map), map.is_empty());
@@ -623,6 +643,13 @@ impl<'a, C: Order> Sets<'a, C> {
     pub fn new(order: &'a C, limit: u32) -> Self {
         Sets { order, forest: SetForest::with_node_limit(limit), sets: (0..HANDLES).map(|_| Set::new()).collect() }
     }
+
+    fn copy(&mut self, from: usize, to: usize) -> Result<(), OutOfMemory> {
+        let copy = self.sets[from].deep_clone(&mut self.forest)?;
+        self.sets[to].clear(&mut self.forest);
+        self.sets[to] = copy;
+        Ok(())
+    }
 }
 
 impl<C: Order> Subject for Sets<'_, C> {
@@ -662,6 +689,7 @@ impl<C: Order> Subject for Sets<'_, C> {
                 set.clear(forest);
                 vec![Answer::Done]
             }
+            Call::Copy(from) => vec![Answer::Reserved(self.copy(*from, at))],
             Call::Wipe => {
                 forest.clear();
                 assert_eq!(forest.holds(set), set.is_empty());
@@ -765,6 +793,7 @@ impl Draw {
             16..=31 => Call::Retain(1 << random.below(8) | 1 << random.below(8), None),
             32 => Call::Reserve(self.limit),
             33..=40 => Call::Reserve(random.below(200)),
+            41..=56 => Call::Copy(random.below(HANDLES as u32) as usize),
             _ => Call::Iter,
         }
     }

@@ -98,6 +98,7 @@ fn change_map(call: u32, key: u32, map: &mut Map<u32, u32>, forest: &mut MapFore
             cursor.remove();
         }
         5 if key % 16 == 0 => map.clear(forest),
+        5 if key % 16 == 1 => drop(map.deep_clone(forest).map(|mut copy| copy.clear(forest))),
         5 => map.retain(forest, |it, _| it % 7 != key % 7),
         _ => drop(forest.reserve_nodes(forest.free_slots() + key % 8 / 7)),
     }
@@ -117,6 +118,7 @@ fn call_set(call: u32, key: u32, set: &mut Set<u32>, forest: &mut SetForest<u32>
             cursor.remove();
         }
         3 if key % 16 == 0 => set.clear(forest),
+        3 if key % 16 == 1 => drop(set.deep_clone(forest).map(|mut copy| copy.clear(forest))),
         3 => set.retain(forest, |it| it % 7 != key % 7),
         4 => {
             let there = set.contains(key, forest, &());
@@ -227,6 +229,17 @@ fn cleared_maps_and_sets_ask_for_no_memory_up_to_their_former_size() {
     fill(&mut sets);
     sets.clear_all();
     assert_eq!(calls_of(|| fill(&mut sets)), 0);
+}
+
+/// A copy takes memory at most once, for all its nodes, and none where they lie free.
+#[test]
+fn a_copy_takes_memory_once() {
+    let (mut forest, mut map) = (MapForest::new(), Map::new());
+    (0..ENTRIES).for_each(|key| _ = map.insert(key, key, &mut forest, &()).unwrap());
+    let nodes = forest.slots();
+    assert_eq!(calls_of(|| map.deep_clone(&mut forest).unwrap().clear(&mut forest)), 1);
+    assert_eq!(calls_of(|| map.deep_clone(&mut forest).unwrap()), 0);
+    assert_eq!((forest.slots(), forest.free_slots()), (2 * nodes, 0));
 }
 
 // The memory of the handles of `Maps` and `Sets`: 4 bytes each.

@@ -88,7 +88,7 @@ type NumbersForest = MapForest<u32, u32>;
 type MapCall = Call<Numbers, NumbersForest>;
 type SetCall = Call<Set<u32>, SetForest<u32>>;
 
-const OF_MAPS: [(&str, MapCall); 24] = [
+const OF_MAPS: [(&str, MapCall); 25] = [
     ("get", |map, forest| _ = map.get(1, forest, &())),
     ("update", |map, forest| _ = map.update(1, |value| value + 1, forest, &())),
     ("get_or_less", |map, forest| _ = map.get_or_less(1, forest, &())),
@@ -102,6 +102,7 @@ const OF_MAPS: [(&str, MapCall); 24] = [
     ("pop_first", |map, forest| _ = map.pop_first(forest)),
     ("pop_last", |map, forest| _ = map.pop_last(forest)),
     ("clear", |map, forest| map.clear(forest)),
+    ("deep_clone", |map, forest| _ = map.deep_clone(forest)),
     ("retain", |map, forest| map.retain(forest, |key, _| key > 1)),
     ("levels", |map, forest| _ = map.levels(forest)),
     ("iter", |map, forest| _ = map.iter(forest).count()),
@@ -115,7 +116,7 @@ const OF_MAPS: [(&str, MapCall); 24] = [
     ("debug", |map, forest| _ = format!("{:?}", map.debug(forest))),
 ];
 
-const OF_SETS: [(&str, SetCall); 19] = [
+const OF_SETS: [(&str, SetCall); 20] = [
     ("contains", |set, forest| _ = set.contains(1, forest, &())),
     ("get_or_less", |set, forest| _ = set.get_or_less(1, forest, &())),
     ("get_or_greater", |set, forest| _ = set.get_or_greater(1, forest, &())),
@@ -127,6 +128,7 @@ const OF_SETS: [(&str, SetCall); 19] = [
     ("pop_first", |set, forest| _ = set.pop_first(forest)),
     ("pop_last", |set, forest| _ = set.pop_last(forest)),
     ("clear", |set, forest| set.clear(forest)),
+    ("deep_clone", |set, forest| _ = set.deep_clone(forest)),
     ("retain", |set, forest| set.retain(forest, |key| key > 1)),
     ("levels", |set, forest| _ = set.levels(forest)),
     ("iter", |set, forest| _ = set.iter(forest).count()),

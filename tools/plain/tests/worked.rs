@@ -135,6 +135,9 @@ with_both_searches!(
     a_handle_is_live_again_where_its_slot_is_a_root_again,
     a_clone_names_the_same_tree_until_the_root_changes,
     clearing_a_map_leaves_the_other,
+    a_copy_has_nodes_of_the_same_sizes,
+    a_copy_one_node_short_changes_nothing,
+    a_copy_and_its_original_change_apart,
     retain_changes_values_and_merges_leaves,
     the_sixteenth_key_halves_a_leaf_of_a_set,
     the_greatest_and_the_least_key,
@@ -573,6 +576,49 @@ fn clearing_a_map_leaves_the_other<C: Comparator<u32>>(comp: &C) {
     assert_eq!(entries(&first, &forest), []);
     assert_eq!(entries(&second, &forest), [(7, 70)]);
     assert_eq!(forest.free_slots(), forest.slots() - 1);
+}
+
+// Copies.
+
+/// 15 keys in order lie in leaves of 4, 4 and 7 entries, and so do those of the copy.
+fn a_copy_has_nodes_of_the_same_sizes<C: Comparator<u32>>(comp: &C) {
+    let mut forest = Forest::new();
+    let map = filled(1..=15, &mut forest, comp);
+    assert_eq!(sizes(&map, &forest), Sizes { levels: 2, slots: 4, free: 0 });
+    let mut copy = map.deep_clone(&mut forest).unwrap();
+    assert_eq!(sizes(&copy, &forest), Sizes { levels: 2, slots: 8, free: 0 });
+    assert_eq!((entries(&map, &forest), entries(&copy, &forest)), (tenfold(1..=15), tenfold(1..=15)));
+    // The last leaf is full, and the first is not.
+    assert_eq!(copy.insert(0, 0, &mut forest, comp), Ok(None));
+    assert_eq!(forest.slots(), 8);
+    assert_eq!(copy.insert(16, 160, &mut forest, comp), Ok(None));
+    assert_eq!(forest.slots(), 9);
+    copy.clear(&mut forest);
+    assert_eq!((forest.free_slots(), entries(&map, &forest)), (5, tenfold(1..=15)));
+    assert!(Numbers::new().deep_clone(&mut forest).unwrap().is_empty());
+    assert_eq!(forest.free_slots(), 5);
+}
+
+fn a_copy_one_node_short_changes_nothing<C: Comparator<u32>>(comp: &C) {
+    for (limit, taken) in [(7, None), (8, Some(8))] {
+        let mut forest = Forest::with_node_limit(limit);
+        let map = filled(1..=15, &mut forest, comp);
+        assert_eq!(map.deep_clone(&mut forest).map(|_| 8), taken.ok_or(OutOfMemory::Full));
+        assert_eq!(sizes(&map, &forest), Sizes { levels: 2, slots: taken.unwrap_or(4), free: 0 });
+        assert_eq!(entries(&map, &forest), tenfold(1..=15));
+    }
+}
+
+fn a_copy_and_its_original_change_apart<C: Comparator<u32>>(comp: &C) {
+    let mut forest = Forest::new();
+    let mut map = filled(1..=100, &mut forest, comp);
+    let mut copy = map.deep_clone(&mut forest).unwrap();
+    for key in 1..=50 {
+        assert_eq!(map.remove(2 * key, &mut forest, comp), Some(20 * key));
+        assert_eq!(copy.insert(2 * key - 1, 0, &mut forest, comp), Ok(Some(20 * key - 10)));
+    }
+    assert_eq!(entries(&map, &forest), tenfold((1..=99).step_by(2)));
+    assert!(entries(&copy, &forest).into_iter().eq((1..=100).map(|key| (key, if key % 2 == 0 { 10 * key } else { 0 }))));
 }
 
 // Sets.
