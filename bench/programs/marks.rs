@@ -149,40 +149,25 @@ pub mod package {
     pub struct ByPosition {
         forest: MapForest<Position, u32>,
         buffers: Vec<Map<Position, u32>>,
-        /// Marks that are being shifted.
-        behind: Vec<(Position, u32)>,
-    }
-
-    impl ByPosition {
-        /// Takes out the marks from a position on.
-        fn cut(&mut self, buffer: usize, at: Position) {
-            let marks = &mut self.buffers[buffer];
-            self.behind.clear();
-            self.behind.extend(marks.range(at.., &self.forest, &()));
-            for _ in &self.behind {
-                marks.pop_last(&mut self.forest);
-            }
-        }
     }
 
     impl Marks for ByPosition {
         fn new(buffers: u32) -> Self {
-            let buffers = (0..buffers).map(|_| Map::new()).collect();
-            ByPosition { forest: MapForest::new(), buffers, behind: Vec::new() }
+            ByPosition { forest: MapForest::new(), buffers: (0..buffers).map(|_| Map::new()).collect() }
         }
 
         fn insert(&mut self, buffer: usize, at: Position, length: u32) {
-            self.cut(buffer, at);
-            for (at, mark) in &self.behind {
-                self.buffers[buffer].insert(at + length, *mark, &mut self.forest, &()).expect(ROOM);
-            }
+            self.buffers[buffer].shift(at, |at| at + length, &mut self.forest, &());
         }
 
         fn delete(&mut self, buffer: usize, at: Position, length: u32) {
-            self.cut(buffer, at);
-            for (at, mark) in self.behind.iter().skip_while(|it| it.0 < at + length) {
-                self.buffers[buffer].insert(at - length, *mark, &mut self.forest, &()).expect(ROOM);
+            let marks = &mut self.buffers[buffer];
+            let mut cursor = marks.cursor_mut(&mut self.forest, &());
+            cursor.goto(at);
+            while cursor.key().is_some_and(|mark| mark < at + length) {
+                cursor.remove();
             }
+            marks.shift(at + length, |at| at - length, &mut self.forest, &());
         }
 
         fn set(&mut self, buffer: usize, at: Position, mark: u32) {

@@ -1,7 +1,7 @@
 //! Handles of maps.
-ghost use Rattle.bforest_nodes.specs.Entries.{IsIncreasing, value_for};
+ghost use Rattle.bforest_nodes.specs.Entries.{IsIncreasing, place, value_for};
 ghost use Rattle.bforest.specs.Bounds.{entries_between, entry_at_least, entry_at_most};
-ghost use Rattle.bforest.specs.Calls.{Clears, Clones, Filters, GetsOrInserts, Inserts, Pops, Removes, Updates};
+ghost use Rattle.bforest.specs.Calls.{Clears, Clones, Filters, GetsOrInserts, Inserts, Pops, Removes, Shifts, Updates};
 ghost use Rattle.bforest.specs.Cursor.{IsCursor, comparator, forest_loan, forest_now, map_loan, map_now, spot};
 ghost use Rattle.bforest.specs.Forest.{Forest, IsLive, IsSearchable, first_level, list_of, sizes_of};
 ghost use Rattle.bforest.specs.Memory.{MapsFitInMemory};
@@ -322,6 +322,30 @@ impl<K: Copy, V: Copy> Map<K, V> {
         ensures { Filters MAP_LEAF (Answers F.FnMut) forest.old self.old predicate forest.new self.new }
     {
         forest.trees.retain(&mut self.root, Asked { predicate });
+    }
+
+    /// Gives a new key to each entry whose key is not less than `from`: the one that `change` returns of the old. The values stay, and no
+    /// node moves.
+    ///
+    /// One search, as in [`Map::get`], and then one call of `change` and one write for each of these entries, in order. No other comparison,
+    /// no memory. What lies behind a text that grew is shifted so by `shift(at, |key| key + length, ..)`.
+    ///
+    /// The new keys have to increase under the map's order, and the first of them has to be greater than the last key that stays. This is
+    /// not tested: [`Map::increases`] tells. Where `change` panics, in the package, the entries in front of that one have their new keys.
+    pub fn shift<C: Comparator<K>, F: Fn(K) -> K>(
+        &mut self,
+        from: K,
+        change: F,
+        forest: &mut MapForest<K, V>,
+        comp: &C,
+    )
+        requires searchable { IsSearchable (C.order comp.now) forest.old self.old }
+        requires callable { F.IsAlwaysCallable change }
+        ensures shifted { Shifts (F.post change)
+            (place (C.order comp.now) (list_of forest.old self.old) from) forest.old self.old forest.new }
+        ensures handle { self.new ≡ self.old }
+    {
+        forest.trees.shift(self.root, from, change, comp);
     }
 
     /// Returns the height of the map's tree, in levels of nodes: 0 where it is empty, and never more than 17. Visits one node of each

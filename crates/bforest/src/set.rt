@@ -1,7 +1,7 @@
 //! Handles of sets.
-ghost use Rattle.bforest_nodes.specs.Entries.{IsIncreasing, is_present};
+ghost use Rattle.bforest_nodes.specs.Entries.{IsIncreasing, is_present, place};
 ghost use Rattle.bforest.specs.Bounds.{entries_between, entry_at_least, entry_at_most};
-ghost use Rattle.bforest.specs.Calls.{Clears, Clones, Filters, Inserts, Pops, Removes};
+ghost use Rattle.bforest.specs.Calls.{Clears, Clones, Filters, Inserts, Pops, Removes, Shifts};
 ghost use Rattle.bforest.specs.Forest.{Forest, IsLive, IsSearchable, first_level, list_of, sizes_of};
 ghost use Rattle.bforest.specs.Memory.{SetsFitInMemory};
 ghost use Rattle.bforest.specs.Retain.{MayAskEach};
@@ -269,6 +269,29 @@ impl<K: Copy> Set<K> {
         ensures { Filters SET_LEAF (AnswersKey F.FnMut) forest.old self.old predicate forest.new self.new }
     {
         forest.trees.retain(&mut self.root, AskedKey { predicate });
+    }
+
+    /// Gives each key that is not less than `from` the one that `change` returns of it. No node moves.
+    ///
+    /// One search, as in [`Set::contains`], and then one call of `change` and one write for each of these keys, in order. No other
+    /// comparison, no memory.
+    ///
+    /// The new keys have to increase under the set's order, and the first of them has to be greater than the last key that stays. This is
+    /// not tested: [`Set::increases`] tells. Where `change` panics, in the package, the keys in front of that one are new ones.
+    pub fn shift<C: Comparator<K>, F: Fn(K) -> K>(
+        &mut self,
+        from: K,
+        change: F,
+        forest: &mut SetForest<K>,
+        comp: &C,
+    )
+        requires searchable { IsSearchable (C.order comp.now) forest.old self.old }
+        requires callable { F.IsAlwaysCallable change }
+        ensures shifted { Shifts (F.post change)
+            (place (C.order comp.now) (list_of forest.old self.old) from) forest.old self.old forest.new }
+        ensures handle { self.new ≡ self.old }
+    {
+        forest.trees.shift(self.root, from, change, comp);
     }
 
     /// Returns the height of the set's tree, in levels of nodes: 0 where it is empty, and never more than 17. Visits one node of each

@@ -27,8 +27,8 @@ pub use Rattle.bforest_nodes.proofs.{Ordered.{place-here, place-later}, Searched
 pub use Rattle.bforest_nodes.proofs.Seams.{around, last_taken}
 pub use Rattle.bforest_nodes.specs.Content.{Balances, Content, Free, Inner, IsCut, IsFree, IsInner, IsLeaf, IsLeafCapacity, IsSameKind, Leaf, children_of}
 pub use Rattle.bforest_nodes.specs.Content.{entry_capacity, entry_count, joined, left_half, left_share, put_answer, take_answer, vals_of, with_child}
-pub use Rattle.bforest_nodes.specs.{Content.{with_entry, with_key, with_put, with_taken, without_child, without_entry}, Search.{count_up_to, search_of}}
-pub use Rattle.bforest_nodes.specs.Entries.{IsIncreasing, entry_for, is_present, place, value_at_place, value_for}
+pub use Rattle.bforest_nodes.specs.{Content.{with_entry, with_entry_key, with_key, with_put, with_taken, without_child, without_entry}, Search.{count_up_to, search_of}}
+pub use Rattle.bforest_nodes.specs.Entries.{IsIncreasing, entry_for, is_present, place, rekeyed, value_at_place, value_for}
 pub use Rattle.std.proofs.Common.{IsErrAnd, IsTrue, Option, Result, [], add-one, ap, append_assoc, arith, cond, drop, get_or, if◌then◌else◌, inl}
 pub use Rattle.std.proofs.Common.{inr, insert, length, length-set, length-take-le, map, nat_eq, nat_le, nat_lt, not, refl, reverse, rules, set, slice_set}
 pub use Rattle.std.proofs.Common.{subst, suc, sym, take, take-append-drop, true, vec_capacity, vec_len, zero, ℕ, ◌%◌, ◌*◌, ◌++◌, ◌+◌, ◌-◌, ◌/◌, ◌<◌, ◌==◌, ◌^◌}

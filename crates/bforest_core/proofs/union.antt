@@ -9,6 +9,7 @@ pub mod Planting
 pub mod NewLeaf
 pub mod Account
 pub mod Written
+pub mod Rekeying
 pub mod Updating
 pub mod Opened
 pub mod Sweep

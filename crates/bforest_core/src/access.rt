@@ -1,7 +1,7 @@
 //! Reading and writing one node of a pool, by its number.
 ghost use Rattle.std.specs.Prelude.{◌≡◌, ℕ, ◌-◌, ◌<◌, ◌≤◌, IfSome, List, length, slice_get, Some, Err};
 ghost use Rattle.std.specs.List.Sorted.{IsStrictlySortedBy};
-ghost use Rattle.bforest_nodes.specs.Content.{Content, Inner, IsInner, IsLeafCapacity, IsFree, Leaf, with_child_at, with_key, without_child, without_entry, removed_answer, entry_count, put_answer, take_answer, with_put, with_taken};
+ghost use Rattle.bforest_nodes.specs.Content.{Content, Inner, IsInner, IsLeafCapacity, IsFree, Leaf, with_child_at, with_entry_key, with_key, without_child, without_entry, removed_answer, entry_count, put_answer, take_answer, with_put, with_taken};
 ghost use Rattle.bforest_nodes.specs.Search.{search_of};
 ghost use Rattle.bforest_core.specs.Descent.{child_index};
 ghost use Rattle.bforest_nodes.specs.Entries.{IsIncreasing, place, value_for};
@@ -226,6 +226,22 @@ pub(crate) fn set_child<K: Copy, V: Copy, const N: usize>(
         ≡ with_node pool.old node (with_child_at content index child) }
 {
     pool.node_mut(node).set_child(index, child);
+}
+
+// Writes the key of an entry of a leaf.
+pub(crate) fn set_leaf_key<K: Copy, V: Copy, const N: usize>(
+    pool: &mut NodePool<K, V, N>,
+    node: Node,
+    index: usize,
+    key: K,
+)
+    requires used { IsUsed pool.old node }
+    requires leaf { (keys : List K) × (vals : List V)
+        × (slice_get pool.old.nodes node ≡ Some (Leaf keys vals)) × (index < length keys) }
+    ensures { (keys : List K) (vals : List V) → slice_get pool.old.nodes node ≡ Some (Leaf keys vals)
+        → pool.new ≡ with_node pool.old node (with_entry_key (Leaf keys vals) index key) }
+{
+    pool.node_mut(node).set_key(index, key);
 }
 
 // Removes a child of an inner node, and the key before it.

@@ -114,6 +114,12 @@ module _ {K V : Type 0} where
   with_value (Leaf keys vals) index value = Leaf keys (slice_set vals index value)
   with_value (Free next) index value = Free next
 
+  -- a leaf with this key at the index
+  abbrev pub with_entry_key : Content K V → ℕ → K → Content K V
+  with_entry_key (Inner keys children) index key = Inner keys children
+  with_entry_key (Leaf keys vals) index key = Leaf (slice_set keys index key) vals
+  with_entry_key (Free next) index key = Free next
+
   -- an inner node with this separator at the index
   abbrev pub with_key : Content K V → ℕ → K → Content K V
   with_key (Inner keys children) index key = Inner (slice_set keys index key) children

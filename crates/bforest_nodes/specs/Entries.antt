@@ -11,6 +11,12 @@ with_value [] p v = []
 with_value (e ∷ es) zero v = (e.0, v) ∷ es
 with_value (e ∷ es) (suc p) v = e ∷ with_value es p v
 
+-- the list with k as the key of the entry at p
+abbrev pub rekeyed : {K X : Type 0} → List (K × X) → ℕ → K → List (K × X)
+rekeyed [] p k = []
+rekeyed (e ∷ es) zero k = (k, e.1) ∷ es
+rekeyed (e ∷ es) (suc p) k = e ∷ rekeyed es p k
+
 -- the value of the entry at p
 abbrev pub value_at_place : {K X : Type 0} → List (K × X) → ℕ → Option X
 value_at_place es p = option_map (λ e. e.1) (slice_get es p)

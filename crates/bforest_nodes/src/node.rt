@@ -1,5 +1,5 @@
 //! What a node holds: the children of an inner node, the entries of a leaf, or the next free slot.
-ghost use Rattle.bforest_nodes.specs.Content.{Balances, Free, HasShape, Inner, IsCut, IsFree, IsInner, IsLeaf, IsLeafCapacity, IsSameKind, Leaf, children_of, entry_capacity, entry_count, joined, keys_of, left_half, put_answer, removed_answer, take_answer, vals_of, with_child, with_child_at, with_entry, with_key, with_put, with_taken, without_child, without_entry};
+ghost use Rattle.bforest_nodes.specs.Content.{Balances, Free, HasShape, Inner, IsCut, IsFree, IsInner, IsLeaf, IsLeafCapacity, IsSameKind, Leaf, children_of, entry_capacity, entry_count, joined, keys_of, left_half, put_answer, removed_answer, take_answer, vals_of, with_child, with_child_at, with_entry, with_entry_key, with_key, with_put, with_taken, without_child, without_entry};
 ghost use Rattle.bforest_nodes.specs.Search.{count_up_to, search_of};
 ghost use Rattle.std.specs.Borrow.{sem};
 ghost use Rattle.std.specs.List.Sorted.{IsStrictlySortedBy};
@@ -444,6 +444,18 @@ impl<K: Copy, V: Copy, const N: usize> NodeData<K, V, N> {
     {
         match &mut self.state {
             State::Branch(size, _, tree) => tree.set(*size as usize + 1, index, child),
+            _ => unreachable!(),
+        }
+    }
+
+    /// Writes the key of a leaf's entry.
+    pub fn set_key(&mut self, index: usize, key: K)
+        requires leaf { IsLeaf self.old }
+        requires within { index < entry_count self.old }
+        ensures node { self.new ≡ with_entry_key self.old index key }
+    {
+        match &mut self.state {
+            State::Entries(size, entries) => entries.keys.set(*size as usize, index, key),
             _ => unreachable!(),
         }
     }

@@ -35,3 +35,4 @@ pub mod Popping
 pub mod Ensuring
 pub mod Updating
 pub mod Cloning
+pub mod Shifting

@@ -6,8 +6,9 @@ use Rattle.bforest_core.specs.declared.pool.OutOfMemory.{OutOfMemory}
 use Rattle.bforest_nodes.specs.Entries.{IsIncreasing, cut, put, value_for}
 use Rattle.bforest_trees.specs.Forest.{Becomes, Forest, Gives, GrowsFor, IsLive, IsTooMany, Keeps, NeedsGrowth, Takes, free_of, list_of, memory_of, need_of, nodes_of, sizes_of, sizes_with, sizes_without, slots_of}
 use Rattle.bforest_trees.specs.Retain.{Retains}
+use Rattle.bforest_trees.specs.Shift.{Rekeys}
 use Rattle.std.specs.Fn.{FnOnceReturns, Once}
-use Rattle.std.specs.Prelude.{Bool, Err, IfOk, IfSome, IsOk, IsSome, None, Ok, OnErr, OnOk, Option, Result, Some, [], if◌then◌else◌, length, nat_lt, remove, slice_get, unwrap_or, ◌+◌, ◌-◌, ◌<◌, ◌↔◌, ◌≡◌, ◌≤◌, ℕ}
+use Rattle.std.specs.Prelude.{Bool, Err, IfOk, IfSome, IsOk, IsSome, List, None, Ok, OnErr, OnOk, Option, Result, Some, [], drop, if◌then◌else◌, length, nat_lt, remove, slice_get, take, unwrap_or, ◌++◌, ◌+◌, ◌-◌, ◌<◌, ◌↔◌, ◌≡◌, ◌≤◌, ℕ}
 use Rattle.std.specs.declared.cmp.Ordering.{Ordering}
 
 module _ {K X : Type 0} where
@@ -89,6 +90,17 @@ module _ {K X : Type 0} where
     pub absent_forest : result ≡ None → f' ≡ f
     pub live : IsLive f' h'
     pub increasing : (order : K → K → Ordering) → IsIncreasing order (list_of f h) → IsIncreasing order (list_of f' h')
+
+-- the entries of h from a place on got keys that calls with their keys returned, and keep their values; those in front of the place stay, and
+-- so do all nodes
+pub record Shifts {K X : Type 0} (calls : K → K → Type 0) (place : ℕ) (f : Forest K X) (h : Option ℕ) (f' : Forest K X) : Type 0 where
+  pub moved : List (K × X)
+  pub rekeys : Rekeys calls (drop place (list_of f h)) moved
+  pub shifted : Becomes f h f' h (take place (list_of f h) ++ moved)
+  pub sizes : sizes_of f' h ≡ sizes_of f h
+  pub slots : slots_of f' ≡ slots_of f
+  pub free : free_of f' ≡ free_of f
+  pub memory : memory_of f' ≡ memory_of f
 
 -- the result of an insertion of an absent key, from that of a call that returns the value
 abbrev pub as_inserted : {X : Type 0} → Result X OutOfMemory → Result (Option X) OutOfMemory

@@ -7,3 +7,4 @@ pub mod Lending
 pub mod Place
 pub mod Range
 pub mod Retain
+pub mod Shift

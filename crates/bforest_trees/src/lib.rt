@@ -8,6 +8,7 @@ mod look;
 mod predicate;
 mod reader;
 mod retain;
+mod shift;
 mod trees;
 
 pub use bforest_core::{Comparator, Node, NodePool, OutOfMemory, PackedNode, Path};

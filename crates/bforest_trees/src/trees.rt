@@ -1,7 +1,7 @@
 //! The table of all trees of a forest: each call on one tree, stated once for maps and sets.
 ghost use Rattle.bforest_trees.specs.Forest.{Becomes, Gives, IsAccounted, IsLive, Takes, empty, emptied, first_level, free_of, limit_of, list_at, list_of, sizes_at, sizes_of, slots_of};
 ghost use Rattle.bforest_trees.specs.Bounds.{entry_at_most};
-ghost use Rattle.bforest_trees.specs.Calls.{Clears, Filters, Inserts, Removes, Reserves, SameLevels};
+ghost use Rattle.bforest_trees.specs.Calls.{Clears, Filters, Inserts, Removes, Reserves, SameLevels, Shifts};
 ghost use Rattle.bforest_trees.specs.Place.{AtSpot, IsComputed, IsSpot, OnSpot};
 ghost use Rattle.bforest_core.specs.Paths.{IsAtEnd, IsPlaced, StandingUnder, StandsOn, list_under};
 ghost use Rattle.bforest_trees.specs.Retain.{MayAskEach};
@@ -25,7 +25,7 @@ mod value;
 mod walk;
 
 use crate::predicate::Predicate;
-use crate::retain;
+use crate::{retain, shift};
 use bforest_core::{Comparator, Node, NodePool, OutOfMemory, PackedNode, Path};
 pub use range::Ends;
 use std::alloc::Global;
@@ -127,6 +127,28 @@ impl<K: Copy, V: Copy, const N: usize> Trees<K, V, N> {
     {
         if let Some(root) = handle.expand() {
             *handle = packed(retain::retain(&mut self.pool, root, predicate));
+        }
+    }
+
+    /// Gives new keys to the entries from the first on whose key is not less than `from`, in order: those that `change` returns of the old.
+    pub fn shift<C: Comparator<K>, F: Fn(K) -> K>(
+        &mut self,
+        handle: PackedNode,
+        from: K,
+        change: F,
+        comp: &C,
+    )
+        requires live { IsLive self.old handle }
+        requires increasing { IsIncreasing (C.order comp.now) (list_of self.old handle) }
+        requires callable { F.IsAlwaysCallable change }
+        ensures { Shifts (F.post change) (place (C.order comp.now) (list_of self.old handle) from)
+            self.old handle self.new }
+    {
+        if let Some(root) = handle.expand() {
+            let mut path = Path::default();
+            let _value = path.find(from, root, &self.pool, comp);
+            path.normalize(&self.pool);
+            shift::shift(&mut self.pool, root, &mut path, change);
         }
     }
 

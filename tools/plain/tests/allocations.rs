@@ -99,6 +99,7 @@ fn change_map(call: u32, key: u32, map: &mut Map<u32, u32>, forest: &mut MapFore
         }
         5 if key % 16 == 0 => map.clear(forest),
         5 if key % 16 == 1 => drop(map.deep_clone(forest).map(|mut copy| copy.clear(forest))),
+        5 if key % 4 == 0 => map.shift(key, |it| it + 3, forest, &()),
         5 => map.retain(forest, |it, _| it % 7 != key % 7),
         _ => drop(forest.reserve_nodes(forest.free_slots() + key % 8 / 7)),
     }
@@ -119,6 +120,7 @@ fn call_set(call: u32, key: u32, set: &mut Set<u32>, forest: &mut SetForest<u32>
         }
         3 if key % 16 == 0 => set.clear(forest),
         3 if key % 16 == 1 => drop(set.deep_clone(forest).map(|mut copy| copy.clear(forest))),
+        3 if key % 4 == 0 => set.shift(key, |it| it + 3, forest, &()),
         3 => set.retain(forest, |it| it % 7 != key % 7),
         4 => {
             let there = set.contains(key, forest, &());

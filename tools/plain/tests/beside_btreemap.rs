@@ -1,9 +1,9 @@
 //! Random calls beside `BTreeMap`: ranges that are read from both ends in turn, cursors that write beside where they stand and then read on,
-//! updates, entries taken from both ends, orders with no search of their own, and wide keys.
+//! updates, keys that are shifted, entries taken from both ends, orders with no search of their own, and wide keys.
 
-use bforest::{Comparator, Map, MapForest};
+use bforest::{Comparator, Map, MapForest, Set, SetForest};
 use std::cmp::{Ordering, Reverse};
-use std::collections::BTreeMap;
+use std::collections::{BTreeMap, BTreeSet};
 use std::ops::Bound;
 
 /// Numbers by xorshift.
@@ -74,7 +74,7 @@ fn write(
     keys: u32,
 ) {
     let (key, value) = (random.below(keys), random.below(1000));
-    match random.below(7) {
+    match random.below(8) {
         0 => {
             let known = model.get_mut(&key).map(|it| {
                 *it += value;
@@ -90,8 +90,25 @@ fn write(
         3 => assert_eq!(map.pop_last(forest), model.pop_last()),
         4 => assert_eq!(map.remove(key, forest, &()), model.remove(&key)),
         5 => assert_eq!(map.insert(key, value, forest, &()), Ok(model.insert(key, value))),
+        6 => shift(random, map, forest, model, key),
         _ => by_cursor(random, map, forest, model, keys),
     }
+}
+
+/// Moves all keys from one on, up or down, so far that none meets the last key in front of them.
+fn shift(
+    random: &mut Random,
+    map: &mut Map<u32, u32>,
+    forest: &mut MapForest<u32, u32>,
+    model: &mut BTreeMap<u32, u32>,
+    from: u32,
+) {
+    let before = model.range(..from).next_back().map_or(0, |last| last.0 + 1);
+    let gap = model.range(from..).next().map_or(0, |first| first.0 - before);
+    let (up, down) = if random.below(2) == 0 { (random.below(3), 0) } else { (0, random.below(gap + 1)) };
+    let behind = model.split_off(&from);
+    model.extend(behind.into_iter().map(|(key, value)| (key + up - down, value)));
+    map.shift(from, |key| key + up - down, forest, &());
 }
 
 /// Insertions, removals and steps of one cursor, which then reads on to the end.
@@ -170,6 +187,25 @@ fn maps_answer_as_a_model_does() {
         maps.iter_mut().for_each(|it| it.0.clear(&mut forest));
         assert_eq!(forest.free_slots(), forest.slots());
     }
+}
+
+#[test]
+fn sets_are_shifted_as_a_model_is() {
+    let mut random = Random(10);
+    let (mut forest, mut set, mut model) = (SetForest::new(), Set::new(), BTreeSet::new());
+    for _ in 0..20_000 {
+        let key = random.below(300);
+        match random.below(4) {
+            0 => {
+                model = model.iter().map(|it| if *it < key { *it } else { *it + 1 }).collect();
+                set.shift(key, |it| it + 1, &mut forest, &());
+            }
+            1 => assert_eq!(set.remove(key, &mut forest, &()), model.remove(&key)),
+            _ => assert_eq!(set.insert(key, &mut forest, &()), Ok(model.insert(key))),
+        }
+        assert_eq!(set.contains(key, &forest, &()), model.contains(&key));
+    }
+    assert!(set.iter(&forest).eq(model.iter().copied()) && set.increases(&forest, &()));
 }
 
 /// An order from the greatest key down, with the searches that a comparator has if it names none; and keys of more than 8 bytes.

@@ -177,7 +177,7 @@ type Search<H, F> = fn(&mut H, u32, &mut F, &Counting);
 type MapSearch = Search<Map<u32, u32>, MapForest<u32, u32>>;
 type SetSearch = Search<Set<u32>, SetForest<u32>>;
 
-const OF_MAPS: [(&str, MapSearch); 11] = [
+const OF_MAPS: [(&str, MapSearch); 12] = [
     ("get", |map, key, forest, comp| _ = map.get(key, forest, comp)),
     ("update", |map, key, forest, comp| _ = map.update(key, |value| value, forest, comp)),
     ("get_or_less", |map, key, forest, comp| _ = map.get_or_less(key, forest, comp)),
@@ -186,6 +186,7 @@ const OF_MAPS: [(&str, MapSearch); 11] = [
     ("insert", |map, key, forest, comp| _ = map.insert(key, 0, forest, comp).unwrap()),
     ("try_insert", |map, key, forest, comp| _ = map.try_insert(key, 0, forest, comp).unwrap()),
     ("remove", |map, key, forest, comp| _ = map.remove(key, forest, comp)),
+    ("shift", |map, key, forest, comp| map.shift(key, |it| it + 1, forest, comp)),
     ("goto of a reading cursor", |map, key, forest, comp| _ = map.cursor(forest, comp).goto(key)),
     ("goto of a writing cursor", |map, key, forest, comp| _ = map.cursor_mut(forest, comp).goto(key)),
     ("goto and remove", |map, key, forest, comp| {
@@ -195,13 +196,14 @@ const OF_MAPS: [(&str, MapSearch); 11] = [
     }),
 ];
 
-const OF_SETS: [(&str, SetSearch); 8] = [
+const OF_SETS: [(&str, SetSearch); 9] = [
     ("contains", |set, key, forest, comp| _ = set.contains(key, forest, comp)),
     ("get_or_less", |set, key, forest, comp| _ = set.get_or_less(key, forest, comp)),
     ("get_or_greater", |set, key, forest, comp| _ = set.get_or_greater(key, forest, comp)),
     ("insert", |set, key, forest, comp| _ = set.insert(key, forest, comp).unwrap()),
     ("try_insert", |set, key, forest, comp| _ = set.try_insert(key, forest, comp).unwrap()),
     ("remove", |set, key, forest, comp| _ = set.remove(key, forest, comp)),
+    ("shift", |set, key, forest, comp| set.shift(key, |it| it + 1, forest, comp)),
     ("goto", |set, key, forest, comp| _ = set.cursor(forest, comp).goto(key)),
     ("goto and remove", |set, key, forest, comp| {
         let mut cursor = set.cursor(forest, comp);

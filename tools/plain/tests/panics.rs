@@ -61,6 +61,22 @@ fn a_change_that_panics_leaves_the_map_as_it_was() {
 }
 
 #[test]
+fn a_shift_that_panics_leaves_the_keys_from_there_on() {
+    set_hook(Box::new(|_| {}));
+    for from in 0..200 {
+        let (mut map, mut forest) = filled();
+        let shift = |key| if key == from { panic!("no key") } else { key - 1 };
+        let made = catch_unwind(AssertUnwindSafe(|| map.shift(100, shift, &mut forest, &())));
+        let is_caught = from >= 100 && from % 2 == 0;
+        assert_eq!(made.is_err(), is_caught);
+        let end = if is_caught { from } else { 200 };
+        let moved = |key| if (100..end).contains(&key) { key - 1 } else { key };
+        assert!(map.iter(&forest).eq((0..200).step_by(2).map(|it| (moved(it), it))));
+        assert!(forest.holds(&map) && map.increases(&forest, &()));
+    }
+}
+
+#[test]
 fn a_predicate_that_panics_leaves_a_forest_that_can_be_cleared() {
     set_hook(Box::new(|_| {}));
     for asked in 0..100 {

@@ -146,6 +146,7 @@ with_both_searches!(
     removing_the_first_key_of_the_last_leaf,
     a_leaf_too_empty_takes_from_the_next_one,
     retaining_nothing_frees_every_node,
+    shifted_keys_are_found_in_the_nodes_that_they_had,
     a_set_of_one_key,
     a_forest_of_no_nodes_takes_no_key,
     a_value_written_by_a_cursor_and_the_steps_behind,
@@ -494,6 +495,26 @@ fn retaining_nothing_frees_every_node<C: Comparator<u32>>(comp: &C) {
     map.retain(&mut forest, |_, _| false);
     assert!(map.is_empty());
     assert_eq!(sizes(&map, &forest), Sizes { levels: 0, slots: 3, free: 3 });
+}
+
+fn shifted_keys_are_found_in_the_nodes_that_they_had<C: Comparator<u32>>(comp: &C) {
+    let mut forest = Forest::new();
+    let mut map = filled(1..=8, &mut forest, comp);
+    map.shift(3, |key| key + 10, &mut forest, comp);
+    let moved = [(1, 10), (2, 20), (13, 30), (14, 40), (15, 50), (16, 60), (17, 70), (18, 80)];
+    assert_eq!(entries(&map, &forest), moved);
+    // 15 is the first key of the second leaf, and 9 would have been behind it.
+    assert_eq!((map.get(15, &forest, comp), map.get(14, &forest, comp)), (Some(50), Some(40)));
+    assert_eq!(map.insert(9, 90, &mut forest, comp), Ok(None));
+    assert_eq!(map.remove(15, &mut forest, comp), Some(50));
+    assert_eq!(sizes(&map, &forest), Sizes { levels: 2, slots: 3, free: 0 });
+    map.shift(9, |key| key - 6, &mut forest, comp);
+    assert_eq!(entries(&map, &forest), [(1, 10), (2, 20), (3, 90), (7, 30), (8, 40), (10, 60), (11, 70), (12, 80)]);
+    map.shift(13, |_| 0, &mut forest, comp);
+    assert_eq!(map.last(&forest), Some((12, 80)));
+    let mut none = Numbers::new();
+    none.shift(0, |key| key + 1, &mut forest, comp);
+    assert!(none.is_empty());
 }
 
 // Limits.

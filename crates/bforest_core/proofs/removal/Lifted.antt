@@ -17,7 +17,7 @@ pub heads-put : {K X : Type 0} (before : Row K X) (n es fs after : _) → head_o
 heads-put before n es fs after e = simp (heads-append, e)
 
 -- writing the key of an entry
-key_set : {K : Type 0} (p : Heads K) (y : K × ℕ) (s : Heads K) (key : K) → (set (entry_keys (p ++ y ∷ s)) (length p) key ≡ entry_keys (p ++ (key, y.1) ∷ s)) ×
+pub key_set : {K X : Type 0} (p : List (K × X)) (y : K × X) (s : List (K × X)) (key : K) → (set (entry_keys (p ++ y ∷ s)) (length p) key ≡ entry_keys (p ++ (key, y.1) ∷ s)) ×
     (entry_items (p ++ y ∷ s) ≡ entry_items (p ++ (key, y.1) ∷ s))
 key_set [] y s key = (refl, refl)
 key_set (z ∷ p) y s key = let again = key_set p y s key in (cc (again.0), cc (again.1))
