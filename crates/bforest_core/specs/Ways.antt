@@ -105,7 +105,7 @@ module _ {K V : Type 0} where
   CountsAt table number count = (content : Content K V) → slice_get table.nodes number ≡ Some content → count ≡ entry_count content
 
   -- the leaf of a way lost an entry and has too few, and the rows above have its first key. It is not the last child of its parent, which
-  -- has more than 4
+  -- is the root or has more than 4
   pub record ShortOn (most : ℕ) (table : Table K V) (root : ℕ) (way : Way) : Type 0 where
     pub path : List ℕ
     pub indices : List ℕ
@@ -115,7 +115,7 @@ module _ {K V : Type 0} where
     pub unbalanced : Unbalanced most table path indices size root
     pub short : length unbalanced.lost.entries < half_of most
     pub high : 0 < way.height
-    pub children : (content : Content K V) → slice_get table.nodes way.parent ≡ Some content → (4 < entry_count content) × (suc (way.code % 8) < entry_count content)
+    pub children : (content : Content K V) → slice_get table.nodes way.parent ≡ Some content → (1 < way.height → 4 < entry_count content) × (suc (way.code % 8) < entry_count content)
 
   -- the tree lost that entry; the freed nodes are those of a path that goes the way
   pub record ShrinksOn (most : ℕ) (old new : Table K V) (root place : ℕ) (path : List ℕ) (size : ℕ) (result : Option ℕ) : Type 0 where

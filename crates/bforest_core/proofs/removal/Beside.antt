@@ -1,18 +1,18 @@
--- Balancing the short leaf of a way with its right neighbour under the same parent, which keeps 4 children or more: the answers of `balance_on`.
+-- Balancing the short leaf of a way with its right neighbour under the same parent, which keeps 4 children or more, or is the root: the answers of `balance_on`.
 use Rattle.bforest_core.proofs.Words.{◌≡◌, ◌≢◌, ℕ, suc, ◌+◌, ◌-◌, ◌*◌, ◌/◌, ◌%◌, ◌^◌, ◌≤◌, ◌<◌, List, [], ◌∷◌, ◌++◌, length, get_or, set, slice_get, Option, Some, None, inl, refl, sym, ap, ◌∙◌}
 use Rattle.bforest_core.proofs.Words.{Bool, arith, subst, length-append, length-set, map, Heads, Row, RowsIn, IsUsed, IsUnderflowedAt, IsBalancedAt, Table, with_freed, entry_count, inner_content, heads, sizes}
-use Rattle.bforest_core.proofs.Words.{Loses, Joins, OneAbove, TwoAbove, LoosenedRows, Rebuilt, Shrunk, ShortOn, loss_above, nodes_up, node, flat}
-use Rattle.bforest_core.proofs.removal.{Asked.{Beside, ChildAt, Counts, KeyAt, ReadsChild, ReadsKey, Removes, Seen, Writes}, Healing.leaf_loses, Merge.{kept_restored, lost_above, lost_is, merge_asks, placed, rebuilt}}
-use Rattle.bforest_core.proofs.removal.{Neighbours.{beside_same, item_asks, one_seen}, Rebalance.judged, RemovingMerged.{here, merge_same, remove_asks, same_parent}, Removing.{healed_removed, joined_kept}}
+use Rattle.bforest_core.proofs.Words.{cases_lt, inr, nil_from_length, ◌⊎◌, Rows, Trimmed, UpTo, Loses, Joins, OneAbove, TwoAbove, LoosenedRows, Rebuilt, Shrunk, ShortOn, loss_above, nodes_up, node, flat}
+use Rattle.bforest_core.proofs.removal.{Asked.{no_nodes, some_first, Beside, ChildAt, Counts, KeyAt, ReadsChild, ReadsKey, Removes, Seen, Writes}, Healing.leaf_loses, Merge.{kept_restored, merge_asks, rebuilt}}
+use Rattle.bforest_core.proofs.removal.{Neighbours.{beside_same, item_asks, one_seen}, Rebalance.judged, RemovingMerged.{here, merge_same, remove_asks, same_parent}, Removing.{collapse_asks, healed_removed, joined_removed}}
 use Rattle.bforest_core.proofs.removal.Rebalancing.{balance_asks, beside_asks, count_read, counted_asks, free_asks, free_joins, rekey_asks, rekey_heals}
-use Rattle.bforest_core.proofs.{rows.LevelRows.flat-append, table.Stored.{item_count, some_same}, table.Tables.row-split, walks.Ways.up-none}
+use Rattle.bforest_core.proofs.{removal.Lifted.{headed, top_one}, table.Stored.{item_count, some_same}, table.Tables.row-split, walks.Ways.up-none}
 use Rattle.bforest_core.specs.declared.path.way.Way.{Way}
 
--- a row has no more heads than nodes
-heads-few : {K X : Type 0} (row : Row K X) → length (heads row) ≤ length row
-heads-few [] = omega arith
-heads-few (node n [] ∷ row) = omega (arith, heads-few row)
-heads-few (node n (e ∷ es) ∷ row) = omega (arith, heads-few row)
+module _ {K V : Type 0} {t u : Table K V} {path indices : List ℕ} {size : ℕ} (rows : Rows K) (list : Heads K) (place : ℕ) (l : LoosenedRows t u path indices 1 size rows list place) where
+  -- a root is alone on its level
+  top-alone : size ≤ 2 → l.after ≡ []
+  top-alone low = let h = some_first l.entries l.some in let one = top_one (headed l.before (get_or path 1 0) l.after h l.on_level.above) low in
+      no_nodes 4 8 (omega arith) l.after l.on_level.fits (nil_from_length (heads l.after) (omega (arith, one, length-append (heads l.before) ((h.0.0, get_or path 1 0) ∷ heads l.after))))
 
 module _ {K V : Type 0} {most : ℕ} {t : Table K V} {root : ℕ} {way : Way} (s : ShortOn most t root way) where
   open s use {path, indices, size, follows as f, unbalanced as u}
@@ -61,9 +61,9 @@ module _ {K V : Type 0} {most : ℕ} {t : Table K V} {root : ℕ} {way : Way} (s
   index-is : {digit : ℕ} → digit ≡ way.code / 2 ^ (3 * 0) % 8 → get_or indices 1 0 ≡ digit
   index-is is = f.digits 0 s.high ∙ sym is
 
-  many : (4 < length es) × (get_or indices 1 0 + 1 < length es)
+  many : (1 < way.height → 4 < length es) × (get_or indices 1 0 + 1 < length es)
   many = let c = s.children (inner_content es) (ap (slice_get t.nodes) (sym parent-is) ∙ parent-slot t one.above.inside) in
-      omega (arith, c, item_count es, f.digits 0 s.high, ap (λ z. z % 8) (up-none way.code))
+      (λ high. omega (arith, c.0 high, item_count es), omega (arith, c.1, item_count es, f.digits 0 s.high, ap (λ z. z % 8) (up-none way.code)))
 
   now : Counts t (get_or path 1 0) (length es)
   now = counts t one.above.inside
@@ -148,16 +148,23 @@ module _ {K V : Type 0} {most : ℕ} {t : Table K V} {root : ℕ} {way : Way} (s
                 left-there : (w : TwoAbove z path1 indices 1 size) → length es ≡ suc (length (passed w).entries)
                 left-there w = (passed w).was es slot1
 
+                -- the parent is the root, or has 4 children or more
+                parent-kept : (w : TwoAbove z path1 indices 1 size) → (4 ≤ length (passed w).entries) ⊎ ((passed w).after ≡ [])
+                parent-kept w = elim (cases_lt 1 way.height) [
+                  | inl high ↦ inl (omega (arith, many.0 high, left-there w))
+                  | inr low ↦ inr (top-alone _ _ _ (passed w) (omega (arith, f.size_is)))
+                ]
+
                 merged : (w : TwoAbove z path1 indices 1 size) → (levels : ℕ)
                     × Rebuilt z x path1 indices path1 indices 1 size w.rows (w.before ++ (w.x.0, w.y.1) ∷ w.after) (length w.before) (loss_above (Some (length w.before)) (map sizes w.rows)) (nodes_up path1 1 levels)
                 merged w = let l = passed w in let at : length w.before < length (w.before ++ (w.x.0, w.y.1) ∷ w.after) = omega (arith, length-append w.before ((w.x.0, w.y.1) ∷ w.after)) in
-                    (0, rebuilt w.rows l at (kept_restored l (judged 4 8 l.entries l.after (omega arith) l.some (inl (omega (arith, many, left-there w)))), λ more. omega (arith, many, left-there w)))
+                    (0, rebuilt w.rows l at (kept_restored l (judged 4 8 l.entries l.after (omega arith) l.some (parent-kept w)), λ more. omega (arith, many.1, left-there w)))
 
-                pub joined : Shrunk most u.old x path u.tree u.place root
-                joined = let l = passed both in let j = judged 4 8 l.entries l.after (omega arith) l.some (inl (omega (arith, many, left-there both))) in
-                    let is-now : loss_above (Some (length both.before)) (map sizes u.lost.rest) ≡ (sizes l.before ++ (length l.entries ∷ sizes l.after)) ∷ map sizes l.rest =
-                    sym (lost_above (length both.before) (map sizes u.lost.rest)) ∙ lost_is l ∙ ap (λ (w : Bool × List ℕ). (sizes l.before ++ w.1) ∷ loss_above (placed (length l.before) w.0) (map sizes l.rest)) j.1 in
-                    let whole : length (both.before ++ (both.x.0, both.y.1) ∷ both.after) ≡ length (flat l.before) + length (l.entries ++ flat l.after) = sym (ap length l.list_is) ∙ ap length (flat-append l.before (node (get_or path1 1 0) l.entries ∷ l.after)) ∙ length-append (flat l.before) (l.entries ++ flat l.after) in
-                    (joined_kept u.stands u.lost u.root_is joins refl merged refl l.sizes_were is-now
-                    (length-append (sizes l.before) (length l.entries ∷ sizes l.after) ∙ sym (length-append (sizes l.before) (suc (length l.entries) ∷ sizes l.after)))
-                    (omega (arith, whole, many, left-there both, length-append l.entries (flat l.after), length-append both.before ((both.x.0, both.y.1) ∷ both.after), heads-few u.lost.before, heads-few joins.after'))).shrunk
+                same-size : way.height + 1 ≡ size
+                same-size = omega (arith, f.size_is)
+
+                pub collapse-asks : (rows : _) × (list : _) × UpTo x (way.height + 1) rows list root
+                collapse-asks = collapse_asks u.stands u.lost u.root_is joins refl merged same-size
+
+                pub joined : {v1 : Table K V} {root' : ℕ} → ((size' : ℕ) × ((rows list : _) → UpTo x (way.height + 1) rows list root → (freed : _) × Trimmed x v1 (way.height + 1) size' rows list root root' freed)) → Shrunk most u.old v1 path u.tree u.place root'
+                joined trims = (joined_removed u.stands u.lost u.root_is joins refl merged same-size trims.1 refl refl).shrunk

@@ -140,11 +140,11 @@ module _ {K V : Type 0} {most : ℕ} {old now : Table K V} {root place index : �
     pub kept-on : {m : ℕ} → Counts now way.leaf m → most / 2 < m → ShrinksOn most old new root place path size (Some root)
     kept-on {m} value many = record { nodes = path; same = λ i low. refl; shrinks = kept_full e _ (sym f.leaf_is) m value l many }
 
-    pub balanced-on : {last : Table K V} → Shrunk most old last path (tree_of old.nodes root) place root → ShrinksOn most old last root place path size (Some root)
+    pub balanced-on : {last : Table K V} {left : ℕ} → Shrunk most old last path (tree_of old.nodes root) place left → ShrinksOn most old last root place path size (Some left)
     balanced-on shrunk = record { nodes = path; same = λ i low. refl; shrinks = settled e {Now = λ z. Unit {0}} (record { shrunk = shrunk; at = tt }) }
 
     -- the leaf is short, and may be balanced with its right neighbour
-    abbrev pub short-on : ((content : Content K V) → slice_get now.nodes way.leaf ≡ Some content → entry_count content ≤ most / 2) → 0 < way.height → {n : ℕ} → CountsAt new way.parent n → 4 < n → suc (way.code % 8) < n
+    abbrev pub short-on : ((content : Content K V) → slice_get now.nodes way.leaf ≡ Some content → entry_count content ≤ most / 2) → 0 < way.height → {n : ℕ} → CountsAt new way.parent n → (1 < way.height → 4 < n) → suc (way.code % 8) < n
         → ShortOn most new root way
     short-on few high children many more = record {
       path = path;
@@ -155,7 +155,7 @@ module _ {K V : Type 0} {most : ℕ} {old now : Table K V} {root place index : �
       unbalanced = unbalanced_by e _ (sym f.leaf_is) left left-read l (few leaf-asks.0 leaf-asks.1);
       short = omega (arith, left_is e _ (sym f.leaf_is) left left-read l, few leaf-asks.0 leaf-asks.1, e.union.1.capacity.odd);
       high = high;
-      children = λ content is. (omega (arith, children content is, many), omega (arith, children content is, more));
+      children = λ content is. (λ above. omega (arith, children content is, many above), omega (arith, children content is, more));
     }
 
   module _ (high : 0 < way.height) {n : ℕ} (children : CountsAt now way.parent n) (more : suc (way.code % 8) < n) where

@@ -174,7 +174,7 @@ impl<K: Copy, V: Copy, const N: usize> Path<K, V, N> {
     }
 
     // Discards and frees roots with a single child, from `root` downwards. Returns the root that stays; the path loses one level for each.
-    fn collapse_root(&mut self, root: Node, pool: &mut NodePool<K, V, N>) -> Node
+    pub(super) fn collapse_root(&mut self, root: Node, pool: &mut NodePool<K, V, N>) -> Node
         requires height { self.old.size ≤ most_levels }
         requires rooted { (rows : List (List (LevelNode K ℕ))) × (list : List (K × ℕ))
             × UpTo pool.old self.old.size rows list root }

@@ -1,12 +1,12 @@
 //! The way from a root down to a leaf, in one word.
-ghost use Rattle.std.specs.Prelude.{length, slice_get, ◌≡◌, ℕ, suc, ◌+◌, ◌-◌, ◌*◌, ◌/◌, ◌%◌, ◌^◌, ◌<◌, ◌≤◌, List, Some, IsTrue, true, false};
+ghost use Rattle.std.specs.Prelude.{length, slice_get, ◌≡◌, ℕ, suc, ◌+◌, ◌-◌, ◌*◌, ◌/◌, ◌%◌, ◌^◌, ◌<◌, ◌≤◌, List, None, Some, IfSome, IsTrue, true, false};
 ghost use Rattle.bforest_core.specs.Change.{Shrinks};
 ghost use Rattle.bforest_core.specs.Climb.{Inserted};
-ghost use Rattle.bforest_core.specs.Levels.{Tree, sizes_of};
+ghost use Rattle.bforest_core.specs.Levels.{LevelNode, Tree, sizes_of};
 ghost use Rattle.bforest_core.specs.Paths.{list_under};
 ghost use Rattle.bforest_core.specs.Sizes.{need};
 ghost use Rattle.bforest_core.specs.Table.{IsFullAt, Table};
-ghost use Rattle.bforest_core.specs.Removal.{LeafLoss, Shrunk};
+ghost use Rattle.bforest_core.specs.Removal.{LeafLoss, Shrunk, Trimmed, UpTo};
 ghost use Rattle.bforest_core.specs.Trees.{IsUnion, is_root, tree_of};
 ghost use Rattle.bforest_core.specs.Ways.{CountsAt, EndsOnWay, Follows, HalvedOn, InsertsAt, LeadsUp, OnWay, PlacedIn, PlacedOn, Retraces, ShortOn, ShrinksOn, TakenOn};
 ghost use Rattle.bforest_nodes.specs.Content.{Content, entry_count};
@@ -255,60 +255,78 @@ impl<K: Copy, V: Copy, const N: usize> NodePool<K, V, N> {
         ensures healed { (old : Table K V) (place : ℕ) (t : TakenOn N old self.old root way.now index place)
             → ShrinksOn N old self.new root place t.path t.size result }
     {
-        if self.heal_beside(way, index) {
-            return Some(root);
+        match self.heal_beside(way, index, root) {
+            Some(root) => Some(root),
+            None => self.heal_far(way, index, root),
         }
-        self.heal_far(way, index, root)
     }
 
-    // Restores the tree where the leaf has too few entries, and no node but it, its parent and its right neighbour there has to change. Else
-    // it returns false, and changes nothing.
+    // Restores the tree where the leaf has too few entries, and no node but it, its parent and its right neighbour there has to change, and
+    // returns its root. Else it returns `None`, and changes nothing.
     #[inline(always)]
-    fn heal_beside(&mut self, way: &Way, index: usize) -> bool
-        requires taken { (old : Table K V) × (root place : ℕ) × TakenOn N old self.old root way.now index place }
+    fn heal_beside(&mut self, way: &Way, index: usize, root: Node) -> Option<Node>
+        requires taken { (old : Table K V) × (place : ℕ) × TakenOn N old self.old root way.now index place }
         requires short { (content : Content K V) → slice_get self.old.nodes way.now.leaf ≡ Some content
             → entry_count content ≤ N / 2 }
-        ensures healed { result ≡ true → (old : Table K V) (root place : ℕ)
+        ensures healed { IfSome result (λ left. (old : Table K V) (place : ℕ)
             → (t : TakenOn N old self.old root way.now index place)
-            → ShrinksOn N old self.new root place t.path t.size (Some root) }
-        ensures same { result ≡ false → self.new ≡ self.old }
+            → ShrinksOn N old self.new root place t.path t.size (Some left)) }
+        ensures same { result ≡ None → self.new ≡ self.old }
     {
         if way.height == 0 {
-            return false;
+            return None;
         }
         let children = entries(self, way.parent);
-        if children <= MIN_CHILDREN {
-            return false;
+        if way.height > 1 && children <= MIN_CHILDREN {
+            return None;
         }
         if way.digit(0) + 1 >= children {
-            return false;
+            return None;
         }
         if !self.renew_near(way, index) {
-            return false;
+            return None;
         }
-        self.balance_on(way);
-        true
+        Some(self.balance_on(way, root))
     }
 
-    // Fills the short leaf of a way from its right neighbour, or merges it into the neighbour.
-    fn balance_on(&mut self, way: &Way)
-        requires short { (root : ℕ) × ShortOn N self.old root way.now }
-        ensures { (root : ℕ) (s : ShortOn N self.old root way.now)
-            → Shrunk N s.unbalanced.old self.new s.path s.unbalanced.tree s.unbalanced.place root }
+    // Fills the short leaf of a way from its right neighbour, or merges it into the neighbour. Returns the tree's root.
+    fn balance_on(&mut self, way: &Way, root: Node) -> Node
+        requires short { ShortOn N self.old root way.now }
+        ensures { (s : ShortOn N self.old root way.now)
+            → Shrunk N s.unbalanced.old self.new s.path s.unbalanced.tree s.unbalanced.place result }
     {
         let digit = way.digit(0);
         let key = separator(self, way.parent, digit);
         let right = child(self, way.parent, digit + 1);
         match self.balance_nodes(way.leaf, key, right) {
-            Some(new_key) => set_separator(self, way.parent, digit, new_key),
+            Some(new_key) => {
+                set_separator(self, way.parent, digit, new_key);
+                root
+            }
             None => {
                 self.free_node(way.leaf);
                 // The removal of the first child takes the first separator with it, so it does not matter which key was written there.
                 let low = separator(self, way.parent, digit.saturating_sub(1));
                 set_separator(self, way.parent, digit, low);
                 let _answer = remove_child(self, way.parent, digit);
+                self.collapse_on(way, root)
             }
         }
+    }
+
+    // Discards and frees a root with a single child. Returns the root that stays.
+    fn collapse_on(&mut self, way: &Way, root: Node) -> Node
+        requires height { way.now.height ≤ 16 }
+        requires rooted { (rows : List (List (LevelNode K ℕ))) × (list : List (K × ℕ))
+            × UpTo self.old (way.now.height + 1) rows list root }
+        ensures { (size : ℕ) × ((rows : List (List (LevelNode K ℕ))) (list : List (K × ℕ))
+            → UpTo self.old (way.now.height + 1) rows list root → (freed : List ℕ)
+            × Trimmed self.old self.new (way.now.height + 1) size rows list root result freed) }
+    {
+        // Of the path only its height counts.
+        let mut path = Path::default();
+        path.size = way.height as usize + 1;
+        path.collapse_root(root, self)
     }
 
     // Restores the tree by a path.
