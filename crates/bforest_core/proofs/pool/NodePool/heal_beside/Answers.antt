@@ -13,15 +13,6 @@ returns-then-not-renew_near-clause-same g c = λ is. c.renew_near.ensures.same c
 
 pub balance_on-requires : goal.balance_on-requires
 balance_on-requires g c = let w = c.requires.taken in let more = child-follows _ c.digit.ensures.digit c.if-digit-children.false in
-<<<<<<< ours
-    let l = c.renew_near.ensures.renewed c.if-not-renew_near.false w.0 w.1 w.2 w.3 in
-    (search rules, (w.1, short-on w.3 l c.requires.short (omega (arith, c.if-way-eq0.false)) (c.renew_near.ensures.children _ c.entries-children.ensures.value) (omega arith) more))
-
-pub returns-clause-healed : goal.returns-clause-healed
-returns-clause-healed g c = λ is old root place t. let more = child-follows _ c.digit.ensures.digit c.if-digit-children.false in
-    let l = c.renew_near.ensures.renewed c.if-not-renew_near.false old root place t in
-    balanced-on t l (c.balance_on.ensures root (short-on t l c.requires.short (omega (arith, c.if-way-eq0.false)) (c.renew_near.ensures.children _ c.entries-children.ensures.value) (omega arith) more))
-=======
     let many : 1 < c.args.way.now.height → 4 < c.entries-children.result = λ high. elim c.else-way-gt1.branch [
       | goal.else-way-gt1-via-then-way-gt1+else-children-le-MIN_CHILDREN w ↦ omega (arith, w.if-children-le-MIN_CHILDREN.false)
       | goal.else-way-gt1-via-else-way-gt1 w ↦ absurd (omega (arith, high, w.if-way-gt1.false))
@@ -37,4 +28,3 @@ returns-clause-healed g c = λ old place t. let more = child-follows _ c.digit.e
     ] in
     let l = c.renew_near.ensures.renewed c.if-not-renew_near.false old c.args.root place t in
     balanced-on t l (c.balance_on.ensures (short-on t l c.requires.short (omega (arith, c.if-way-eq0.false)) (c.renew_near.ensures.children _ c.entries-children.ensures.value) many more))
->>>>>>> theirs
