@@ -267,15 +267,13 @@ pub mod package {
 
         fn rest(&mut self, own: Place, price: u32, order: u32, orders: &mut [Order]) {
             let levels = &mut self.books[own.book][usize::from(own.is_buy)];
+            let mut alone = Level::EMPTY;
+            alone.push(order, orders);
             let push = |mut level: Level| {
                 level.push(order, orders);
                 level
             };
-            if levels.update(price, push, &mut self.forest, &()).is_none() {
-                let mut level = Level::EMPTY;
-                level.push(order, orders);
-                levels.insert(price, level, &mut self.forest, &()).expect(ROOM);
-            }
+            levels.update_or_insert(price, alone, push, &mut self.forest, &()).expect(ROOM);
         }
 
         fn cancel(&mut self, own: Place, price: u32, order: u32, orders: &mut [Order]) {

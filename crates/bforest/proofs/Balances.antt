@@ -2,14 +2,16 @@
 -- slots, free slots and the tree's nodes balance.
 use Rattle.bforest.proofs.Growing.{growth-fits}
 use Rattle.bforest.proofs.Shrinking.{shrink-fits}
-use Rattle.bforest.specs.Calls.{Clears, Filters, GetsOrInserts, Inserts, Pops, Removes, RemovesAt}
+use Rattle.bforest.specs.Calls.{Clears, Filters, GetsOrInserts, Inserts, Pops, Removes, RemovesAt, Updates}
 use Rattle.bforest.specs.Entries.{is_present, place, value_for, with_value}
 use Rattle.bforest.specs.Forest.{Becomes, Forest, Gives, IsFitFor, Takes, growth, limit_of, list_of, need, need_of, room_of, shrink, sizes_of}
 use Rattle.bforest.specs.Refusal.{OutOfMemory}
 use Rattle.bforest.specs.Retain.{AsksEach, kept_by, sizes_by}
 use Rattle.bforest.specs.Room.{Balances, IsFitAt, node_count}
 use Rattle.bforest_nodes.proofs.Found.{place-present, put-absent, put-present}
+use Rattle.bforest_trees.proofs.Putting.{present-some}
 use Rattle.bforest_trees.specs.Calls.{as_inserted}
+use Rattle.std.specs.Fn.{Once}
 use Rattle.std.proofs.Common.{Bool, Err, List, None, Ok, Option, Result, Some, [], ap, arith, false, if◌then◌else◌, inl, inr, length, refl, remove, subst, suc, sym, true, zero, ◌%◌, ◌+◌, ◌-◌, ◌<◌, ◌∙◌, ◌∷◌, ◌≡◌, ◌≤◌, ℕ}
 use Rattle.std.proofs.lemmas.Bool.Decides.{leb_tells}
 use Rattle.std.proofs.lemmas.List.Edits.{length-insert, length-remove}
@@ -147,6 +149,18 @@ module _ {K V : Type 0} where
               let more : length (list_of f' h') ≡ suc (length (list_of f h)) = omega (arith, longer, ap length (r.put.list ∙ put-absent cmp (list_of f h) k v e)) in
               let grown = growth-fits most odd (place cmp (list_of f h) k) (length (list_of f h)) (sizes_of f h) fit within in
               taken-balance most f f' h h' (need_of most cmp f h k) (rw (more, sizes) grown.0) r.put.limit r.account enough (omega (arith, ap node_count sizes, some, grown.1))
+
+      pub updates-balance : {F : Type 0} {g : Once F (V × Unit {0}) V} {q : F} (result : Option V) → Updates g cmp f h k q result f' h' → Balances most f h f' h'
+      updates-balance None u = same-balance most f f' h h' fit (u.absent_forest refl) u.handle
+      updates-balance (Some w) u =
+          let here = present-some cmp (list_of f h) k u.called.0 u.called.1 in
+          let same : length (list_of f' h') ≡ length (list_of f h) = ap length (u.put.list ∙ put-present cmp (list_of f h) k w here) ∙ length-written (list_of f h) (place cmp (list_of f h) k) w in
+          record {
+            fit = sizes-stay most f f' h h' fit same u.sizes;
+            nodes = omega (arith, u.slots, u.free, ap node_count u.sizes);
+            slots = omega (arith, u.slots);
+            within = λ low. omega (arith, u.slots, u.put.limit, low);
+          }
 
       pub gets-or-inserts-balance : (v : V) (result : Result V OutOfMemory) → GetsOrInserts most cmp f h k v result f' h' → Balances most f h f' h'
       gets-or-inserts-balance v result r = by (value_for cmp (list_of f h) k) refl

@@ -1,7 +1,7 @@
 //! Handles of maps.
 ghost use Rattle.bforest_nodes.specs.Entries.{IsIncreasing, place, value_for};
 ghost use Rattle.bforest.specs.Bounds.{entries_between, entry_at_least, entry_at_most};
-ghost use Rattle.bforest.specs.Calls.{Clears, Clones, Filters, GetsOrInserts, Inserts, Pops, Removes, Shifts, Updates};
+ghost use Rattle.bforest.specs.Calls.{Clears, Clones, Filters, GetsOrInserts, Inserts, Pops, Removes, Shifts, Updates, UpdatesOrInserts};
 ghost use Rattle.bforest.specs.Cursor.{IsCursor, comparator, forest_loan, forest_now, map_loan, map_now, spot};
 ghost use Rattle.bforest.specs.Forest.{Forest, IsLive, IsSearchable, first_level, list_of, sizes_of};
 ghost use Rattle.bforest.specs.Memory.{MapsFitInMemory};
@@ -234,6 +234,34 @@ impl<K: Copy, V: Copy> Map<K, V> {
             forest.new self.new }
     {
         forest.trees.get_or_insert(&mut self.root, key, value, comp)
+    }
+
+    /// Replaces the value of the entry whose key compares equal to `key` by what `change` returns of it. Where there is none, inserts
+    /// `value` at the key. Returns the value that the key has then.
+    ///
+    /// One search, as in [`Map::get`]. `change` is called once where the entry is there, else never, and before anything is written. Where
+    /// the key is present, no other entry changes, and no node. An absent key needs the nodes that it needs in [`Map::try_insert`].
+    ///
+    /// # Errors
+    ///
+    /// [`OutOfMemory`] exactly where [`Map::try_insert`] of the entry fails. The map and the forest are unchanged then.
+    pub fn update_or_insert<C: Comparator<K>, F: FnOnce(V) -> V>(
+        &mut self,
+        key: K,
+        value: V,
+        change: F,
+        forest: &mut MapForest<K, V>,
+        comp: &C,
+    ) -> Result<V, OutOfMemory>
+        requires searchable { IsSearchable (C.order comp.now) forest.old self.old }
+        requires callable { (v : V) → value_for (C.order comp.now) (list_of forest.old self.old) key ≡ Some v
+            → F.pre change v }
+        ensures { UpdatesOrInserts MAP_LEAF (C.order comp.now) F.FnOnce forest.old self.old key value change
+            result forest.new self.new }
+    {
+        forest
+            .trees
+            .update_or_insert(&mut self.root, key, value, change, comp)
     }
 
     /// Removes the entry whose key compares equal to `key` and returns its value, or returns `None` and changes nothing.

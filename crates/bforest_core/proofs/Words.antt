@@ -16,7 +16,7 @@ pub use Rattle.bforest_core.specs.Table.{free_count, fresh_nodes, front_of, fron
 pub use Rattle.bforest_core.specs.Trees.{Every, IsForest, IsUnion, OthersKeep, entries_of, inner_row, inner_rows, is_used, leaf_row, levels_below, numbers_down}
 pub use Rattle.bforest_core.specs.{Chain.{IsChain, IsPool, chain_from, next_of}, Descent.{SearchThrough, StackedTo, StandsTo, Under, child_index}, Trees.slot}
 pub use Rattle.bforest_core.specs.{Change.{StandsUnder, TakesNodes, node_count}, Spots.{OnUnder, leaf_count, leaf_place, place_by}}
-pub use Rattle.bforest_core.specs.{Climb.{TwoAbove, nodes_up, top_of}, Leaves.{EndsBothAt, EndsIn, EndsOn, Narrows, PutsInLeaf, SearchEndsAt, TakesFromLeaf, entry_up_to}}
+pub use Rattle.bforest_core.specs.{Climb.{TwoAbove, nodes_up, top_of}, Leaves.{EndsBothAt, EndsIn, EndsOn, LooksInLeaf, Narrows, PutsInLeaf, SearchEndsAt, TakesFromLeaf, entry_up_to}}
 pub use Rattle.bforest_core.specs.{Levels.sizes_of, Steps.TurnedBy, Table.{with_node, with_slots, with_value_at, without_front}, declared.path.Path.Path}
 pub use Rattle.bforest_core.specs.{Paths.{RemovesHere, spot}, Place.{entry_keys, first_number, inner_content, leaf_content, numbers_of, root_above, root_of}}
 pub use Rattle.bforest_core.specs.Removal.{Loses, OnLevel, Rebuilt, Rekeyed, Removed, Shrunk, StandsIn, Trimmed, Unbalanced, UpTo, content_at, half_at, most_at, numbers_under}

@@ -1,5 +1,5 @@
--- The leaf of a tree in which a search for a key ends: its path, its spot, what it tells of the whole tree, and what putting a value in
--- there, and removing the key, returns and leaves.
+-- The leaf of a tree in which a search for a key ends: its path, its spot, what it tells of the whole tree, and what looking the key up
+-- there, putting a value in, and removing the key, returns and leaves.
 use Rattle.std.specs.Prelude.{◌≡◌, ℕ, ◌+◌, ◌<◌, ◌≤◌, IsTrue, true, false, if◌then◌else◌, List, [], ◌∷◌, ◌++◌, length, get_or, insert, slice_get, slice_set, Option, Some, None, Result, Ok, Err, IfOk, IfSome, option_map}
 use Rattle.std.specs.Ordering.{is_gt}
 use Rattle.std.specs.declared.cmp.Ordering.{Ordering}
@@ -7,7 +7,7 @@ use Rattle.bforest_nodes.specs.Content.{Content}
 use Rattle.bforest_nodes.specs.Entries.{IsIncreasing, is_present, place, value_for, with_value}
 use Rattle.bforest_core.specs.Change.{Changes, EntryTaken, PlacedUnder, StandsUnder, TakesNodes}
 use Rattle.bforest_core.specs.Levels.{LevelNode, flat, most_levels, node, sizes_of}
-use Rattle.bforest_core.specs.Place.{entry_before, leaf_content}
+use Rattle.bforest_core.specs.Place.{IsAt, entry_before, leaf_content}
 use Rattle.bforest_core.specs.Sizes.{growth, need}
 use Rattle.bforest_core.specs.Spots.{IsLeafAt, IsSpotAt, IsWay, leaf_place}
 use Rattle.bforest_core.specs.Table.{Table, slot_count}
@@ -37,6 +37,12 @@ module _ {K V : Type 0} (cmp : K → K → Ordering) (table : Table K V) (root :
     pub indexed : 0 < length indices
     pub present : is_present cmp list key ≡ true → StandsUnder table.nodes root path (slice_set indices 0 (place cmp entries key)) size (place cmp list key)
     pub absent : is_present cmp list key ≡ false → PlacedUnder table.nodes root path (slice_set indices 0 (place cmp entries key)) size (place cmp list key)
+
+  -- the leaf of such a path was searched for the key: its place there is returned, and its value, or nothing where the key is absent
+  pub record LooksInLeaf (leaf : ℕ) (path indices : List ℕ) (size : ℕ) (result : ℕ × Option V) : Type 0 where
+    pub value : result.1 ≡ value_for cmp list key
+    pub present : is_present cmp list key ≡ true → IsAt (tree_of table.nodes root).leaves leaf result.0 (place cmp list key)
+    pub absent : is_present cmp list key ≡ false → PlacedUnder table.nodes root path (slice_set indices 0 result.0) size (place cmp list key)
 
   -- a value was put in at the key, in the leaf of such a path, where a leaf has at most `most` entries; or the
   -- leaf is full, and nothing changed

@@ -1,15 +1,34 @@
-//! One leaf of a tree: a value is put in at a key, or a key is removed, with one search and without a path.
+//! One leaf of a tree: a key is looked up, a value is put in at a key, or a key is removed, with one search and without a path.
 ghost use Rattle.std.specs.Prelude.{◌≡◌, ℕ, ◌≤◌, IfSome, List, Err};
 ghost use Rattle.bforest_core.specs.Change.{EntryTaken, Shrinks};
-ghost use Rattle.bforest_core.specs.Leaves.{EndsIn, PutsInLeaf, TakesFromLeaf};
+ghost use Rattle.bforest_core.specs.Leaves.{EndsIn, LooksInLeaf, PutsInLeaf, TakesFromLeaf};
 ghost use Rattle.bforest_core.specs.Table.{IsFullAt, Table};
 ghost use Rattle.bforest_core.specs.Trees.{IsUnion};
 
-use crate::access::{entries, put, take};
+use crate::access::{entries, look_up, put, take};
 use crate::pool::NodePool;
 use bforest_nodes::{Comparator, Node};
 
 impl<K: Copy, V: Copy, const N: usize> NodePool<K, V, N> {
+    /// The place of a key in the leaf in which a search for the key ends, and its value, or `None` if the key is absent.
+    #[inline(always)]
+    pub fn look_up_in_leaf<C: Comparator<K>>(
+        &self,
+        leaf: Node,
+        key: K,
+        comp: &C,
+    ) -> (usize, Option<V>)
+        requires union { IsUnion N self.now }
+        requires leaf { (root : ℕ) × (path indices : List ℕ) × (size : ℕ)
+            × EndsIn (C.order comp.now) self.now root key leaf path indices size }
+        ensures found { (root : ℕ) (path indices : List ℕ) (size : ℕ)
+            → EndsIn (C.order comp.now) self.now root key leaf path indices size
+            → LooksInLeaf (C.order comp.now) self.now root key leaf path indices size result }
+        ensures most { result.0 ≤ 255 }
+    {
+        look_up(self, leaf, key, comp)
+    }
+
     /// Puts a value in at a key, in the leaf in which a search for the key ends, and returns the value that it replaces.
     ///
     /// # Errors

@@ -1,7 +1,7 @@
 -- What a call on the tree of one index leaves of all trees.
-use Rattle.bforest.proofs.Balances.{clears-balance, filters-balance, inserts-balance, pops-balance, removes-balance}
+use Rattle.bforest.proofs.Balances.{clears-balance, filters-balance, inserts-balance, pops-balance, removes-balance, updates-balance}
 use Rattle.bforest.specs.Bounds.{entries_between, entry_at_least, entry_at_most}
-use Rattle.bforest.specs.Calls.{Clears, Filters, GetsOrInserts, Inserts, Pops, Removes, Reserves}
+use Rattle.bforest.specs.Calls.{Clears, Filters, GetsOrInserts, Inserts, Pops, Removes, Reserves, Updates, UpdatesOrInserts}
 use Rattle.bforest.specs.Entries.{IsIncreasing, is_present, value_for}
 use Rattle.bforest.specs.Forest.{Becomes, Forest, Gives, IsFitFor, IsLive, IsSearchable, empty, emptied, free_of, list_at, list_of, sizes_of, slots_of}
 use Rattle.bforest.specs.Refusal.{Full, OutOfMemory}
@@ -11,13 +11,14 @@ use Rattle.bforest_indexed.proofs.Adding.{as-many, none-at, none-handles}
 use Rattle.bforest_indexed.proofs.Rooms.{has-room, may-have, sum-agree, sum-few, sum-same, sum-set}
 use Rattle.bforest_indexed.specs.Handles.{Adds}
 use Rattle.bforest_indexed.specs.Edits.{EditsAt, Leaves}
-use Rattle.bforest_indexed.specs.Indexed.{AreKept, ChangesAt, ClearsAll, ClearsAt, FiltersAt, GetsOrInsertsAt, Indexed, InsertsAt, KeepsAll, PopsAt, RemovesAt, Swaps}
+use Rattle.bforest_indexed.specs.Indexed.{AreKept, ChangesAt, ClearsAll, ClearsAt, FiltersAt, GetsOrInsertsAt, Indexed, InsertsAt, KeepsAll, PopsAt, RemovesAt, Swaps, UpdatesAt, UpdatesOrInsertsAt}
 use Rattle.bforest_indexed.specs.Indexed.{as_inserted, count, entries, handle, memory, node_sizes, nodes_in_use, table}
 use Rattle.std.proofs.Common.{Bool, Err, IsOk, IsSome, List, None, Ok, OnErr, Option, Result, Some, [], ap, arith, get_or, inl, inr, length, refl, rules, slice_set, subst, swap, sym, ℕ, ◌%◌, ◌+◌, ◌-◌, ◌<◌, ◌∙◌, ◌≡◌, ◌≢◌, ◌≤◌}
 use Rattle.std.proofs.lemmas.Bool.{false≢true}
 use Rattle.std.proofs.lemmas.Bool.Decides.{eqb_tells, leb_tells}
 use Rattle.std.proofs.lemmas.List.Sorted.{IsPermutation-swap, sum_by-IsPermutation}
 use Rattle.std.proofs.lemmas.List.{get_or-set_other, get_or-set_same, get_or_read, length-set, set-get_or}
+use Rattle.std.specs.Fn.{Once}
 use Rattle.std.specs.List.{SwappedAt}
 use Rattle.std.specs.List.Sorted.{IsStrictlySortedBy}
 use Rattle.std.specs.declared.cmp.Ordering.{Ordering}
@@ -254,6 +255,9 @@ module _ {K X C : Type 0} where
         → MayAskEach step may f (list_of (table m) h)
     asked-read {step = step} {may = may} {f = f} p = subst (λ (es : List (K × X)). MayAskEach step may f es) (sym same-list) p
 
+    pub called-read : (P : X → Type 0) (k : K) → ((v : X) → value_for cmp (entries m i) k ≡ Some v → P v) → (v : X) → value_for cmp (list_of (table m) h) k ≡ Some v → P v
+    called-read P k may v there = may v (sym (value-read k) ∙ there)
+
     pub live-read : IsLive (table m) h
     live-read = subst (λ (q : Option ℕ). IsLive (table m) q) (sym read) (a.live i)
 
@@ -415,6 +419,78 @@ module _ {K X C : Type 0} where
         pub got-at : {r : Result X OutOfMemory} → GetsOrInserts most cmp (table m) h k x r f' h'
             → AreKept most cmp (with_tree m i f' h') × GetsOrInsertsAt most cmp m i k x r (with_tree m i f' h')
         got-at {r} given = got-here (value_for cmp (entries m i) k) r refl (subst (λ (q : Option ℕ). GetsOrInserts most cmp (table m) q k x r f' h') read given)
+
+      module _ {F : Type 0} {g : Once F (X × Unit {0}) X} {k : K} {q : F} where
+        update-here : (r : Option X) → Updates g cmp (table m) (handle m i) k q r f' h'
+            → AreKept most cmp (with_tree m i f' h') × UpdatesAt g cmp m i k q r (with_tree m i f' h')
+        update-here None call = let same = unchanged m i f' h' (call.absent_forest refl) call.handle in (
+          subst (AreKept most cmp) (sym same) a,
+          record {
+            called = tt;
+            put = tt;
+            sizes = ap (λ z. node_sizes z i) same;
+            slots = call.slots;
+            free = call.free;
+            beside = changes-not m (with_tree m i f' h') i same;
+            absent = λ none. call.absent refl;
+            same = λ none. same;
+          },
+        )
+        update-here (Some w) call = (
+          kept-set a within call.put (call.increasing cmp (a.increasing i)) (updates-balance most a.odd (table m) f' (handle m i) h' (a.fit i) cmp k (Some w) call),
+          record {
+            called = call.called;
+            put = list-here a within call.put;
+            sizes = ap (sizes_of f') (here a within call.put) ∙ call.sizes;
+            slots = call.slots;
+            free = call.free;
+            beside = changes a within call.put;
+            absent = λ none. absurd cc;
+            same = λ none. absurd cc;
+          },
+        )
+
+        pub updated-at : {r : Option X} → Updates g cmp (table m) h k q r f' h'
+            → AreKept most cmp (with_tree m i f' h') × UpdatesAt g cmp m i k q r (with_tree m i f' h')
+        updated-at {r} given = update-here r (subst (λ (o : Option ℕ). Updates g cmp (table m) o k q r f' h') read given)
+
+        module _ {x : X} where
+          -- the key is absent, so it was inserted
+          absent-either : (r : Result X OutOfMemory) → Inserts most cmp (table m) (handle m i) k x (as_inserted r) f' h' → value_for cmp (entries m i) k ≡ None
+              → UpdatesOrInserts most cmp g (table m) (handle m i) k x q r f' h'
+              → AreKept most cmp (with_tree m i f' h') × UpdatesOrInsertsAt most cmp g m i k x q r (with_tree m i f' h')
+          absent-either r put is call = let here = put-here (as_inserted r) put in (
+            here.0,
+            record {
+              present = call.present;
+              updated = λ some. absurd (not-some X (subst (λ (o : Option X). IsSome o) is some));
+              absent = λ none. here.1;
+              value = call.value;
+              room = λ lists most_entries stays room. inserted-ok r (here.1.room lists most_entries stays room);
+              never_full = λ lists most_entries stays room full. here.1.never_full lists most_entries stays room (ap as_inserted full);
+            },
+          )
+
+          either-here : (v : Option X) (r : Result X OutOfMemory) → value_for cmp (entries m i) k ≡ v → UpdatesOrInserts most cmp g (table m) (handle m i) k x q r f' h'
+              → AreKept most cmp (with_tree m i f' h') × UpdatesOrInsertsAt most cmp g m i k x q r (with_tree m i f' h')
+          either-here None (Ok w) is call = absent-either (Ok w) (call.absent is) is call
+          either-here None (Err e) is call = absent-either (Err e) (call.absent is) is call
+          either-here (Some y) (Ok w) is call = let some = subst (λ (o : Option X). IsSome o) (sym is) refl in let told = update-here (Some w) (call.updated some) in (
+            told.0,
+            record {
+              present = λ there. refl;
+              updated = λ there. told.1;
+              absent = λ none. absurd (none-some y (sym none ∙ is));
+              value = λ none. absurd (none-some y (sym none ∙ is));
+              room = λ lists most_entries stays room. refl;
+              never_full = λ lists most_entries stays room full. ok-err w Full full;
+            },
+          )
+          either-here (Some y) (Err e) is call = let some = subst (λ (o : Option X). IsSome o) (sym is) refl in absurd (false≢true (call.present some))
+
+          pub either-at : {r : Result X OutOfMemory} → UpdatesOrInserts most cmp g (table m) h k x q r f' h'
+              → AreKept most cmp (with_tree m i f' h') × UpdatesOrInsertsAt most cmp g m i k x q r (with_tree m i f' h')
+          either-at {r} given = either-here (value_for cmp (entries m i) k) r refl (subst (λ (o : Option ℕ). UpdatesOrInserts most cmp g (table m) o k x q r f' h') read given)
 
   -- slots were asked for: the forest changed, and each number keeps its list and its sizes
   module _ {most : ℕ} {cmp : K → K → Ordering} (m : Indexed K X C) (f' : Forest K X) {n : ℕ} {r : Result (Unit {0}) OutOfMemory} (given : Reserves (table m) n r f') (a : AreKept most cmp m) where

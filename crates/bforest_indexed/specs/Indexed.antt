@@ -7,9 +7,10 @@ use Rattle.bforest.specs.Retain.{Retains}
 use Rattle.bforest.specs.Room.{IsEnoughFor, IsMostFor, node_count}
 use Rattle.std.proofs.Math.Logic.{◌⊎◌}
 use Rattle.bforest_indexed.specs.Handles.{Holds}
+use Rattle.std.specs.Fn.{FnOnceReturns, Once}
 use Rattle.std.specs.List.{sum_by}
 use Rattle.std.specs.Map.{keys_of}
-use Rattle.std.specs.Prelude.{Bool, Err, IfOk, IsOk, IsSome, List, None, Ok, OnErr, OnOk, Option, Result, Some, [], false, get_or, if◌then◌else◌, length, map, max, nat_lt, remove, slice_get, unwrap_or, ◌%◌, ◌*◌, ◌+◌, ◌-◌, ◌<◌, ◌↔◌, ◌≡◌, ◌≢◌, ◌≤◌, ℕ}
+use Rattle.std.specs.Prelude.{Bool, Err, IfOk, IfSome, IsOk, IsSome, List, None, Ok, OnErr, OnOk, Option, Result, Some, [], false, get_or, if◌then◌else◌, length, map, max, nat_lt, remove, slice_get, unwrap_or, ◌%◌, ◌*◌, ◌+◌, ◌-◌, ◌<◌, ◌↔◌, ◌≡◌, ◌≢◌, ◌≤◌, ℕ}
 use Rattle.std.specs.declared.cmp.Ordering.{Ordering}
 
 -- the answer of an insertion of an absent key, from that of a call that answers the value
@@ -152,6 +153,18 @@ module _ {K X C : Type 0} where
     pub account : Gives (node_sizes m i) (node_sizes m' i) (table m) (table m')
     pub end : length (entries m i) ≤ place → m' ≡ m
 
+  -- the value of the key k of i became what a call of q with it returned, which is answered, in the same nodes; or the key is absent, and
+  -- nothing changed
+  pub record UpdatesAt {F : Type 0} (g : Once F (X × Unit {0}) X) (cmp : K → K → Ordering) (m : Indexed K X C) (i : ℕ) (k : K) (q : F) (result : Option X) (m' : Indexed K X C) : Type 0 where
+    pub called : IfSome result (λ w. (v : X) × (value_for cmp (entries m i) k ≡ Some v) × FnOnceReturns g q (v, tt) w)
+    pub put : IfSome result (λ w. entries m' i ≡ put cmp (entries m i) k w)
+    pub sizes : node_sizes m' i ≡ node_sizes m i
+    pub slots : slots_of (table m') ≡ slots_of (table m)
+    pub free : free_of (table m') ≡ free_of (table m)
+    pub beside : ChangesAt m i m'
+    pub absent : result ≡ None → value_for cmp (entries m i) k ≡ None
+    pub same : result ≡ None → m' ≡ m
+
   -- there are at most `lists` lists, of at most `most_entries` entries each, and that of i has fewer where k is absent
   pub record StaysWithin (cmp : K → K → Ordering) (lists most_entries : ℕ) (m : Indexed K X C) (i : ℕ) (k : K) : Type 0 where
     pub few : count m ≤ lists
@@ -218,5 +231,15 @@ module _ {K X C : Type 0} where
       pub present : IsSome (value_for cmp (entries m i) k) → IsOk result
       pub stays : IsSome (value_for cmp (entries m i) k) → m' ≡ m
       pub absent : value_for cmp (entries m i) k ≡ None → InsertsAt m i k x (as_inserted result) m'
+      pub room : (lists most_entries : ℕ) → StaysWithin cmp lists most_entries m i k → HasRoom most lists most_entries (table m) → IsOk result
+      pub never_full : (lists most_entries : ℕ) → StaysWithin cmp lists most_entries m i k → MayHave most lists most_entries (table m) → result ≢ Err Full
+
+    -- the value of the key k of i became what a call of q with it returned, as `UpdatesAt` says; or x was inserted at the absent key, as
+    -- `InsertsAt` says. The value that the key has then is answered; or the insertion was refused, and nothing changed
+    pub record UpdatesOrInsertsAt {F : Type 0} (g : Once F (X × Unit {0}) X) (m : Indexed K X C) (i : ℕ) (k : K) (x : X) (q : F) (result : Result X OutOfMemory) (m' : Indexed K X C) : Type 0 where
+      pub present : IsSome (value_for cmp (entries m i) k) → IsOk result
+      pub updated : IsSome (value_for cmp (entries m i) k) → IfOk result (λ w. UpdatesAt g cmp m i k q (Some w) m')
+      pub absent : value_for cmp (entries m i) k ≡ None → InsertsAt m i k x (as_inserted result) m'
+      pub value : value_for cmp (entries m i) k ≡ None → IfOk result (λ w. w ≡ x)
       pub room : (lists most_entries : ℕ) → StaysWithin cmp lists most_entries m i k → HasRoom most lists most_entries (table m) → IsOk result
       pub never_full : (lists most_entries : ℕ) → StaysWithin cmp lists most_entries m i k → MayHave most lists most_entries (table m) → result ≢ Err Full

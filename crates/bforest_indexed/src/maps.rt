@@ -7,11 +7,11 @@ ghost use Rattle.bforest.specs.Memory.{MapsFitInMemory};
 ghost use Rattle.bforest.specs.Retain.{Answers, MayAsk, MayAskEach};
 ghost use Rattle.bforest_indexed.specs.Edits.{EditsAt};
 ghost use Rattle.bforest_indexed.specs.Indexed.{HoldsFor, ReservesFor};
-ghost use Rattle.bforest_indexed.specs.Indexed.{ClearsAll, ClearsAt, FiltersAt, GetsOrInsertsAt, InsertsAt};
+ghost use Rattle.bforest_indexed.specs.Indexed.{ClearsAll, ClearsAt, FiltersAt, GetsOrInsertsAt, InsertsAt, UpdatesAt, UpdatesOrInsertsAt};
 ghost use Rattle.bforest_indexed.specs.Indexed.{KeepsAll, PopsAt, RemovesAt, Swaps};
 ghost use Rattle.bforest.specs.declared.map_forest.TheConstants.{MAP_LEAF};
 ghost use Rattle.bforest_indexed.specs.Indexed.{comparator, count, entries, memory, node_sizes, nodes_in_use, table};
-ghost use Rattle.std.specs.Prelude.{IfOk, IsOk, IsTrue, OnErr, OnOk, length, slice_get, ◌+◌, ◌-◌, ◌/◌, ◌<◌, ◌^◌, ◌↔◌, ◌≡◌, ◌≤◌, ℕ};
+ghost use Rattle.std.specs.Prelude.{IfOk, IsOk, IsTrue, OnErr, OnOk, Some, length, slice_get, ◌+◌, ◌-◌, ◌/◌, ◌<◌, ◌^◌, ◌↔◌, ◌≡◌, ◌≤◌, ℕ};
 
 use crate::edit::{Edit, lend};
 use crate::handles::{add_empty, empty_all, hold};
@@ -242,6 +242,39 @@ impl<K: Copy, V: Copy, C: Comparator<K>> Maps<K, V, C> {
             self.new }
     {
         self.maps[index].get_or_insert(key, value, &mut self.forest, &self.order)
+    }
+
+    /// Replaces the value of the entry whose key compares equal to `key` by what `change` returns of it, and returns that, or `None` where
+    /// there is no such entry. One search, as [`bforest::Map::update`] makes.
+    pub fn update<F: FnOnce(V) -> V>(&mut self, index: usize, key: K, change: F) -> Option<V>
+        requires within { index < count self.old }
+        requires callable { (v : V) → value_for (C.order (comparator self.old)) (entries self.old index) key
+            ≡ Some v → F.pre change v }
+        ensures { UpdatesAt F.FnOnce (C.order (comparator self.old)) self.old index key change result self.new }
+    {
+        self.maps[index].update(key, change, &mut self.forest, &self.order)
+    }
+
+    /// Replaces the value of the entry whose key compares equal to `key` by what `change` returns of it. Where there is none, inserts
+    /// `value` at the key. Returns the value that the key has then. One search, as [`bforest::Map::update_or_insert`] makes.
+    ///
+    /// # Errors
+    ///
+    /// Those of [`Maps::insert`], where the key is absent; nothing has changed then.
+    pub fn update_or_insert<F: FnOnce(V) -> V>(
+        &mut self,
+        index: usize,
+        key: K,
+        value: V,
+        change: F,
+    ) -> Result<V, OutOfMemory>
+        requires within { index < count self.old }
+        requires callable { (v : V) → value_for (C.order (comparator self.old)) (entries self.old index) key
+            ≡ Some v → F.pre change v }
+        ensures { UpdatesOrInsertsAt MAP_LEAF (C.order (comparator self.old)) F.FnOnce self.old index key value
+            change result self.new }
+    {
+        self.maps[index].update_or_insert(key, value, change, &mut self.forest, &self.order)
     }
 
     /// Removes the first entry of a map and returns it, or returns `None` and changes nothing where the map is empty. No comparison, and no

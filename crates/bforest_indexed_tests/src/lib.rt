@@ -1,6 +1,8 @@
-//! Tests of `bforest_indexed`: callers that are proved, and room that is reserved at a tight limit.
+//! Tests of `bforest_indexed`: callers that are proved, room that is reserved at a tight limit, and values that are replaced.
 #![tactic(auto)]
 
 pub mod callers;
 #[cfg(test)]
 mod room;
+#[cfg(test)]
+mod updates;

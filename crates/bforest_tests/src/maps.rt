@@ -42,6 +42,21 @@ fn an_update_replaces_the_value_of_its_key_alone(rt: HostRuntime) {
 }
 
 #[test]
+fn an_update_inserts_the_value_of_an_absent_key(rt: HostRuntime) {
+    let mut forest: NumberForest = MapForest::new(rt.alloc());
+    let mut map = Map::new();
+    assert_eq!(rt;
+        map.update_or_insert(5, 50, |value| value / 2, &mut forest, &()),
+        Ok(50)
+    );
+    assert_eq!(rt;
+        map.update_or_insert(5, 60, |value| value / 2, &mut forest, &()),
+        Ok(25)
+    );
+    assert_eq!(rt; map.get(5, &forest, &()), Some(25));
+}
+
+#[test]
 fn an_iterator_ends_once(rt: HostRuntime) {
     let mut forest: NumberForest = MapForest::new(rt.alloc());
     let mut map = Map::new();

@@ -1,10 +1,11 @@
--- The value of a key, which was there or was inserted.
+-- The value of a key, which was there, as it is or changed, or was inserted.
 use Rattle.bforest_core.specs.declared.pool.OutOfMemory.{OutOfMemory}
 use Rattle.bforest_nodes.specs.Entries.{IsIncreasing, value_for}
-use Rattle.bforest_trees.specs.Calls.{GetsOrInserts, Inserts}
+use Rattle.bforest_trees.specs.Calls.{GetsOrInserts, Inserts, Updates, UpdatesOrInserts, as_inserted}
 use Rattle.bforest_trees.specs.Forest.{Forest, IsLive, list_of}
-use Rattle.std.proofs.Common.{Err, IsSome, List, None, Ok, Option, Some, ap, refl, sym, ◌∙◌, ◌≡◌, ℕ}
+use Rattle.std.proofs.Common.{Err, IfOk, IsSome, List, None, Ok, Option, Result, Some, ap, refl, sym, ◌∙◌, ◌≡◌, ℕ}
 use Rattle.std.proofs.lemmas.Bool.{false≢true}
+use Rattle.std.specs.Fn.{Once}
 use Rattle.std.specs.Option.{unwrap_or}
 use Rattle.std.specs.declared.cmp.Ordering.{Ordering}
 
@@ -52,7 +53,48 @@ module _ {K X : Type 0} (most : ℕ) (cmp : K → K → Ordering) (f : Forest K 
     increasing = i.increasing;
   }
 
--- the first entry of an empty handle was inserted
-pub was-first : {K X : Type 0} (most : ℕ) (cmp : K → K → Ordering) (f : Forest K X) (k : K) (x : X) (old : Option X) (f' : Forest K X) (h' : Option ℕ) → Inserts most cmp f None k x (Ok old) f' h' → GetsOrInserts most cmp f None k x (Ok x) f' h'
-was-first most cmp f k x None f' h' i = was-inserted most cmp f None k x f' h' i
-was-first most cmp f k x (Some v) f' h' i = absurd (let bad = i.ok in cc)
+-- an absent key was inserted, or refused
+pub was-absent : {K X : Type 0} {most : ℕ} {cmp : K → K → Ordering} {f : Forest K X} {h : Option ℕ} {k : K} {x : X} {result : Result X OutOfMemory} {f' : Forest K X} {h' : Option ℕ}
+    → IsLive f h → Inserts most cmp f h k x (as_inserted result) f' h' → IfOk result (λ v. v ≡ x) → GetsOrInserts most cmp f h k x result f' h'
+was-absent {most} {cmp} {f} {h} {k} {x} {result = Ok v} {f'} {h'} live i same = rw same (was-inserted most cmp f h k x f' h' i)
+was-absent {most} {cmp} {f} {h} {k} {x} {result = Err refused} {f'} {h'} live i same = was-refused most cmp f h k x refused f' h' live i
+
+-- the first entry of an empty handle replaced none
+pub first-new : {K X : Type 0} {most : ℕ} {cmp : K → K → Ordering} {f : Forest K X} {k : K} {x : X} {old : Option X} {f' : Forest K X} {h' : Option ℕ}
+    → Inserts most cmp f None k x (Ok old) f' h' → Inserts most cmp f None k x (Ok None) f' h'
+first-new {old = None} i = i
+first-new {old = Some v} i = absurd (let bad = i.ok in cc)
+
+module _ {F K X : Type 0} {g : Once F (X × Unit {0}) X} {most : ℕ} {cmp : K → K → Ordering} {f : Forest K X} {h : Option ℕ} {k : K} {x : X} {q : F} {f' : Forest K X} {h' : Option ℕ} where
+  -- a value that was there was changed
+  pub was-updated : {w : X} → IsIncreasing cmp (list_of f h) → Updates g cmp f h k q (Some w) f' h' → UpdatesOrInserts most cmp g f h k x q (Ok w) f' h'
+  was-updated up u = record {
+    present = λ some. refl;
+    updated = λ some. u;
+    absent = λ none. absurd (gone none);
+    value = λ none. absurd (gone none);
+    live = u.live;
+    increasing = u.increasing cmp up;
+  }
+    where
+      gone : ¬ (value_for cmp (list_of f h) k ≡ None)
+      gone none = let bad = sym u.called.1 ∙ none in cc
+
+  -- an absent key was inserted, or refused
+  pub was-new : {result : Result X OutOfMemory} → IsLive f h → Inserts most cmp f h k x (as_inserted result) f' h' → IfOk result (λ w. w ≡ x) → UpdatesOrInserts most cmp g f h k x q result f' h'
+  was-new {result = Ok w} live i same = record {
+    present = λ some. refl;
+    updated = λ some. absurd (false≢true (rw (← i.ok) at some));
+    absent = λ none. i;
+    value = λ none. same;
+    live = i.put.live;
+    increasing = i.increasing;
+  }
+  was-new {result = Err refused} live i same = record {
+    present = λ some. absurd (false≢true (rw i.absent at some));
+    updated = λ some. absurd (false≢true (rw i.absent at some));
+    absent = λ none. i;
+    value = λ none. tt;
+    live = rw (i.refused_forest, i.refused_handle) live;
+    increasing = i.increasing;
+  }

@@ -5,13 +5,14 @@ use Rattle.bforest_trees.proofs.Inserting.{inserts-err, inserts-ok}
 use Rattle.bforest_trees.proofs.Putting.{absent-none, need-absent, need-present, present-some, put-here, put-new}
 use Rattle.bforest_trees.specs.Calls.{Inserts}
 use Rattle.bforest_trees.specs.Forest.{Forest, IsTooMany, NeedsGrowth, free_of, list_at, need_of}
-use Rattle.bforest_trees.specs.Place.{IsSpot}
+use Rattle.bforest_trees.specs.Place.{IsAbsentOn, IsSpot}
 use Rattle.bforest_core.proofs.walks.Standing.{on-at, placed-points}
 use Rattle.bforest_core.specs.Change.{Changes, TakesNodes}
 use Rattle.bforest_core.proofs.walks.Leaves.{ends-alone, lone}
 use Rattle.bforest_core.proofs.walks.CodesDown.{root-held}
 use Rattle.bforest_core.proofs.walks.Leaves.{root-leaf}
-use Rattle.bforest_core.specs.Leaves.{EndsIn, PutsInLeaf}
+use Rattle.bforest_core.proofs.walks.Ways.{placed-on}
+use Rattle.bforest_core.specs.Leaves.{EndsIn, LooksInLeaf, PutsInLeaf}
 use Rattle.bforest_core.specs.Paths.{IsPlaced, OnEntry, Placing, Pointing, StandsAt, StandsOn, list_under, sizes_under}
 use Rattle.bforest_core.specs.Sizes.{growth, need}
 use Rattle.bforest_core.specs.Table.{slot_count}
@@ -130,6 +131,24 @@ module _ {K X : Type 0} {most : ℕ} {cmp : K → K → Ordering} {f : Forest K 
 -- a search ends in the leaf of a way, by the leaf's number
 pub ends-there : {K X : Type 0} {cmp : K → K → Ordering} {f : Forest K X} {n : ℕ} {k : K} {way : Way} (w : EndsOnWay cmp f n k way) {leaf : ℕ} → leaf ≡ way.leaf → EndsIn cmp f n k leaf w.path w.indices w.size
 ends-there w is = rw is w.ends
+
+-- a search of the leaf of a way missed the key
+pub absent-on : {K X : Type 0} {cmp : K → K → Ordering} {f : Forest K X} {n : ℕ} {k : K} {way : Way} → IsTotalOrder cmp → list_at f n ≢ [] → IsIncreasing cmp (list_at f n) → (w : EndsOnWay cmp f n k way)
+    → {leaf : ℕ} {found : ℕ × Option X} → LooksInLeaf cmp f n k leaf w.path w.indices w.size found → found.1 ≡ None → IsAbsentOn cmp f n way found.0 k
+absent-on {cmp} {f} {n} {k} total live up w looked is = let gone = sym looked.value ∙ is in
+    record { total = total; live = live; increasing = up; none = gone; placed = placed-on w (looked.absent (absent-none cmp (list_under f n) k gone)) }
+
+-- an insertion on a way of a key that is absent, by what it says where it succeeds and where it fails
+module _ {K X : Type 0} {cmp : K → K → Ordering} {f : Forest K X} {n : ℕ} {way : Way} {index : ℕ} {k : K} (a : IsAbsentOn cmp f n way index k) where
+  its-gap : IsGone cmp f n k
+  its-gap = record { live = a.live; none = a.none }
+
+  module _ {most : ℕ} {f' : Forest K X} {x : X} where
+    pub added-absent : {root' : ℕ} → InsertsAt most f f' n (place cmp (list_under f n) k) k x (Ok root') → Inserts most cmp f (Some n) k x (Ok None) f' (Some root')
+    added-absent put = added-on its-gap refl a.increasing a.total put
+
+    pub refused-absent : {err : OutOfMemory} → InsertsAt most f f' n (place cmp (list_under f n) k) k x (Err err) → Inserts most cmp f (Some n) k x (Err err) f (Some n)
+    refused-absent put = refused-on its-gap refl a.increasing put
 
 -- where a leaf was written with one search, the value was replaced or the key inserted
 module _ {K X : Type 0} {most : ℕ} {cmp : K → K → Ordering} (total : IsTotalOrder cmp) {f f' : Forest K X} {n : ℕ} (live : list_at f n ≢ []) (up : IsIncreasing cmp (list_at f n)) {k : K} {x : X}

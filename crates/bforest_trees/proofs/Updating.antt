@@ -1,16 +1,21 @@
--- Replacing the value of a key: the answers of `update`.
+-- Replacing the value of a key: the answers of `update`, and of `update_or_insert_under` where the key is there.
+use Rattle.bforest_core.proofs.union.Updating.{key-used, updated, valued-here}
 use Rattle.bforest_core.proofs.union.Written.{keys-written}
 use Rattle.bforest_core.proofs.walks.LeafSearch.{some-mapped}
+use Rattle.bforest_core.specs.Leaves.{LooksInLeaf}
 use Rattle.bforest_core.specs.Levels.{flat}
+use Rattle.bforest_core.specs.Paths.{list_under}
+use Rattle.bforest_core.specs.Place.{IsAt}
+use Rattle.bforest_core.specs.Table.{IsEntryAt, IsUsed, with_value_at}
 use Rattle.bforest_core.specs.Trees.{IsUnion, is_root, tree_of}
 use Rattle.bforest_core.specs.Updates.{UpdatesUnder}
 use Rattle.bforest_nodes.proofs.Found.{put-present}
-use Rattle.bforest_nodes.specs.Entries.{IsIncreasing, place}
-use Rattle.bforest_trees.proofs.Changed.{becomes, list-root, root-live, sizes-new, sizes-root}
+use Rattle.bforest_nodes.specs.Entries.{IsIncreasing, place, value_for}
+use Rattle.bforest_trees.proofs.Changed.{becomes, list-root, live-root, root-live, sizes-new, sizes-root}
 use Rattle.bforest_trees.specs.Calls.{Updates}
 use Rattle.bforest_trees.specs.Forest.{Forest, list_at, sizes_at}
-use Rattle.std.proofs.Common.{IsTrue, None, Option, Some, [], ap, length, refl, subst, sym, ◌∙◌, ◌≡◌, ◌≢◌, ℕ}
-use Rattle.std.specs.Fn.{Once}
+use Rattle.std.proofs.Common.{IsTrue, List, None, Option, Some, [], ap, length, refl, subst, sym, ◌∙◌, ◌≡◌, ◌≢◌, ℕ}
+use Rattle.std.specs.Fn.{FnOnceReturns, Once}
 use Rattle.std.specs.List.Sorted.{IsStrictlySortedBy}
 use Rattle.std.specs.Map.{keys_of}
 use Rattle.std.specs.Option.{is_some}
@@ -52,3 +57,34 @@ module _ {F K X : Type 0} {g : Once F (X × Unit {0}) X} {most : ℕ} {cmp : K �
     live = subst (λ z. list_at z n ≢ []) (sym same) (root-live most f n union root);
     increasing = λ order up. subst (λ z. IsIncreasing order (list_at z n)) (sym same) up;
   }
+
+-- the leaf in which a search for a key ends was searched for it, and has this value
+module _ {K X : Type 0} (most : ℕ) (cmp : K → K → Ordering) {f : Forest K X} (union : IsUnion most f) {n : ℕ} (live : list_at f n ≢ []) {k : K} {leaf : ℕ} {path indices : List ℕ} {size : ℕ} {found : ℕ × Option X}
+    (looked : LooksInLeaf cmp f n k leaf path indices size found) {v : X} (is : found.1 ≡ Some v) where
+  abbrev root : IsTrue (is_root f.nodes n)
+  root = live-root f n live
+
+  value : value_for cmp (list_under f n) k ≡ Some v
+  value = sym looked.value ∙ is
+
+  entry : IsAt (tree_of f.nodes n).leaves leaf found.0 (place cmp (list_under f n) k)
+  entry = looked.present (valued-here cmp (list_under f n) k value)
+
+  -- it is the key's value in the list
+  pub is-value : value_for cmp (list_at f n) k ≡ Some v
+  is-value = rw (list-root f n root) value
+
+  -- the leaf has an entry there
+  pub entry-there : IsUsed f leaf × IsEntryAt f.nodes leaf found.0
+  entry-there = key-used cmp union n root k value entry
+
+  module _ {F : Type 0} (g : Once F (X × Unit {0}) X) (q : F) {w : X} (says : FnOnceReturns g q (v, tt) w) where
+    -- what a call of `q` with the value returned is written there
+    written : UpdatesUnder g most cmp f (with_value_at f leaf found.0 w) n k q (Some w)
+    written = updated cmp union n root k value entry says
+
+    pub written-union : IsUnion most (with_value_at f leaf found.0 w)
+    written-union = updated-union union written
+
+    pub updates-there : Updates g cmp f (Some n) k q (Some w) (with_value_at f leaf found.0 w) (Some n)
+    updates-there = updates union root written

@@ -147,3 +147,13 @@ module _ {K X : Type 0} (most : ℕ) (cmp : K → K → Ordering) where
     pub absent : value_for cmp (list_of f h) k ≡ None → Inserts f h k x (as_inserted result) f' h'
     pub live : IsLive f' h'
     pub increasing : IsIncreasing cmp (list_of f' h')
+
+  -- the value of the key k of h became what a call of q with it returned, as `Updates` says; or x was inserted at the absent key, as
+  -- `Inserts` says. The value that the key has then is returned; or the insertion failed, and nothing changed
+  pub record UpdatesOrInserts {F : Type 0} (g : Once F (X × Unit {0}) X) (f : Forest K X) (h : Option ℕ) (k : K) (x : X) (q : F) (result : Result X OutOfMemory) (f' : Forest K X) (h' : Option ℕ) : Type 0 where
+    pub present : IsSome (value_for cmp (list_of f h) k) → IsOk result
+    pub updated : IsSome (value_for cmp (list_of f h) k) → IfOk result (λ w. Updates g cmp f h k q (Some w) f' h')
+    pub absent : value_for cmp (list_of f h) k ≡ None → Inserts f h k x (as_inserted result) f' h'
+    pub value : value_for cmp (list_of f h) k ≡ None → IfOk result (λ w. w ≡ x)
+    pub live : IsLive f' h'
+    pub increasing : IsIncreasing cmp (list_of f' h')

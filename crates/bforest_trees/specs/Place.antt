@@ -1,9 +1,13 @@
--- Where a path stands in the list of a handle.
-use Rattle.bforest_trees.specs.Forest.{Becomes, Forest, free_of, list_of, memory_of, sizes_of, slots_of}
-use Rattle.bforest_core.specs.Paths.{IsAtEnd, StandsAt, spot}
-use Rattle.bforest_nodes.specs.Entries.{with_value}
+-- Where a path stands in the list of a handle, and where a way leads for an absent key.
+use Rattle.bforest_trees.specs.Forest.{Becomes, Forest, free_of, list_at, list_of, memory_of, sizes_of, slots_of}
+use Rattle.bforest_core.specs.Paths.{IsAtEnd, StandsAt, list_under, spot}
+use Rattle.bforest_core.specs.Ways.{PlacedOn}
+use Rattle.bforest_nodes.specs.Entries.{IsIncreasing, place as place_of, value_for, with_value}
 use Rattle.bforest_core.specs.declared.path.Path.{Path}
-use Rattle.std.specs.Prelude.{None, Option, Some, length, ◌<◌, ◌≡◌, ℕ}
+use Rattle.bforest_core.specs.declared.path.way.Way.{Way}
+use Rattle.std.specs.Cmp.{IsTotalOrder}
+use Rattle.std.specs.Prelude.{None, Option, Some, [], length, ◌<◌, ◌≡◌, ◌≢◌, ℕ}
+use Rattle.std.specs.declared.cmp.Ordering.{Ordering}
 
 module _ {K X : Type 0} where
   -- the path stands at this place of a handle's list, on an entry or at the end; an empty handle has only the end
@@ -41,3 +45,11 @@ module _ {K X : Type 0} where
     pub memory : memory_of f' ≡ memory_of f
     pub spot : IsSpot f' h path place
     pub computed : IsComputed n f' h
+
+  -- the list of a root increases under the order and lacks the key, which may be inserted at an index of the leaf of the way
+  pub record IsAbsentOn (cmp : K → K → Ordering) (f : Forest K X) (root : ℕ) (way : Way) (index : ℕ) (k : K) : Type 0 where
+    pub total : IsTotalOrder cmp
+    pub live : list_at f root ≢ []
+    pub increasing : IsIncreasing cmp (list_at f root)
+    pub none : value_for cmp (list_under f root) k ≡ None
+    pub placed : PlacedOn f root way index (place_of cmp (list_under f root) k)

@@ -130,6 +130,8 @@ pub enum Call {
     GetOrInsert(Entry),
     /// The bits by which the value changes. A set tests for the key.
     Update(Entry),
+    /// The value that is inserted, or the bits by which the value changes. A set inserts the key.
+    UpdateOrInsert(Entry),
     /// All entries.
     Iter,
     /// Entries within bounds; of each step whether it is one from behind.
@@ -322,6 +324,13 @@ impl<'a, C: Order> Model<'a, C> {
         Ok(None)
     }
 
+    fn update(&mut self, at: usize, key: u32, bits: u32) -> Option<u32> {
+        self.lists[at].entries.get_mut(&self.order.rank(key)).map(|it| {
+            it.1 ^= bits;
+            it.1
+        })
+    }
+
     fn remove(&mut self, at: usize, rank: i64) -> Option<Entry> {
         let list = &mut self.lists[at];
         let entry = list.entries.remove(&rank)?;
@@ -453,13 +462,11 @@ impl<C: Order> Subject for Model<'_, C> {
                 Some(stored) => vec![Answer::Put(Ok(Some(stored.1)))],
                 None => vec![Answer::Put(self.insert(at, *entry).map(|_| Some(entry.1)))],
             },
-            Call::Update((key, bits)) => {
-                let stored = self.lists[at].entries.get_mut(&self.order.rank(*key));
-                vec![Answer::Value(stored.map(|it| {
-                    it.1 ^= bits;
-                    it.1
-                }))]
-            }
+            Call::Update((key, bits)) => vec![Answer::Value(self.update(at, *key, *bits))],
+            Call::UpdateOrInsert((key, value)) => match self.update(at, *key, *value) {
+                Some(changed) => vec![Answer::Put(Ok(Some(changed)))],
+                None => vec![Answer::Put(self.insert(at, (*key, *value)).map(|_| Some(*value)))],
+            },
             Call::Iter => self.lists[at].entries.values().map(|it| Answer::Entry(Some(*it))).collect(),
             Call::Range(low, high, ends) => self.range(at, *low, *high, ends),
             Call::Read(steps) | Call::Edit(steps) => {
@@ -564,6 +571,9 @@ impl<C: Order> Subject for Maps<'_, C> {
             Call::PopLast => vec![Answer::Entry(map.pop_last(forest))],
             Call::GetOrInsert((key, value)) => vec![Answer::Put(map.get_or_insert(*key, *value, forest, order).map(Some))],
             Call::Update((key, bits)) => vec![Answer::Value(map.update(*key, |it| it ^ bits, forest, order))],
+            Call::UpdateOrInsert((key, value)) => {
+                vec![Answer::Put(map.update_or_insert(*key, *value, |it| it ^ value, forest, order).map(Some))]
+            }
             Call::Iter => {
                 assert!(map.increases(forest, order) && map.is_empty() == map.iter(forest).next().is_none());
                 let mut entries: Vec<_> = map.iter_back(forest).map(|it| Answer::Entry(Some(it))).collect();
@@ -664,7 +674,9 @@ impl<C: Order> Subject for Sets<'_, C> {
             Call::Ends => vec![as_entry(set.first(forest)), as_entry(set.last(forest))],
             Call::PopFirst => vec![as_entry(set.pop_first(forest))],
             Call::PopLast => vec![as_entry(set.pop_last(forest))],
-            Call::GetOrInsert((key, _)) => vec![Answer::Put(set.insert(*key, forest, order).map(|_| Some(0)))],
+            Call::GetOrInsert((key, _)) | Call::UpdateOrInsert((key, _)) => {
+                vec![Answer::Put(set.insert(*key, forest, order).map(|_| Some(0)))]
+            }
             Call::Update((key, _)) => vec![as_value(set.contains(*key, forest, order))],
             Call::Iter => {
                 assert!(set.increases(forest, order) && set.is_empty() == set.iter(forest).next().is_none());
@@ -765,7 +777,8 @@ impl Draw {
             };
         }
         match random.below(64) {
-            0..=27 => Call::Insert((key, self.value(random))),
+            0..=25 => Call::Insert((key, self.value(random))),
+            26..=27 => Call::UpdateOrInsert((key, self.value(random))),
             28..=31 => Call::GetOrInsert((key, self.value(random))),
             32..=33 => Call::Get(key),
             34..=35 => Call::Update((key, self.value(random))),

@@ -81,6 +81,10 @@ fn change_map(call: u32, key: u32, map: &mut Map<u32, u32>, forest: &mut MapFore
     match call {
         0 => drop(map.insert(key, key, forest, &())),
         1 if key % 2 == 0 => drop(map.get_or_insert(key, key, forest, &())),
+        1 if key % 3 == 0 => {
+            _ = map.update(key / 3, |it| it + 1, forest, &());
+            _ = map.update_or_insert(key, key, |it| it + 1, forest, &());
+        }
         1 => drop(map.try_insert(key, key, forest, &())),
         2 if key % 8 == 0 => drop((map.pop_first(forest), map.pop_last(forest))),
         2 => drop(map.remove(key, forest, &())),

@@ -74,7 +74,7 @@ fn write(
     keys: u32,
 ) {
     let (key, value) = (random.below(keys), random.below(1000));
-    match random.below(8) {
+    match random.below(9) {
         0 => {
             let known = model.get_mut(&key).map(|it| {
                 *it += value;
@@ -91,6 +91,10 @@ fn write(
         4 => assert_eq!(map.remove(key, forest, &()), model.remove(&key)),
         5 => assert_eq!(map.insert(key, value, forest, &()), Ok(model.insert(key, value))),
         6 => shift(random, map, forest, model, key),
+        7 => {
+            let known = *model.entry(key).and_modify(|it| *it += value).or_insert(value);
+            assert_eq!(map.update_or_insert(key, value, |it| it + value, forest, &()), Ok(known));
+        }
         _ => by_cursor(random, map, forest, model, keys),
     }
 }

@@ -183,6 +183,7 @@ const OF_MAPS: [(&str, MapSearch); 12] = [
     ("get_or_less", |map, key, forest, comp| _ = map.get_or_less(key, forest, comp)),
     ("get_or_greater", |map, key, forest, comp| _ = map.get_or_greater(key, forest, comp)),
     ("get_or_insert", |map, key, forest, comp| _ = map.get_or_insert(key, 0, forest, comp).unwrap()),
+    ("update_or_insert", |map, key, forest, comp| _ = map.update_or_insert(key, 0, |value| value, forest, comp).unwrap()),
     ("insert", |map, key, forest, comp| _ = map.insert(key, 0, forest, comp).unwrap()),
     ("try_insert", |map, key, forest, comp| _ = map.try_insert(key, 0, forest, comp).unwrap()),
     ("remove", |map, key, forest, comp| _ = map.remove(key, forest, comp)),
@@ -334,13 +335,15 @@ type IndexedSets<'a> = Sets<u32, &'a Counting>;
 /// A call by the index 1, which searches for a key once.
 type IndexedCall<T> = fn(&mut T, u32);
 
-fn of_indexed_maps<'a>() -> [(&'static str, IndexedCall<Indexed<'a>>); 11] {
+fn of_indexed_maps<'a>() -> [(&'static str, IndexedCall<Indexed<'a>>); 13] {
     [
         ("get", |maps, key| _ = maps.get(1, key)),
         ("contains_key", |maps, key| _ = maps.contains_key(1, key)),
         ("get_or_less", |maps, key| _ = maps.get_or_less(1, key)),
         ("get_or_greater", |maps, key| _ = maps.get_or_greater(1, key)),
         ("get_or_insert", |maps, key| _ = maps.get_or_insert(1, key, 0).unwrap()),
+        ("update", |maps, key| _ = maps.update(1, key, |value| value)),
+        ("update_or_insert", |maps, key| _ = maps.update_or_insert(1, key, 0, |value| value).unwrap()),
         ("insert", |maps, key| _ = maps.insert(1, key, 0).unwrap()),
         ("try_insert", |maps, key| _ = maps.try_insert(1, key, 0).unwrap()),
         ("remove", |maps, key| _ = maps.remove(1, key)),

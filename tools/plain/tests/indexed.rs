@@ -38,11 +38,22 @@ fn read(maps: &Maps<u32, u32>, model: &Model, at: usize, key: u32) {
 fn change(maps: &mut Maps<u32, u32>, model: &mut Model, call: u32, at: usize, key: u32, value: u32) {
     let map = &mut model[at];
     match call {
-        0..12 => match maps.insert(at, key, value) {
+        0..10 => match maps.insert(at, key, value) {
             Ok(old) => assert_eq!(old, map.insert(key, value)),
             Err(refused) => assert!(refused == OutOfMemory::Full && !map.contains_key(&key)),
         },
-        12..16 => match maps.get_or_insert(at, key, value) {
+        10..12 => {
+            let changed = map.get_mut(&key).map(|it| {
+                *it ^= value;
+                *it
+            });
+            assert_eq!(maps.update(at, key, |it| it ^ value), changed);
+        }
+        12..14 => match maps.update_or_insert(at, key, value, |it| it ^ value) {
+            Ok(found) => assert_eq!(found, *map.entry(key).and_modify(|it| *it ^= value).or_insert(value)),
+            Err(refused) => assert!(refused == OutOfMemory::Full && !map.contains_key(&key)),
+        },
+        14..16 => match maps.get_or_insert(at, key, value) {
             Ok(found) => assert_eq!(found, *map.entry(key).or_insert(value)),
             Err(refused) => assert!(refused == OutOfMemory::Full && !map.contains_key(&key)),
         },
@@ -179,6 +190,8 @@ fn an_index_that_is_not_there_panics_and_is_named() {
         panic_of(|| maps.get(7, 0)),
         panic_of(|| maps.insert(7, 0, 0)),
         panic_of(|| maps.swap(7, 0)),
+        panic_of(|| maps.update(7, 0, |value| value)),
+        panic_of(|| maps.update_or_insert(7, 0, 0, |value| value)),
         panic_of(|| maps.iter(7).count()),
         panic_of(|| maps.cursor_mut(7).next()),
     ] {

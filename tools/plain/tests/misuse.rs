@@ -98,6 +98,7 @@ const OF_MAPS: [(&str, MapCall); 25] = [
     ("insert", |map, forest| _ = map.insert(1, 2, forest, &())),
     ("try_insert", |map, forest| _ = map.try_insert(1, 2, forest, &())),
     ("get_or_insert", |map, forest| _ = map.get_or_insert(1, 2, forest, &())),
+    ("update_or_insert", |map, forest| _ = map.update_or_insert(1, 2, |value| value + 1, forest, &())),
     ("remove", |map, forest| _ = map.remove(1, forest, &())),
     ("pop_first", |map, forest| _ = map.pop_first(forest)),
     ("pop_last", |map, forest| _ = map.pop_last(forest)),

@@ -58,6 +58,12 @@ fn a_change_that_panics_leaves_the_map_as_it_was() {
         assert_eq!(made.is_err(), key % 2 == 0);
         assert!(map.iter(&forest).eq((0..200).step_by(2).map(|it| (it, it))));
     }
+    for key in (0..200).step_by(2) {
+        let made = catch_unwind(AssertUnwindSafe(|| map.update_or_insert(key, 1, |_| panic!("no value"), &mut forest, &())));
+        assert!(made.is_err() && map.iter(&forest).eq((0..200).step_by(2).map(|it| (it, it))));
+    }
+    assert_eq!(map.update_or_insert(200, 200, |_| panic!("no value"), &mut forest, &()), Ok(200));
+    assert!(map.iter(&forest).eq((0..=200).step_by(2).map(|it| (it, it))));
 }
 
 #[test]

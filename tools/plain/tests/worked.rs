@@ -120,6 +120,7 @@ with_both_searches!(
     get_or_greater_finds_the_key_or_the_one_behind,
     a_key_behind_its_leaf_has_the_next_leaf_s_first_entry,
     get_or_insert_keeps_what_is_there,
+    update_or_insert_changes_what_is_there,
     a_map_is_emptied_from_both_ends,
     a_cursor_goes_to_the_next_greater_key_and_back,
     a_new_cursor_stands_at_the_end,
@@ -228,6 +229,15 @@ fn get_or_insert_keeps_what_is_there<C: Comparator<u32>>(comp: &C) {
     let mut other = Numbers::new();
     assert_eq!(other.get_or_insert(5, 50, &mut forest, comp), Err(OutOfMemory::Full));
     assert!(other.is_empty() && map.get(5, &forest, comp) == Some(50));
+}
+
+fn update_or_insert_changes_what_is_there<C: Comparator<u32>>(comp: &C) {
+    let (mut map, mut forest) = (Numbers::new(), Forest::with_node_limit(1));
+    assert_eq!(map.update_or_insert(5, 50, |value| value + 1, &mut forest, comp), Ok(50));
+    assert_eq!(map.update_or_insert(5, 70, |value| value + 1, &mut forest, comp), Ok(51));
+    let mut other = Numbers::new();
+    assert_eq!(other.update_or_insert(5, 50, |value| value + 1, &mut forest, comp), Err(OutOfMemory::Full));
+    assert!(other.is_empty() && map.get(5, &forest, comp) == Some(51));
 }
 
 fn a_map_is_emptied_from_both_ends<C: Comparator<u32>>(comp: &C) {

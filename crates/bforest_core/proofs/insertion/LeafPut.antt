@@ -1,9 +1,10 @@
--- Putting a value in at a key of the leaf in which a search for the key ends: the answers of `put_in_leaf`.
+-- Looking a key up in the leaf in which a search for it ends, and putting a value in there: the answers of `look_up_in_leaf` and
+-- `put_in_leaf`.
 use Rattle.bforest_core.proofs.Words.{◌≡◌, ℕ, suc, ◌<◌, ◌↔◌, IsTrue, Option, Some, None, List, map, length, insert, slice_get, sym, ap, ◌∙◌, subst}
 use Rattle.bforest_core.proofs.Words.{Table, IsFullAt, flat, sizes, sizes_of, gain_above, growth, Placed, tree_of, IsUnion, Changes, PlacedUnder, StandsUnder}
 use Rattle.bforest_core.proofs.Words.{Ok, refl, put_answer, with_put, search_of-keys_of, value_for-absent, value_for-present, Bool, Result, Err, get_or, set}
 use Rattle.bforest_core.proofs.Words.{nat_lt, if◌then◌else◌, true, false, length-set, EndsIn, PutsInLeaf, IsUsed, entry_count, entry_keys, is_present}
-use Rattle.bforest_core.proofs.Words.{leaf_content, place, value_for, search_of, with_entry, with_node, with_value_at, need_above, is_some, option_map}
+use Rattle.bforest_core.proofs.Words.{LooksInLeaf, leaf_content, place, value_for, search_of, with_entry, with_node, with_value_at, need_above, is_some, option_map}
 use Rattle.bforest_core.proofs.{Words.{arith, get_or-set_same, lt-ltb, ltb-true, PutsEntry}, union.Written.{entry-used, value-written}}
 use Rattle.bforest_core.proofs.{insertion.Insertion.{placed-under, put-here}, table.Stored.read_same, insertion.Nodes.put_full}
 use Rattle.bforest_core.proofs.{insertion.LeafSpot.{leaf_spot, put_inserts, site}, walks.LeafSearch.items-read}
@@ -56,6 +57,14 @@ module _ {K V : Type 0} {cmp : K → K → Ordering} (most : ℕ) {table : Table
   -- the leaf is used
   pub leaf-used : IsUsed table leaf
   leaf-used = used_by _ refl
+
+  -- what looking the key up in the leaf tells of the list
+  pub looks-in-leaf : {result : ℕ × Option V} → result.0 ≡ place cmp es key → result.1 ≡ value_for cmp es key → LooksInLeaf cmp table root key leaf path indices size result
+  looks-in-leaf place_is value_is = record {
+    value = value_is ∙ sym e.value_is;
+    present = λ here. rw (← e.leaf_is, place_is, ← index_is) (e.present here).stands.leaf;
+    absent = λ none. rw place_is (e.absent none);
+  }
 
   module _ (value : V) (answer : Result (Option V) ℕ) (new : Table K V) (answer_is : answer ≡ put_answer most (leaf_content es) (search_of cmp (entry_keys es) key)) (new_is : new ≡ with_node table leaf (with_put most (leaf_content es) (search_of cmp (entry_keys es) key) key value)) where
     -- the answer and the table are as is promised, and the leaf is full where the key's place is answered

@@ -1,16 +1,29 @@
--- An insertion at the full leaf of a way: the answers of `put_on`, `split_on` and `halve_on`.
+-- An insertion at the leaf of a way: the answers of `insert_on`, `put_on`, `split_on` and `halve_on`.
 use Rattle.bforest_core.proofs.Words.{◌≡◌, ℕ, suc, ◌-◌, ◌*◌, ◌/◌, ◌%◌, ◌^◌, ◌≤◌, ◌<◌, ◌↔◌, Bool, true, false, false≢true, List, [], ◌∷◌, ◌++◌, length, map, get_or, set}
 use Rattle.bforest_core.proofs.Words.{slice_get, Some, Ok, inl, inr, refl, sym, ap, subst, ◌∙◌, arith, cases_lt, IsTrue, if◌then◌else◌, length-map, length-set}
 use Rattle.bforest_core.proofs.Words.{Content, Table, IsFree, IsFullAt, IsUnion, OneAbove, Placed, PlacedIn, PlacedOn, InsertsAt, HalvedOn, Inserted, PutsChild}
 use Rattle.bforest_core.proofs.Words.{Inner, Leaf, GrowsFor, entry_capacity, entry_count, inner_content, leaf_content, heads, sizes, sizes_of, need, need_above, reserved, room}
-use Rattle.bforest_core.proofs.Words.{Tree, tree_of}
+use Rattle.bforest_core.proofs.Words.{Tree, gain_above, top_of, tree_of}
 use Rattle.bforest_core.proofs.Words.{IsLeafCapacity, IsSplitAt, IsUsed, PutsEntry, front_of, get_or-set_other}
 use Rattle.bforest_core.proofs.{insertion.Grow.{PutAsks, goes, here, leaf_kind, need_some, step_most}, insertion.HalvingNode.{d as node-spot, need_top, needs_one, put_grows, site as node-site}}
-use Rattle.bforest_core.proofs.{insertion.Insertion.{full-reserved, insertion, placed-mid, placed-under}, insertion.Level.rise}
-use Rattle.bforest_core.proofs.{insertion.LeafSpot.{leaf_spot, one_entry, site}, insertion.Nodes.{early_asks, early_halves, full_asks, full_is, late_asks, late_halves, late_within, left_count, over, put_asks, put_full, room_needs}}
+use Rattle.bforest_core.proofs.{insertion.Insertion.{Put, full-reserved, insertion, placed-mid, placed-under, put-here}, insertion.Level.rise}
+use Rattle.bforest_core.proofs.{insertion.LeafSpot.{leaf_spot, one_entry, put_inserts, site}, insertion.Nodes.{early_asks, early_halves, full_asks, full_is, late_asks, late_halves, late_within, left_count, over, put_asks, put_full, room_needs}}
 use Rattle.bforest_core.proofs.{table.Allocating.reserved-free, table.Stored.some_same, walks.Ways.{first-rung, placed-up}}
 use Rattle.bforest_nodes.specs.declared.node.SplitOff.{SplitOff}
 use Rattle.bforest_core.specs.declared.path.way.Way.{Way}
+
+-- what is said of an insertion that was made, where the root stays
+inserted-at : {K V : Type 0} {most : ℕ} {t new : Table K V} {root place : ℕ} {key : K} {value : V} {path indices : List ℕ} {size : ℕ}
+    → Put most t new root place (key, value) path indices size → top_of path size ≡ root → InsertsAt most t new root place key value (Ok root)
+inserted-at put same = record {
+  inserted = rw same at put.changes;
+  account = put.takes;
+  same_root = (λ is. put.same_root.0 same, λ is. refl);
+  full = (λ is. absurd cc, λ short. absurd (omega (arith, put.enough)));
+  memory = λ is. absurd cc;
+  enough = λ free. refl;
+  refused = tt;
+}
 
 module _ {K V : Type 0} {most : ℕ} {t : Table K V} {root place index : ℕ} {way : Way} (union : IsUnion most t) (w : PlacedOn t root way index place) where
   open w use {path, indices, size, follows as f}
@@ -21,6 +34,26 @@ module _ {K V : Type 0} {most : ℕ} {t : Table K V} {root place index : ℕ} {w
 
   p : Placed most t path indices size (tree_of t.nodes root) place
   p = placed-under most t union w.placed
+
+  module _ (key : K) (value : V) where
+    wide-here : 0 < length path
+    wide-here = omega (arith, f.wide)
+
+    pub put-asks : PutAsks Leaf t way.leaf index
+    put-asks = rw (← f.leaf_is, ← w.index_is) (put_asks (site p (key, value)) 0 wide-here)
+
+    module _ {new : Table K V} {put : Bool} (said : PutsEntry most t new way.leaf index key value put) where
+      said-here : PutsEntry most t new (get_or path 0 0) (get_or indices 0 0) key value put
+      said-here = rw (f.leaf_is, w.index_is) said
+
+      -- where the leaf has room, the entry is in the tree
+      pub put-room : put ≡ true → InsertsAt most t new root place key value (Ok root)
+      put-room done = let made = put_inserts p 0 wide-here said-here done in let whole = put-here union w.placed made.1 in
+          inserted-at whole (whole.same_root.1 (ap (λ z. suc (length (gain_above z (map sizes (tree_of t.nodes root).above)))) made.0))
+
+      -- else the leaf is full, and nothing changed
+      pub put-past : put ≡ false → IsFullAt most t.nodes way.leaf × (new ≡ t)
+      put-past none = rw (← f.leaf_is) (put_full (site p (key, value)) 0 wide-here said-here none)
 
   -- the leaf's parent, or the leaf where it has none, is in use
   pub parent-held : (content : Content K V) × (slice_get t.nodes way.parent ≡ Some content) × (¬ IsFree content)
@@ -207,12 +240,4 @@ module _ {K V : Type 0} {most : ℕ} {t : Table K V} {root place index : ℕ} {w
       let tree = tree_of t.nodes root in let i = made.2 in let n_is = sym one in let mid_old = mid_is ∙ ap (λ z. reserved t z mid.memory) n_is in
       let put = insertion t root mid.memory union w.placed (omega (arith, f.size_is, f.low)) (omega (arith, enough, one))
       (subst (λ z. GrowsFor z t (reserved t z mid.memory)) n_is (rw mid_is at held)) (rw mid_old at i) in
-      let same = put.same_root.1 (omega (arith, ap length i.sizes_are, length-map i.rows' sizes, length-map tree.above sizes, i.above.height, w.placed.at.points.size_is)) in record {
-        inserted = rw same at put.changes;
-        account = put.takes;
-        same_root = (λ is. put.same_root.0 same, λ is. refl);
-        full = (λ is. absurd cc, λ short. absurd (omega (arith, put.enough)));
-        memory = λ is. absurd cc;
-        enough = λ free. refl;
-        refused = tt;
-      }
+      inserted-at put (put.same_root.1 (omega (arith, ap length i.sizes_are, length-map i.rows' sizes, length-map tree.above sizes, i.above.height, w.placed.at.points.size_is)))

@@ -342,6 +342,32 @@ impl<K: Copy, V: Copy, const N: usize> NodePool<K, V, N> {
         path.heal(root, self)
     }
 
+    /// Inserts an absent key at an index of the leaf of a way. Returns the root of its tree. Where the leaf has room, nothing else changes.
+    ///
+    /// # Errors
+    ///
+    /// Those of `Path::insert`.
+    #[inline(always)]
+    pub fn insert_on(
+        &mut self,
+        way: &Way,
+        index: usize,
+        root: Node,
+        key: K,
+        value: V,
+    ) -> Result<Node, OutOfMemory>
+        requires union { IsUnion N self.old }
+        requires most { index ≤ 255 }
+        requires placed { (place : ℕ) × PlacedOn self.old root way.now index place }
+        ensures put { (place : ℕ) → PlacedOn self.old root way.now index place
+            → InsertsAt N self.old self.new root place key value result }
+    {
+        if put_entry(self, way.leaf, index, key, value) {
+            return Ok(root);
+        }
+        self.put_on(way, index, root, key, value)
+    }
+
     /// Inserts an absent key at an index of the full leaf of a way. Returns the root of its tree.
     ///
     /// # Errors

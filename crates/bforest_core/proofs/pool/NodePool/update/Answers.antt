@@ -1,4 +1,4 @@
-use Rattle.bforest_core.proofs.{Words.{rules, sym, ◌∙◌}, union.Updating.{key-used, left-out, updated}}
+use Rattle.bforest_core.proofs.{Words.{rules, sym, ◌∙◌}, union.Updating.{key-at, key-used, left-out, updated}}
 use Rattle.bforest_core.proofs.pool.NodePool.update.Goals as goal
 
 pub leaf_of-leaf-requires : goal.leaf_of-leaf-requires
@@ -17,9 +17,11 @@ change-changed-requires g c = let s = c.leaf_of-leaf.ensures.leaf.1 in
 
 pub value_mut-requires : goal.value_mut-requires
 value_mut-requires g c = let s = c.leaf_of-leaf.ensures.leaf.1 in let l = c.look_up-index.ensures in
-    let r = key-used c.requires.union c.requires.root s (sym (l.value s.leaf.entries s.leaf.slot_is) ∙ c.in_ok-value.was) (l.place s.leaf.entries s.leaf.slot_is) in
+    let found = sym (l.value s.leaf.entries s.leaf.slot_is) ∙ c.in_ok-value.was in
+    let r = key-used (g.C.Comparator.order c.args.comp.now) c.requires.union c.args.root c.requires.root c.args.key (s.tells.value_is ∙ found) (key-at s found (l.place s.leaf.entries s.leaf.slot_is)) in
     (search rules, (r.0, r.1))
 
 pub returns : goal.returns
 returns g c = let s = c.leaf_of-leaf.ensures.leaf.1 in let l = c.look_up-index.ensures in
-    updated c.requires.union c.requires.root s (sym (l.value s.leaf.entries s.leaf.slot_is) ∙ c.in_ok-value.was) (l.place s.leaf.entries s.leaf.slot_is) c.change-changed.ensures
+    let found = sym (l.value s.leaf.entries s.leaf.slot_is) ∙ c.in_ok-value.was in
+    updated (g.C.Comparator.order c.args.comp.now) c.requires.union c.args.root c.requires.root c.args.key (s.tells.value_is ∙ found) (key-at s found (l.place s.leaf.entries s.leaf.slot_is)) c.change-changed.ensures

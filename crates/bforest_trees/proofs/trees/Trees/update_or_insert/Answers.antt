@@ -1,0 +1,8 @@
+use Rattle.bforest_trees.proofs.Ensuring.{was-new}
+use Rattle.bforest_trees.proofs.trees.Trees.update_or_insert.Goals as goal
+use Rattle.std.proofs.Common.{None, sym, ◌∙◌, ◌≡◌}
+
+pub returns-in-None : goal.returns-in-None
+returns-in-None g c =
+    let none : c.args.handle.now ≡ None = sym c.expand.ensures.value ∙ c.in-None.is in
+    rw none (was-new tt (c.plant.ensures.inserted (g.C.Comparator.order c.args.comp.now)) c.plant.ensures.value)
