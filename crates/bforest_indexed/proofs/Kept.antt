@@ -32,7 +32,7 @@ nothing-increases K X cmp = search rules
 none-some : {A : Type 0} (y : A) → None ≢ Some y
 none-some y = λ e. cc
 
-ok-err : {A E : Type 0} (x : A) (y : E) → Ok x ≢ Err y
+pub ok-err : {A E : Type 0} (x : A) (y : E) → Ok x ≢ Err y
 ok-err x y = λ e. cc
 
 inserted-ok : {A : Type 0} (r : Result A OutOfMemory) → IsOk (as_inserted r) → IsOk r
@@ -42,7 +42,7 @@ inserted-ok (Err e) ok = ok
 ok-full : {A : Type 0} (r : Result A OutOfMemory) → IsOk r → r ≢ Err Full
 ok-full r ok full = absurd (false≢true (subst (λ q. IsOk q) full ok))
 
-not-both : {a b : ℕ} → a < b → b ≤ a → ⊥
+pub not-both : {a b : ℕ} → a < b → b ≤ a → ⊥
 not-both less more = absurd (omega (arith, less, more))
 
 not-some : (A : Type 0) → IsSome {T = A} None → ⊥
@@ -132,7 +132,7 @@ module _ {K X C : Type 0} where
   unchanged m i f' h' same_forest same_handle =
       λ j. record m { forest = same_forest j; handles = (ap (slice_set m.handles i) same_handle ∙ set-get_or m.handles i None) j }
 
-  changes-not : (m m' : Indexed K X C) (i : ℕ) → m' ≡ m → ChangesAt m i m'
+  pub changes-not : (m m' : Indexed K X C) (i : ℕ) → m' ≡ m → ChangesAt m i m'
   changes-not m m' i e = subst (λ q. ChangesAt m i q) (sym e) (record {
     others = λ j ne. refl;
     other_sizes = λ j ne. refl;
@@ -152,13 +152,13 @@ module _ {K X C : Type 0} where
     apart_new : (j n : ℕ) → j ≢ i → handle m j ≡ Some n → Some n ≢ h'
     apart_new j n ne e = not_new b n (subst (λ (q : Option ℕ). IsLive (table m) q) e (a.live j)) (apart_at j n ne e)
 
-    here : handle new i ≡ h'
+    pub here : handle new i ≡ h'
     here = get_or-set_same m.handles i h' None within
 
     there : (j : ℕ) → j ≢ i → handle new j ≡ handle m j
     there j ne = get_or-set_other m.handles i j h' None ne
 
-    list-here : entries new i ≡ es
+    pub list-here : entries new i ≡ es
     list-here = ap (list_of f') here ∙ b.list
 
     list-there : (j : ℕ) → j ≢ i → entries new j ≡ entries m j
@@ -170,7 +170,7 @@ module _ {K X C : Type 0} where
     at-i : (j : ℕ) → j ≡ i → handle new j ≡ h'
     at-i j e = ap (handle new) e ∙ here
 
-    kept-set : IsIncreasing cmp (list_of f' h') → Balances most (table m) (handle m i) f' h' → AreKept most cmp new
+    pub kept-set : IsIncreasing cmp (list_of f' h') → Balances most (table m) (handle m i) f' h' → AreKept most cmp new
     kept-set increasing made = record {
       odd = a.odd;
       live = λ j. elim (eqb_tells j i) [
@@ -206,7 +206,7 @@ module _ {K X C : Type 0} where
       );
     }
 
-    changes : ChangesAt m i new
+    pub changes : ChangesAt m i new
     changes = record {
       others = list-there;
       other_sizes = sizes-there;

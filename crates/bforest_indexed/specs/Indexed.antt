@@ -10,7 +10,7 @@ use Rattle.bforest_indexed.specs.Handles.{Holds}
 use Rattle.std.specs.Fn.{FnOnceReturns, Once}
 use Rattle.std.specs.List.{sum_by}
 use Rattle.std.specs.Map.{keys_of}
-use Rattle.std.specs.Prelude.{Bool, Err, IfOk, IfSome, IsOk, IsSome, List, None, Ok, OnErr, OnOk, Option, Result, Some, [], false, get_or, if◌then◌else◌, length, map, max, nat_lt, remove, slice_get, unwrap_or, ◌%◌, ◌*◌, ◌+◌, ◌-◌, ◌<◌, ◌↔◌, ◌≡◌, ◌≢◌, ◌≤◌, ℕ}
+use Rattle.std.specs.Prelude.{Bool, Err, IfOk, IfSome, IsOk, IsSome, List, None, Ok, OnErr, OnOk, Option, Result, Some, [], false, get_or, if◌then◌else◌, length, map, max, nat_eq, nat_lt, remove, slice_get, unwrap_or, ℕ, ◌%◌, ◌*◌, ◌+◌, ◌-◌, ◌<◌, ◌↔◌, ◌≡◌, ◌≢◌, ◌≤◌}
 use Rattle.std.specs.declared.cmp.Ordering.{Ordering}
 
 -- the answer of an insertion of an absent key, from that of a call that answers the value
@@ -26,6 +26,12 @@ HasRoom most lists most_entries f = (nodes : ℕ) × IsEnoughFor most most_entri
 -- the limit allows the table so many slots
 abbrev pub MayHave : {K X : Type 0} → ℕ → ℕ → ℕ → Forest K X → Type 0
 MayHave most lists most_entries f = (nodes : ℕ) × IsEnoughFor most most_entries nodes × (lists * nodes ≤ limit_of f)
+
+-- f became f': d slots were taken, and then those of a tree of these sizes freed
+pub record TakesAndGives {K X : Type 0} (d : ℕ) (sizes : List (List ℕ)) (f f' : Forest K X) : Type 0 where
+  pub slots : slots_of f' ≡ slots_of f + (d - free_of f)
+  pub free : free_of f' ≡ (free_of f - d) + node_count sizes
+  pub memory : GrowsFor d f f'
 
 -- Contracts read it by the words below alone.
 pub record Indexed (K X C : Type 0) : Type 0 where
@@ -136,6 +142,29 @@ module _ {K X C : Type 0} where
     pub sizes : node_sizes m' i ≡ []
     pub beside : ChangesAt m i m'
     pub account : Gives (node_sizes m i) [] (table m) (table m')
+
+  -- the number of nodes that a copy of i takes at j, which is none where both are one
+  abbrev pub copy_need : Indexed K X C → ℕ → ℕ → ℕ
+  copy_need m i j = if nat_eq i j then 0 else node_count (node_sizes m i)
+
+  -- there are fewer than `lists` lists, of at most `most_entries` entries each
+  pub record IsShortOf (lists most_entries : ℕ) (m : Indexed K X C) : Type 0 where
+    pub fewer : count m < lists
+    pub each : (j : ℕ) → length (entries m j) ≤ most_entries
+
+  -- the list of i was copied to j, and that of j ended; or the call was refused, and nothing changed. A leaf has at most `most` entries
+  pub record CopiesAt (most : ℕ) (m : Indexed K X C) (i j : ℕ) (result : Result (Unit {0}) OutOfMemory) (m' : Indexed K X C) : Type 0 where
+    pub copied : OnOk result (entries m' j ≡ entries m i)
+    pub sizes : OnOk result (node_sizes m' j ≡ node_sizes m i)
+    pub beside : ChangesAt m j m'
+    pub account : OnOk result (i ≢ j → TakesAndGives (node_count (node_sizes m i)) (node_sizes m j) (table m) (table m'))
+    pub same : i ≡ j → m' ≡ m
+    pub full : (result ≡ Err Full) ↔ IsTooMany (copy_need m i j) (table m)
+    pub memory : result ≡ Err Memory → NeedsGrowth (copy_need m i j) (table m)
+    pub succeeds : copy_need m i j ≤ free_of (table m) → IsOk result
+    pub refused : OnErr result (m' ≡ m)
+    pub room : (lists most_entries : ℕ) → IsShortOf lists most_entries m → HasRoom most lists most_entries (table m) → IsOk result
+    pub never_full : (lists most_entries : ℕ) → IsShortOf lists most_entries m → MayHave most lists most_entries (table m) → result ≢ Err Full
 
   -- a predicate f was asked of each entry of i; the entries answered true stay, with the values that the calls left
   pub record FiltersAt {F : Type 0} (most : ℕ) (step : F → K → X → Bool → X → F → Type 0) (f : F) (m : Indexed K X C) (i : ℕ) (m' : Indexed K X C) : Type 0 where

@@ -7,7 +7,7 @@ ghost use Rattle.bforest.specs.Memory.{MapsFitInMemory};
 ghost use Rattle.bforest.specs.Retain.{Answers, MayAsk, MayAskEach};
 ghost use Rattle.bforest_indexed.specs.Edits.{EditsAt};
 ghost use Rattle.bforest_indexed.specs.Indexed.{HoldsFor, ReservesFor};
-ghost use Rattle.bforest_indexed.specs.Indexed.{ClearsAll, ClearsAt, FiltersAt, GetsOrInsertsAt, InsertsAt, UpdatesAt, UpdatesOrInsertsAt};
+ghost use Rattle.bforest_indexed.specs.Indexed.{ClearsAll, ClearsAt, CopiesAt, FiltersAt, GetsOrInsertsAt, InsertsAt, UpdatesAt, UpdatesOrInsertsAt};
 ghost use Rattle.bforest_indexed.specs.Indexed.{KeepsAll, PopsAt, RemovesAt, Swaps};
 ghost use Rattle.bforest.specs.declared.map_forest.TheConstants.{MAP_LEAF};
 ghost use Rattle.bforest_indexed.specs.Indexed.{comparator, count, entries, memory, node_sizes, nodes_in_use, table};
@@ -19,6 +19,7 @@ use crate::room::{reserve_handles, slots_for};
 use bforest::{Comparator, Map, MapCursor, MapForest, MapIter, MapRange, OutOfMemory};
 use std::alloc::{AllocError, Global};
 use std::marker::Model;
+use std::mem;
 use std::ops::Bound;
 
 /// Many ordered maps in one table of nodes, numbered from 0, under one order.
@@ -301,6 +302,30 @@ impl<K: Copy, V: Copy, C: Comparator<K>> Maps<K, V, C> {
         ensures { ClearsAt self.old index self.new }
     {
         self.maps[index].clear(&mut self.forest);
+    }
+
+    /// Gives the map at `to` the entries of the map at `from`, in nodes of the same sizes; its own entries end. Where both are one, nothing
+    /// changes.
+    ///
+    /// The copy is made first, as [`bforest::Map::deep_clone`] makes it: it takes as many nodes as the map at `from` has, and only then
+    /// those of the map at `to` become free. Reads each node of both. No comparison.
+    ///
+    /// # Errors
+    ///
+    /// [`OutOfMemory`] where too few nodes are available; nothing has changed then. It does not come where there is room for one more map, by
+    /// [`Maps::reserve_for`].
+    pub fn copy(&mut self, from: usize, to: usize) -> Result<(), OutOfMemory>
+        requires from { from < count self.old }
+        requires to { to < count self.old }
+        ensures { CopiesAt MAP_LEAF self.old from to result self.new }
+    {
+        if from == to {
+            return Ok(());
+        }
+        let copy = self.maps[from].deep_clone(&mut self.forest)?;
+        let mut old = mem::replace(&mut self.maps[to], copy);
+        old.clear(&mut self.forest);
+        Ok(())
     }
 
     /// Keeps the entries for which the predicate returns `true`, with the value as the predicate left it, and removes all others. It is

@@ -7,7 +7,7 @@ ghost use Rattle.bforest.specs.Memory.{SetsFitInMemory};
 ghost use Rattle.bforest.specs.Retain.{MayAskEach};
 ghost use Rattle.bforest.specs.Set.{AnswersKey, MayAskKey, as_popped, as_put, as_removed, the_value};
 ghost use Rattle.bforest_indexed.specs.Indexed.{HoldsFor, ReservesFor};
-ghost use Rattle.bforest_indexed.specs.Indexed.{ClearsAll, ClearsAt, FiltersAt, InsertsAt, KeepsAll, PopsAt, RemovesAt, Swaps};
+ghost use Rattle.bforest_indexed.specs.Indexed.{ClearsAll, ClearsAt, CopiesAt, FiltersAt, InsertsAt, KeepsAll, PopsAt, RemovesAt, Swaps};
 ghost use Rattle.bforest.specs.declared.set_forest.TheConstants.{SET_LEAF};
 ghost use Rattle.bforest_indexed.specs.Indexed.{comparator, count, entries, keys, memory, node_sizes, nodes_in_use, table};
 ghost use Rattle.std.specs.Map.{keys_of};
@@ -18,6 +18,7 @@ use crate::room::{reserve_handles, slots_for};
 use bforest::{Comparator, OutOfMemory, Set, SetForest, SetIter, SetRange};
 use std::alloc::{AllocError, Global};
 use std::marker::Model;
+use std::mem;
 use std::ops::Bound;
 
 /// Many ordered sets in one table of nodes, numbered from 0, under one order.
@@ -254,6 +255,30 @@ impl<K: Copy, C: Comparator<K>> Sets<K, C> {
         ensures { ClearsAt self.old index self.new }
     {
         self.sets[index].clear(&mut self.forest);
+    }
+
+    /// Gives the set at `to` the keys of the set at `from`, in nodes of the same sizes; its own keys end. Where both are one, nothing
+    /// changes.
+    ///
+    /// The copy is made first, as [`bforest::Set::deep_clone`] makes it: it takes as many nodes as the set at `from` has, and only then
+    /// those of the set at `to` become free. Reads each node of both. No comparison.
+    ///
+    /// # Errors
+    ///
+    /// [`OutOfMemory`] where too few nodes are available; nothing has changed then. It does not come where there is room for one more set, by
+    /// [`Sets::reserve_for`].
+    pub fn copy(&mut self, from: usize, to: usize) -> Result<(), OutOfMemory>
+        requires from { from < count self.old }
+        requires to { to < count self.old }
+        ensures { CopiesAt SET_LEAF self.old from to result self.new }
+    {
+        if from == to {
+            return Ok(());
+        }
+        let copy = self.sets[from].deep_clone(&mut self.forest)?;
+        let mut old = mem::replace(&mut self.sets[to], copy);
+        old.clear(&mut self.forest);
+        Ok(())
     }
 
     /// Keeps the keys for which the predicate returns `true`, and removes all others. It is called once for each key, in order. No

@@ -82,6 +82,14 @@ fn change(maps: &mut Maps<u32, u32>, model: &mut Model, call: u32, at: usize, ke
             maps.clear(at);
             map.clear();
         }
+        29 => {
+            let other = key as usize % model.len();
+            let copied = maps.copy(at, other);
+            if copied.is_ok() {
+                model[other] = model[at].clone();
+            }
+            assert!(copied != Err(OutOfMemory::Memory) && (copied.is_ok() || at != other && !model[at].is_empty()));
+        }
         _ => {
             let other = key as usize % model.len();
             maps.swap(at, other);
@@ -105,7 +113,7 @@ fn maps_answer_as_a_vector_of_maps() {
         for step in 0..STEPS / 4 {
             let (at, key) = (random.below(9) as usize, random.below(KEYS));
             read(&maps, &model, at, key);
-            change(&mut maps, &mut model, random.below(30), at, key, step);
+            change(&mut maps, &mut model, random.below(31), at, key, step);
             if step % 4096 == 4095 {
                 assert_eq!(format!("{maps:?}"), format!("{model:?}"));
                 let copy = maps.clone();
@@ -136,7 +144,7 @@ fn sets_answer_as_a_vector_of_sets() {
             assert_eq!(sets.get_or_greater(at, key), model[at].range(key..).next().copied());
             assert_eq!((sets.first(at), sets.last(at)), (model[at].first().copied(), model[at].last().copied()));
             assert!(sets.range(at, ..key).rev().eq(model[at].range(..key).rev().copied()));
-            match random.below(24) {
+            match random.below(25) {
                 0..10 => match sets.insert(at, key) {
                     Ok(new) => assert_eq!(new, model[at].insert(key)),
                     Err(refused) => assert!(refused == OutOfMemory::Full && !model[at].contains(&key)),
@@ -156,6 +164,10 @@ fn sets_answer_as_a_vector_of_sets() {
                     sets.swap(at, key as usize % 9);
                     model.swap(at, key as usize % 9);
                 }
+                23 => match sets.copy(at, key as usize % 9) {
+                    Ok(()) => model[key as usize % 9] = model[at].clone(),
+                    Err(refused) => assert!(refused == OutOfMemory::Full && at != key as usize % 9 && !model[at].is_empty()),
+                },
                 _ => assert_eq!(sets.cursor(at).goto_first(), model[at].first().copied()),
             }
             if step % 4096 == 4095 {
@@ -192,10 +204,53 @@ fn an_index_that_is_not_there_panics_and_is_named() {
         panic_of(|| maps.swap(7, 0)),
         panic_of(|| maps.update(7, 0, |value| value)),
         panic_of(|| maps.update_or_insert(7, 0, 0, |value| value)),
+        panic_of(|| maps.copy(7, 0)),
+        panic_of(|| maps.copy(0, 7)),
         panic_of(|| maps.iter(7).count()),
         panic_of(|| maps.cursor_mut(7).next()),
     ] {
         assert!(text.contains("the len is 3") && text.contains("the index is 7"), "{text}");
     }
     assert!(Sets::<u32>::default().is_empty());
+}
+
+/// A copy needs as many nodes as what is copied has, before those of the map that it replaces are free. To itself a map is copied for nothing.
+#[test]
+fn a_copy_is_made_before_the_old_map_ends() {
+    // A map of 8 entries has 3 nodes.
+    for (limit, copied) in [(8, Err(OutOfMemory::Full)), (9, Ok(()))] {
+        let mut maps: Maps<u32, u32> = Maps::with_node_limit((), limit);
+        maps.grow_to(2).unwrap();
+        for key in 0..8 {
+            maps.insert(0, key, key).unwrap();
+            maps.insert(1, 10 * key, key).unwrap();
+        }
+        assert_eq!((maps.slots(), maps.free_slots()), (6, 0));
+        assert_eq!(maps.copy(1, 0), copied);
+        let tens = if copied.is_ok() { 10 } else { 1 };
+        assert!(maps.iter(0).eq((0..8).map(|key| (tens * key, key))));
+        assert!(maps.iter(1).eq((0..8).map(|key| (10 * key, key))));
+        assert_eq!((maps.slots(), maps.free_slots()), if copied.is_ok() { (9, 3) } else { (6, 0) });
+        assert_eq!(maps.copy(1, 1), Ok(()));
+    }
+}
+
+/// Where there is room for one map more than there are, no copy is refused.
+#[test]
+fn no_copy_fails_where_there_is_room_for_one_map_more() {
+    const MOST: u32 = 40;
+    let mut random = Random(0x9e37_79b9_7f4a_7c15);
+    let mut maps: Maps<u32, u32> = Maps::new(());
+    maps.grow_to(5).unwrap();
+    maps.reserve_for(6, MOST as usize).unwrap();
+    let slots = maps.slots();
+    for _ in 0..20_000 {
+        let (at, key) = (random.below(5) as usize, random.below(MOST));
+        match random.below(4) {
+            0 => maps.copy(at, random.below(5) as usize).unwrap(),
+            1 => _ = maps.remove(at, key),
+            _ => _ = maps.insert(at, key, key).unwrap(),
+        }
+        assert_eq!(maps.slots(), slots);
+    }
 }
