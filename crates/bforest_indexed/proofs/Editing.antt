@@ -4,12 +4,12 @@ use Rattle.bforest.proofs.Becoming.{becomes-both}
 use Rattle.bforest.specs.Calls.{Inserts, RemovesAt}
 use Rattle.bforest.specs.Cursor.{Goes, IsCursor, Moves, Writes, comparator, entries, forest_now, map_now, spot}
 use Rattle.bforest.specs.Entries.{with_value}
-use Rattle.bforest.specs.Forest.{Becomes, Forest, IsFitFor, IsLive, free_of, limit_of, list_of, sizes_of, slots_of}
+use Rattle.bforest.specs.Forest.{Becomes, Forest, IsFitFor, IsLive, list_of, sizes_of}
 use Rattle.bforest.specs.Refusal.{OutOfMemory}
 use Rattle.bforest.specs.Room.{Balances, node_count}
 use Rattle.bforest.specs.declared.map_cursor_mut.MapCursorMut.{MapCursorMut}
 use Rattle.bforest_indexed.specs.Edits.{Edits}
-use Rattle.std.proofs.Common.{Err, List, Ok, Option, Result, ap, arith, length, refl, subst, sym, ◌%◌, ◌+◌, ◌∙◌, ◌≡◌, ◌≤◌, ℕ}
+use Rattle.std.proofs.Common.{Err, List, Ok, Option, Result, ap, arith, length, refl, subst, sym, ◌%◌, ◌∙◌, ◌≡◌, ℕ}
 use Rattle.std.specs.declared.cmp.Ordering.{Ordering}
 
 module _ {K X : Type 0} where

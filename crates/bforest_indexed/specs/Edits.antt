@@ -4,7 +4,7 @@ use Rattle.bforest.specs.Forest.{Becomes, Forest, IsFitFor, list_of, sizes_of, s
 use Rattle.bforest.specs.Room.{Balances}
 use Rattle.bforest.specs.declared.map_cursor_mut.MapCursorMut.{MapCursorMut}
 use Rattle.bforest_indexed.specs.Indexed.{ChangesAt, Indexed, handle, table}
-use Rattle.std.specs.Prelude.{List, Option, length, ◌≡◌, ◌≤◌, ℕ}
+use Rattle.std.specs.Prelude.{Option, length, ◌≡◌, ◌≤◌, ℕ}
 use Rattle.std.specs.declared.cmp.Ordering.{Ordering}
 
 -- the tree of h, whose leaves have at most `most` entries, changed alone; where its sizes fitted its list, they
