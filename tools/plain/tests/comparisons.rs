@@ -177,7 +177,7 @@ type Search<H, F> = fn(&mut H, u32, &mut F, &Counting);
 type MapSearch = Search<Map<u32, u32>, MapForest<u32, u32>>;
 type SetSearch = Search<Set<u32>, SetForest<u32>>;
 
-const OF_MAPS: [(&str, MapSearch); 12] = [
+const OF_MAPS: [(&str, MapSearch); 13] = [
     ("get", |map, key, forest, comp| _ = map.get(key, forest, comp)),
     ("update", |map, key, forest, comp| _ = map.update(key, |value| value, forest, comp)),
     ("get_or_less", |map, key, forest, comp| _ = map.get_or_less(key, forest, comp)),

@@ -88,7 +88,7 @@ type NumbersForest = MapForest<u32, u32>;
 type MapCall = Call<Numbers, NumbersForest>;
 type SetCall = Call<Set<u32>, SetForest<u32>>;
 
-const OF_MAPS: [(&str, MapCall); 25] = [
+const OF_MAPS: [(&str, MapCall); 27] = [
     ("get", |map, forest| _ = map.get(1, forest, &())),
     ("update", |map, forest| _ = map.update(1, |value| value + 1, forest, &())),
     ("get_or_less", |map, forest| _ = map.get_or_less(1, forest, &())),
@@ -118,7 +118,7 @@ const OF_MAPS: [(&str, MapCall); 25] = [
     ("debug", |map, forest| _ = format!("{:?}", map.debug(forest))),
 ];
 
-const OF_SETS: [(&str, SetCall); 20] = [
+const OF_SETS: [(&str, SetCall); 21] = [
     ("contains", |set, forest| _ = set.contains(1, forest, &())),
     ("get_or_less", |set, forest| _ = set.get_or_less(1, forest, &())),
     ("get_or_greater", |set, forest| _ = set.get_or_greater(1, forest, &())),
