@@ -220,10 +220,10 @@ pub(crate) fn set_child<K: Copy, V: Copy, const N: usize>(
     child: Node,
 )
     requires used { IsUsed pool.old node }
-    requires inner { (content : Content K V) × (slice_get pool.old.nodes node ≡ Some content) × IsInner content
-        × (index < entry_count content) }
-    ensures { (content : Content K V) → slice_get pool.old.nodes node ≡ Some content → pool.new
-        ≡ with_node pool.old node (with_child_at content index child) }
+    requires inner { (content : Content K V) × (slice_get pool.old.nodes node ≡ Some content)
+        × IsInner content × (index < entry_count content) }
+    ensures { (content : Content K V) → slice_get pool.old.nodes node ≡ Some content
+        → pool.new ≡ with_node pool.old node (with_child_at content index child) }
 {
     pool.node_mut(node).set_child(index, child);
 }

@@ -251,7 +251,8 @@ impl<K: Copy, V: Copy, C: Comparator<K>> Maps<K, V, C> {
         requires within { index < count self.old }
         requires callable { (v : V) → value_for (C.order (comparator self.old)) (entries self.old index) key
             ≡ Some v → F.pre change v }
-        ensures { UpdatesAt F.FnOnce (C.order (comparator self.old)) self.old index key change result self.new }
+        ensures { UpdatesAt F.FnOnce (C.order (comparator self.old)) self.old index key change result
+            self.new }
     {
         self.maps[index].update(key, change, &mut self.forest, &self.order)
     }
@@ -272,8 +273,8 @@ impl<K: Copy, V: Copy, C: Comparator<K>> Maps<K, V, C> {
         requires within { index < count self.old }
         requires callable { (v : V) → value_for (C.order (comparator self.old)) (entries self.old index) key
             ≡ Some v → F.pre change v }
-        ensures { UpdatesOrInsertsAt MAP_LEAF (C.order (comparator self.old)) F.FnOnce self.old index key value
-            change result self.new }
+        ensures { UpdatesOrInsertsAt MAP_LEAF (C.order (comparator self.old)) F.FnOnce self.old index key
+            value change result self.new }
     {
         self.maps[index].update_or_insert(key, value, change, &mut self.forest, &self.order)
     }

@@ -96,19 +96,19 @@ module _ {K : Type 0} (cmp : K → K → Ordering) where
       stopped_at : i ≤ length ks → ((d : K) → i < length ks → is_lt (cmp (get_or ks i d) k) ≡ false) → count_less cmp ks k ≡ i
       stopped_at within here = count_less-from_parts ks k i within low (λ j d le in_list. not_before i j d le in_list (here d (omega arith)))
 
-      -- it stopped at an equal key
+      -- the search stopped at an equal key
       pub stopped-equal : (x : K) → i < length ks → x ≡ get_or ks i x → cmp x k ≡ Equal → Ok i ≡ search_of cmp ks k
       stopped-equal x within read e =
           let same : (d : K) → cmp (get_or ks i d) k ≡ Equal = λ d. ap (λ y. cmp y k) (get_or_default ks i d x within ∙ sym read) ∙ e in
           sym (by_test i true (stopped_at (omega arith) (λ d _. ap is_lt (same d))) (test_at i true within (ap is_eq (same k))))
 
-      -- it stopped at a greater key
+      -- the search stopped at a greater key
       pub stopped-greater : (x : K) → i < length ks → x ≡ get_or ks i x → cmp x k ≡ Greater → Err i ≡ search_of cmp ks k
       stopped-greater x within read e =
           let more : (d : K) → cmp (get_or ks i d) k ≡ Greater = λ d. ap (λ y. cmp y k) (get_or_default ks i d x within ∙ sym read) ∙ e in
           sym (by_test i false (stopped_at (omega arith) (λ d _. ap is_lt (more d))) (test_at i false within (ap is_eq (more k))))
 
-      -- it came to the end
+      -- the search came to the end
       pub stopped-end : i ≡ length ks → Err i ≡ search_of cmp ks k
       stopped-end e = sym (by_test i false (stopped_at (omega (arith, e)) (λ d lt. absurd (omega (arith, e, lt)))) (ap (λ o. option_map_or (λ x. is_eq (cmp x k)) o false) (slice_get_past ks i (omega (arith, e)))))
 

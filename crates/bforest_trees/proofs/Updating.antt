@@ -70,7 +70,7 @@ module _ {K X : Type 0} (most : ℕ) (cmp : K → K → Ordering) {f : Forest K 
   entry : IsAt (tree_of f.nodes n).leaves leaf found.0 (place cmp (list_under f n) k)
   entry = looked.present (valued-here cmp (list_under f n) k value)
 
-  -- it is the key's value in the list
+  -- the value that was found is the key's value in the list
   pub is-value : value_for cmp (list_at f n) k ≡ Some v
   is-value = rw (list-root f n root) value
 

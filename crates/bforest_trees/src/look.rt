@@ -309,7 +309,8 @@ impl<'a, K: Copy, V: Copy> Look<'a, K, V> {
         ensures look { (handle : Option ℕ) (place : ℕ) → LeafUpTo pool.now handle spot leaf place
             → IsLook pool.now handle self.new (place - 1) }
         ensures some { self.new.index < length self.new.keys.now }
-        ensures behind { (handle : Option ℕ) (place : ℕ) → LeafUpTo pool.now handle spot leaf place → 0 < place }
+        ensures behind { (handle : Option ℕ) (place : ℕ) → LeafUpTo pool.now handle spot leaf place
+            → 0 < place }
     {
         *self = Look::enter(spot, leaf, pool);
         self.index = self.keys.len() - 1;

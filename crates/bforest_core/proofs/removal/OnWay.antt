@@ -247,7 +247,7 @@ module _ {K V : Type 0} {most : ℕ} {t : Table K V} {root place index : ℕ} {w
     pub ends-there : suc place ≡ length (flat (tree_of t.nodes root).leaves)
     ends-there = omega (arith, all, last, length-append es (flat at.after), low-there)
 
-    -- its index is that of its leaf's last entry
+    -- the index of the last entry of the tree is that of its leaf's last entry
     pub on-last : {read : ℕ} → LastRead t.nodes way.leaf read → OnWay t root way read place
     on-last {read} says = let is : read ≡ index = omega (arith, says (leaf_content es) slot-there, keys_count es, ends-there, all, length-append es (flat at.after), at.place_is, at.index_is, w.index_is, low-there) in
         rw is w

@@ -15,7 +15,7 @@ use Rattle.bforest_core.specs.declared.path.way.Way.{Way}
 use Rattle.bforest_core.specs.declared.spot.Spot.{Spot}
 use Rattle.std.specs.declared.cmp.Ordering.{Ordering}
 
--- so many numbers: these, and 0 for each that is missing
+-- a list of so many numbers: the given ones, and 0 for each that is missing
 abbrev padded : ℕ → List ℕ → List ℕ
 padded zero list = []
 padded (suc n) list = get_or list 0 0 ∷ padded n (drop 1 list)

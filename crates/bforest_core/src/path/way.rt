@@ -75,7 +75,8 @@ impl Way {
     pub fn last<K: Copy, V: Copy, const N: usize>(root: Node, pool: &NodePool<K, V, N>) -> Way
         requires union { IsUnion N pool.now }
         requires root { IsTrue (is_root pool.now.nodes root) }
-        ensures last { (index : ℕ) × OnWay pool.now root result index (length (list_under pool.now root) - 1) }
+        ensures last { (index : ℕ)
+            × OnWay pool.now root result index (length (list_under pool.now root) - 1) }
     {
         let mut way = Way::root(root);
         while pool.node(way.leaf).is_inner() {
@@ -223,7 +224,8 @@ impl<K: Copy, V: Copy, const N: usize> NodePool<K, V, N> {
     // it, it returns false, and changes nothing.
     #[inline(always)]
     fn renew_near(&mut self, way: &Way, index: usize) -> bool
-        requires taken { (old : Table K V) × (root place : ℕ) × TakenOn N old self.old root way.now index place }
+        requires taken { (old : Table K V) × (root place : ℕ)
+            × TakenOn N old self.old root way.now index place }
         requires some { (content : Content K V) → slice_get self.old.nodes way.now.leaf ≡ Some content
             → 0 < entry_count content }
         ensures renewed { result ≡ true → (old : Table K V) (root place : ℕ)
