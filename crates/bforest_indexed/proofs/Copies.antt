@@ -1,13 +1,13 @@
 -- What a copy of the list of one index at another leaves of all indices.
 use Rattle.bforest.specs.Calls.{Clears, Clones}
 use Rattle.bforest.specs.Entries.{IsIncreasing}
-use Rattle.bforest.specs.Forest.{Becomes, Forest, IsLive, IsTooMany, NeedsGrowth, free_of, limit_of, list_at, list_of, room_of, sizes_at, sizes_of, slots_of}
+use Rattle.bforest.specs.Forest.{Becomes, Forest, IsLive, IsTooMany, NeedsGrowth, free_of, limit_of, list_at, list_of, room_of, sizes_of, slots_of}
 use Rattle.bforest.specs.Refusal.{Full, Memory, OutOfMemory}
-use Rattle.bforest.specs.Room.{Balances, IsEnoughFor, IsFitAt, node_count}
+use Rattle.bforest.specs.Room.{Balances, IsEnoughFor, node_count}
 use Rattle.bforest_indexed.proofs.Kept.{changes, changes-not, here, kept-set, list-here, live-read, not-both, ok-err, read, with_tree}
 use Rattle.bforest_indexed.proofs.Rooms.{sum-few}
 use Rattle.bforest_indexed.specs.Indexed.{AreKept, CopiesAt, HasRoom, Indexed, IsShortOf, MayHave, TakesAndGives, copy_need, count, entries, handle, node_sizes, nodes_in_use, table}
-use Rattle.std.proofs.Common.{Bool, Err, IsErrAnd, List, None, Ok, Option, Result, Some, [], ap, arith, get_or, if◌then◌else◌, inl, inr, length, refl, subst, suc, sym, ℕ, ◌*◌, ◌+◌, ◌<◌, ◌∙◌, ◌≡◌, ◌≢◌, ◌≤◌}
+use Rattle.std.proofs.Common.{Err, IsErrAnd, List, None, Ok, Option, Result, Some, [], ap, arith, get_or, if◌then◌else◌, inl, inr, length, refl, subst, suc, sym, ℕ, ◌*◌, ◌+◌, ◌<◌, ◌∙◌, ◌≡◌, ◌≢◌, ◌≤◌}
 use Rattle.std.proofs.Math.Nat.{mul-le-mul_left}
 use Rattle.std.proofs.lemmas.Bool.Decides.{eqb_tells, leb_tells}
 use Rattle.std.proofs.lemmas.Result.{err_from_is_err_and}
