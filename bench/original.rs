@@ -134,6 +134,18 @@ impl Uses for OriginalMaps {
         let range = self.maps[map as usize].range(.., &self.forest, &());
         range.rev().fold(sum, |sum, (key, value)| added(sum, key ^ value))
     }
+
+    #[inline(never)]
+    fn copied(&mut self, map: u32) -> Option<(u32, u32)> {
+        let entries: Vec<(u32, u32)> = self.maps[map as usize].iter(&self.forest).collect();
+        let mut copy = Map::new();
+        for (key, value) in entries {
+            copy.insert(key, value, &mut self.forest, &());
+        }
+        let last = copy.cursor(&self.forest, &()).prev();
+        copy.clear(&mut self.forest);
+        last
+    }
 }
 
 pub struct OriginalSide;

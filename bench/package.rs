@@ -127,6 +127,14 @@ impl Uses for PackageMaps {
         let range = self.maps[map as usize].range(.., &self.forest, &());
         range.rev().fold(sum, |sum, (key, value)| added(sum, key ^ value))
     }
+
+    #[inline(never)]
+    fn copied(&mut self, map: u32) -> Option<(u32, u32)> {
+        let mut copy = self.maps[map as usize].deep_clone(&mut self.forest).expect(ROOM);
+        let last = copy.last(&self.forest);
+        copy.clear(&mut self.forest);
+        last
+    }
 }
 
 pub struct PackageSide;

@@ -113,6 +113,12 @@ impl Uses for StdMaps {
     fn walk_back(&self, map: u32, sum: u64) -> u64 {
         self.maps[map as usize].range(..).rev().fold(sum, |sum, (key, value)| added(sum, key ^ value))
     }
+
+    #[inline(never)]
+    fn copied(&mut self, map: u32) -> Option<(u32, u32)> {
+        let copy = self.maps[map as usize].clone();
+        copy.last_key_value().map(|(key, value)| (*key, *value))
+    }
 }
 
 pub struct StdSide;

@@ -18,6 +18,7 @@ pub enum Use {
     Three,      // the first three of such a range
     AtOrAfter,  // the first entry whose key is not less
     Back,       // a range of all, from its end
+    Copied,     // a second map of the same entries, which is read once and dropped
     Reads,      // nine look-ups in ten calls, the tenth an insertion or a removal
     FillWide,   // as `Fill`, with keys of 16 bytes and values of 24
     GetWide,    // as `Get`, on these maps
@@ -31,7 +32,7 @@ use Use::*;
 impl Use {
     /// The use of this name.
     pub fn named(name: &str) -> Option<Use> {
-        let single = [Load, Fill, Get, Walk, Remove, Update, Entry, First, Three, AtOrAfter, Back, Reads];
+        let single = [Load, Fill, Get, Walk, Remove, Update, Entry, First, Three, AtOrAfter, Back, Copied, Reads];
         let others = [FillWide, GetWide, FillRanked, GetRanked, Forests];
         single.into_iter().chain(others).find(|it| format!("{it:?}") == name)
     }
@@ -73,6 +74,8 @@ pub trait Uses: Many<u32> {
     fn at_or_after(&self, map: u32, key: u32) -> Option<(u32, u32)>;
     /// Adds all entries to a checksum, the last first.
     fn walk_back(&self, map: u32, sum: u64) -> u64;
+    /// Makes a second map of the same entries, and drops it. Returns its last entry.
+    fn copied(&mut self, map: u32) -> Option<(u32, u32)>;
 }
 
 pub type WideKey = (u64, u64);
@@ -160,6 +163,7 @@ fn rounds<M: Uses>(maps: &mut M, job: Job) -> u64 {
         Three => each(maps, job, |maps, map, index| maps.three_of(map, key(map, index), 0)),
         AtOrAfter => each(maps, job, |maps, map, index| told(maps.at_or_after(map, key(map, index)))),
         Back => each(maps, job, |maps, map, _| maps.walk_back(map, 0)),
+        Copied => each(maps, job, |maps, map, _| told(maps.copied(map))),
         _ => 0,
     }
 }
