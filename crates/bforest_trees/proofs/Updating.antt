@@ -1,6 +1,6 @@
 -- Replacing the value of a key: the answers of `update`, and of `update_or_insert_under` where the key is there.
 use Rattle.bforest_core.proofs.union.Updating.{key-used, updated, valued-here}
-use Rattle.bforest_core.proofs.union.Written.{keys-written}
+use Rattle.bforest_core.proofs.union.Written.{keys-written, place-written}
 use Rattle.bforest_core.proofs.walks.LeafSearch.{some-mapped}
 use Rattle.bforest_core.specs.Leaves.{LooksInLeaf}
 use Rattle.bforest_core.specs.Levels.{flat}
@@ -78,13 +78,10 @@ module _ {K X : Type 0} (most : ℕ) (cmp : K → K → Ordering) {f : Forest K 
   pub entry-there : IsUsed f leaf × IsEntryAt f.nodes leaf found.0
   entry-there = key-used cmp union n root k value entry
 
-  module _ {F : Type 0} (g : Once F (X × Unit {0}) X) (q : F) {w : X} (says : FnOnceReturns g q (v, tt) w) where
-    -- what a call of `q` with the value returned is written there
-    written : UpdatesUnder g most cmp f (with_value_at f leaf found.0 w) n k q (Some w)
-    written = updated cmp union n root k value entry says
+  -- a value that is written there leaves a union of trees
+  pub written-there : (w : X) → IsUnion most (with_value_at f leaf found.0 w)
+  written-there w = (place-written _ union root entry w).0.union
 
-    pub written-union : IsUnion most (with_value_at f leaf found.0 w)
-    written-union = updated-union union written
-
-    pub updates-there : Updates g cmp f (Some n) k q (Some w) (with_value_at f leaf found.0 w) (Some n)
-    updates-there = updates union root written
+  -- what a call of `q` with the value returned is written there
+  pub updates-there : {F : Type 0} {g : Once F (X × Unit {0}) X} {q : F} {w : X} → FnOnceReturns g q (v, tt) w → Updates g cmp f (Some n) k q (Some w) (with_value_at f leaf found.0 w) (Some n)
+  updates-there says = updates union root (updated cmp union n root k value entry says)

@@ -1,7 +1,7 @@
 use Rattle.bforest_trees.proofs.Changed.{search-asks}
 use Rattle.bforest_trees.proofs.Ensuring.{was-new, was-updated}
 use Rattle.bforest_trees.proofs.Entering.{absent-on, ends-there}
-use Rattle.bforest_trees.proofs.Updating.{entry-there, is-value, updates-there, written-union}
+use Rattle.bforest_trees.proofs.Updating.{entry-there, is-value, updates-there, written-there}
 use Rattle.bforest_trees.proofs.trees.Trees.update_or_insert_under.Goals as goal
 use Rattle.std.proofs.Common.{rules}
 
@@ -23,12 +23,12 @@ value_mut-requires g c = let w = c.find-way.ensures.ends in let looked = c.look_
 
 pub invariant_of-self : goal.invariant_of-self
 invariant_of-self g c = let w = c.find-way.ensures.ends in let looked = c.look_up_in_leaf-place.ensures.found c.args.root _ _ _ (ends-there w c.leaf-leaf.ensures.leaf) in
-    written-union g.row.N (g.C.Comparator.order c.args.comp.now) c.self.invariant (rw (← c.self.view_is) at c.requires.live) looked c.in-Some.is g.F.FnOnce c.args.change c.change-changed.ensures
+    written-there g.row.N (g.C.Comparator.order c.args.comp.now) c.self.invariant (rw (← c.self.view_is) at c.requires.live) looked c.in-Some.is _
 
 pub returns-in-Some : goal.returns-in-Some
 returns-in-Some g c = let w = c.find-way.ensures.ends in let looked = c.look_up_in_leaf-place.ensures.found c.args.root _ _ _ (ends-there w c.leaf-leaf.ensures.leaf) in
     rw (c.requires.root, ← c.self.view_is) (was-updated (rw (← c.self.view_is) at c.requires.increasing)
-    (updates-there g.row.N (g.C.Comparator.order c.args.comp.now) c.self.invariant (rw (← c.self.view_is) at c.requires.live) looked c.in-Some.is g.F.FnOnce c.args.change c.change-changed.ensures))
+    (updates-there g.row.N (g.C.Comparator.order c.args.comp.now) c.self.invariant (rw (← c.self.view_is) at c.requires.live) looked c.in-Some.is c.change-changed.ensures))
 
 pub insert_absent-requires : goal.insert_absent-requires
 insert_absent-requires g c = let w = c.find-way.ensures.ends in let looked = c.look_up_in_leaf-place.ensures.found c.args.root _ _ _ (ends-there w c.leaf-leaf.ensures.leaf) in
