@@ -32,7 +32,7 @@ LEFT_OUT = ["bforest_indexed/edit.rt"]
 UNUSED = {
     "bforest_indexed/maps.rt": ["edit"],
     "forest_run/main.rt": ["arguments", "main"],
-    "bforest_nodes/node.rt": ["unwrap_leaf_mut"],
+    "bforest_nodes/node.rt": ["unwrap_leaf_mut", "only_child", "leaf_of"],
     "bforest_nodes/entries.rt": ["parts_mut"],
     "bforest_nodes/row.rt": ["front_mut"],
     "bforest_nodes/lent.rt": ["front_mut"],

@@ -3,7 +3,7 @@ ghost use Rattle.bforest_nodes.specs.Content.{Balances, Free, HasShape, Inner, I
 ghost use Rattle.bforest_nodes.specs.Search.{count_up_to, search_of};
 ghost use Rattle.std.specs.Borrow.{sem};
 ghost use Rattle.std.specs.List.Sorted.{IsStrictlySortedBy};
-ghost use Rattle.std.specs.Prelude.{Err, IfOk, IfSome, IsSome, IsTrue, None, Some, Ok, [], if◌then◌else◌, length, nat_le, option_map, slice_get, ◌*◌, ◌+◌, ◌-◌, ◌/◌, ◌<◌, ◌^◌, ◌↔◌, ◌∷◌, ◌≡◌, ◌≤◌, ℕ};
+ghost use Rattle.std.specs.Prelude.{Err, IfOk, IfSome, IsSome, IsTrue, None, Some, Ok, [], if◌then◌else◌, length, map, nat_le, option_map, slice_get, ◌*◌, ◌+◌, ◌-◌, ◌/◌, ◌<◌, ◌^◌, ◌↔◌, ◌∷◌, ◌≡◌, ◌≤◌, ℕ};
 
 use crate::comparator::Comparator;
 use crate::entries::Entries;
@@ -167,6 +167,13 @@ impl<K: Copy, V: Copy, const N: usize> NodeData<K, V, N> {
         self.state = State::Branch(1, Row { items: [key; 7] }, tree);
     }
 
+    /// Makes the slot an inner node of one child, whatever it held. The key fills room that does not count.
+    pub fn only_child(&mut self, key: K, child: Node)
+        ensures node { self.new ≡ Inner [] (child ∷ []) }
+    {
+        self.state = State::Branch(0, Row { items: [key; 7] }, Row { items: [child; 8] });
+    }
+
     /// A leaf of one entry.
     #[inline(always)]
     pub fn new_leaf(key: K, value: V) -> Self
@@ -195,6 +202,20 @@ impl<K: Copy, V: Copy, const N: usize> NodeData<K, V, N> {
                 vals: Row { items: [value; N] },
             },
         );
+    }
+
+    /// Makes the slot a leaf of these entries, 1 to `N`, whatever it held.
+    pub fn leaf_of(&mut self, entries: &[(K, V)])
+        requires some { 0 < length entries.now }
+        requires few { length entries.now ≤ N }
+        ensures node { self.new ≡ Leaf (map (λ e. e.0) entries.now) (map (λ e. e.1) entries.now) }
+    {
+        let (key, value) = entries[0];
+        self.leaf(key, value);
+        for index in 1..entries.len() {
+            let (key, value) = entries[index];
+            self.try_leaf_insert(index, key, value);
+        }
     }
 
     /// The keys and the children of an inner node.
