@@ -25,8 +25,8 @@ extern crate alloc;
 
 '''
 
-# What the package does not have: there `cursor_mut` of `Maps`, in `rust.rs`, lends a cursor.
-LEFT_OUT = ["bforest_indexed/edit.rt"]
+# What the package does not have: there `cursor_mut` of `Maps`, in `rust.rs`, lends a cursor; and no handle calls the making of a tree.
+LEFT_OUT = ["bforest_indexed/edit.rt", "bforest_core/build.rt"]
 
 # Functions that the package does not call.
 UNUSED = {
@@ -37,7 +37,7 @@ UNUSED = {
     "bforest_nodes/row.rt": ["front_mut"],
     "bforest_nodes/lent.rt": ["front_mut"],
     "bforest_core/path/insert.rt": ["needed"],
-    "bforest_core/pool.rt": ["new"],
+    "bforest_core/pool.rt": ["new", "build_leaf", "build_over"],
 }
 
 USE_GLOBAL = (r"^use std::alloc::Global;\n", "", 1)
@@ -140,6 +140,7 @@ EDITS = {
     ],
     "bforest_core/lib.rt": [
         BEHIND_FIRST,
+        (r"^mod build;\n", "", 1),
         (r"Comparator, Node, NodeData, PackedNode, Removed, SetValue, SplitOff,?", "Comparator, Node, PackedNode, SetValue", 1),
     ],
     # What the search alone uses, which goes with it.

@@ -17,3 +17,6 @@ pub mod Renaming
 pub mod Copying
 pub mod Counting
 pub mod Duplicating
+pub mod Joining
+pub mod Needs
+pub mod Building

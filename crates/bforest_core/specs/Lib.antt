@@ -17,3 +17,4 @@ pub mod Leaves
 pub mod Updates
 pub mod Ways
 pub mod Copies
+pub mod Packed

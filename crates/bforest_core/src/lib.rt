@@ -7,6 +7,7 @@
 #![tactic(auto)]
 
 mod access;
+mod build;
 mod copy;
 mod leaf;
 mod path;

@@ -1,7 +1,7 @@
 -- Balancing the short leaf of a way with its right neighbour under the same parent, which keeps 4 children or more, or is the root: the answers of `balance_on`.
 use Rattle.bforest_core.proofs.Words.{◌≡◌, ◌≢◌, ℕ, suc, ◌+◌, ◌-◌, ◌*◌, ◌/◌, ◌%◌, ◌^◌, ◌≤◌, ◌<◌, List, [], ◌∷◌, ◌++◌, length, get_or, set, slice_get, Option, Some, None, inl, refl, sym, ap, ◌∙◌}
-use Rattle.bforest_core.proofs.Words.{Bool, arith, subst, length-append, length-set, map, Heads, Row, RowsIn, IsUsed, IsUnderflowedAt, IsBalancedAt, Table, with_freed, entry_count, inner_content, heads, sizes}
-use Rattle.bforest_core.proofs.Words.{cases_lt, inr, nil_from_length, ◌⊎◌, Rows, Trimmed, UpTo, Loses, Joins, OneAbove, TwoAbove, LoosenedRows, Rebuilt, Shrunk, ShortOn, loss_above, nodes_up, node, flat}
+use Rattle.bforest_core.proofs.Words.{arith, subst, length-append, length-set, map, Heads, RowsIn, IsUsed, IsUnderflowedAt, IsBalancedAt, Table, with_freed, entry_count, inner_content, heads, sizes}
+use Rattle.bforest_core.proofs.Words.{cases_lt, inr, nil_from_length, ◌⊎◌, Rows, Trimmed, UpTo, Loses, Joins, OneAbove, TwoAbove, LoosenedRows, Rebuilt, Shrunk, ShortOn, loss_above, nodes_up, node}
 use Rattle.bforest_core.proofs.removal.{Asked.{no_nodes, some_first, Beside, ChildAt, Counts, KeyAt, ReadsChild, ReadsKey, Removes, Seen, Writes}, Healing.leaf_loses, Merge.{kept_restored, merge_asks, rebuilt}}
 use Rattle.bforest_core.proofs.removal.{Neighbours.{beside_same, item_asks, one_seen}, Rebalance.judged, RemovingMerged.{here, merge_same, remove_asks, same_parent}, Removing.{collapse_asks, healed_removed, joined_removed}}
 use Rattle.bforest_core.proofs.removal.Rebalancing.{balance_asks, beside_asks, count_read, counted_asks, free_asks, free_joins, rekey_asks, rekey_heals}

@@ -1,9 +1,9 @@
 -- Writing the key of an entry of a tree, which keeps its nodes and values: the answers of `set_key`.
-use Rattle.bforest_core.proofs.Words.{◌≡◌, ℕ, ◌+◌, ◌≤◌, ◌<◌, List, [], ◌∷◌, ◌++◌, length, get_or, slice_get, Some, refl, sym, ap, ◌∙◌, length-append, append_assoc, arith, IsTrue}
-use Rattle.bforest_core.proofs.Words.{Table, Content, Leaf, Tree, Row, node, flat, heads, sizes, numbers, flat_map, half_of, leaf_content, with_entry_key, with_node, rekeyed, Above}
-use Rattle.bforest_core.proofs.Words.{entry_items, entry_keys, StandsIn, StandsUnder, Stands, OneAbove, Rekeyed, Frees, Changes, IsUnion, tree_of, is_root, sizes_of, numbers_of, root_of, nil_from_length}
+use Rattle.bforest_core.proofs.Words.{◌≡◌, ℕ, ◌+◌, ◌≤◌, ◌<◌, List, [], ◌∷◌, ◌++◌, length, get_or, slice_get, Some, refl, sym, ap, ◌∙◌, length-append, append_assoc, arith}
+use Rattle.bforest_core.proofs.Words.{Table, Leaf, Tree, Row, node, flat, heads, numbers, flat_map, half_of, leaf_content, with_entry_key, with_node, rekeyed, Above}
+use Rattle.bforest_core.proofs.Words.{entry_items, entry_keys, StandsIn, StandsUnder, Stands, OneAbove, Rekeyed, Frees, Changes, IsUnion, tree_of, sizes_of, numbers_of, root_of, nil_from_length}
 use Rattle.bforest_core.proofs.{removal.LeafAt.{LeafAt, as_many_heads, leaf_at}, removal.Lifted.{above_written, headed, heads-put, key_set, rebuilt_same}, removal.Collapse.topped-sizes}
-use Rattle.bforest_core.proofs.{removal.Asked.{First, some_first}, removal.Taking.out_asks, rows.LevelRows.{FitRow-join, Solid-full, flat-append, heads-append, sizes-append}}
+use Rattle.bforest_core.proofs.{removal.Asked.{First, some_first}, rows.LevelRows.{FitRow-join, Solid-full, flat-append, heads-append, sizes-append}}
 use Rattle.bforest_core.proofs.{rows.Tops.root-stands, table.Tables.{count-append, counts, row-same}, table.Trading.{Puts, frees-after, puts, row-put}}
 use Rattle.bforest_core.proofs.{union.Exchange.IsPlanted, union.Roots.{exchanged-freed, exchanged-changes}, union.Unions.rooted, removal.Removal.stands_in}
 

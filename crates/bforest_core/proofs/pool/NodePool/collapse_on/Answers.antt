@@ -1,4 +1,3 @@
-use Rattle.bforest_core.proofs.Words.{rules, arith}
 use Rattle.bforest_core.proofs.pool.NodePool.collapse_on.Goals as goal
 
 pub returns : goal.returns
