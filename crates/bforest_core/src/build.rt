@@ -1,7 +1,7 @@
 //! Making a tree of entries that are given in order.
 ghost use Rattle.std.specs.Prelude.{◌≡◌, ℕ, ◌+◌, ◌^◌, ◌<◌, ◌≤◌, IfOk, IsOk, OnErr, Err, ◌↔◌, Some, List, [], ◌∷◌, length, slice_get, take};
 ghost use Rattle.bforest_nodes.specs.Content.{IsLeafCapacity};
-ghost use Rattle.bforest_core.specs.Change.{PlantsTree};
+ghost use Rattle.bforest_core.specs.Change.{PlantsTree, node_count};
 ghost use Rattle.bforest_core.specs.Packed.{ArePacked, Built, IsPlan, fewest, need_of, width};
 ghost use Rattle.bforest_core.specs.Trees.{IsUnion};
 ghost use Rattle.bforest_core.specs.Place.{Distinct};
@@ -35,6 +35,7 @@ impl<K: Copy, V: Copy, const N: usize> NodePool<K, V, N> {
         requires union { IsUnion N self.old }
         requires some { 0 < length entries.now }
         ensures planted { IfOk result (λ root. (sizes : List (List ℕ)) × ArePacked N sizes
+            × (node_count sizes ≡ fewest N (length entries.now))
             × PlantsTree N self.old self.new root entries.now sizes) }
         ensures err { OnErr result (self.new ≡ self.old) }
         ensures full { (result ≡ Err OutOfMemory.Full)

@@ -7,7 +7,7 @@ use Rattle.bforest_core.proofs.{table.Trading.{Puts, Takes, draws-after, draws-t
 use Rattle.bforest_core.proofs.table.Tables.{count-append, count-same, length-with_front, row-join, row-same, rows-same}
 use Rattle.bforest_core.proofs.union.Joining.{beside, beside-length, full-beside, full-join, full-over, numbers-beside, numbers-over, packed-beside, packed-join, packed-over}
 use Rattle.bforest_core.proofs.union.Joining.{piled-beside, fit-packed, piled-over, rows-in-beside, rows-in-over, some-beside, some-over, stacked-piled, topped-piled}
-use Rattle.bforest_core.proofs.Words.{Draws, GrowsFor, IsLeafCapacity, IsUnion, Tree, first_number, half_of, numbers_of, reserved, root_above, sizes_of}
+use Rattle.bforest_core.proofs.Words.{Draws, GrowsFor, IsLeafCapacity, IsUnion, Tree, node_count, first_number, half_of, numbers_of, reserved, root_above, sizes_of}
 use Rattle.bforest_core.proofs.union.{Account.{nodes-count}, Exchange.{IsPlanted}, Planting.{planted-tree}}
 use Rattle.bforest_core.specs.Change.{PlantsTree}
 use Rattle.bforest_core.proofs.union.Needs.{need-leaf, need-next, need-parts, need-top, width-some}
@@ -328,10 +328,10 @@ root-piled list (row ∷ rows) x p = root-piled (heads row) rows x p.1
 
 module _ {K V : Type 0} where
   -- a leaf alone, or a root with a width below it that is too little, is on top of a tree
-  pub built-plants : {most : ℕ} {old mid new : Table K V} {entries : List (K × V)} {level number n : ℕ} → IsLeafCapacity most → IsUnion most old → 0 < length entries → mid ≡ reserved old n mid.memory → GrowsFor n old mid →
+  pub built-plants : {most : ℕ} {old mid new : Table K V} {entries : List (K × V)} {level number n many : ℕ} → n ≡ many → IsLeafCapacity most → IsUnion most old → 0 < length entries → mid ≡ reserved old n mid.memory → GrowsFor n old mid →
       (b : Built most mid new entries level number) → n ≡ need_of most level (length entries) → level ≤ 16 → ((low : ℕ) → level ≡ suc low → width most low < length entries) →
-      (sizes : List (List ℕ)) × ArePacked most sizes × PlantsTree most old new number entries sizes
-  built-plants {most} {old} {mid} {new} {entries} {level} {number} {n} capacity union any mid_is growth b n_is low wide =
+      (sizes : List (List ℕ)) × ArePacked most sizes × (node_count sizes ≡ many) × PlantsTree most old new number entries sizes
+  built-plants {most} {old} {mid} {new} {entries} {level} {number} {n} many_is capacity union any mid_is growth b n_is low wide =
       let tree : Tree K V = record { leaves = b.leaves; above = b.lower } in
       let planted : IsPlanted most new.nodes tree = record {
         fit = record {
@@ -351,9 +351,10 @@ module _ {K V : Type 0} where
         suffices = λ enough. memory ∙ growth.suffices enough;
         bounded = rw memory growth.bounded;
       } in
+      let count : n ≡ node_count (sizes_of tree) = omega (arith, n_is, b.packs.many, nodes-count tree) in
       let all = planted-tree most old n mid.memory tree union (subst (λ z. Draws z new [] (numbers_of tree) b.taken) mid_is b.draws) planted
-      (omega (arith, n_is, b.packs.many, nodes-count tree)) (root-piled (heads b.leaves) b.lower (b.first, number) b.packs.piled) grows in
-      (sizes_of tree, (b.packs.leaves_packed, b.packs.rows_packed), subst (λ z. PlantsTree most old new number z (sizes_of tree)) b.packs.list_is all)
+      count (root-piled (heads b.leaves) b.lower (b.first, number) b.packs.piled) grows in
+      (sizes_of tree, (b.packs.leaves_packed, b.packs.rows_packed), omega (arith, count, many_is), subst (λ z. PlantsTree most old new number z (sizes_of tree)) b.packs.list_is all)
     where
       top : (l : ℕ) → l ≡ level → Topped (heads b.leaves) b.lower
       top zero is = none b.lower (omega (arith, is, b.packs.height))

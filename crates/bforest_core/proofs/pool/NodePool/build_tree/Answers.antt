@@ -51,7 +51,7 @@ pub returns : goal.returns
 returns g c = let p = c.plan_for-plan.ensures in
     let same = plan-fewest (omega (arith, c.requires.union.1.capacity.least)) c.requires.some p in
     record {
-      planted = built-plants c.requires.union.1.capacity c.requires.union c.requires.some c.in_ok-reserve.ensures.ok c.in_ok-reserve.ensures.growth c.build_below.ensures p.nodes_are p.few p.wide;
+      planted = built-plants same c.requires.union.1.capacity c.requires.union c.requires.some c.in_ok-reserve.ensures.ok c.in_ok-reserve.ensures.growth c.build_below.ensures p.nodes_are p.few p.wide;
       err = tt;
       full = (λ is. absurd cc, λ short. (let e = c.in_ok-reserve.ensures.full.1 (omega (arith, short, same)) in absurd cc));
       memory = λ is. absurd cc;
