@@ -14,6 +14,8 @@ LINTS = '''#![doc = include_str!("../README.md")]
     clippy::question_mark,
     clippy::too_many_arguments,
     clippy::only_used_in_recursion,
+    clippy::needless_range_loop,
+    clippy::field_reassign_with_default,
     reason = "the code is that which was proved, and a proof counts by some arguments"
 )]
 #![allow(
@@ -25,19 +27,19 @@ extern crate alloc;
 
 '''
 
-# What the package does not have: there `cursor_mut` of `Maps`, in `rust.rs`, lends a cursor; and no handle calls the making of a tree.
-LEFT_OUT = ["bforest_indexed/edit.rt", "bforest_core/build.rt"]
+# What the package does not have: there `cursor_mut` of `Maps`, in `rust.rs`, lends a cursor.
+LEFT_OUT = ["bforest_indexed/edit.rt"]
 
 # Functions that the package does not call.
 UNUSED = {
     "bforest_indexed/maps.rt": ["edit"],
     "forest_run/main.rt": ["arguments", "main"],
-    "bforest_nodes/node.rt": ["unwrap_leaf_mut", "only_child", "leaf_of"],
+    "bforest_nodes/node.rt": ["unwrap_leaf_mut"],
     "bforest_nodes/entries.rt": ["parts_mut"],
     "bforest_nodes/row.rt": ["front_mut"],
     "bforest_nodes/lent.rt": ["front_mut"],
     "bforest_core/path/insert.rt": ["needed"],
-    "bforest_core/pool.rt": ["new", "build_leaf", "build_over"],
+    "bforest_core/pool.rt": ["new"],
 }
 
 USE_GLOBAL = (r"^use std::alloc::Global;\n", "", 1)
@@ -140,7 +142,6 @@ EDITS = {
     ],
     "bforest_core/lib.rt": [
         BEHIND_FIRST,
-        (r"^mod build;\n", "", 1),
         (r"Comparator, Node, NodeData, PackedNode, Removed, SetValue, SplitOff,?", "Comparator, Node, PackedNode, SetValue", 1),
     ],
     # What the search alone uses, which goes with it.

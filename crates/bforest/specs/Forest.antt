@@ -7,6 +7,8 @@ pub use Rattle.bforest_trees.specs.Forest.{Becomes, Forest, Gives, GrowsFor, IsA
 pub use Rattle.bforest_trees.specs.Forest.{free_of, limit_of, list_at, list_of, memory_of, need_of, nodes_at, nodes_of, numbers_below, room_of, sizes_at, sizes_of, sizes_with, sizes_without, slots_of}
 -- Whether the sizes of a tree are fit, how a call changes them, and how many nodes an insertion needs.
 pub use Rattle.bforest_core.specs.Sizes.{IsFitAbove, IsFitFor, IsFitLevel, gain_above, growth, inner_gain, leaf_gain, loss, need, need_above, shrink}
+-- Whether all nodes of each level are full but the last, and how many nodes a tree of such sizes has.
+pub use Rattle.bforest_core.specs.Packed.{ArePacked, ArePackedLevels, IsPackedLevel, fewest, nodes_over}
 
 -- the list of a handle may be searched: the handle is live, and its list increases
 pub record IsSearchable {K X : Type 0} (cmp : K → K → Ordering) (f : Forest K X) (h : Option ℕ) : Type 0 where

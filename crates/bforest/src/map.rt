@@ -1,7 +1,7 @@
 //! Handles of maps.
 ghost use Rattle.bforest_nodes.specs.Entries.{IsIncreasing, place, value_for};
 ghost use Rattle.bforest.specs.Bounds.{entries_between, entry_at_least, entry_at_most};
-ghost use Rattle.bforest.specs.Calls.{Clears, Clones, Filters, GetsOrInserts, Inserts, Pops, Removes, Shifts, Updates, UpdatesOrInserts};
+ghost use Rattle.bforest.specs.Calls.{Clears, Clones, Filters, GetsOrInserts, Inserts, Loads, Pops, Removes, Shifts, Updates, UpdatesOrInserts};
 ghost use Rattle.bforest.specs.Cursor.{IsCursor, comparator, forest_loan, forest_now, map_loan, map_now, spot};
 ghost use Rattle.bforest.specs.Forest.{Forest, IsLive, IsSearchable, first_level, list_of, sizes_of};
 ghost use Rattle.bforest.specs.Memory.{MapsFitInMemory};
@@ -331,6 +331,28 @@ impl<K: Copy, V: Copy> Map<K, V> {
         let copy = forest.trees.copy_tree(self.root)?;
         Ok(Map {
             root: copy,
+            mark: PhantomData,
+        })
+    }
+
+    /// Returns a map of these entries, in this order, in a tree with the fewest nodes that so many entries can have: all nodes of a level
+    /// are full but the last.
+    ///
+    /// Takes exactly these nodes, none for no entry, and makes sure of them before it writes the first. Writes each entry once. No
+    /// comparison. From a hundred entries on it takes a tenth of the time of insertions in order, and half of the nodes.
+    ///
+    /// The keys have to increase under the order that later calls are given. This is not tested: [`Map::increases`] tells.
+    ///
+    /// # Errors
+    ///
+    /// [`OutOfMemory::Full`] where the forest's limit does not allow so many nodes. [`OutOfMemory::Memory`] where the table had to grow and
+    /// there was no memory for it. The forest is unchanged then.
+    pub fn load(entries: &[(K, V)], forest: &mut MapForest<K, V>) -> Result<Self, OutOfMemory>
+        ensures { Loads MAP_LEAF forest.old entries.now result forest.new }
+    {
+        let root = forest.trees.load(entries)?;
+        Ok(Map {
+            root,
             mark: PhantomData,
         })
     }

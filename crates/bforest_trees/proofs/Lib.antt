@@ -36,3 +36,4 @@ pub mod Ensuring
 pub mod Updating
 pub mod Cloning
 pub mod Shifting
+pub mod Loading

@@ -1,10 +1,10 @@
 -- What the loop of `shift` keeps, and its answer as a change of a forest.
-use Rattle.bforest_trees.proofs.Changed.{becomes, list-root, root-live, sizes-new, sizes-root}
+use Rattle.bforest_trees.proofs.Changed.{becomes, list-root, sizes-new, sizes-root}
 use Rattle.bforest_trees.proofs.Cutting.{becomes-same, changes-none}
 use Rattle.bforest_trees.proofs.Following.{changes-both}
 use Rattle.bforest_trees.proofs.Reading.{left-at}
 use Rattle.bforest_trees.specs.Calls.{Shifts}
-use Rattle.bforest_trees.specs.Forest.{Forest, list_at, sizes_at}
+use Rattle.bforest_trees.specs.Forest.{Forest}
 use Rattle.bforest_trees.specs.Layout.{entries_from}
 use Rattle.bforest_trees.specs.Shift.{Rekeys, ShiftedUnder, StepShifted}
 use Rattle.bforest_core.proofs.table.Lists.{drop-read, read_none}
@@ -12,13 +12,12 @@ use Rattle.bforest_core.proofs.union.Rekeying.{rekeyed-at}
 use Rattle.bforest_core.proofs.walks.Backward.{at_end, at_entry}
 use Rattle.bforest_core.proofs.walks.Standing.{at-on, on-within}
 use Rattle.bforest_core.specs.Change.{Changes}
-use Rattle.bforest_core.specs.Levels.{flat}
 use Rattle.bforest_core.specs.Paths.{StandsAt, StandsOn, list_under, sizes_under}
 use Rattle.bforest_core.specs.Table.{Table, slot_count}
 use Rattle.bforest_core.specs.Trees.{IsUnion, is_root, tree_of}
 use Rattle.bforest_core.specs.declared.path.Path.{Path}
 use Rattle.bforest_nodes.specs.Entries.{rekeyed}
-use Rattle.std.proofs.Common.{IsTrue, List, None, Some, [], ap, inl, inr, zero, append-nil, append_assoc, arith, drop, length, refl, slice_get, subst, suc, sym, take, take-append-drop, ◌++◌, ◌+◌, ◌-◌, ◌<◌, ◌∙◌, ◌∷◌, ◌≡◌, ◌≤◌, ℕ}
+use Rattle.std.proofs.Common.{IsTrue, List, None, Some, [], ap, inl, inr, zero, append-nil, append_assoc, arith, drop, length, refl, slice_get, subst, suc, sym, take, take-append-drop, ◌++◌, ◌<◌, ◌∙◌, ◌∷◌, ◌≡◌, ◌≤◌, ℕ}
 use Rattle.std.proofs.Math.Seq.{drop-append_seam, take-append_seam}
 use Rattle.std.proofs.lemmas.Bool.Decides.{eqb_tells}
 use Rattle.std.proofs.lemmas.List.{length-append, length-take-le, nil_from_length}

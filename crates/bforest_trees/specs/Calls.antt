@@ -1,5 +1,6 @@
 -- What a call that may change one tree returns and leaves: one record per call, which every such call of a
 -- map cites.
+use Rattle.bforest_core.specs.Packed.{ArePacked, fewest}
 use Rattle.bforest_core.specs.Sizes.{shrink}
 use Rattle.bforest_core.specs.declared.pool.OutOfMemory.TheVariants.{Full, Memory}
 use Rattle.bforest_core.specs.declared.pool.OutOfMemory.{OutOfMemory}
@@ -58,6 +59,19 @@ module _ {K X : Type 0} where
     pub full : (result ≡ Err Full) ↔ IsTooMany (nodes_of f h) f
     pub memory : result ≡ Err Memory → NeedsGrowth (nodes_of f h) f
     pub succeeds : nodes_of f h ≤ free_of f → IsOk result
+    pub refused : OnErr result (f' ≡ f)
+
+  -- a packed tree of the entries es, in their order, was added under the handle that is returned, where a leaf has at most `most` entries;
+  -- or the call was refused, and nothing changed
+  pub record Loads (most : ℕ) (f : Forest K X) (es : List (K × X)) (result : Result (Option ℕ) OutOfMemory) (f' : Forest K X) : Type 0 where
+    pub loaded : IfOk result (λ h'. Becomes f None f' h' es)
+    pub packed : IfOk result (λ h'. ArePacked most (sizes_of f' h'))
+    pub nodes : IfOk result (λ h'. nodes_of f' h' ≡ fewest most (length es))
+    pub increasing : IfOk result (λ h'. (order : K → K → Ordering) → IsIncreasing order es → IsIncreasing order (list_of f' h'))
+    pub account : OnOk result (Takes (fewest most (length es)) f f')
+    pub full : (result ≡ Err Full) ↔ IsTooMany (fewest most (length es)) f
+    pub memory : result ≡ Err Memory → NeedsGrowth (fewest most (length es)) f
+    pub succeeds : fewest most (length es) ≤ free_of f → IsOk result
     pub refused : OnErr result (f' ≡ f)
 
   -- the tree of h was removed

@@ -15,6 +15,7 @@ ghost use Rattle.std.specs.Prelude.{Err, IsTrue, None, Option, Some, [], false, 
 
 mod copy;
 mod get_or_insert;
+mod load;
 mod peek;
 mod pop;
 mod put;

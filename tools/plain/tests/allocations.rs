@@ -103,6 +103,7 @@ fn change_map(call: u32, key: u32, map: &mut Map<u32, u32>, forest: &mut MapFore
         }
         5 if key % 16 == 0 => map.clear(forest),
         5 if key % 16 == 1 => drop(map.deep_clone(forest).map(|mut copy| copy.clear(forest))),
+        5 if key % 16 == 2 => drop(Map::load(&[(key, 0)], forest).map(|mut it| it.clear(forest))),
         5 if key % 4 == 0 => map.shift(key, |it| it + 3, forest, &()),
         5 => map.retain(forest, |it, _| it % 7 != key % 7),
         _ => drop(forest.reserve_nodes(forest.free_slots() + key % 8 / 7)),
@@ -246,6 +247,16 @@ fn a_copy_takes_memory_once() {
     assert_eq!(calls_of(|| map.deep_clone(&mut forest).unwrap().clear(&mut forest)), 1);
     assert_eq!(calls_of(|| map.deep_clone(&mut forest).unwrap()), 0);
     assert_eq!((forest.slots(), forest.free_slots()), (2 * nodes, 0));
+}
+
+/// A map that is loaded takes memory at most once, for all its nodes, and none where they lie free.
+#[test]
+fn a_loaded_map_takes_memory_once() {
+    let list: Vec<(u32, u32)> = (0..ENTRIES).map(|key| (key, key)).collect();
+    let mut forest = MapForest::new();
+    assert_eq!(calls_of(|| Map::load(&list, &mut forest).unwrap().clear(&mut forest)), 1);
+    assert_eq!(calls_of(|| Map::load(&list, &mut forest).unwrap()), 0);
+    assert_eq!(forest.free_slots(), 0);
 }
 
 // The memory of the handles of `Maps` and `Sets`: 4 bytes each.

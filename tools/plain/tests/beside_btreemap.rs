@@ -1,7 +1,7 @@
 //! Random calls beside `BTreeMap`: ranges that are read from both ends in turn, cursors that write beside where they stand and then read on,
-//! updates, keys that are shifted, entries taken from both ends, orders with no search of their own, and wide keys.
+//! updates, keys that are shifted, entries taken from both ends, maps that are loaded, orders with no search of their own, and wide keys.
 
-use bforest::{Comparator, Map, MapForest, Set, SetForest};
+use bforest::{Comparator, Map, MapForest, OutOfMemory, Set, SetForest};
 use std::cmp::{Ordering, Reverse};
 use std::collections::{BTreeMap, BTreeSet};
 use std::ops::Bound;
@@ -189,6 +189,61 @@ fn maps_answer_as_a_model_does() {
             }
         }
         maps.iter_mut().for_each(|it| it.0.clear(&mut forest));
+        assert_eq!(forest.free_slots(), forest.slots());
+    }
+}
+
+/// The fewest nodes of so many entries: a leaf for each seven, and on each further level a node for each eight, up to one.
+fn fewest_nodes(entries: usize) -> u32 {
+    let mut level = entries.div_ceil(7);
+    let mut nodes = level;
+    while level > 1 {
+        level = level.div_ceil(8);
+        nodes += level;
+    }
+    nodes as u32
+}
+
+/// Maps of 0 to 600 entries, each loaded beside others in one forest, under a limit of so many nodes and of one less, and then changed.
+#[test]
+fn maps_are_loaded_as_a_model_is() {
+    let mut random = Random(12);
+    for entries in 0..=600 {
+        let (mut forest, mut other, mut at) = (MapForest::new(), Map::new(), 0);
+        let mut model = BTreeMap::new();
+        for _ in 0..entries {
+            at += 1 + random.below(3);
+            model.insert(at, random.below(1000));
+        }
+        let list: Vec<(u32, u32)> = model.iter().map(|(key, value)| (*key, *value)).collect();
+        let fewest = fewest_nodes(entries);
+        if fewest > 0 {
+            let mut short = MapForest::with_node_limit(fewest);
+            assert_eq!(other.insert(7, 7, &mut short, &()), Ok(None));
+            assert!(Map::load(&list, &mut short).is_err_and(|it| it == OutOfMemory::Full));
+            assert_eq!((short.slots(), short.free_slots(), other.get(7, &short, &())), (1, 0, Some(7)));
+            other.clear(&mut short);
+            assert!(Map::load(&list, &mut short).is_ok_and(|it| it.iter(&short).eq(list.iter().copied())));
+            assert_eq!((short.slots(), short.free_slots()), (fewest, 0));
+        }
+        for key in 0..random.below(40) {
+            assert_eq!(other.insert(key, key, &mut forest, &()), Ok(None));
+        }
+        let before = forest.slots() - forest.free_slots();
+        let mut map = Map::load(&list, &mut forest).unwrap();
+        assert_eq!((forest.slots(), forest.free_slots()), (before + fewest, 0));
+        assert!(map.increases(&forest, &()) && forest.holds(&map) && map.is_empty() == list.is_empty());
+        assert!(map.iter_back(&forest).eq(list.iter().rev().copied()));
+        let kept: Vec<(u32, u32)> = other.iter(&forest).collect();
+        for call in 0..60 {
+            write(&mut random, &mut map, &mut forest, &mut model, at + 3);
+            if call % 8 == 0 {
+                read_in_turn(&mut random, &map, &forest, &model, at + 3);
+                assert!(map.iter(&forest).eq(model.iter().map(|(key, value)| (*key, *value))));
+            }
+        }
+        assert!(other.iter(&forest).eq(kept));
+        (map.clear(&mut forest), other.clear(&mut forest));
         assert_eq!(forest.free_slots(), forest.slots());
     }
 }

@@ -145,10 +145,10 @@ const OF_SETS: [(&str, SetCall); 21] = [
 /// The calls in the tables above that stand in `rust.rs`.
 const OF_THE_PACKAGE: [&str; 2] = ["contains_key", "debug"];
 
-/// The calls of a source that are handed a forest.
+/// The calls of a source on a handle that are handed a forest.
 fn handed_forest(source: &str) -> Vec<&str> {
     let heads = source.split("\n    pub fn ").skip(1).map(|it| it.split(" {\n").next().unwrap_or(it));
-    heads.filter(|it| it.contains("forest: ")).map(|it| it.split(['<', '(']).next().unwrap_or(it)).collect()
+    heads.filter(|it| it.contains("self") && it.contains("forest: ")).map(|it| it.split(['<', '(']).next().unwrap_or(it)).collect()
 }
 
 /// The tables above have each call.

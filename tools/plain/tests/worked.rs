@@ -139,6 +139,8 @@ with_both_searches!(
     a_copy_has_nodes_of_the_same_sizes,
     a_copy_one_node_short_changes_nothing,
     a_copy_and_its_original_change_apart,
+    a_loaded_map_has_the_fewest_nodes,
+    a_map_loaded_one_node_short_changes_nothing,
     retain_changes_values_and_merges_leaves,
     the_sixteenth_key_halves_a_leaf_of_a_set,
     the_greatest_and_the_least_key,
@@ -650,6 +652,39 @@ fn a_copy_and_its_original_change_apart<C: Comparator<u32>>(comp: &C) {
     }
     assert_eq!(entries(&map, &forest), tenfold((1..=99).step_by(2)));
     assert!(entries(&copy, &forest).into_iter().eq((1..=100).map(|key| (key, if key % 2 == 0 { 10 * key } else { 0 }))));
+}
+
+// Maps that are loaded.
+
+/// 15 entries lie in leaves of 7, 7 and 1; 57 in nine leaves, under parents of eight and of one.
+fn a_loaded_map_has_the_fewest_nodes<C: Comparator<u32>>(comp: &C) {
+    let mut forest = Forest::new();
+    assert!(Numbers::load(&[], &mut forest).unwrap().is_empty());
+    let mut map = Numbers::load(&tenfold(1..=15), &mut forest).unwrap();
+    assert_eq!(sizes(&map, &forest), Sizes { levels: 2, slots: 4, free: 0 });
+    assert_eq!(entries(&map, &forest), tenfold(1..=15));
+    // The last leaf has room, and the first has none.
+    assert_eq!(map.insert(16, 160, &mut forest, comp), Ok(None));
+    assert_eq!(forest.slots(), 4);
+    assert_eq!(map.insert(0, 0, &mut forest, comp), Ok(None));
+    assert_eq!(forest.slots(), 5);
+    assert_eq!(entries(&map, &forest), tenfold(0..=16));
+    for (most, levels, nodes) in [(1, 1, 1), (7, 1, 1), (8, 2, 3), (56, 2, 9), (57, 3, 12), (448, 3, 73), (449, 4, 77)] {
+        let mut forest = Forest::new();
+        let map = Numbers::load(&tenfold(1..=most), &mut forest).unwrap();
+        assert_eq!(sizes(&map, &forest), Sizes { levels, slots: nodes, free: 0 });
+        assert_eq!(map.get(most, &forest, comp), Some(10 * most));
+    }
+}
+
+fn a_map_loaded_one_node_short_changes_nothing<C: Comparator<u32>>(comp: &C) {
+    for (limit, taken) in [(4, None), (5, Some(5))] {
+        let mut forest = Forest::with_node_limit(limit);
+        let map = filled([3], &mut forest, comp);
+        assert_eq!(Numbers::load(&tenfold(1..=15), &mut forest).map(|_| 5), taken.ok_or(OutOfMemory::Full));
+        assert_eq!(sizes(&map, &forest), Sizes { levels: 1, slots: taken.unwrap_or(1), free: 0 });
+        assert_eq!(entries(&map, &forest), tenfold([3]));
+    }
 }
 
 // Sets.

@@ -154,8 +154,9 @@ plan-fewest {most} {entries} {level = level} {room} some any p =
     high (suc l) wide = omega (arith, wide l refl, low-width most l some)
 
 -- no entry takes no node
-pub fewest-none : (most : ℕ) → 0 < most → fewest most 0 ≡ 0
-fewest-none most some = omega (arith, ceil-none most some)
+pub fewest-none : (most : ℕ) → fewest most 0 ≡ 0
+fewest-none zero = refl
+fewest-none (suc most) = omega (arith, ceil-none (suc most) (omega arith))
 
 leaves-many : (c most n room : ℕ) → n ≤ c * most → room * most < n → room < c
 leaves-many c most n room within many = elim (cases_lt room c) [

@@ -1,4 +1,4 @@
-use Rattle.bforest_trees.proofs.Shifting.{Shifting, place_of, shifting-first, shifting-last, shifting-left, shifting-next, shifting-stands}
+use Rattle.bforest_trees.proofs.Shifting.{place_of, shifting-first, shifting-last, shifting-left, shifting-next, shifting-stands}
 use Rattle.bforest_trees.proofs.shift.shift.Goals as goal
 use Rattle.bforest_trees.specs.Layout.{entries_from}
 use Rattle.bforest_core.proofs.walks.Backward.{at_entry}

@@ -3,10 +3,9 @@ use Rattle.bforest_trees.proofs.Shifting.{shifts, shifts-none}
 use Rattle.bforest_trees.proofs.Spots.{found-points}
 use Rattle.bforest_trees.proofs.trees.Trees.shift.Goals as goal
 use Rattle.bforest_core.specs.Levels.{flat}
-use Rattle.bforest_core.specs.Paths.{Pointing}
 use Rattle.bforest_core.specs.Trees.{tree_of}
 use Rattle.bforest_nodes.specs.Entries.{place}
-use Rattle.std.proofs.Common.{None, Option, Some, ap, refl, rules, subst, sym, ◌∙◌, ◌≡◌, ℕ}
+use Rattle.std.proofs.Common.{None, Some, refl, rules, sym, ◌∙◌, ◌≡◌}
 
 pub find-value-requires : goal.find-value-requires
 find-value-requires g c =
