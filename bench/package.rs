@@ -91,9 +91,7 @@ impl Ranges for PackageMaps {
 impl Uses for PackageMaps {
     #[inline(never)]
     fn load(&mut self, map: u32, entries: &[(u32, u32)]) {
-        for (key, value) in entries {
-            self.maps[map as usize].insert(*key, *value, &mut self.forest, &()).expect(ROOM);
-        }
+        self.maps[map as usize] = Map::load(entries, &mut self.forest).expect(ROOM);
     }
 
     #[inline(never)]
