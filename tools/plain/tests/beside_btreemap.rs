@@ -243,7 +243,8 @@ fn maps_are_loaded_as_a_model_is() {
             }
         }
         assert!(other.iter(&forest).eq(kept));
-        (map.clear(&mut forest), other.clear(&mut forest));
+        map.clear(&mut forest);
+        other.clear(&mut forest);
         assert_eq!(forest.free_slots(), forest.slots());
     }
 }
