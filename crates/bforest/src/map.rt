@@ -350,9 +350,9 @@ impl<K: Copy, V: Copy> Map<K, V> {
     pub fn load(entries: &[(K, V)], forest: &mut MapForest<K, V>) -> Result<Self, OutOfMemory>
         ensures { Loads MAP_LEAF forest.old entries.now result forest.new }
     {
-        let root = forest.trees.load(entries)?;
+        let tree = forest.trees.load(entries)?;
         Ok(Map {
-            root,
+            root: tree,
             mark: PhantomData,
         })
     }

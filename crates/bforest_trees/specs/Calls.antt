@@ -1,7 +1,8 @@
 -- What a call that may change one tree returns and leaves: one record per call, which every such call of a
 -- map cites.
+use Rattle.bforest_core.specs.Change.{node_count}
 use Rattle.bforest_core.specs.Packed.{ArePacked, fewest}
-use Rattle.bforest_core.specs.Sizes.{shrink}
+use Rattle.bforest_core.specs.Sizes.{IsFitFor, shrink}
 use Rattle.bforest_core.specs.declared.pool.OutOfMemory.TheVariants.{Full, Memory}
 use Rattle.bforest_core.specs.declared.pool.OutOfMemory.{OutOfMemory}
 use Rattle.bforest_nodes.specs.Entries.{IsIncreasing, cut, put, value_for}
@@ -67,6 +68,7 @@ module _ {K X : Type 0} where
     pub loaded : IfOk result (λ h'. Becomes f None f' h' es)
     pub packed : IfOk result (λ h'. ArePacked most (sizes_of f' h'))
     pub nodes : IfOk result (λ h'. nodes_of f' h' ≡ fewest most (length es))
+    pub least : (sizes : List (List ℕ)) → IsFitFor most (length es) sizes → fewest most (length es) ≤ node_count sizes
     pub increasing : IfOk result (λ h'. (order : K → K → Ordering) → IsIncreasing order es → IsIncreasing order (list_of f' h'))
     pub account : OnOk result (Takes (fewest most (length es)) f f')
     pub full : (result ≡ Err Full) ↔ IsTooMany (fewest most (length es)) f

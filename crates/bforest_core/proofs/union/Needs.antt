@@ -1,11 +1,15 @@
 -- The nodes of some entries are those of full parts and of the rest.
+use Rattle.bforest_core.specs.{Change.{node_count}, Levels.{half_of}, Sizes.{IsFitAbove, IsFitFor, IsFitLevel}}
 use Rattle.bforest_core.specs.Packed.{IsPlan, fewest, need_of, nodes_over, width}
 use Rattle.std.proofs.Common.{false, nat_lt, true, ap, arith, refl, suc, zero, ◌*◌, ◌+◌, ◌-◌, ◌<◌, ◌≡◌, ◌≤◌, ℕ}
 use Rattle.std.proofs.Math.Nat.{mul-le-mul_right}
 use Rattle.std.proofs.lemmas.Grind.{div_ceil_times}
 use Rattle.std.proofs.lemmas.Bool.{cases_lt}
 use Rattle.std.proofs.Common.{inl, inr}
+use Rattle.std.proofs.lemmas.List.Sums.{sum_by-cons}
+use Rattle.std.proofs.Common.{List, [], ◌∷◌, length}
 use Rattle.std.specs.Int.{div_ceil}
+use Rattle.std.specs.List.{sum_by}
 
 -- a number is found by its bounds
 rounded : (b a c d : ℕ) → a ≤ c * b → c * b < a + b → a ≤ d * b → d * b < a + b → c ≡ d
@@ -167,6 +171,35 @@ leaves-many c most n room within many = elim (cases_lt room c) [
 -- entries that fill more leaves than there is room for take more nodes than that
 pub fewest-many : (most entries room : ℕ) → 0 < most → room * most < entries → room < fewest most entries
 fewest-many most entries room some many = let z = div_ceil_times entries most some in omega (arith, leaves-many (div_ceil entries most) most entries room z.0 many)
+
+-- a fit level has nodes enough
+fit-many : (half most : ℕ) (level : List ℕ) → IsFitLevel half most level → sum_by (λ size. size) level ≤ length level * most
+fit-many half most [] fit = omega arith
+fit-many half most (size ∷ rest) fit = omega (arith, fit.1, sum_by-cons (λ (n : ℕ). n) size rest, fit-many half most rest fit.2)
+
+nodes-cons : (level : List ℕ) (levels : List (List ℕ)) → node_count (level ∷ levels) ≡ length level + node_count levels
+nodes-cons level levels = sum_by-cons (λ (level : List ℕ). length level) level levels
+
+-- fit levels above as many nodes or more have as many nodes or more
+least-above : (left count n : ℕ) (levels : List (List ℕ)) → count ≤ n → IsFitAbove n levels → count + nodes_over left count ≤ n + node_count levels
+least-above zero count n levels within fit = omega (arith, within)
+least-above (suc left) count n [] within fit = omega (arith, within, fit, over-one (suc left) count (omega (arith, within, fit)))
+least-above (suc left) count n (level ∷ levels) within fit = elim (cases_lt 1 count) [
+  | inl many ↦ (let z = div_ceil_times count 8 (omega arith) in
+      let short : div_ceil count 8 ≤ length level = omega (arith, z.1, fit-many 4 8 level fit.2, fit.1, within) in
+      omega (arith, within, over-more left count many, least-above left (div_ceil count 8) (length level) levels short fit.3, nodes-cons level levels))
+  | inr few ↦ omega (arith, within, over-one (suc left) count (omega (arith, few)))
+]
+
+shorter : (most a b e : ℕ) → a * most < e + most → e ≤ b * most → a ≤ b
+shorter most a b e less many = grind (arith, less, many)
+
+-- no fit tree of so many entries has fewer nodes
+pub fewest-least : (most entries : ℕ) → 0 < most → (sizes : List (List ℕ)) → IsFitFor most entries sizes → fewest most entries ≤ node_count sizes
+fewest-least most entries one [] fit = omega (arith, fewest-none most, ap (λ z. fewest most z) fit)
+fewest-least most entries one (leaves ∷ levels) fit = let z = div_ceil_times entries most one in
+    let short = shorter most (div_ceil entries most) (length leaves) entries z.1 (omega (arith, fit.0, fit-many (half_of most) most leaves fit.1)) in
+    omega (arith, least-above entries (div_ceil entries most) (length leaves) levels short fit.2, nodes-cons leaves levels)
 
 -- entries that there is room for in leaves are few enough for a plan
 pub plan-few : {most entries room : ℕ} → most ≤ 255 → room ≤ 4294967295 → entries ≤ room * most → entries ≤ 1099511627776

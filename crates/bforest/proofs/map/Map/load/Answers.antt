@@ -2,7 +2,7 @@ use Rattle.bforest_trees.proofs.After.{handed-on}
 use Rattle.bforest.proofs.map.Map.load.Goals as goal
 
 pub returns : goal.returns
-returns g c = rw (← c.forest.view_is) c.in_ok-root.ensures
+returns g c = rw (← c.forest.view_is) c.in_ok-tree.ensures
 
-pub returns-in_err-root : goal.returns-in_err-root
-returns-in_err-root g c = rw (handed-on c.from_residual.ensures.1, ← c.forest.view_is) c.in_err-root.ensures
+pub returns-in_err-tree : goal.returns-in_err-tree
+returns-in_err-tree g c = rw (handed-on c.from_residual.ensures.1, ← c.forest.view_is) c.in_err-tree.ensures
