@@ -48,7 +48,7 @@ module _ {K X : Type 0} (most : ℕ) (f : Forest K X) where
         refused = tt;
       }
 
-  -- it was refused
+  -- the load was refused
   pub loads-err : 0 < most → (es : List (K × X)) {refused : OutOfMemory} → (◌≡◌ {A = Result ℕ OutOfMemory} (Err refused) (Err Full)) ↔ IsTooMany (fewest most (length es)) f
       → (◌≡◌ {A = Result ℕ OutOfMemory} (Err refused) (Err Memory) → NeedsGrowth (fewest most (length es)) f)
       → (fewest most (length es) ≤ free_of f → IsOk {T = ℕ} (Err refused)) → Loads most f es (Err refused) f

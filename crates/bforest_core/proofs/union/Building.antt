@@ -172,7 +172,7 @@ module _ {K V : Type 0} where
     pub build_off : count number now.chain ≡ 0
     build_off = omega (arith, count-same number (numbers_under s.leaves s.lower), s.draws.numbers_are number, ap (count number) s.draws.chain_is, s.apart number, count-append)
 
-    -- so many entries are built
+    -- the entries of the parts that are built
     done_length : done ≤ length entries → length (take done entries) ≡ done
     done_length within = (part-length done entries).1 within
 
@@ -209,7 +209,7 @@ module _ {K V : Type 0} where
     pub index_low : index < length entries
     index_low = grind (arith, s.few, width-some most level one)
 
-    -- and before the last fewer than 8
+    -- before the last part, fewer than 8 are built
     pub index_more : done < length entries → length entries ≤ width most (suc level) → suc index < 8
     index_more within fits = grind (arith, s.done_is, within, fits, width-some most level one)
 

@@ -101,7 +101,7 @@ module _ {K : Type 0} where
   piled-many list top [] p k = omega (arith, ap length p)
   piled-many list top (row ∷ rows) p k = omega (arith, piled-many (heads row) top rows p.1 k.1, heads-packed 8 (omega arith) row k.0, flat-packed 8 (omega arith) row k.0, ap length p.0)
 
-  -- and where a root of two children or more is over them, each level below it has two nodes or more
+  -- where a root of two children or more is over packed levels, each level below it has two nodes or more
   pub topped-piled : (list : Heads K) (x : K × ℕ) (top : Heads K) (rows : Rows K) (number : ℕ) → Piled list rows (x ∷ top) → ArePackedLevels (map sizes rows) → 1 ≤ length top → Topped list (rows ++ (node number (x ∷ top) ∷ []) ∷ [])
   topped-piled list x top [] number p k two = (omega (arith, ap length p, two), tt)
   topped-piled list x top (row ∷ rows) number p k two = (omega (arith, piled-many list (x ∷ top) (row ∷ rows) p k, two), topped-piled (heads row) x top rows number p.1 k.1 two)

@@ -67,7 +67,7 @@ width-more : (most level more : ℕ) → width most level ≤ width most (more +
 width-more most level zero = let e : 0 + level ≡ level = omega arith in omega (arith, ap (λ z. width most z) e)
 width-more most level (suc more) = let e : suc more + level ≡ suc (more + level) = omega arith in omega (arith, width-more most level more, ap (λ z. width most z) e)
 
--- so a root with little room is on a low level
+-- a root with little room is on a low level
 pub width-low : (most level : ℕ) → 1 ≤ most → width most level < 8796093022208 → level ≤ 16
 width-low most level one few = elim (cases_lt level 17) [
   | inl low ↦ omega (arith, low)
