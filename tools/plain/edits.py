@@ -15,7 +15,6 @@ LINTS = '''#![doc = include_str!("../README.md")]
     clippy::too_many_arguments,
     clippy::only_used_in_recursion,
     clippy::needless_range_loop,
-    clippy::field_reassign_with_default,
     reason = "the code is that which was proved, and a proof counts by some arguments"
 )]
 #![allow(

@@ -326,8 +326,10 @@ impl<K: Copy, V: Copy, const N: usize> NodePool<K, V, N> {
             × Trimmed self.old self.new (way.now.height + 1) size rows list root result freed) }
     {
         // Of the path only its height counts.
-        let mut path = Path::default();
-        path.size = way.height as usize + 1;
+        let mut path = Path {
+            size: way.height as usize + 1,
+            ..Path::default()
+        };
         path.collapse_root(root, self)
     }
 
