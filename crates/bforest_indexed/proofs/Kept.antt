@@ -13,7 +13,7 @@ use Rattle.bforest_indexed.specs.Handles.{Adds}
 use Rattle.bforest_indexed.specs.Edits.{EditsAt, Leaves}
 use Rattle.bforest_indexed.specs.Indexed.{AreKept, ChangesAt, ClearsAll, ClearsAt, FiltersAt, GetsOrInsertsAt, Indexed, InsertsAt, KeepsAll, PopsAt, RemovesAt, Swaps, UpdatesAt, UpdatesOrInsertsAt}
 use Rattle.bforest_indexed.specs.Indexed.{as_inserted, count, entries, handle, memory, node_sizes, nodes_in_use, table}
-use Rattle.std.proofs.Common.{Bool, Err, IsOk, IsSome, List, None, Ok, OnErr, Option, Result, Some, [], ap, arith, get_or, inl, inr, length, refl, rules, slice_set, subst, swap, sym, ℕ, ◌%◌, ◌+◌, ◌-◌, ◌<◌, ◌∙◌, ◌≡◌, ◌≢◌, ◌≤◌}
+use Rattle.std.proofs.Common.{Bool, Err, IfOk, IfSome, IsOk, IsSome, List, None, Ok, OnErr, Option, Result, Some, [], ap, arith, false, get_or, inl, inr, length, refl, rules, slice_set, subst, swap, sym, ℕ, ◌%◌, ◌+◌, ◌-◌, ◌<◌, ◌∙◌, ◌≡◌, ◌≢◌, ◌≤◌}
 use Rattle.std.proofs.lemmas.Bool.{false≢true}
 use Rattle.std.proofs.lemmas.Bool.Decides.{eqb_tells, leb_tells}
 use Rattle.std.proofs.lemmas.List.Sorted.{IsPermutation-swap, sum_by-IsPermutation}
@@ -21,6 +21,7 @@ use Rattle.std.proofs.lemmas.List.{get_or-set_other, get_or-set_same, get_or_rea
 use Rattle.std.specs.Fn.{Once}
 use Rattle.std.specs.List.{SwappedAt}
 use Rattle.std.specs.List.Sorted.{IsStrictlySortedBy}
+use Rattle.std.specs.Ordering.{is_eq}
 use Rattle.std.specs.declared.cmp.Ordering.{Ordering}
 use Rattle.std.specs.declared.ops.Bound.{Bound}
 
@@ -280,6 +281,15 @@ module _ {K X C : Type 0} where
     )
 
     module _ {f' : Forest K X} {h' : Option ℕ} where
+      -- what is so of the list that a call left is so of the list of the index
+      on-new : (P : List (K × X) → Type 0) → P (list_of f' h') → P (entries (with_tree m i f' h') i)
+      on-new P p = subst P (ap (list_of f') (sym (get_or-set_same m.handles i h' None within))) p
+
+      -- each key but k has the value that it had
+      others-new : {k : K} → ((j : K) → is_eq (cmp k j) ≡ false → value_for cmp (list_of f' h') j ≡ value_for cmp (entries m i) j)
+          → (j : K) → is_eq (cmp k j) ≡ false → value_for cmp (entries (with_tree m i f' h') i) j ≡ value_for cmp (entries m i) j
+      others-new {k} same j ne = on-new (λ es. value_for cmp es j ≡ value_for cmp (entries m i) j) (same j ne)
+
       module _ {k : K} {x : X} where
         put-here : (r : Result (Option X) OutOfMemory) → Inserts most cmp (table m) (handle m i) k x r f' h'
             → AreKept most cmp (with_tree m i f' h') × InsertsAt most cmp m i k x r (with_tree m i f' h')
@@ -288,6 +298,8 @@ module _ {K X C : Type 0} where
           record {
             ok = call.ok;
             put = list-here a within call.put;
+            found = on-new (λ es. value_for cmp es k ≡ Some x) call.found;
+            others = others-new call.others;
             increasing = a.increasing i;
             beside = changes a within call.put;
             sizes = ap (sizes_of f') (here a within call.put) ∙ call.sizes;
@@ -306,6 +318,8 @@ module _ {K X C : Type 0} where
           record {
             ok = tt;
             put = tt;
+            found = tt;
+            others = others-new call.others;
             increasing = a.increasing i;
             beside = changes-not m (with_tree m i f' h') i same;
             sizes = tt;
@@ -331,6 +345,8 @@ module _ {K X C : Type 0} where
         record {
           value = call.value;
           cut = list-here a within call.cut;
+          gone = on-new (λ es. value_for cmp es k ≡ None) call.gone;
+          others = others-new call.others;
           increasing = a.increasing i;
           beside = changes a within call.cut;
           sizes = ap (sizes_of f') (here a within call.cut) ∙ call.sizes;
@@ -357,6 +373,8 @@ module _ {K X C : Type 0} where
         record {
           entry = call.entry;
           removed = list-here a within call.removed.removed;
+          gone = λ {order} total up. on-new (λ es. IfSome r (λ e. value_for order es e.0 ≡ None)) (call.gone total up);
+          others = λ {order} total up. on-new (λ es. IfSome r (λ e. (q : K) → is_eq (order e.0 q) ≡ false → value_for order es q ≡ value_for order (entries m i) q)) (call.others total up);
           sizes = ap (sizes_of f') (here a within call.removed.removed) ∙ call.removed.sizes;
           beside = changes a within call.removed.removed;
           account = subst (λ q. Gives (node_sizes m i) (sizes_of f' q) (table m) f') (sym (here a within call.removed.removed)) call.removed.account;
@@ -390,6 +408,8 @@ module _ {K X C : Type 0} where
           here.0,
           record {
             value = call.value;
+            found = on-new (λ es. IfOk r (λ v. value_for cmp es k ≡ Some v)) call.found;
+            others = others-new call.others;
             present = call.present;
             stays = λ some. absurd (not-some X (subst (λ (q : Option X). IsSome q) is some));
             absent = λ none. here.1;
@@ -408,6 +428,8 @@ module _ {K X C : Type 0} where
               subst (AreKept most cmp) (sym same) a,
               record {
                 value = call.value;
+                found = on-new (λ es. IfOk r (λ v. value_for cmp es k ≡ Some v)) call.found;
+                others = others-new call.others;
                 present = call.present;
                 stays = λ there. same;
                 absent = λ none. absurd (none-some y (sym none ∙ is));
@@ -428,6 +450,8 @@ module _ {K X C : Type 0} where
           record {
             called = tt;
             put = tt;
+            found = tt;
+            others = others-new call.others;
             sizes = ap (λ z. node_sizes z i) same;
             slots = call.slots;
             free = call.free;
@@ -441,6 +465,8 @@ module _ {K X C : Type 0} where
           record {
             called = call.called;
             put = list-here a within call.put;
+            found = on-new (λ es. value_for cmp es k ≡ Some w) call.found;
+            others = others-new call.others;
             sizes = ap (sizes_of f') (here a within call.put) ∙ call.sizes;
             slots = call.slots;
             free = call.free;
@@ -466,6 +492,8 @@ module _ {K X C : Type 0} where
               updated = λ some. absurd (not-some X (subst (λ (o : Option X). IsSome o) is some));
               absent = λ none. here.1;
               value = call.value;
+              found = on-new (λ es. IfOk r (λ w. value_for cmp es k ≡ Some w)) call.found;
+              others = others-new call.others;
               room = λ lists most_entries stays room. inserted-ok r (here.1.room lists most_entries stays room);
               never_full = λ lists most_entries stays room full. here.1.never_full lists most_entries stays room (ap as_inserted full);
             },
@@ -482,6 +510,8 @@ module _ {K X C : Type 0} where
               updated = λ there. told.1;
               absent = λ none. absurd (none-some y (sym none ∙ is));
               value = λ none. absurd (none-some y (sym none ∙ is));
+              found = told.1.found;
+              others = told.1.others;
               room = λ lists most_entries stays room. refl;
               never_full = λ lists most_entries stays room full. ok-err w Full full;
             },

@@ -7,10 +7,12 @@ use Rattle.bforest.specs.Retain.{Retains}
 use Rattle.bforest.specs.Room.{IsEnoughFor, IsMostFor, node_count}
 use Rattle.std.proofs.Math.Logic.{◌⊎◌}
 use Rattle.bforest_indexed.specs.Handles.{Holds}
+use Rattle.std.specs.Cmp.{IsTotalOrder}
 use Rattle.std.specs.Fn.{FnOnceReturns, Once}
 use Rattle.std.specs.List.{sum_by}
 use Rattle.std.specs.Map.{keys_of}
 use Rattle.std.specs.Prelude.{Bool, Err, IfOk, IfSome, IsOk, IsSome, List, None, Ok, OnErr, OnOk, Option, Result, Some, [], false, get_or, if◌then◌else◌, length, map, max, nat_eq, nat_lt, remove, slice_get, unwrap_or, ℕ, ◌%◌, ◌*◌, ◌+◌, ◌-◌, ◌<◌, ◌↔◌, ◌≡◌, ◌≢◌, ◌≤◌}
+use Rattle.std.specs.Ordering.{is_eq}
 use Rattle.std.specs.declared.cmp.Ordering.{Ordering}
 
 -- the answer of an insertion of an absent key, from that of a call that answers the value
@@ -177,6 +179,8 @@ module _ {K X C : Type 0} where
   pub record PopsAt (most : ℕ) (m : Indexed K X C) (i place : ℕ) (result : Option (K × X)) (m' : Indexed K X C) : Type 0 where
     pub entry : result ≡ slice_get (entries m i) place
     pub removed : entries m' i ≡ remove (entries m i) place
+    pub gone : {order : K → K → Ordering} → IsTotalOrder order → IsIncreasing order (entries m i) → IfSome result (λ e. value_for order (entries m' i) e.0 ≡ None)
+    pub others : {order : K → K → Ordering} → IsTotalOrder order → IsIncreasing order (entries m i) → IfSome result (λ e. (q : K) → is_eq (order e.0 q) ≡ false → value_for order (entries m' i) q ≡ value_for order (entries m i) q)
     pub sizes : node_sizes m' i ≡ (if nat_lt place (length (entries m i)) then shrink most place (node_sizes m i) else node_sizes m i)
     pub beside : ChangesAt m i m'
     pub account : Gives (node_sizes m i) (node_sizes m' i) (table m) (table m')
@@ -187,6 +191,8 @@ module _ {K X C : Type 0} where
   pub record UpdatesAt {F : Type 0} (g : Once F (X × Unit {0}) X) (cmp : K → K → Ordering) (m : Indexed K X C) (i : ℕ) (k : K) (q : F) (result : Option X) (m' : Indexed K X C) : Type 0 where
     pub called : IfSome result (λ w. (v : X) × (value_for cmp (entries m i) k ≡ Some v) × FnOnceReturns g q (v, tt) w)
     pub put : IfSome result (λ w. entries m' i ≡ put cmp (entries m i) k w)
+    pub found : IfSome result (λ w. value_for cmp (entries m' i) k ≡ Some w)
+    pub others : (j : K) → is_eq (cmp k j) ≡ false → value_for cmp (entries m' i) j ≡ value_for cmp (entries m i) j
     pub sizes : node_sizes m' i ≡ node_sizes m i
     pub slots : slots_of (table m') ≡ slots_of (table m)
     pub free : free_of (table m') ≡ free_of (table m)
@@ -231,6 +237,8 @@ module _ {K X C : Type 0} where
     pub record InsertsAt (m : Indexed K X C) (i : ℕ) (k : K) (x : X) (result : Result (Option X) OutOfMemory) (m' : Indexed K X C) : Type 0 where
       pub ok : IfOk result (λ old. old ≡ value_for cmp (entries m i) k)
       pub put : OnOk result (entries m' i ≡ put cmp (entries m i) k x)
+      pub found : OnOk result (value_for cmp (entries m' i) k ≡ Some x)
+      pub others : (q : K) → is_eq (cmp k q) ≡ false → value_for cmp (entries m' i) q ≡ value_for cmp (entries m i) q
       pub increasing : IsIncreasing cmp (entries m i)
       pub beside : ChangesAt m i m'
       pub sizes : OnOk result (node_sizes m' i ≡ sizes_with most cmp (table m) (handle m i) k)
@@ -247,6 +255,8 @@ module _ {K X C : Type 0} where
     pub record RemovesAt (m : Indexed K X C) (i : ℕ) (k : K) (result : Option X) (m' : Indexed K X C) : Type 0 where
       pub value : result ≡ value_for cmp (entries m i) k
       pub cut : entries m' i ≡ cut cmp (entries m i) k
+      pub gone : value_for cmp (entries m' i) k ≡ None
+      pub others : (q : K) → is_eq (cmp k q) ≡ false → value_for cmp (entries m' i) q ≡ value_for cmp (entries m i) q
       pub increasing : IsIncreasing cmp (entries m i)
       pub beside : ChangesAt m i m'
       pub sizes : node_sizes m' i ≡ sizes_without most cmp (table m) (handle m i) k
@@ -257,6 +267,8 @@ module _ {K X C : Type 0} where
     -- inserted; or the insertion was refused, and nothing changed
     pub record GetsOrInsertsAt (m : Indexed K X C) (i : ℕ) (k : K) (x : X) (result : Result X OutOfMemory) (m' : Indexed K X C) : Type 0 where
       pub value : IfOk result (λ v. v ≡ unwrap_or (value_for cmp (entries m i) k) x)
+      pub found : IfOk result (λ v. value_for cmp (entries m' i) k ≡ Some v)
+      pub others : (q : K) → is_eq (cmp k q) ≡ false → value_for cmp (entries m' i) q ≡ value_for cmp (entries m i) q
       pub present : IsSome (value_for cmp (entries m i) k) → IsOk result
       pub stays : IsSome (value_for cmp (entries m i) k) → m' ≡ m
       pub absent : value_for cmp (entries m i) k ≡ None → InsertsAt m i k x (as_inserted result) m'
@@ -270,5 +282,7 @@ module _ {K X C : Type 0} where
       pub updated : IsSome (value_for cmp (entries m i) k) → IfOk result (λ w. UpdatesAt g cmp m i k q (Some w) m')
       pub absent : value_for cmp (entries m i) k ≡ None → InsertsAt m i k x (as_inserted result) m'
       pub value : value_for cmp (entries m i) k ≡ None → IfOk result (λ w. w ≡ x)
+      pub found : IfOk result (λ w. value_for cmp (entries m' i) k ≡ Some w)
+      pub others : (j : K) → is_eq (cmp k j) ≡ false → value_for cmp (entries m' i) j ≡ value_for cmp (entries m i) j
       pub room : (lists most_entries : ℕ) → StaysWithin cmp lists most_entries m i k → HasRoom most lists most_entries (table m) → IsOk result
       pub never_full : (lists most_entries : ℕ) → StaysWithin cmp lists most_entries m i k → MayHave most lists most_entries (table m) → result ≢ Err Full

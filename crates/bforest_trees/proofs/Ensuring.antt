@@ -18,6 +18,8 @@ module _ {K X : Type 0} (most : ℕ) (cmp : K → K → Ordering) (f : Forest K 
   pub was-there : (v : X) → value_for cmp (list_of f h) k ≡ Some v → IsLive f h → IsIncreasing cmp (list_of f h) → GetsOrInserts most cmp f h k x (Ok v) f h
   was-there v there live up = record {
     value = sym (ap (λ o. unwrap_or o x) there);
+    found = there;
+    others = λ q ne. refl;
     present = λ some. refl;
     present_forest = λ some. refl;
     present_handle = λ some. refl;
@@ -30,6 +32,8 @@ module _ {K X : Type 0} (most : ℕ) (cmp : K → K → Ordering) (f : Forest K 
   pub was-inserted : (f' : Forest K X) (h' : Option ℕ) → Inserts most cmp f h k x (Ok None) f' h' → GetsOrInserts most cmp f h k x (Ok x) f' h'
   was-inserted f' h' i = record {
     value = ap (λ o. unwrap_or o x) i.ok;
+    found = i.found;
+    others = i.others;
     present = λ some. refl;
     present_forest = λ some. absurd (gone some);
     present_handle = λ some. absurd (gone some);
@@ -45,6 +49,8 @@ module _ {K X : Type 0} (most : ℕ) (cmp : K → K → Ordering) (f : Forest K 
   pub was-refused : (refused : OutOfMemory) (f' : Forest K X) (h' : Option ℕ) → IsLive f h → Inserts most cmp f h k x (Err refused) f' h' → GetsOrInserts most cmp f h k x (Err refused) f' h'
   was-refused refused f' h' live i = record {
     value = tt;
+    found = tt;
+    others = i.others;
     present = λ some. absurd (false≢true (rw i.absent at some));
     present_forest = λ some. i.refused_forest;
     present_handle = λ some. i.refused_handle;
@@ -73,6 +79,8 @@ module _ {F K X : Type 0} {g : Once F (X × Unit {0}) X} {most : ℕ} {cmp : K �
     updated = λ some. u;
     absent = λ none. absurd (gone none);
     value = λ none. absurd (gone none);
+    found = u.found;
+    others = u.others;
     live = u.live;
     increasing = u.increasing cmp up;
   }
@@ -87,6 +95,8 @@ module _ {F K X : Type 0} {g : Once F (X × Unit {0}) X} {most : ℕ} {cmp : K �
     updated = λ some. absurd (false≢true (rw (← i.ok) at some));
     absent = λ none. i;
     value = λ none. same;
+    found = i.found ∙ ap Some (sym same);
+    others = i.others;
     live = i.put.live;
     increasing = i.increasing;
   }
@@ -95,6 +105,8 @@ module _ {F K X : Type 0} {g : Once F (X × Unit {0}) X} {most : ℕ} {cmp : K �
     updated = λ some. absurd (false≢true (rw i.absent at some));
     absent = λ none. i;
     value = λ none. tt;
+    found = tt;
+    others = i.others;
     live = rw (i.refused_forest, i.refused_handle) live;
     increasing = i.increasing;
   }

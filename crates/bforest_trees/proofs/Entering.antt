@@ -22,7 +22,6 @@ use Rattle.bforest_core.specs.declared.path.Path.{Path}
 use Rattle.bforest_core.specs.declared.path.way.Way.{Way}
 use Rattle.bforest_core.specs.declared.pool.OutOfMemory.TheVariants.{Full, Memory}
 use Rattle.bforest_core.specs.declared.pool.OutOfMemory.{OutOfMemory}
-use Rattle.bforest_nodes.proofs.Ordered.{IsIncreasing-put}
 use Rattle.bforest_nodes.specs.Content.{Content, IsInner, IsLeaf}
 use Rattle.std.proofs.lemmas.Option.{slice_get_within}
 use Rattle.bforest_nodes.specs.Entries.{IsIncreasing, is_present, place, value_for, with_value}
@@ -67,7 +66,7 @@ module _ {K X : Type 0} {most : ℕ} {cmp : K → K → Ordering} {f : Forest K 
       → Inserts most cmp f (Some n) k x (Ok (Some old)) f' (Some n)
   overwritten total up {x} {f'} written slots chain memory = let root = live-root f n s.live in let here = present-some cmp (list_under f n) k old s.value in
       inserts-ok most cmp f k x n f' n (Some old) (subst (λ (l : List (K × X)). value_for cmp l k ≡ Some old) (sym (list-root f n root)) s.value)
-      (put-here most cmp f n k root here f' x written slots chain memory) (IsIncreasing-put cmp total _ k x up) (λ low. let few = rw (need-present most cmp f n k root here) at low in omega (arith, few))
+      (put-here most cmp f n k root here f' x written slots chain memory) total up (λ low. let few = rw (need-present most cmp f n k root here) at low in omega (arith, few))
 
   -- after the value was replaced, the path stands at the key's place
   pub key-spot : (f' : Forest K X) → StandsOn f' n path (place cmp (list_under f n) k) → IsSpot f' (Some n) path (place cmp (list_at f n) k)
@@ -102,7 +101,7 @@ module _ {K X : Type 0} {cmp : K → K → Ordering} {f : Forest K X} {n : ℕ} 
     pub added : IsTotalOrder cmp → IsIncreasing cmp (list_at f n) → {x : X} {root' : ℕ} → result ≡ Ok root' → {f' : Forest K X} → Changes most f f' n root' (insert (list_under f n) at (k, x)) (growth most at (sizes_under f n)) → TakesNodes (need most at (sizes_under f n)) f f' →
         (root' ≡ n) ↔ (length (growth most at (sizes_under f n)) ≡ length (sizes_under f n)) → Inserts most cmp f (Some n) k x (Ok None) f' (Some root')
     added total up {x} {root'} said {f'} changes takes same =
-        inserts-ok most cmp f k x n f' root' None none (put-new most cmp f n k root gone f' root' x changes takes same) (IsIncreasing-put cmp total _ k x up) (λ low. let bad = full.1 (rw (needs most) at low) in cc)
+        inserts-ok most cmp f k x n f' root' None none (put-new most cmp f n k root gone f' root' x changes takes same) total up (λ low. let bad = full.1 (rw (needs most) at low) in cc)
 
   -- the same, from what an insertion at a way says, by a table that is f
   module _ {most : ℕ} {mid f' : Forest K X} (same : mid ≡ f) (up : IsIncreasing cmp (list_at f n)) {x : X} where
@@ -161,14 +160,14 @@ module _ {K X : Type 0} {most : ℕ} {cmp : K → K → Ordering} (total : IsTot
       let value : value_for cmp (list_under f n) k ≡ Some old = sym (rw is at p.ok) in
       let here = present-some cmp (list_under f n) k old value in
       inserts-ok most cmp f k x n f' n (Some old) (subst (λ (l : List (K × X)). value_for cmp l k ≡ Some old) (sym (list-root f n its-root)) value)
-      (put-here most cmp f n k its-root here f' x (p.written old is) p.slots p.chain p.memory) (IsIncreasing-put cmp total _ k x up) (λ low. let few = rw (need-present most cmp f n k its-root here) at low in omega (arith, few))
+      (put-here most cmp f n k its-root here f' x (p.written old is) p.slots p.chain p.memory) total up (λ low. let few = rw (need-present most cmp f n k its-root here) at low in omega (arith, few))
 
   entered : answer ≡ Ok None → Inserts most cmp f (Some n) k x (Ok None) f' (Some n)
   entered is =
       let value : value_for cmp (list_under f n) k ≡ None = sym (rw is at p.ok) in
       let gone = absent-none cmp (list_under f n) k value in
       inserts-ok most cmp f k x n f' n None (subst (λ (l : List (K × X)). value_for cmp l k ≡ None) (sym (list-root f n its-root)) value)
-      (put-new most cmp f n k its-root gone f' n x (p.inserted is) (p.takes is) (λ same. p.levels is, λ same. refl)) (IsIncreasing-put cmp total _ k x up) (λ low. let few = rw (need-absent most cmp f n k its-root gone, p.room is) at low in omega (arith, few))
+      (put-new most cmp f n k its-root gone f' n x (p.inserted is) (p.takes is) (λ same. p.levels is, λ same. refl)) total up (λ low. let few = rw (need-absent most cmp f n k its-root gone, p.room is) at low in omega (arith, few))
 
   -- what the call says where it answers
   pub leaf-put : (old : Option X) → answer ≡ Ok old → Inserts most cmp f (Some n) k x (Ok old) f' (Some n)

@@ -8,6 +8,7 @@ pub mod Readers
 pub mod Held
 pub mod Looking
 pub mod Crossing
+pub mod LookedUp
 pub mod Inserting
 pub mod Entering
 pub mod Reserving

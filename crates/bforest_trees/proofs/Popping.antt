@@ -1,23 +1,39 @@
 -- The entry at a place of a list, taken out.
 use Rattle.bforest_nodes.proofs.Ordered.{IsIncreasing-remove}
-use Rattle.bforest_nodes.specs.Entries.{IsIncreasing}
+use Rattle.bforest_nodes.specs.Entries.{IsIncreasing, value_for}
 use Rattle.bforest_trees.specs.Calls.{Pops, RemovesAt}
 use Rattle.bforest_trees.proofs.Changed.{list-root, live-root}
 use Rattle.bforest_trees.proofs.Cutting.{IsTaken, shrunk}
+use Rattle.bforest_trees.proofs.LookedUp.{gone-removed, others-removed}
 use Rattle.bforest_trees.proofs.Taking.{removes-end, removes-here}
 use Rattle.bforest_trees.specs.Forest.{Forest, list_at, list_of}
 use Rattle.bforest_core.specs.Change.{Shrinks}
 use Rattle.bforest_core.specs.Paths.{list_under}
 use Rattle.bforest_core.specs.Trees.{IsUnion}
-use Rattle.std.proofs.Common.{List, None, Option, Some, [], ap, arith, length, refl, slice_get, subst, sym, ◌-◌, ◌∙◌, ◌≡◌, ◌≢◌, ℕ}
+use Rattle.std.proofs.Common.{IfSome, List, None, Option, Some, [], ap, arith, false, length, refl, remove, slice_get, subst, sym, ◌-◌, ◌∙◌, ◌≡◌, ◌≢◌, ℕ}
 use Rattle.std.proofs.lemmas.Option.{slice_get_within}
+use Rattle.std.specs.Cmp.{IsTotalOrder}
+use Rattle.std.specs.Ordering.{is_eq}
+use Rattle.std.specs.declared.cmp.Ordering.{Ordering}
 
 module _ {K X : Type 0} (most : ℕ) (f : Forest K X) (h : Option ℕ) (p : ℕ) where
+  module _ {order : K → K → Ordering} (total : IsTotalOrder order) (up : IsIncreasing order (list_of f h)) (f' : Forest K X) (h' : Option ℕ) (left : list_of f' h' ≡ remove (list_of f h) p) where
+    -- the key of the entry that was taken out has no value, and all others have the values that they had
+    left-gone : (result : Option (K × X)) → result ≡ slice_get (list_of f h) p → IfSome result (λ e. value_for order (list_of f' h') e.0 ≡ None)
+    left-gone None is = tt
+    left-gone (Some e) is = gone-removed total (list_of f h) up p (sym is) left
+
+    left-others : (result : Option (K × X)) → result ≡ slice_get (list_of f h) p → IfSome result (λ e. (q : K) → is_eq (order e.0 q) ≡ false → value_for order (list_of f' h') q ≡ value_for order (list_of f h) q)
+    left-others None is = tt
+    left-others (Some e) is = others-removed total (list_of f h) up p (sym is) left
+
   -- what a removal at a path answers and leaves, for a caller that uses no path
   pub pops : (result : Option (K × X)) (f' : Forest K X) (h' : Option ℕ) → result ≡ slice_get (list_of f h) p → RemovesAt most f h p f' h' → Pops most f h p result f' h'
   pops result f' h' entry r = record {
     entry = entry;
     removed = r;
+    gone = λ total up. left-gone total up f' h' r.removed.list result entry;
+    others = λ total up. left-others total up f' h' r.removed.list result entry;
     increasing = λ order up. subst (IsIncreasing order) (sym r.removed.list) (IsIncreasing-remove order (list_of f h) p up);
   }
 

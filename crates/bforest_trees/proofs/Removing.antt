@@ -10,12 +10,14 @@ use Rattle.bforest_core.specs.Trees.{IsUnion, tree_of}
 use Rattle.bforest_nodes.proofs.Found.{cut-absent, cut-present}
 use Rattle.bforest_nodes.proofs.Ordered.{IsIncreasing-cut}
 use Rattle.bforest_nodes.specs.Entries.{IsIncreasing, place, value_for}
+use Rattle.bforest_trees.proofs.LookedUp.{gone-cut, others-cut}
 use Rattle.bforest_trees.proofs.Putting.{absent-none, present-some}
 use Rattle.bforest_trees.specs.Calls.{Removes}
 use Rattle.std.proofs.Common.{List, None, Option, Some, [], ap, option_map, refl, set, subst, sym, ◌∙◌, ◌≡◌, ◌≢◌, ℕ}
+use Rattle.std.specs.Cmp.{IsTotalOrder}
 use Rattle.std.specs.declared.cmp.Ordering.{Ordering}
 
-module _ {K X : Type 0} (most : ℕ) (cmp : K → K → Ordering) (f : Forest K X) (h : Option ℕ) (k : K) (live : IsLive f h) (increasing : IsIncreasing cmp (list_of f h)) where
+module _ {K X : Type 0} (most : ℕ) (cmp : K → K → Ordering) (f : Forest K X) (h : Option ℕ) (k : K) (live : IsLive f h) (total : IsTotalOrder cmp) (increasing : IsIncreasing cmp (list_of f h)) where
   abbrev entries : List (K × X)
   entries = list_of f h
 
@@ -26,6 +28,8 @@ module _ {K X : Type 0} (most : ℕ) (cmp : K → K → Ordering) (f : Forest K 
       record {
         value = sym found;
         cut = subst (λ (l : List (K × X)). Becomes f h f' o l) (sym list) t.removed;
+        gone = gone-cut total entries increasing k (t.removed.list ∙ sym list);
+        others = others-cut total entries increasing k (t.removed.list ∙ sym list);
         sizes = t.sizes ∙ sym (without-present most cmp f h k here);
         same_levels = t.same_levels;
         account = t.account;
@@ -41,6 +45,8 @@ module _ {K X : Type 0} (most : ℕ) (cmp : K → K → Ordering) (f : Forest K 
       record {
         value = sym none;
         cut = subst (λ (l : List (K × X)). Becomes f h f h l) (sym (cut-absent cmp entries k gone)) (becomes-same f h live);
+        gone = none;
+        others = λ q ne. refl;
         sizes = sym (without-absent most cmp f h k gone);
         same_levels = (λ same. refl, λ same. refl);
         account = record { slots = refl; free = refl; memory = refl };
@@ -61,8 +67,8 @@ module _ {K X : Type 0} {most : ℕ} {cmp : K → K → Ordering} {f : Forest K 
   value-is = ap (λ z. value_for cmp z k) list ∙ sym t.value
 
   -- the key is absent, and the table is the old one
-  pub removes-absent : found ≡ None → Removes most cmp f (Some n) k None mid (Some n)
-  removes-absent is = rw (t.absent is) (removes-none most cmp f (Some n) k live increasing (value-is ∙ ap (option_map (λ e. e.1)) is))
+  pub removes-absent : IsTotalOrder cmp → found ≡ None → Removes most cmp f (Some n) k None mid (Some n)
+  removes-absent total is = rw (t.absent is) (removes-none most cmp f (Some n) k live total increasing (value-is ∙ ap (option_map (λ e. e.1)) is))
 
   module _ {e : ℕ × X} (is : found ≡ Some e) where
     -- the path stood on the key's entry, which its leaf lost
@@ -78,6 +84,6 @@ module _ {K X : Type 0} {most : ℕ} {cmp : K → K → Ordering} {f : Forest K 
       removed-union = left.union
 
       -- the effect of the removal
-      pub removes-present : Removes most cmp f (Some n) k (Some e.1) f' o
-      removes-present = removes most cmp f (Some n) k live increasing f' o e.1 (value-is ∙ ap (option_map (λ w. w.1)) is)
+      pub removes-present : IsTotalOrder cmp → Removes most cmp f (Some n) k (Some e.1) f' o
+      removes-present total = removes most cmp f (Some n) k live total increasing f' o e.1 (value-is ∙ ap (option_map (λ w. w.1)) is)
           (subst (λ (l : List (K × X)). IsTaken most f f' (Some n) (place cmp l k) o) (sym list) left)

@@ -10,11 +10,13 @@ use Rattle.bforest_core.specs.Table.{IsEntryAt, IsUsed, with_value_at}
 use Rattle.bforest_core.specs.Trees.{IsUnion, is_root, tree_of}
 use Rattle.bforest_core.specs.Updates.{UpdatesUnder}
 use Rattle.bforest_nodes.proofs.Found.{put-present}
-use Rattle.bforest_nodes.specs.Entries.{IsIncreasing, place, value_for}
+use Rattle.bforest_nodes.specs.Entries.{IsIncreasing, place, put, value_for}
 use Rattle.bforest_trees.proofs.Changed.{becomes, list-root, live-root, root-live, sizes-new, sizes-root}
 use Rattle.bforest_trees.specs.Calls.{Updates}
-use Rattle.bforest_trees.specs.Forest.{Forest, list_at, sizes_at}
+use Rattle.bforest_trees.proofs.LookedUp.{found-put, others-put}
+use Rattle.bforest_trees.specs.Forest.{Becomes, Forest, list_at, sizes_at}
 use Rattle.std.proofs.Common.{IsTrue, List, None, Option, Some, [], ap, length, refl, subst, sym, ◌∙◌, ◌≡◌, ◌≢◌, ℕ}
+use Rattle.std.specs.Cmp.{IsTotalOrder}
 use Rattle.std.specs.Fn.{FnOnceReturns, Once}
 use Rattle.std.specs.List.Sorted.{IsStrictlySortedBy}
 use Rattle.std.specs.Map.{keys_of}
@@ -28,12 +30,15 @@ module _ {F K X : Type 0} {g : Once F (X × Unit {0}) X} {most : ℕ} {cmp : K �
   updated-union {result = None} union u = subst (IsUnion most) (sym (u.same refl)) union
 
   -- what a call that replaces a value returns and leaves, where the handle has this root
-  pub updates : {result : Option X} → IsUnion most f → IsTrue (is_root f.nodes n) → UpdatesUnder g most cmp f f' n k q result → Updates g cmp f (Some n) k q result f' (Some n)
-  updates {result = Some w} union root u = let es = flat (tree_of f.nodes n).leaves in let keys : keys_of (list_at f' n) ≡ keys_of (list_at f n) =
+  pub updates : {result : Option X} → IsUnion most f → IsTrue (is_root f.nodes n) → IsTotalOrder cmp → IsIncreasing cmp (list_at f n) → UpdatesUnder g most cmp f f' n k q result → Updates g cmp f (Some n) k q result f' (Some n)
+  updates {result = Some w} union root total up u = let es = flat (tree_of f.nodes n).leaves in let keys : keys_of (list_at f' n) ≡ keys_of (list_at f n) =
       ap keys_of (list-root f' n u.written.root_is ∙ u.written.list_is ∙ put-present cmp es k w (sym (some-mapped (λ (e : K × X). e.1) _) ∙ ap is_some u.called.1))
-      ∙ keys-written es (place cmp es k) w ∙ ap keys_of (sym (list-root f n root)) in record {
+      ∙ keys-written es (place cmp es k) w ∙ ap keys_of (sym (list-root f n root)) in
+      let put : Becomes f (Some n) f' (Some n) (put cmp (list_at f n) k w) = rw (list-root f n root) (becomes most f f' n n _ _ u.written) in record {
         called = rw (list-root f n root) u.called;
-        put = rw (list-root f n root) (becomes most f f' n n _ _ u.written);
+        put = put;
+        found = found-put total _ up k w put.list;
+        others = others-put total _ up k w put.list;
         handle = refl;
         sizes = sizes-new most f f' n n _ _ u.written ∙ sym (sizes-root f n root);
         slots = u.slots;
@@ -42,11 +47,13 @@ module _ {F K X : Type 0} {g : Once F (X × Unit {0}) X} {most : ℕ} {cmp : K �
         absent = λ none. absurd cc;
         absent_forest = λ none. absurd cc;
         live = root-live most f' n u.written.union u.written.root_is;
-        increasing = λ order up. subst (IsStrictlySortedBy order) (sym keys) up;
+        increasing = λ order rises. subst (IsStrictlySortedBy order) (sym keys) rises;
       }
-  updates {result = None} union root u = let same = u.same refl in record {
+  updates {result = None} union root total up u = let same = u.same refl in record {
     called = tt;
     put = tt;
+    found = tt;
+    others = λ q ne. ap (λ z. value_for cmp (list_at z n) q) same;
     handle = refl;
     sizes = ap (λ z. sizes_at z n) same;
     slots = u.slots;
@@ -55,7 +62,7 @@ module _ {F K X : Type 0} {g : Once F (X × Unit {0}) X} {most : ℕ} {cmp : K �
     absent = λ none. rw (list-root f n root) (u.absent refl);
     absent_forest = λ none. same;
     live = subst (λ z. list_at z n ≢ []) (sym same) (root-live most f n union root);
-    increasing = λ order up. subst (λ z. IsIncreasing order (list_at z n)) (sym same) up;
+    increasing = λ order rises. subst (λ z. IsIncreasing order (list_at z n)) (sym same) rises;
   }
 
 -- the leaf in which a search for a key ends was searched for it, and has this value
@@ -83,5 +90,5 @@ module _ {K X : Type 0} (most : ℕ) (cmp : K → K → Ordering) {f : Forest K 
   written-there w = (place-written _ union root entry w).0.union
 
   -- what a call of `q` with the value returned is written there
-  pub updates-there : {F : Type 0} {g : Once F (X × Unit {0}) X} {q : F} {w : X} → FnOnceReturns g q (v, tt) w → Updates g cmp f (Some n) k q (Some w) (with_value_at f leaf found.0 w) (Some n)
-  updates-there says = updates union root (updated cmp union n root k value entry says)
+  pub updates-there : {F : Type 0} {g : Once F (X × Unit {0}) X} {q : F} {w : X} → IsTotalOrder cmp → IsIncreasing cmp (list_at f n) → FnOnceReturns g q (v, tt) w → Updates g cmp f (Some n) k q (Some w) (with_value_at f leaf found.0 w) (Some n)
+  updates-there total up says = updates union root total up (updated cmp union n root k value entry says)

@@ -10,7 +10,9 @@ use Rattle.bforest_trees.specs.Forest.{Becomes, Forest, Gives, GrowsFor, IsLive,
 use Rattle.bforest_trees.specs.Retain.{Retains}
 use Rattle.bforest_trees.specs.Shift.{Rekeys}
 use Rattle.std.specs.Fn.{FnOnceReturns, Once}
-use Rattle.std.specs.Prelude.{Bool, Err, IfOk, IfSome, IsOk, IsSome, List, None, Ok, OnErr, OnOk, Option, Result, Some, [], drop, if◌then◌else◌, length, nat_lt, remove, slice_get, take, unwrap_or, ◌++◌, ◌+◌, ◌-◌, ◌<◌, ◌↔◌, ◌≡◌, ◌≤◌, ℕ}
+use Rattle.std.specs.Prelude.{Bool, Err, IfOk, IfSome, IsOk, IsSome, List, None, Ok, OnErr, OnOk, Option, Result, Some, [], drop, false, if◌then◌else◌, length, nat_lt, remove, slice_get, take, unwrap_or, ◌++◌, ◌+◌, ◌-◌, ◌<◌, ◌↔◌, ◌≡◌, ◌≤◌, ℕ}
+use Rattle.std.specs.Cmp.{IsTotalOrder}
+use Rattle.std.specs.Ordering.{is_eq}
 use Rattle.std.specs.declared.cmp.Ordering.{Ordering}
 
 module _ {K X : Type 0} where
@@ -32,6 +34,8 @@ module _ {K X : Type 0} where
   pub record Pops (most : ℕ) (f : Forest K X) (h : Option ℕ) (place : ℕ) (result : Option (K × X)) (f' : Forest K X) (h' : Option ℕ) : Type 0 where
     pub entry : result ≡ slice_get (list_of f h) place
     pub removed : RemovesAt most f h place f' h'
+    pub gone : {order : K → K → Ordering} → IsTotalOrder order → IsIncreasing order (list_of f h) → IfSome result (λ e. value_for order (list_of f' h') e.0 ≡ None)
+    pub others : {order : K → K → Ordering} → IsTotalOrder order → IsIncreasing order (list_of f h) → IfSome result (λ e. (q : K) → is_eq (order e.0 q) ≡ false → value_for order (list_of f' h') q ≡ value_for order (list_of f h) q)
     pub increasing : (order : K → K → Ordering) → IsIncreasing order (list_of f h) → IsIncreasing order (list_of f' h')
 
   -- f was to have n free slots: all trees stay, and where fewer were free, exactly n are free in f'
@@ -97,6 +101,8 @@ module _ {K X : Type 0} where
   pub record Updates {F : Type 0} (g : Once F (X × Unit {0}) X) (cmp : K → K → Ordering) (f : Forest K X) (h : Option ℕ) (k : K) (q : F) (result : Option X) (f' : Forest K X) (h' : Option ℕ) : Type 0 where
     pub called : IfSome result (λ w. (v : X) × (value_for cmp (list_of f h) k ≡ Some v) × FnOnceReturns g q (v, tt) w)
     pub put : IfSome result (λ w. Becomes f h f' h' (put cmp (list_of f h) k w))
+    pub found : IfSome result (λ w. value_for cmp (list_of f' h') k ≡ Some w)
+    pub others : (q : K) → is_eq (cmp k q) ≡ false → value_for cmp (list_of f' h') q ≡ value_for cmp (list_of f h) q
     pub handle : h' ≡ h
     pub sizes : sizes_of f' h' ≡ sizes_of f h
     pub slots : slots_of f' ≡ slots_of f
@@ -130,6 +136,8 @@ module _ {K X : Type 0} (most : ℕ) (cmp : K → K → Ordering) where
   pub record Inserts (f : Forest K X) (h : Option ℕ) (k : K) (x : X) (result : Result (Option X) OutOfMemory) (f' : Forest K X) (h' : Option ℕ) : Type 0 where
     pub ok : IfOk result (λ old. old ≡ value_for cmp (list_of f h) k)
     pub put : OnOk result (Becomes f h f' h' (put cmp (list_of f h) k x))
+    pub found : OnOk result (value_for cmp (list_of f' h') k ≡ Some x)
+    pub others : (q : K) → is_eq (cmp k q) ≡ false → value_for cmp (list_of f' h') q ≡ value_for cmp (list_of f h) q
     pub sizes : OnOk result (sizes_of f' h' ≡ sizes_with most cmp f h k)
     pub same_number : IfOk result (λ old. IsSome old → h' ≡ h)
     pub same_levels : OnOk result (SameLevels f h f' h')
@@ -146,6 +154,8 @@ module _ {K X : Type 0} (most : ℕ) (cmp : K → K → Ordering) where
   pub record Removes (f : Forest K X) (h : Option ℕ) (k : K) (result : Option X) (f' : Forest K X) (h' : Option ℕ) : Type 0 where
     pub value : result ≡ value_for cmp (list_of f h) k
     pub cut : Becomes f h f' h' (cut cmp (list_of f h) k)
+    pub gone : value_for cmp (list_of f' h') k ≡ None
+    pub others : (q : K) → is_eq (cmp k q) ≡ false → value_for cmp (list_of f' h') q ≡ value_for cmp (list_of f h) q
     pub sizes : sizes_of f' h' ≡ sizes_without most cmp f h k
     pub same_levels : SameLevels f h f' h'
     pub account : Gives (sizes_of f h) (sizes_of f' h') f f'
@@ -157,6 +167,8 @@ module _ {K X : Type 0} (most : ℕ) (cmp : K → K → Ordering) where
   -- inserted; or the insertion failed, and nothing changed
   pub record GetsOrInserts (f : Forest K X) (h : Option ℕ) (k : K) (x : X) (result : Result X OutOfMemory) (f' : Forest K X) (h' : Option ℕ) : Type 0 where
     pub value : IfOk result (λ v. v ≡ unwrap_or (value_for cmp (list_of f h) k) x)
+    pub found : IfOk result (λ v. value_for cmp (list_of f' h') k ≡ Some v)
+    pub others : (q : K) → is_eq (cmp k q) ≡ false → value_for cmp (list_of f' h') q ≡ value_for cmp (list_of f h) q
     pub present : IsSome (value_for cmp (list_of f h) k) → IsOk result
     pub present_forest : IsSome (value_for cmp (list_of f h) k) → f' ≡ f
     pub present_handle : IsSome (value_for cmp (list_of f h) k) → h' ≡ h
@@ -171,5 +183,7 @@ module _ {K X : Type 0} (most : ℕ) (cmp : K → K → Ordering) where
     pub updated : IsSome (value_for cmp (list_of f h) k) → IfOk result (λ w. Updates g cmp f h k q (Some w) f' h')
     pub absent : value_for cmp (list_of f h) k ≡ None → Inserts f h k x (as_inserted result) f' h'
     pub value : value_for cmp (list_of f h) k ≡ None → IfOk result (λ w. w ≡ x)
+    pub found : IfOk result (λ w. value_for cmp (list_of f' h') k ≡ Some w)
+    pub others : (q : K) → is_eq (cmp k q) ≡ false → value_for cmp (list_of f' h') q ≡ value_for cmp (list_of f h) q
     pub live : IsLive f' h'
     pub increasing : IsIncreasing cmp (list_of f' h')

@@ -10,6 +10,7 @@ ghost use Rattle.bforest_core.specs.Sizes.{IsFitFor, shrink};
 ghost use Rattle.bforest_core.specs.Trees.{IsUnion, is_root};
 ghost use Rattle.bforest_nodes.specs.Content.{IsLeafCapacity};
 ghost use Rattle.bforest_nodes.specs.Entries.{IsIncreasing, is_present, place, value_for};
+ghost use Rattle.std.specs.Cmp.{IsTotalOrder};
 ghost use Rattle.std.specs.declared.cmp.Ordering.{Ordering};
 ghost use Rattle.std.specs.Prelude.{Err, IsTrue, None, Option, Some, [], false, true, length, remove, ◌*◌, ◌+◌, ◌-◌, ◌/◌, ◌<◌, ◌^◌, ◌≡◌, ◌≢◌, ◌≤◌, ◌↔◌, ℕ};
 
@@ -267,7 +268,7 @@ impl<K: Copy, V: Copy, const N: usize> Trees<K, V, N> {
     ) -> Result<Option<V>, OutOfMemory>
         requires empty { handle.old ≡ None }
         requires stands { IsAtEnd path.old }
-        ensures inserted { (order : K → K → Ordering)
+        ensures inserted { (order : K → K → Ordering) → IsTotalOrder order
             → Inserts N order self.old None key value result self.new handle.new }
         ensures spot { IsSpot self.new handle.new path.new 0 }
         ensures union { IsUnion N self.new }

@@ -3,6 +3,7 @@ ghost use Rattle.bforest_trees.specs.Calls.{GetsOrInserts, Inserts, UpdatesOrIns
 ghost use Rattle.bforest_trees.specs.Forest.{IsLive, list_at, list_of};
 ghost use Rattle.bforest_trees.specs.Place.{IsAbsentOn};
 ghost use Rattle.bforest_nodes.specs.Entries.{IsIncreasing, value_for};
+ghost use Rattle.std.specs.Cmp.{IsTotalOrder};
 ghost use Rattle.std.specs.declared.cmp.Ordering.{Ordering};
 ghost use Rattle.std.specs.Prelude.{IfOk, None, Some, [], ◌≡◌, ◌≢◌, ◌≤◌};
 
@@ -109,7 +110,7 @@ impl<K: Copy, V: Copy, const N: usize> Trees<K, V, N> {
     // Inserts the first entry of an empty tree, and returns the value.
     fn plant(&mut self, handle: &mut PackedNode, key: K, value: V) -> Result<V, OutOfMemory>
         requires empty { handle.old ≡ None }
-        ensures inserted { (order : K → K → Ordering)
+        ensures inserted { (order : K → K → Ordering) → IsTotalOrder order
             → Inserts N order self.old None key value (as_inserted result) self.new handle.new }
         ensures value { IfOk result (λ v. v ≡ value) }
     {

@@ -41,7 +41,7 @@ impl<K: Copy, V: Copy, const N: usize> Trees<K, V, N> {
         value: V,
     ) -> Result<Option<V>, OutOfMemory>
         requires empty { handle.old ≡ None }
-        ensures { (order : K → K → Ordering)
+        ensures { (order : K → K → Ordering) → IsTotalOrder order
             → Inserts N order self.old None key value result self.new handle.new }
     {
         let root = self.pool.alloc_node(key, value)?;

@@ -5,7 +5,7 @@ use Rattle.std.proofs.Common.{None, sym, ◌∙◌, ◌≡◌, rules}
 pub returns-in-None-clause-inserted : goal.returns-in-None-clause-inserted
 returns-in-None-clause-inserted g c =
     let none : c.args.handle.now ≡ None = sym c.expand.ensures.value ∙ c.in-None.is in
-    rw none (c.insert_first.ensures.inserted (g.C.Comparator.order c.args.comp.now))
+    rw none (c.insert_first.ensures.inserted (g.C.Comparator.order c.args.comp.now) (g.met.C.Comparator.total c.args.comp.now))
 
 pub returns-in-Some-clause-computed : goal.returns-in-Some-clause-computed
 returns-in-Some-clause-computed g c = computed g.row.N c.insert_under.new.self c.insert_under.new.handle c.insert_under.ensures.union

@@ -11,14 +11,14 @@ pub invariant_of-self-2 : goal.invariant_of-self-2
 invariant_of-self-2 g c = (c.in_ok-root.ensures.planted c.self.invariant).changes.union
 
 pub returns-clause-inserted : goal.returns-clause-inserted
-returns-clause-inserted g c = λ order. rw (c.some.ensures.node, ← c.self.view_is)
-    (inserts-planted order (c.in_ok-root.ensures.planted c.self.invariant) (λ low. let bad = c.in_ok-root.ensures.full.1 low in cc))
+returns-clause-inserted g c = λ order total. rw (c.some.ensures.node, ← c.self.view_is)
+    (inserts-planted order (c.in_ok-root.ensures.planted c.self.invariant) (λ low. let bad = c.in_ok-root.ensures.full.1 low in cc) total)
 
 pub returns-clause-spot : goal.returns-clause-spot
 returns-clause-spot g c = rw c.some.ensures.node (on-at c.alloc_node.new.self c.first.new.self c.first.ensures.stands)
 
 pub returns-in_err-root-clause-inserted : goal.returns-in_err-root-clause-inserted
-returns-in_err-root-clause-inserted g c = λ order. let told = c.in_err-root.ensures in
+returns-in_err-root-clause-inserted g c = λ order total. let told = c.in_err-root.ensures in
     rw (handed-on c.from_residual.ensures.1, c.requires.empty, told.err, ← c.self.view_is) (inserts-none order told.full told.memory told.enough)
 
 pub returns-in_err-root-clause-spot : goal.returns-in_err-root-clause-spot

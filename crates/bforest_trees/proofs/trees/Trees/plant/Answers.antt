@@ -5,9 +5,9 @@ use Rattle.std.proofs.Common.{refl}
 
 pub returns-in_err-put_first : goal.returns-in_err-put_first
 returns-in_err-put_first g c = let refused = handed-on c.from_residual.ensures.1 in record {
-  inserted = λ order. rw refused (c.in_err-put_first.ensures order);
+  inserted = λ order total. rw refused (c.in_err-put_first.ensures order total);
   value = rw refused tt;
 }
 
 pub returns : goal.returns
-returns g c = record { inserted = λ order. first-new (c.in_ok-put_first.ensures order); value = refl }
+returns g c = record { inserted = λ order total. first-new (c.in_ok-put_first.ensures order total); value = refl }

@@ -8,7 +8,7 @@ pub returns-in_err-root : goal.returns-in_err-root
 returns-in_err-root g c =
     let cmp = g.C.Comparator.order c.args.comp.now in
     let none : c.args.handle.now ≡ None = sym c.expand.ensures.value ∙ c.in_err-root.was in
-    rw c.from_residual.ensures (removes-none g.row.N cmp c.args.self.now c.args.handle.now c.args.key c.requires.live c.requires.increasing (ap (λ (h : Option ℕ). value_for cmp (list_of c.args.self.now h) c.args.key) none))
+    rw c.from_residual.ensures (removes-none g.row.N cmp c.args.self.now c.args.handle.now c.args.key c.requires.live (g.met.C.Comparator.total c.args.comp.now) c.requires.increasing (ap (λ (h : Option ℕ). value_for cmp (list_of c.args.self.now h) c.args.key) none))
 
 pub returns : goal.returns
 returns g c = rw (sym c.expand.ensures.value ∙ c.in_ok-root.was) c.remove_under.ensures

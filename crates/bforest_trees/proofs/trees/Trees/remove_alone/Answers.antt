@@ -44,7 +44,7 @@ pub returns-in_err-taken : goal.returns-in_err-taken
 returns-in_err-taken g c =
     let ends = ends-at-root (g.met.C.Comparator.total c.args.comp.now) c.self.view_is c.self.invariant c.requires.live c.requires.leaf c.requires.increasing in
     rw (c.requires.root, c.from_residual.ensures, ← c.self.view_is) (removes-absent (rw (← c.self.view_is) at c.requires.live)
-    (rw (← c.self.view_is) at c.requires.increasing) (c.take_from_leaf.ensures.taken c.args.root _ _ _ ends) c.in_err-taken.was)
+    (rw (← c.self.view_is) at c.requires.increasing) (c.take_from_leaf.ensures.taken c.args.root _ _ _ ends) (g.met.C.Comparator.total c.args.comp.now) c.in_err-taken.was)
 
 pub invariant_of-self-2 : goal.invariant_of-self-2
 invariant_of-self-2 g c =
@@ -61,4 +61,4 @@ returns g c =
     let live = rw (← c.self.view_is) at c.requires.live in
     let increasing = rw (← c.self.view_is) at c.requires.increasing in
     rw (c.packed.ensures, ← c.self.view_is)
-    (removes-present live increasing took c.in_ok-taken.was (c.heal_alone.ensures.healed _ _ _ _ (lost live increasing took c.in_ok-taken.was)))
+    (removes-present live increasing took c.in_ok-taken.was (c.heal_alone.ensures.healed _ _ _ _ (lost live increasing took c.in_ok-taken.was)) (g.met.C.Comparator.total c.args.comp.now))

@@ -27,7 +27,7 @@ invariant_of-self g c = let w = c.find-way.ensures.ends in
 pub returns-in_err-taken : goal.returns-in_err-taken
 returns-in_err-taken g c = let w = c.find-way.ensures.ends in
     rw (c.requires.root, c.from_residual.ensures, ← c.self.view_is) (removes-absent (rw (← c.self.view_is) at c.requires.live)
-    (rw (← c.self.view_is) at c.requires.increasing) (c.take_from_leaf.ensures.taken c.args.root _ _ _ (ends-there w c.leaf.ensures.leaf)) c.in_err-taken.was)
+    (rw (← c.self.view_is) at c.requires.increasing) (c.take_from_leaf.ensures.taken c.args.root _ _ _ (ends-there w c.leaf.ensures.leaf)) (g.met.C.Comparator.total c.args.comp.now) c.in_err-taken.was)
 
 pub invariant_of-self-2 : goal.invariant_of-self-2
 invariant_of-self-2 g c = let w = c.find-way.ensures.ends in let took = c.take_from_leaf.ensures.taken c.args.root _ _ _ (ends-there w c.leaf.ensures.leaf) in
@@ -38,4 +38,4 @@ pub returns : goal.returns
 returns g c = let w = c.find-way.ensures.ends in let took = c.take_from_leaf.ensures.taken c.args.root _ _ _ (ends-there w c.leaf.ensures.leaf) in
     let live = rw (← c.self.view_is) at c.requires.live in let increasing = rw (← c.self.view_is) at c.requires.increasing in
     rw (c.packed.ensures, ← c.self.view_is) (removes-present live increasing took c.in_ok-taken.was
-    (c.heal_on.ensures.healed _ _ (taken-on w (lost live increasing took c.in_ok-taken.was))).shrinks)
+    (c.heal_on.ensures.healed _ _ (taken-on w (lost live increasing took c.in_ok-taken.was))).shrinks (g.met.C.Comparator.total c.args.comp.now))

@@ -15,4 +15,4 @@ invariant_of-self g c = updated-union c.self.invariant c.update.ensures
 pub returns-in-Some : goal.returns-in-Some
 returns-in-Some g c =
     let s = seen-as c.self.view_is (sym c.expand.ensures.value ∙ c.in-Some.is) c.requires.live in
-    rw (sym c.expand.ensures.value ∙ c.in-Some.is, ← c.self.view_is) (updates c.self.invariant s.root c.update.ensures)
+    rw (sym c.expand.ensures.value ∙ c.in-Some.is, ← c.self.view_is) (updates c.self.invariant s.root (g.met.C.Comparator.total c.args.comp.now) (rw (← c.self.view_is, sym c.expand.ensures.value ∙ c.in-Some.is) at c.requires.increasing) c.update.ensures)

@@ -8,4 +8,4 @@ returns-in-Some g c = rw (sym c.expand.ensures.value ∙ c.in-Some.is) c.update_
 pub returns-in-None : goal.returns-in-None
 returns-in-None g c =
     let none : c.args.handle.now ≡ None = sym c.expand.ensures.value ∙ c.in-None.is in
-    rw none (was-new tt (c.plant.ensures.inserted (g.C.Comparator.order c.args.comp.now)) c.plant.ensures.value)
+    rw none (was-new tt (c.plant.ensures.inserted (g.C.Comparator.order c.args.comp.now) (g.met.C.Comparator.total c.args.comp.now)) c.plant.ensures.value)

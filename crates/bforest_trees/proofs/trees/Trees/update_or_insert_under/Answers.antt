@@ -28,7 +28,8 @@ invariant_of-self g c = let w = c.find-way.ensures.ends in let looked = c.look_u
 pub returns-in-Some : goal.returns-in-Some
 returns-in-Some g c = let w = c.find-way.ensures.ends in let looked = c.look_up_in_leaf-place.ensures.found c.args.root _ _ _ (ends-there w c.leaf-leaf.ensures.leaf) in
     rw (c.requires.root, ← c.self.view_is) (was-updated (rw (← c.self.view_is) at c.requires.increasing)
-    (updates-there g.row.N (g.C.Comparator.order c.args.comp.now) c.self.invariant (rw (← c.self.view_is) at c.requires.live) looked c.in-Some.is c.change-changed.ensures))
+    (updates-there g.row.N (g.C.Comparator.order c.args.comp.now) c.self.invariant (rw (← c.self.view_is) at c.requires.live) looked c.in-Some.is (g.met.C.Comparator.total c.args.comp.now)
+    (rw (← c.self.view_is) at c.requires.increasing) c.change-changed.ensures))
 
 pub insert_absent-requires : goal.insert_absent-requires
 insert_absent-requires g c = let w = c.find-way.ensures.ends in let looked = c.look_up_in_leaf-place.ensures.found c.args.root _ _ _ (ends-there w c.leaf-leaf.ensures.leaf) in
