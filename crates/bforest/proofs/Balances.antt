@@ -2,8 +2,9 @@
 -- slots, free slots and the tree's nodes balance.
 use Rattle.bforest.proofs.Growing.{growth-fits}
 use Rattle.bforest.proofs.Shrinking.{shrink-fits}
+pub use Rattle.bforest.proofs.Lengths.{length-written}
 use Rattle.bforest.specs.Calls.{Clears, Filters, GetsOrInserts, Inserts, Pops, Removes, RemovesAt, Updates}
-use Rattle.bforest.specs.Entries.{is_present, place, value_for, with_value}
+use Rattle.bforest.specs.Entries.{is_present, place, value_for}
 use Rattle.bforest.specs.Forest.{Becomes, Forest, Gives, IsFitFor, Takes, growth, limit_of, list_of, need, need_of, room_of, shrink, sizes_of}
 use Rattle.bforest.specs.Refusal.{OutOfMemory}
 use Rattle.bforest.specs.Retain.{AsksEach, kept_by, sizes_by}
@@ -12,7 +13,7 @@ use Rattle.bforest_nodes.proofs.Found.{place-present, put-absent, put-present}
 use Rattle.bforest_trees.proofs.Putting.{present-some}
 use Rattle.bforest_trees.specs.Calls.{as_inserted}
 use Rattle.std.specs.Fn.{Once}
-use Rattle.std.proofs.Common.{Bool, Err, List, None, Ok, Option, Result, Some, [], ap, arith, false, if◌then◌else◌, inl, inr, length, refl, remove, subst, suc, sym, true, zero, ◌%◌, ◌+◌, ◌-◌, ◌<◌, ◌∙◌, ◌∷◌, ◌≡◌, ◌≤◌, ℕ}
+use Rattle.std.proofs.Common.{Bool, Err, List, None, Ok, Option, Result, Some, [], ap, arith, false, if◌then◌else◌, inl, inr, length, refl, remove, subst, suc, sym, true, ◌%◌, ◌+◌, ◌-◌, ◌<◌, ◌∙◌, ◌∷◌, ◌≡◌, ◌≤◌, ℕ}
 use Rattle.std.proofs.lemmas.Bool.Decides.{leb_tells}
 use Rattle.std.proofs.lemmas.List.Edits.{length-insert, length-remove}
 use Rattle.std.proofs.lemmas.List.Sums.{count_by-le-length}
@@ -25,11 +26,6 @@ not-less : (a b : ℕ) → ¬ (a < b) → b ≤ a
 not-less a b never = elim (leb_tells b a) [ inl w ↦ w.1 | inr w ↦ absurd (never w.1) ]
 
 module _ {K V : Type 0} where
-  pub length-written : (es : List (K × V)) (p : ℕ) (v : V) → length (with_value es p v) ≡ length es
-  length-written [] p v = refl
-  length-written (e ∷ es) zero v = refl
-  length-written (e ∷ es) (suc p) v = ap suc (length-written es p v)
-
   -- what is left of a list after one removal for each entry answered false
   sifted : (most : ℕ) → most % 2 ≡ 1 → {F : Type 0} (step : F → K → V → Bool → V → F → Type 0) (q : F) (at : ℕ) (es : List (K × V)) (answers : List (Bool × V)) (sizes : List (List ℕ)) → AsksEach step q es answers → IsFitFor most (at + length es) sizes
       → IsFitFor most (at + length (kept_by es answers)) (sizes_by most at answers sizes)

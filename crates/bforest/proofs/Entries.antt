@@ -8,7 +8,6 @@ use Rattle.bforest_nodes.specs.Entries.{IsIncreasing, cut, is_present, place, pu
 use Rattle.std.proofs.Common.{List, None, Some, false, insert, length, remove, suc, true, ◌<◌, ◌∷◌, ◌≡◌, ℕ}
 use Rattle.std.specs.Cmp.{IsTotalOrder}
 use Rattle.std.specs.List.{AllByRecursion}
-use Rattle.std.specs.Map.{keys_of}
 use Rattle.std.specs.Ordering.{is_eq, is_lt}
 use Rattle.std.specs.declared.cmp.Ordering.TheVariants.{Less}
 use Rattle.std.specs.declared.cmp.Ordering.{Ordering}

@@ -6,6 +6,7 @@ pub mod Enough
 pub mod Entries
 pub mod Evens
 pub mod Growing
+pub mod Lengths
 pub mod SetCursors
 pub mod Sets
 pub mod Shrinking
