@@ -280,16 +280,16 @@ module _ {K X C : Type 0} where
       },
     )
 
+    -- what is so of the list that a call left is so of the list of the index
+    on-new : (f' : Forest K X) (h' : Option ℕ) (P : List (K × X) → Type 0) → P (list_of f' h') → P (entries (with_tree m i f' h') i)
+    on-new f' h' P p = subst P (ap (list_of f') (sym (get_or-set_same m.handles i h' None within))) p
+
+    -- each key but k has the value that it had
+    others-new : (f' : Forest K X) (h' : Option ℕ) (k : K) → ((j : K) → is_eq (cmp k j) ≡ false → value_for cmp (list_of f' h') j ≡ value_for cmp (entries m i) j)
+        → (j : K) → is_eq (cmp k j) ≡ false → value_for cmp (entries (with_tree m i f' h') i) j ≡ value_for cmp (entries m i) j
+    others-new f' h' k same j apart = on-new f' h' (λ es. value_for cmp es j ≡ value_for cmp (entries m i) j) (same j apart)
+
     module _ {f' : Forest K X} {h' : Option ℕ} where
-      -- what is so of the list that a call left is so of the list of the index
-      on-new : (P : List (K × X) → Type 0) → P (list_of f' h') → P (entries (with_tree m i f' h') i)
-      on-new P p = subst P (ap (list_of f') (sym (get_or-set_same m.handles i h' None within))) p
-
-      -- each key but k has the value that it had
-      others-new : {k : K} → ((j : K) → is_eq (cmp k j) ≡ false → value_for cmp (list_of f' h') j ≡ value_for cmp (entries m i) j)
-          → (j : K) → is_eq (cmp k j) ≡ false → value_for cmp (entries (with_tree m i f' h') i) j ≡ value_for cmp (entries m i) j
-      others-new {k} same j ne = on-new (λ es. value_for cmp es j ≡ value_for cmp (entries m i) j) (same j ne)
-
       module _ {k : K} {x : X} where
         put-here : (r : Result (Option X) OutOfMemory) → Inserts most cmp (table m) (handle m i) k x r f' h'
             → AreKept most cmp (with_tree m i f' h') × InsertsAt most cmp m i k x r (with_tree m i f' h')
@@ -298,8 +298,8 @@ module _ {K X C : Type 0} where
           record {
             ok = call.ok;
             put = list-here a within call.put;
-            found = on-new (λ es. value_for cmp es k ≡ Some x) call.found;
-            others = others-new call.others;
+            found = on-new f' h' (λ es. value_for cmp es k ≡ Some x) call.found;
+            others = others-new f' h' k call.others;
             increasing = a.increasing i;
             beside = changes a within call.put;
             sizes = ap (sizes_of f') (here a within call.put) ∙ call.sizes;
@@ -319,7 +319,7 @@ module _ {K X C : Type 0} where
             ok = tt;
             put = tt;
             found = tt;
-            others = others-new call.others;
+            others = others-new f' h' k call.others;
             increasing = a.increasing i;
             beside = changes-not m (with_tree m i f' h') i same;
             sizes = tt;
@@ -345,8 +345,8 @@ module _ {K X C : Type 0} where
         record {
           value = call.value;
           cut = list-here a within call.cut;
-          gone = on-new (λ es. value_for cmp es k ≡ None) call.gone;
-          others = others-new call.others;
+          gone = on-new f' h' (λ es. value_for cmp es k ≡ None) call.gone;
+          others = others-new f' h' k call.others;
           increasing = a.increasing i;
           beside = changes a within call.cut;
           sizes = ap (sizes_of f') (here a within call.cut) ∙ call.sizes;
@@ -373,8 +373,8 @@ module _ {K X C : Type 0} where
         record {
           entry = call.entry;
           removed = list-here a within call.removed.removed;
-          gone = λ {order} total up. on-new (λ es. IfSome r (λ e. value_for order es e.0 ≡ None)) (call.gone total up);
-          others = λ {order} total up. on-new (λ es. IfSome r (λ e. (q : K) → is_eq (order e.0 q) ≡ false → value_for order es q ≡ value_for order (entries m i) q)) (call.others total up);
+          gone = λ {order} total up. on-new f' h' (λ es. IfSome r (λ e. value_for order es e.0 ≡ None)) (call.gone total up);
+          others = λ {order} total up. on-new f' h' (λ es. IfSome r (λ e. (q : K) → is_eq (order e.0 q) ≡ false → value_for order es q ≡ value_for order (entries m i) q)) (call.others total up);
           sizes = ap (sizes_of f') (here a within call.removed.removed) ∙ call.removed.sizes;
           beside = changes a within call.removed.removed;
           account = subst (λ q. Gives (node_sizes m i) (sizes_of f' q) (table m) f') (sym (here a within call.removed.removed)) call.removed.account;
@@ -408,8 +408,8 @@ module _ {K X C : Type 0} where
           here.0,
           record {
             value = call.value;
-            found = on-new (λ es. IfOk r (λ v. value_for cmp es k ≡ Some v)) call.found;
-            others = others-new call.others;
+            found = on-new f' h' (λ es. IfOk r (λ v. value_for cmp es k ≡ Some v)) call.found;
+            others = others-new f' h' k call.others;
             present = call.present;
             stays = λ some. absurd (not-some X (subst (λ (q : Option X). IsSome q) is some));
             absent = λ none. here.1;
@@ -428,8 +428,8 @@ module _ {K X C : Type 0} where
               subst (AreKept most cmp) (sym same) a,
               record {
                 value = call.value;
-                found = on-new (λ es. IfOk r (λ v. value_for cmp es k ≡ Some v)) call.found;
-                others = others-new call.others;
+                found = on-new f' h' (λ es. IfOk r (λ v. value_for cmp es k ≡ Some v)) call.found;
+                others = others-new f' h' k call.others;
                 present = call.present;
                 stays = λ there. same;
                 absent = λ none. absurd (none-some y (sym none ∙ is));
@@ -451,7 +451,7 @@ module _ {K X C : Type 0} where
             called = tt;
             put = tt;
             found = tt;
-            others = others-new call.others;
+            others = others-new f' h' k call.others;
             sizes = ap (λ z. node_sizes z i) same;
             slots = call.slots;
             free = call.free;
@@ -465,8 +465,8 @@ module _ {K X C : Type 0} where
           record {
             called = call.called;
             put = list-here a within call.put;
-            found = on-new (λ es. value_for cmp es k ≡ Some w) call.found;
-            others = others-new call.others;
+            found = on-new f' h' (λ es. value_for cmp es k ≡ Some w) call.found;
+            others = others-new f' h' k call.others;
             sizes = ap (sizes_of f') (here a within call.put) ∙ call.sizes;
             slots = call.slots;
             free = call.free;
@@ -492,8 +492,8 @@ module _ {K X C : Type 0} where
               updated = λ some. absurd (not-some X (subst (λ (o : Option X). IsSome o) is some));
               absent = λ none. here.1;
               value = call.value;
-              found = on-new (λ es. IfOk r (λ w. value_for cmp es k ≡ Some w)) call.found;
-              others = others-new call.others;
+              found = on-new f' h' (λ es. IfOk r (λ w. value_for cmp es k ≡ Some w)) call.found;
+              others = others-new f' h' k call.others;
               room = λ lists most_entries stays room. inserted-ok r (here.1.room lists most_entries stays room);
               never_full = λ lists most_entries stays room full. here.1.never_full lists most_entries stays room (ap as_inserted full);
             },
