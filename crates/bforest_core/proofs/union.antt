@@ -16,6 +16,7 @@ pub mod Sweep
 pub mod Renaming
 pub mod Copying
 pub mod Counting
+pub mod Summing
 pub mod Duplicating
 pub mod Joining
 pub mod Needs

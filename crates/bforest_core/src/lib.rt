@@ -9,6 +9,7 @@
 mod access;
 mod build;
 mod copy;
+mod count;
 mod leaf;
 mod path;
 mod pool;
