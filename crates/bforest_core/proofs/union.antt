@@ -21,3 +21,4 @@ pub mod Duplicating
 pub mod Joining
 pub mod Needs
 pub mod Building
+pub mod Filling
