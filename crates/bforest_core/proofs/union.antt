@@ -16,7 +16,9 @@ pub mod Sweep
 pub mod Renaming
 pub mod Copying
 pub mod Counting
+pub mod Summing
 pub mod Duplicating
 pub mod Joining
 pub mod Needs
 pub mod Building
+pub mod Filling

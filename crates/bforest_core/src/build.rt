@@ -4,12 +4,13 @@ ghost use Rattle.bforest_nodes.specs.Content.{IsLeafCapacity};
 ghost use Rattle.bforest_core.specs.Change.{PlantsTree, node_count};
 ghost use Rattle.bforest_core.specs.Packed.{ArePacked, Built, IsPlan, fewest, need_of, width};
 ghost use Rattle.bforest_core.specs.Trees.{IsUnion};
-ghost use Rattle.bforest_core.specs.Place.{Distinct};
-ghost use Rattle.bforest_core.specs.Table.{NeedsGrowth, free_count, room};
+ghost use Rattle.bforest_core.specs.Place.{Distinct, leaf_content};
+ghost use Rattle.bforest_core.specs.Table.{IsUsed, NeedsGrowth, free_count, front_of, room, with_front};
 
 use crate::access::put_child;
 use crate::pool::{NodePool, OutOfMemory};
-use bforest_nodes::Node;
+use crate::source::Source;
+use bforest_nodes::{Node, NodeData};
 
 /// The most children of an inner node.
 const INNER_SIZE: usize = 8;
@@ -31,24 +32,25 @@ impl<K: Copy, V: Copy, const N: usize> NodePool<K, V, N> {
     /// # Errors
     ///
     /// The errors of `reserve` of that many nodes. After either the pool is as before.
-    pub fn build_tree(&mut self, entries: &[(K, V)]) -> Result<Node, OutOfMemory>
+    pub fn build_tree<S: Source<K, V>>(&mut self, entries: S) -> Result<Node, OutOfMemory>
         requires union { IsUnion N self.old }
-        requires some { 0 < length entries.now }
+        requires some { 0 < length (S.list entries) }
         ensures planted { IfOk result (λ root. (sizes : List (List ℕ)) × ArePacked N sizes
-            × (node_count sizes ≡ fewest N (length entries.now))
-            × PlantsTree N self.old self.new root entries.now sizes) }
+            × (node_count sizes ≡ fewest N (length (S.list entries)))
+            × PlantsTree N self.old self.new root (S.list entries) sizes) }
         ensures err { OnErr result (self.new ≡ self.old) }
         ensures full { (result ≡ Err OutOfMemory.Full)
-            ↔ (room self.old < fewest N (length entries.now)) }
+            ↔ (room self.old < fewest N (length (S.list entries))) }
         ensures memory { result ≡ Err OutOfMemory.Memory
-            → NeedsGrowth (fewest N (length entries.now)) self.old }
-        ensures enough { fewest N (length entries.now) ≤ free_count self.old → IsOk result }
+            → NeedsGrowth (fewest N (length (S.list entries))) self.old }
+        ensures enough { fewest N (length (S.list entries)) ≤ free_count self.old → IsOk result }
     {
         let room = (self.free() + (self.limit() - self.slots())) as usize;
-        if entries.len() > room * N {
+        let len = entries.len();
+        if len > room * N {
             return Err(OutOfMemory::Full);
         }
-        let plan = plan_for(entries.len(), N);
+        let plan = plan_for(len, N);
         if plan.nodes > room {
             return Err(OutOfMemory::Full);
         }
@@ -57,28 +59,27 @@ impl<K: Copy, V: Copy, const N: usize> NodePool<K, V, N> {
     }
 
     // Makes a node of these entries, and everything below it; `level` levels are below it, with room for so many entries.
-    fn build_below(&mut self, entries: &[(K, V)], level: usize, room: usize) -> Node
+    fn build_below<S: Source<K, V>>(&mut self, entries: S, level: usize, room: usize) -> Node
         requires capacity { IsLeafCapacity N }
-        requires some { 0 < length entries.now }
-        requires within { length entries.now ≤ room }
+        requires some { 0 < length (S.list entries) }
+        requires within { length (S.list entries) ≤ room }
         requires room { room ≡ width N level }
         requires small { room < 2 ^ 60 }
-        requires free { need_of N level (length entries.now) ≤ free_count self.old }
+        requires free { need_of N level (length (S.list entries)) ≤ free_count self.old }
         requires apart { Distinct self.old.chain }
-        ensures { Built N self.old self.new entries.now level result }
+        ensures { Built N self.old self.new (S.list entries) level result }
     {
         if level == 0 {
             return self.build_leaf(entries);
         }
         let part = room / INNER_SIZE;
-        let head = front(entries, part);
+        let head = entries.part(0, part);
         let first = self.build_below(head, level - 1, part);
         let node = self.build_over(first_key(entries), first);
         let mut done = part;
         let mut index = 0;
         while done < entries.len() {
-            let rest = &entries[done..];
-            let next = front(rest, part);
+            let next = entries.part(done, part);
             let child = self.build_below(next, level - 1, part);
             let key = first_key(next);
             put_child(self, node, index, key, child);
@@ -86,6 +87,20 @@ impl<K: Copy, V: Copy, const N: usize> NodePool<K, V, N> {
             index += 1;
         }
         node
+    }
+
+    // Makes the front of the free list a leaf of these entries, and returns its number. Takes no memory.
+    fn build_leaf<S: Source<K, V>>(&mut self, entries: S) -> Node
+        requires some { 0 < length (S.list entries) }
+        requires few { length (S.list entries) ≤ N }
+        requires room { 0 < free_count self.old }
+        ensures node { front_of self.old.chain ≡ Some result }
+        ensures table { self.new ≡ with_front self.old self.old.chain (leaf_content (S.list entries)) }
+        ensures used { IsUsed self.new result }
+    {
+        let leaf = self.take_slot();
+        fill(self.node_mut(leaf), entries);
+        leaf
     }
 }
 
@@ -108,20 +123,25 @@ fn plan_for(entries: usize, capacity: usize) -> Plan
 }
 
 // The key of the first entry.
-fn first_key<K: Copy, V: Copy>(entries: &[(K, V)]) -> K
-    requires { 0 < length entries.now }
-    ensures { (entry : K × V) → slice_get entries.now 0 ≡ Some entry → result ≡ entry.0 }
+#[inline(always)]
+fn first_key<K: Copy, V: Copy, S: Source<K, V>>(entries: S) -> K
+    requires { 0 < length (S.list entries) }
+    ensures { (entry : K × V) → slice_get (S.list entries) 0 ≡ Some entry → result ≡ entry.0 }
 {
-    entries[0].0
+    entries.entry(0).0
 }
 
-// The first `most` elements, or all.
-fn front<T>(items: &[T], most: usize) -> &[T]
-    ensures { result.now ≡ take most items.now }
+// Makes a slot a leaf of these entries, whatever it held.
+#[inline(always)]
+fn fill<K: Copy, V: Copy, const N: usize, S: Source<K, V>>(node: &mut NodeData<K, V, N>, entries: S)
+    requires some { 0 < length (S.list entries) }
+    requires few { length (S.list entries) ≤ N }
+    ensures node { node.new ≡ leaf_content (S.list entries) }
 {
-    if most < items.len() {
-        &items[..most]
-    } else {
-        items
+    let (key, value) = entries.entry(0);
+    node.leaf(key, value);
+    for index in 1..entries.len() {
+        let (key, value) = entries.entry(index);
+        node.try_leaf_insert(index, key, value);
     }
 }

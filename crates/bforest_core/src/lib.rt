@@ -9,9 +9,11 @@
 mod access;
 mod build;
 mod copy;
+mod count;
 mod leaf;
 mod path;
 mod pool;
+mod source;
 mod spot;
 mod trees;
 mod value;
@@ -19,4 +21,5 @@ mod value;
 pub use bforest_nodes::{Comparator, Node, NodeData, PackedNode, Removed, SetValue, SplitOff};
 pub use path::{Path, Way};
 pub use pool::{NodePool, OutOfMemory};
+pub use source::Source;
 pub use spot::Spot;

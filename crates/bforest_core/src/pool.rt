@@ -3,7 +3,6 @@ ghost use Rattle.std.specs.Prelude.{◌≡◌, ◌≢◌, ℕ, ◌*◌, ◌+◌,
 ghost use Rattle.std.specs.Borrow.{sem, LendsBoth, Array};
 ghost use Rattle.bforest_nodes.specs.Content.{Content, Inner, Leaf, IsLeafCapacity, children_of};
 ghost use Rattle.bforest_core.specs.Change.{AllocatesLeaf, KeepsTrees};
-ghost use Rattle.bforest_core.specs.Place.{leaf_content};
 ghost use Rattle.bforest_core.specs.Trees.{IsUnion};
 ghost use Rattle.bforest_core.specs.Table.{slot_count, free_count, room, GrowsFor, NeedsGrowth, IsUsed, IsTable, reserved, without_front, with_front, with_freed, fresh_nodes, front_of, front_of_new, IsFullAt, IsSplitAt, IsUnderflowedAt, IsBalancedAt, IsEntryAt, value_at};
 
@@ -242,20 +241,6 @@ impl<K: Copy, V: Copy, const N: usize> NodePool<K, V, N> {
         copy
     }
 
-    // Makes the front of the free list a leaf of these entries, and returns its number. Takes no memory.
-    pub(crate) fn build_leaf(&mut self, entries: &[(K, V)]) -> Node
-        requires some { 0 < length entries.now }
-        requires few { length entries.now ≤ N }
-        requires room { 0 < free_count self.old }
-        ensures node { front_of self.old.chain ≡ Some result }
-        ensures table { self.new ≡ with_front self.old self.old.chain (leaf_content entries.now) }
-        ensures used { IsUsed self.new result }
-    {
-        let leaf = self.take_slot();
-        self.node_mut(leaf).leaf_of(entries);
-        leaf
-    }
-
     // Makes the front of the free list an inner node of one child, and returns its number. The key fills room that does not count. Takes no
     // memory.
     pub(crate) fn build_over(&mut self, key: K, child: Node) -> Node
@@ -318,7 +303,7 @@ impl<K: Copy, V: Copy, const N: usize> NodePool<K, V, N> {
     }
 
     // Takes the front off the free list: a used slot from then on, which the caller fills.
-    fn take_slot(&mut self) -> Node
+    pub(crate) fn take_slot(&mut self) -> Node
         requires room { 0 < free_count self.old }
         ensures node { front_of self.old.chain ≡ Some result }
         ensures table { self.new ≡ without_front self.old self.old.chain }

@@ -28,7 +28,7 @@ module _ {X : Type 0} where
   first-taken (suc n) [] e = absurd cc
   first-taken (suc n) (x ∷ xs) e = e
 
-  insert-last : (xs : List X) (i : ℕ) (x : X) → i ≡ length xs → insert xs i x ≡ xs ++ x ∷ []
+  pub insert-last : (xs : List X) (i : ℕ) (x : X) → i ≡ length xs → insert xs i x ≡ xs ++ x ∷ []
   insert-last xs i x is = cc (take_all i xs (omega (arith, is)), drop_all i xs (omega (arith, is)))
 
   -- how many elements a part has
@@ -60,10 +60,6 @@ module _ {X : Type 0} (most : ℕ) (one : 0 < most) (entries : List X) {level ro
             omega (arith, top, l, need-next most one w.low (room / 8) (length entries - room / 8) w.part_is, ap (λ z. need_of most w.low z) e, ap (λ z. need_of most w.low z) (p.1 (omega (arith, more)))))
         | inr all ↦ omega (arith, top, l, ap (λ z. need_of most w.low z) (p.0 all))
       ]
-
--- a part of the rest of a slice
-pub next-is : {X : Type 0} (most done : ℕ) (xs : List X) → take most (take (length xs - done) (drop done xs)) ≡ take most (drop done xs)
-next-is most done xs = ap (take most) (take_all (length xs - done) (drop done xs) (omega (arith, length-drop done xs)))
 
 pub part-within : {X : Type 0} (most : ℕ) (xs : List X) → length (take most xs) ≤ most
 part-within most xs = let p = part-length most xs in elim (cases_lt most (length xs)) [ inl more ↦ omega (arith, p.1 (omega (arith, more))) | inr all ↦ omega (arith, p.0 all, all) ]

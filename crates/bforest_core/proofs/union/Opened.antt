@@ -1,7 +1,7 @@
 -- A stack of rows, cut in two between two nodes of its top level, and the node on top of it, opened: its content, and what is below its children.
 use Rattle.bforest_core.proofs.Words.{◌≡◌, ℕ, ◌+◌, ◌≤◌, List, [], ◌∷◌, ◌++◌, length, refl, ap, arith, Heads, Row, Rows, flat_map, Content, node, flat, heads}
 use Rattle.bforest_core.proofs.Words.{numbers, FitRow, half_of, RowsIn, leaf_content, count, StackedTo, Under, numbers_under, suc, ◌<◌, reverse, slice_get}
-use Rattle.bforest_core.proofs.Words.{Some, append-nil, sym, subst, inl, inr, flat_map-append, Inner, Leaf, Free, IsInner, children_of, entry_count}
+use Rattle.bforest_core.proofs.Words.{IsLeaf, length-append, length-map, Some, append-nil, sym, subst, inl, inr, flat_map-append, Inner, Leaf, Free, IsInner, children_of, entry_count}
 use Rattle.bforest_core.proofs.{Words.{inner_content, entry_items, numbers_down, nil_from_length, IsLeafCapacity}, rows.LevelRows.flat-append}
 use Rattle.bforest_core.proofs.{rows.LevelRows.{numbers-append, least-pos, some_leaf}, table.Read.slot-is, table.Tables.{count-append, row-split}}
 use Rattle.bforest_core.proofs.{walks.Downward.HeadNode, walks.RowNodes.no_heads, walks.TopNode.{LeafUnder, InnerUnder, node_over, node_under}}
@@ -71,6 +71,7 @@ module _ {K V : Type 0} (most : ℕ) (slots : List (Content K V)) where
     pub leaves_right : Row K V
     pub lower_left : Rows K
     pub lower_right : Rows K
+    pub leaves_are : leaves ≡ leaves_left ++ leaves_right
     pub left : Under most slots leaves_left lower_left a
     pub right : Under most slots leaves_right lower_right b
     pub left_height : length lower_left ≡ length lower
@@ -86,6 +87,7 @@ module _ {K V : Type 0} (most : ℕ) (slots : List (Content K V)) where
         leaves_right = c.right;
         lower_left = r.left;
         lower_right = r.right;
+        leaves_are = c.row_is;
         left = record { leaves_fit = fits.0; leaves_in = ins.0; stacked = rw c.left_is r.left_stacked; rows_in = r.left_in };
         right = record { leaves_fit = fits.1; leaves_in = ins.1; stacked = rw c.right_is r.right_stacked; rows_in = r.right_in };
         left_height = r.left_height;
@@ -113,6 +115,8 @@ module _ {K V : Type 0} where
     pub slot_is : slice_get slots number ≡ Some content
     pub children_are : children_of content ≡ entry_items top
     pub under : Under most slots low rows top
+    pub leaf : length top ≡ 0 → (length lower ≡ 0) × IsLeaf content × (entry_count content ≡ length (flat leaves))
+    pub whole : 0 < length top → low ≡ leaves
     pub counted : (m : ℕ) → count m (numbers_under leaves lower) ≡ count m (numbers_under low rows) + count m (number ∷ [])
     pub height : 0 < length top → suc (length rows) ≡ length lower
     pub down : numbers_down slots (length lower) number ≡ number ∷ flat_map (numbers_down slots (length rows)) (reverse (entry_items top))
@@ -128,6 +132,8 @@ module _ {K V : Type 0} where
           slot_is = s.slot_is;
           children_are = refl;
           under = record { leaves_fit = tt; leaves_in = tt; stacked = refl; rows_in = tt };
+          leaf = λ none. (ap length s.lower_is, tt, omega (arith, ap (λ z. length (flat z)) row, length-append (s.e ∷ s.es) [], length-map (s.e ∷ s.es) (λ (e : K × V). e.0)));
+          whole = λ some. absurd (omega arith);
           counted = λ m. omega (arith, count-append, ap (λ z. count m (numbers z)) row, ap (λ z. count m (flat_map numbers z)) s.lower_is);
           height = λ some. absurd (omega arith);
           down = cc;
@@ -143,6 +149,8 @@ module _ {K V : Type 0} where
           slot_is = s.slot_is;
           children_are = refl;
           under = subst (Under most slots leaves s.rows) (cc (append-nil es)) s.under;
+          leaf = λ none. absurd (omega arith);
+          whole = λ some. refl;
           counted = λ m. omega (arith, ap (λ z. count m (flat_map numbers z)) s.lower_is, ap (count m) (flat_map-append numbers s.rows (s.row ∷ [])), ap (count m) (append-nil (numbers s.row)), ap (λ z. count m (numbers z)) row, count-append);
           height = λ some. sym s.count_is;
           down = cc (slot-is _ _ s.slot_is);

@@ -6,7 +6,7 @@ node_mut-requires g c = (search rules, (search rules, c.take_slot-leaf.ensures.u
 
 pub returns : goal.returns
 returns g c = record {
-  table = taken_is _ c.take_slot-leaf.ensures.node c.take_slot-leaf.ensures.table c.leaf_of.ensures.node;
+  table = taken_is _ c.take_slot-leaf.ensures.node c.take_slot-leaf.ensures.table c.fill.ensures.node;
   used = used_written _ _ _ c.take_slot-leaf.ensures.used;
   node = search rules;
 }
