@@ -1,5 +1,5 @@
 //! Handles of sets.
-ghost use Rattle.bforest_nodes.specs.Entries.{IsIncreasing, is_present, place};
+ghost use Rattle.bforest_nodes.specs.Entries.{IsIncreasing, is_present, place, value_for};
 ghost use Rattle.bforest.specs.Bounds.{entries_between, entry_at_least, entry_at_most};
 ghost use Rattle.bforest.specs.Calls.{Clears, Clones, Filters, Inserts, Pops, Removes, Shifts};
 ghost use Rattle.bforest.specs.Forest.{Forest, IsLive, IsSearchable, first_level, list_of, sizes_of};
@@ -10,7 +10,7 @@ ghost use Rattle.bforest.specs.Set.{AnswersKey, MayAskKey, as_popped, as_put, as
 ghost use Rattle.bforest.specs.SetCursor.{IsCursor, comparator, forest_loan, forest_now, set_loan, set_now, spot};
 ghost use Rattle.std.specs.Map.{keys_of};
 ghost use Rattle.std.specs.declared.cmp.Ordering.{Ordering};
-ghost use Rattle.std.specs.Prelude.{IsTrue, None, [], length, reverse, option_map, slice_get, ◌*◌, ◌+◌, ◌-◌, ◌/◌, ◌<◌, ◌^◌, ◌≡◌, ◌≤◌, ◌↔◌};
+ghost use Rattle.std.specs.Prelude.{IsTrue, None, [], is_some, length, reverse, option_map, slice_get, ◌*◌, ◌+◌, ◌-◌, ◌/◌, ◌<◌, ◌^◌, ◌≡◌, ◌≤◌, ◌↔◌};
 
 use crate::asked_key::AskedKey;
 use crate::entry::key_of;
@@ -98,6 +98,7 @@ impl<K: Copy> Set<K> {
     pub fn contains<C: Comparator<K>>(&self, key: K, forest: &SetForest<K>, comp: &C) -> bool
         requires { IsSearchable (C.order comp.now) forest.now self.now }
         ensures present { result ≡ is_present (C.order comp.now) (list_of forest.now self.now) key }
+        ensures value { result ≡ is_some (value_for (C.order comp.now) (list_of forest.now self.now) key) }
     {
         forest.trees.get(self.root, key, comp).is_some()
     }

@@ -1,7 +1,7 @@
 //! Sets by an index.
 ghost use Rattle.bforest.specs.Bounds.{entries_between, entry_at_least, entry_at_most};
 ghost use Rattle.bforest.specs.Calls.{Reserves};
-ghost use Rattle.bforest.specs.Entries.{is_present};
+ghost use Rattle.bforest.specs.Entries.{is_present, value_for};
 ghost use Rattle.bforest.specs.Forest.{IsFitFor, empty, first_level, free_of, limit_of, slots_of};
 ghost use Rattle.bforest.specs.Memory.{SetsFitInMemory};
 ghost use Rattle.bforest.specs.Retain.{MayAskEach};
@@ -11,7 +11,7 @@ ghost use Rattle.bforest_indexed.specs.Indexed.{ClearsAll, ClearsAt, CopiesAt, F
 ghost use Rattle.bforest.specs.declared.set_forest.TheConstants.{SET_LEAF};
 ghost use Rattle.bforest_indexed.specs.Indexed.{comparator, count, entries, keys, memory, node_sizes, nodes_in_use, table};
 ghost use Rattle.std.specs.Map.{keys_of};
-ghost use Rattle.std.specs.Prelude.{IfOk, IsOk, IsTrue, OnErr, OnOk, length, option_map, slice_get, ◌*◌, ◌+◌, ◌-◌, ◌/◌, ◌<◌, ◌^◌, ◌↔◌, ◌≡◌, ◌≤◌, ℕ};
+ghost use Rattle.std.specs.Prelude.{IfOk, IsOk, IsTrue, OnErr, OnOk, is_some, length, option_map, slice_get, ◌*◌, ◌+◌, ◌-◌, ◌/◌, ◌<◌, ◌^◌, ◌↔◌, ◌≡◌, ◌≤◌, ℕ};
 
 use crate::handles::{add_empty, empty_all, hold};
 use crate::room::{reserve_handles, slots_for};
@@ -154,6 +154,8 @@ impl<K: Copy, C: Comparator<K>> Sets<K, C> {
     pub fn contains(&self, index: usize, key: K) -> bool
         requires within { index < count self.now }
         ensures present { result ≡ is_present (C.order (comparator self.now)) (entries self.now index) key }
+        ensures value { result
+            ≡ is_some (value_for (C.order (comparator self.now)) (entries self.now index) key) }
     {
         self.sets[index].contains(key, &self.forest, &self.order)
     }
