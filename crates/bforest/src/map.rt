@@ -398,6 +398,14 @@ impl<K: Copy, V: Copy> Map<K, V> {
         forest.trees.shift(self.root, from, change, comp);
     }
 
+    /// Returns how many entries the map has. Reads each inner node, and of each leaf how many it has: no entry is read and no key compared.
+    pub fn len(&self, forest: &MapForest<K, V>) -> usize
+        requires live { IsLive forest.now self.now }
+        ensures count { result ≡ length (list_of forest.now self.now) }
+    {
+        forest.trees.len(self.root)
+    }
+
     /// Returns the height of the map's tree, in levels of nodes: 0 where it is empty, and never more than 17. Visits one node of each
     /// level.
     ///

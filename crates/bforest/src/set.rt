@@ -1,12 +1,12 @@
 //! Handles of sets.
 ghost use Rattle.bforest_nodes.specs.Entries.{IsIncreasing, is_present, place, value_for};
 ghost use Rattle.bforest.specs.Bounds.{entries_between, entry_at_least, entry_at_most};
-ghost use Rattle.bforest.specs.Calls.{Clears, Clones, Filters, Inserts, Pops, Removes, Shifts};
+ghost use Rattle.bforest.specs.Calls.{Clears, Clones, Filters, Inserts, Loads, Pops, Removes, Shifts};
 ghost use Rattle.bforest.specs.Forest.{Forest, IsLive, IsSearchable, first_level, list_of, sizes_of};
 ghost use Rattle.bforest.specs.Memory.{SetsFitInMemory};
 ghost use Rattle.bforest.specs.Retain.{MayAskEach};
 ghost use Rattle.bforest.specs.Room.{IsEnoughFor, IsMetBy};
-ghost use Rattle.bforest.specs.Set.{AnswersKey, MayAskKey, as_popped, as_put, as_removed, elements, the_value};
+ghost use Rattle.bforest.specs.Set.{AnswersKey, MayAskKey, as_popped, as_put, as_removed, elements, the_value, with_unit};
 ghost use Rattle.bforest.specs.SetCursor.{IsCursor, comparator, forest_loan, forest_now, set_loan, set_now, spot};
 ghost use Rattle.std.specs.Map.{keys_of};
 ghost use Rattle.std.specs.declared.cmp.Ordering.{Ordering};
@@ -259,6 +259,27 @@ impl<K: Copy> Set<K> {
         })
     }
 
+    /// Returns a set of these keys, in this order, in a tree with the fewest nodes that so many keys can have: all nodes of a level are full
+    /// but the last.
+    ///
+    /// Takes exactly these nodes, none for no key, and makes sure of them before it writes the first. Writes each key once. No comparison.
+    ///
+    /// The keys have to increase under the order that later calls are given. This is not tested: [`Set::increases`] tells.
+    ///
+    /// # Errors
+    ///
+    /// [`OutOfMemory::Full`] where the forest's limit does not allow so many nodes. [`OutOfMemory::Memory`] where the table had to grow and
+    /// there was no memory for it. The forest is unchanged then.
+    pub fn load(keys: &[K], forest: &mut SetForest<K>) -> Result<Self, OutOfMemory>
+        ensures { Loads SET_LEAF forest.old (with_unit keys.now) result forest.new }
+    {
+        let tree = forest.trees.load(keys)?;
+        Ok(Set {
+            root: tree,
+            mark: PhantomData,
+        })
+    }
+
     /// Keeps the keys for which the predicate returns `true`, and removes all others.
     ///
     /// The predicate is called once for each key, in order. No comparison, no memory. Each removed key may rebalance or merge nodes, as in
@@ -293,6 +314,14 @@ impl<K: Copy> Set<K> {
         ensures handle { self.new ≡ self.old }
     {
         forest.trees.shift(self.root, from, change, comp);
+    }
+
+    /// Returns how many keys the set has. Reads each inner node, and of each leaf how many it has: no key is read and no key compared.
+    pub fn len(&self, forest: &SetForest<K>) -> usize
+        requires live { IsLive forest.now self.now }
+        ensures count { result ≡ length (list_of forest.now self.now) }
+    {
+        forest.trees.len(self.root)
     }
 
     /// Returns the height of the set's tree, in levels of nodes: 0 where it is empty, and never more than 17. Visits one node of each

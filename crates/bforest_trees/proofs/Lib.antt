@@ -38,3 +38,4 @@ pub mod Updating
 pub mod Cloning
 pub mod Shifting
 pub mod Loading
+pub mod Unordered

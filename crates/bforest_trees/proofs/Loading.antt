@@ -8,8 +8,10 @@ use Rattle.bforest_core.proofs.union.Needs.{fewest-least, fewest-none}
 use Rattle.bforest_nodes.specs.Entries.{IsIncreasing}
 use Rattle.bforest_trees.proofs.Changed.{becomes-new, sizes-new, takes}
 use Rattle.bforest_trees.proofs.Cutting.{becomes-same}
+use Rattle.bforest_trees.proofs.Fits.{fit-at}
+use Rattle.bforest_core.specs.Sizes.{IsFitFor}
 use Rattle.bforest_trees.specs.Calls.{Loads}
-use Rattle.bforest_trees.specs.Forest.{Forest, IsTooMany, NeedsGrowth, Takes, free_of}
+use Rattle.bforest_trees.specs.Forest.{Forest, IsTooMany, NeedsGrowth, Takes, free_of, sizes_of}
 use Rattle.std.proofs.Common.{Err, IsOk, List, None, Ok, Result, Some, [], ap, arith, length, refl, subst, sym, ◌∙◌, ◌↔◌, ◌≡◌, ◌≤◌, ◌<◌, ◌∷◌, ℕ}
 use Rattle.std.proofs.lemmas.Bool.{false≢true}
 
@@ -19,6 +21,7 @@ module _ {K X : Type 0} (most : ℕ) (f : Forest K X) where
   loads-none [] is = let none = fewest-none most in record {
     loaded = becomes-same f None tt;
     packed = tt;
+    fit = is;
     nodes = sym none;
     least = λ sizes fit. omega (arith, none);
     increasing = λ order up. up;
@@ -38,6 +41,7 @@ module _ {K X : Type 0} (most : ℕ) (f : Forest K X) where
       let are = sizes-new most f f' root root es sizes p.changes in record {
         loaded = b;
         packed = rw are packed;
+        fit = subst (λ (l : List (K × X)). IsFitFor most (length l) (sizes_of f' (Some root))) b.list (fit-at most f' p.changes.union root);
         nodes = ap node_count are ∙ count;
         least = fewest-least most (length es) one;
         increasing = λ order up. subst (IsIncreasing order) (sym b.list) up;
@@ -55,6 +59,7 @@ module _ {K X : Type 0} (most : ℕ) (f : Forest K X) where
   loads-err one es {refused} full memory enough = record {
     loaded = tt;
     packed = tt;
+    fit = tt;
     nodes = tt;
     least = fewest-least most (length es) one;
     increasing = tt;

@@ -71,6 +71,7 @@ module _ {K X : Type 0} where
   pub record Loads (most : ℕ) (f : Forest K X) (es : List (K × X)) (result : Result (Option ℕ) OutOfMemory) (f' : Forest K X) : Type 0 where
     pub loaded : IfOk result (λ h'. Becomes f None f' h' es)
     pub packed : IfOk result (λ h'. ArePacked most (sizes_of f' h'))
+    pub fit : IfOk result (λ h'. IsFitFor most (length es) (sizes_of f' h'))
     pub nodes : IfOk result (λ h'. nodes_of f' h' ≡ fewest most (length es))
     pub least : (sizes : List (List ℕ)) → IsFitFor most (length es) sizes → fewest most (length es) ≤ node_count sizes
     pub increasing : IfOk result (λ h'. (order : K → K → Ordering) → IsIncreasing order es → IsIncreasing order (list_of f' h'))

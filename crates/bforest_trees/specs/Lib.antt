@@ -8,3 +8,4 @@ pub mod Place
 pub mod Range
 pub mod Retain
 pub mod Shift
+pub mod Order

@@ -5,14 +5,16 @@
 #![tactic(auto)]
 
 mod look;
+mod order;
 mod predicate;
 mod reader;
 mod retain;
 mod shift;
 mod trees;
 
-pub use bforest_core::{Comparator, Node, NodePool, OutOfMemory, PackedNode, Path};
+pub use bforest_core::{Comparator, Node, NodePool, OutOfMemory, PackedNode, Path, Source};
 pub use look::Look;
+pub use order::first_unordered;
 pub use predicate::{Asked, Predicate};
 pub use reader::Reader;
 pub use trees::{Ends, Trees};

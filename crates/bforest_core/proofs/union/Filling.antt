@@ -1,6 +1,6 @@
 -- Filling a leaf with entries, one after another.
 use Rattle.bforest_core.specs.Packed.{with_unit}
-use Rattle.bforest_core.proofs.Words.{◌≡◌, ℕ, zero, suc, ◌+◌, ◌-◌, ◌<◌, ◌≤◌, drop, length-drop, List, [], ◌∷◌, ◌++◌, length, map, take, slice_get, Some, true, refl, sym, ap, subst, ◌∙◌, arith, if◌then◌else◌, IsTrue, ◌↔◌}
+use Rattle.bforest_core.proofs.Words.{◌≡◌, ℕ, zero, suc, ◌-◌, ◌≤◌, drop, length-drop, List, [], ◌∷◌, length, take, slice_get, Some, refl, sym, ap, ◌∙◌, arith}
 use Rattle.bforest_core.proofs.Words.{length-map, length-take-le, map-append, take_all, slice_get_within, last_taken, Content, Leaf, IsLeaf, entry_count, with_entry, entry_keys, entry_items, leaf_content}
 use Rattle.bforest_core.proofs.union.Building.{insert-last}
 

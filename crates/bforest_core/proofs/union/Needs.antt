@@ -1,8 +1,8 @@
 -- The nodes of some entries are those of full parts and of the rest.
-use Rattle.bforest_core.specs.{Change.{node_count}, Levels.{half_of}, Sizes.{IsFitAbove, IsFitFor, IsFitLevel}}
+use Rattle.bforest_core.specs.{Change.{node_count}, Levels.{half_of}, Sizes.{IsFitAbove, IsFitFor, IsFitLevel, least_size}}
 use Rattle.bforest_core.specs.Packed.{IsPlan, fewest, need_of, nodes_over, width}
-use Rattle.std.proofs.Common.{false, nat_lt, true, ap, arith, refl, suc, zero, ◌*◌, ◌+◌, ◌-◌, ◌<◌, ◌≡◌, ◌≤◌, ℕ}
-use Rattle.std.proofs.Math.Nat.{mul-le-mul_right}
+use Rattle.std.proofs.Common.{false, nat_lt, true, ap, arith, refl, subst, suc, sym, zero, ◌*◌, ◌+◌, ◌-◌, ◌<◌, ◌≡◌, ◌≤◌, ℕ}
+use Rattle.std.proofs.Math.Nat.{mul-le-mul_left, mul-le-mul_right}
 use Rattle.std.proofs.lemmas.Grind.{div_ceil_times}
 use Rattle.std.proofs.lemmas.Bool.{cases_lt}
 use Rattle.std.proofs.Common.{inl, inr}
@@ -204,3 +204,62 @@ fewest-least most entries one (leaves ∷ levels) fit = let z = div_ceil_times e
 -- entries that there is room for in leaves are few enough for a plan
 pub plan-few : {most entries room : ℕ} → most ≤ 255 → room ≤ 4294967295 → entries ≤ room * most → entries ≤ 1099511627776
 plan-few {most} {entries} {room} few low within = let b : room * most ≤ 4294967295 * most = mul-le-mul_right most low in omega (arith, b, few, within)
+
+least-low : (half most : ℕ) → 1 ≤ half → half ≤ most → (rest : List ℕ) → least_size half rest ≤ most
+least-low half most one low [] = omega (arith, one, low)
+least-low half most one low (next ∷ rest) = low
+
+-- so many nodes hold n: all but the last are full
+record Level (half most count n : ℕ) : Type 0 where
+  pub sizes : List ℕ
+  pub sum : sum_by (λ (size : ℕ). size) sizes ≡ n
+  pub fit : IsFitLevel half most sizes
+  pub long : length sizes ≡ count
+
+level-of : (half most : ℕ) → 1 ≤ half → half ≤ most → (count n : ℕ) → 0 < n → n ≤ count * most → count * most < n + most → Level half most count n
+level-of half most one low zero n some many less = absurd (omega (arith, some, many))
+level-of half most one low (suc zero) n some many less = record {
+  sizes = n ∷ [];
+  sum = omega (arith, sum_by-cons (λ (size : ℕ). size) n []);
+  fit = (some, omega (arith, many), tt);
+  long = refl;
+}
+level-of half most one low (suc (suc count)) n some many less =
+    let two : suc (suc count) * most ≡ most + (most + count * most) = omega arith in let next : suc count * most ≡ most + count * most = omega arith in
+    let r = level-of half most one low (suc count) (n - most) (omega (arith, less, two)) (omega (arith, many, two, next)) (omega (arith, less, two, next)) in
+    record {
+      sizes = most ∷ r.sizes;
+      sum = omega (arith, sum_by-cons (λ (size : ℕ). size) most r.sizes, r.sum, less, two);
+      fit = (least-low half most one low r.sizes, omega arith, r.fit);
+      long = omega (arith, r.long);
+    }
+
+-- the levels above
+above-of : (left count : ℕ) → 1 ≤ count → count ≤ left → (levels : List (List ℕ)) × IsFitAbove count levels × (node_count levels ≡ nodes_over left count)
+above-of zero count one few = absurd (omega (arith, one, few))
+above-of (suc left) count one few = elim (cases_lt 1 count) [
+  | inl many ↦ (let z = div_ceil_times count 8 (omega arith) in
+      let l = level-of 4 8 (omega arith) (omega arith) (div_ceil count 8) count (omega (arith, one)) z.0 z.1 in
+      let r = above-of left (div_ceil count 8) (omega (arith, z.0, one)) (omega (arith, z.1, many, few)) in
+      (l.sizes ∷ r.0, (omega (arith, many), l.sum, l.fit, subst (λ k. IsFitAbove k r.0) (sym l.long) r.1), omega (arith, nodes-cons l.sizes r.0, l.long, r.2, over-more left count many)))
+  | inr low ↦ ([], omega (arith, one, low), sym (over-one (suc left) count (omega (arith, low))))
+]
+
+-- there are no more nodes than entries
+ceil-low : (k most n : ℕ) → 0 < most → k * most < n + most → k ≤ n
+ceil-low k most n some less = elim (cases_lt n k) [
+  | inl high ↦ absurd (let a : suc n * most ≤ k * most = mul-le-mul_right most high in let b : n * 1 ≤ n * most = mul-le-mul_left n some in let e : suc n * most ≡ most + n * most = omega arith in omega (arith, a, b, e, less))
+  | inr low ↦ omega (arith, low)
+]
+
+half-low : (most : ℕ) → 0 < most → (1 ≤ half_of most) × (half_of most ≤ most)
+half-low most some = (omega (arith, some), omega (arith, some))
+
+-- a fit tree of so many entries has so many nodes
+pub fewest-met : (most entries : ℕ) → 0 < most → (sizes : List (List ℕ)) × IsFitFor most entries sizes × (node_count sizes ≡ fewest most entries)
+fewest-met most zero some = let z = div_ceil_times 0 most some in let none : div_ceil 0 most ≡ 0 = grind (arith, z.1, some) in ([], refl, omega (arith, none))
+fewest-met most (suc n) some = let z = div_ceil_times (suc n) most some in let h = half-low most some in let k = div_ceil (suc n) most in
+    let positive : 1 ≤ k = grind (arith, z.0) in let within : k ≤ suc n = ceil-low k most (suc n) some z.1 in
+    let l = level-of (half_of most) most h.0 h.1 k (suc n) (omega arith) z.0 z.1 in
+    let r = above-of (suc n) k positive within in
+    (l.sizes ∷ r.0, (l.sum, l.fit, subst (λ c. IsFitAbove c r.0) (sym l.long) r.1), omega (arith, nodes-cons l.sizes r.0, l.long, r.2))

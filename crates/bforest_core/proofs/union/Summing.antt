@@ -1,8 +1,8 @@
 -- Counting the entries below a node, child by child.
-use Rattle.bforest_core.proofs.Words.{◌≡◌, ℕ, zero, suc, ◌+◌, ◌*◌, ◌≤◌, ◌<◌, List, [], ◌∷◌, ◌++◌, length, drop, slice_get, Some, refl, subst, sym, ap, ◌∙◌, arith, length-append}
-use Rattle.bforest_core.proofs.Words.{Row, Rows, Heads, Tree, node, flat, numbers, numbers_of, half_of, FitRow, StackedTo, Content, Inner, Leaf, Free, IsFree, IsLeaf, children_of, entry_count, Under, IsLeafCapacity, drop_all, slice_get_within, Table, heads, flat_map}
+use Rattle.bforest_core.proofs.Words.{◌≡◌, ℕ, suc, ◌+◌, ◌*◌, ◌≤◌, ◌<◌, List, [], ◌∷◌, length, drop, slice_get, Some, refl, subst, ap, ◌∙◌, arith, length-append}
+use Rattle.bforest_core.proofs.Words.{Row, Rows, Heads, Tree, node, flat, numbers, half_of, FitRow, StackedTo, Content, Inner, Leaf, Free, IsFree, IsLeaf, children_of, entry_count, Under, IsLeafCapacity, drop_all, slice_get_within, Table, heads, flat_map}
 use Rattle.bforest_core.proofs.{table.Lists.drop-read, rows.LevelRows.{flat-append, some_leaf}, walks.RowNodes.no_heads, union.Unions.Rooted, union.Counting.tree-small}
-use Rattle.bforest_core.proofs.union.{Opened.{Opened, UnderCut, under-cut, under-open}, Sweep.item_at}
+use Rattle.bforest_core.proofs.union.{Opened.{Opened, UnderCut, under-cut}, Sweep.item_at}
 
 -- a row has few entries
 few-flat : {K X : Type 0} (half most : ℕ) (row : Row K X) → FitRow half most row → length (flat row) ≤ most * length (numbers row)

@@ -1,4 +1,4 @@
-use Rattle.bforest_core.proofs.Words.{rules, arith, ◌≡◌, ◌+◌, ◌<◌, suc, subst, ap, ◌∙◌, take, true, leaf_content, with_entry, if◌then◌else◌}
+use Rattle.bforest_core.proofs.Words.{rules, arith, ◌≡◌, ◌+◌, suc, subst, ap, ◌∙◌, take, true, leaf_content, with_entry, if◌then◌else◌}
 use Rattle.bforest_core.proofs.union.Filling.{fill-all, fill-asks, fill-count, fill-first, fill-next}
 use Rattle.bforest_core.proofs.build.fill.Goals as goal
 

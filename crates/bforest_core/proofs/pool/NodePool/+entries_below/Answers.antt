@@ -1,4 +1,4 @@
-use Rattle.bforest_core.proofs.Words.{rules, ◌≡◌, ℕ, ◌+◌, ◌≤◌, length, slice_get, suc, sym, ap, subst, ◌∙◌, arith, length-map}
+use Rattle.bforest_core.proofs.Words.{rules, ◌≡◌, ℕ, ◌+◌, length, slice_get, sym, ap, subst, ◌∙◌, arith, length-map}
 use Rattle.bforest_core.proofs.Words.{slice_get_within, children_of, entry_count, IsInner}
 use Rattle.bforest_core.proofs.union.Summing.{Summing, sum-first, sum-last, sum-next, sum-turn}
 use Rattle.bforest_core.proofs.{union.Opened.{inner-children, under-open}, table.Stored.some_same}

@@ -1,5 +1,4 @@
-use Rattle.bforest_core.proofs.Words.{rules, arith, ◌<◌, ◌≤◌, ◌≡◌, ◌+◌, ◌-◌, sym, subst, ap, length, refl, false≢true, room, NeedsGrowth}
-use Rattle.bforest_core.specs.Packed.{fewest}
+use Rattle.bforest_core.proofs.Words.{rules, arith, ◌<◌, ◌≤◌, ◌≡◌, ◌+◌, ◌-◌, sym, subst, length, refl, false≢true, room, NeedsGrowth}
 use Rattle.bforest_core.proofs.union.{Building.{built-plants}, Forests.{once}, Needs.{fewest-many, plan-few, plan-fewest}}
 use Rattle.bforest_core.proofs.table.{Allocating.{err_iff, err_is}}
 use Rattle.bforest_core.proofs.pool.NodePool.build_tree.Goals as goal

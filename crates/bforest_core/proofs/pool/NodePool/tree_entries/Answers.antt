@@ -1,4 +1,4 @@
-use Rattle.bforest_core.proofs.Words.{rules, ◌≡◌, ℕ, ◌-◌, ◌<◌, ◌≤◌, arith, ap, sym, subst, ◌∙◌, length, length-map, tree_of, slice_get_within, entry_count, IsFree}
+use Rattle.bforest_core.proofs.Words.{rules, ◌≡◌, ℕ, ◌<◌, arith, ap, sym, subst, ◌∙◌, length, length-map, tree_of, slice_get_within, entry_count, IsFree}
 use Rattle.bforest_core.proofs.{union.Opened.under-open, union.Summing.{childless-many, entries-small}, union.Unions.rooted, walks.Standing.{root-level, under-root}, table.Stored.some_same}
 use Rattle.bforest_core.proofs.pool.NodePool.tree_entries.Goals as goal
 
