@@ -33,7 +33,7 @@ LEFT_OUT = ["bforest_indexed/edit.rt"]
 UNUSED = {
     "bforest_indexed/maps.rt": ["edit"],
     "forest_run/main.rt": ["arguments", "main"],
-    "bforest_nodes/node.rt": ["unwrap_leaf_mut"],
+    "bforest_nodes/node.rt": ["leaf_of", "unwrap_leaf_mut"],
     "bforest_nodes/entries.rt": ["parts_mut"],
     "bforest_nodes/row.rt": ["front_mut"],
     "bforest_nodes/lent.rt": ["front_mut"],
@@ -107,6 +107,7 @@ EDITS = {
     "bforest_indexed/room.rt": [
         (r"^use bforest::OutOfMemory;\n", "use alloc::vec::Vec;\nuse bforest::OutOfMemory;\n", 1),
     ],
+    "bforest_indexed/load_error.rt": [(r"(#\[derive\(Clone, Copy, Debug, PartialEq, Eq)(?=\)\]\npub enum LoadError)", r"\1, Hash", 1)],
     "bforest_indexed/maps.rt": [
         *INDEXED,
         (r"^use crate::edit::\{Edit, lend\};\n", "", 1),
@@ -220,13 +221,13 @@ TELLING = ["is_empty", "contains", "get", "get_or_less", "get_or_greater", "firs
 MANY = ["new", "with_node_limit", "len", "slots", "free_slots", "node_limit"]
 SET_TELLING = ["is_empty", "contains", "get_or_less", "levels"]
 MUST_USE = {
-    "bforest/map.rt": ["new", "clone", "cursor", "cursor_mut", *(it for it in TELLING if it != "contains")],
-    "bforest/set.rt": ["new", "clone", "cursor", *(it for it in TELLING if it != "get")],
+    "bforest/map.rt": ["new", "clone", "cursor", "cursor_mut", "len", *(it for it in TELLING if it != "contains")],
+    "bforest/set.rt": ["new", "clone", "cursor", "len", *(it for it in TELLING if it != "get")],
     "bforest/forest.rt": ["slots", "nodes_in_use", "free_slots", "node_limit"],
     "bforest/map_forest.rt": ["new", "with_node_limit", "holds"],
     "bforest/set_forest.rt": ["new", "with_node_limit", "holds"],
-    "bforest_indexed/maps.rt": [*MANY, "cursor", *(it for it in TELLING if it not in ("contains", "increases"))],
-    "bforest_indexed/sets.rt": [*MANY, *SET_TELLING],
+    "bforest_indexed/maps.rt": [*MANY, "cursor", "len_of", *(it for it in TELLING if it not in ("contains", "increases"))],
+    "bforest_indexed/sets.rt": [*MANY, "len_of", *SET_TELLING],
     "bforest/map_cursor.rt": ["is_empty", "entry", "key", "value"],
     "bforest/map_cursor_mut.rt": ["is_empty", "entry", "key", "value"],
     "bforest/set_cursor.rt": ["is_empty", "elem"],

@@ -3,7 +3,7 @@
 use crate::bforest_core::{Node, PackedNode};
 use crate::bforest_trees::Trees;
 use crate::{
-    Comparator, Map, MapCursor, MapCursorMut, MapForest, MapIntoIter, MapIter, MapIterBack, MapRange, Maps, OutOfMemory,
+    Comparator, LoadError, Map, MapCursor, MapCursorMut, MapForest, MapIntoIter, MapIter, MapIterBack, MapRange, Maps, OutOfMemory,
     Set, SetCursor, SetForest, SetIter, SetIterBack, SetRange, Sets,
 };
 use alloc::collections::TryReserveError;
@@ -30,6 +30,17 @@ impl From<TryReserveError> for OutOfMemory {
         OutOfMemory::Memory
     }
 }
+
+impl Display for LoadError {
+    fn fmt(&self, f: &mut Formatter<'_>) -> fmt::Result {
+        match self {
+            LoadError::Unordered(at) => write!(f, "the key at index {at} is not less than the next one"),
+            LoadError::Refused(why) => Display::fmt(why, f),
+        }
+    }
+}
+
+impl Error for LoadError {}
 
 impl<K: Copy, V: Copy> Default for MapForest<K, V> {
     /// Returns an empty forest, as [`MapForest::new`] does.

@@ -1,7 +1,7 @@
 -- What a copy of the list of one index at another leaves of all indices.
 use Rattle.bforest.specs.Calls.{Clears, Clones}
 use Rattle.bforest.specs.Entries.{IsIncreasing}
-use Rattle.bforest.specs.Forest.{Becomes, Forest, IsLive, IsTooMany, NeedsGrowth, free_of, limit_of, list_at, list_of, room_of, sizes_of, slots_of}
+use Rattle.bforest.specs.Forest.{Becomes, Forest, IsLive, Gives, IsTooMany, NeedsGrowth, Takes, free_of, limit_of, list_at, list_of, room_of, sizes_of, slots_of}
 use Rattle.bforest.specs.Refusal.{Full, Memory, OutOfMemory}
 use Rattle.bforest.specs.Room.{Balances, IsEnoughFor, node_count}
 use Rattle.bforest_indexed.proofs.Kept.{changes, changes-not, here, kept-set, list-here, live-read, not-both, ok-err, read, with_tree}
@@ -13,7 +13,7 @@ use Rattle.std.proofs.lemmas.Bool.Decides.{eqb_tells, leb_tells}
 use Rattle.std.proofs.lemmas.Result.{err_from_is_err_and}
 use Rattle.std.specs.declared.cmp.Ordering.{Ordering}
 
-not-less : (a b : ℕ) → ¬ (a < b) → b ≤ a
+pub not-less : (a b : ℕ) → ¬ (a < b) → b ≤ a
 not-less a b never = elim (leb_tells b a) [ inl w ↦ w.1 | inr w ↦ absurd (never w.1) ]
 
 some-none : (n : ℕ) → Some n ≢ None
@@ -33,7 +33,7 @@ module _ {K X : Type 0} where
 
   module _ {f g k : Forest K X} {h : Option ℕ} {es : List (K × X)} (live : IsLive f h) (b : Becomes g h k None []) where
     -- a tree was added under a number, and then that of h ended
-    becomes-replaced : (c : Option ℕ) → Becomes f None g c es → Becomes f h k c es
+    pub becomes-replaced : (c : Option ℕ) → Becomes f None g c es → Becomes f h k c es
     becomes-replaced None a = record {
       live = tt;
       list = a.list;
@@ -64,9 +64,37 @@ module _ {K X : Type 0} where
         kept = b.others q apart (some-none q)
 
     -- the sizes of the tree that was added
-    sizes-replaced : (c : Option ℕ) → Becomes f None g c es → sizes_of k c ≡ sizes_of g c
+    pub sizes-replaced : (c : Option ℕ) → Becomes f None g c es → sizes_of k c ≡ sizes_of g c
     sizes-replaced None a = refl
     sizes-replaced (Some q) a = b.others_sizes q (λ e. subst (λ (z : Option ℕ). IsLive f z) (sym e) live (a.fresh (some-none q))) (some-none q)
+
+  -- a tree was added under c
+  module _ {f g : Forest K X} {c : Option ℕ} {es : List (K × X)} (b : Becomes f None g c es) where
+    not-added : (n : ℕ) → IsLive f (Some n) → Some n ≢ c
+    not-added n live e = live (ap (list_of f) e ∙ b.fresh (λ w. some-none n (e ∙ w)))
+
+    -- what was live still is
+    pub lives-on : (h : Option ℕ) → IsLive f h → IsLive g h
+    lives-on None live = tt
+    lives-on (Some n) live = subst (λ l. l ≢ []) (sym (b.others n (some-none n) (not-added n live))) live
+
+    -- the nodes of what was live were not touched
+    pub sizes-stay : (h : Option ℕ) → IsLive f h → sizes_of g h ≡ sizes_of f h
+    sizes-stay None live = refl
+    sizes-stay (Some n) live = b.others_sizes n (some-none n) (not-added n live)
+
+    -- then the tree of h was freed
+    pub takes-gives : {k : Forest K X} (h : Option ℕ) {d : ℕ} → IsLive f h → Takes d f g → Gives (sizes_of g h) [] g k → TakesAndGives d (sizes_of f h) f k
+    takes-gives h live taken given = record {
+      slots = omega (arith, given.slots, taken.slots);
+      free = omega (arith, given.free, taken.free, ap node_count (sizes-stay h live));
+      memory = record {
+        grows = rw given.memory taken.memory.grows;
+        stays = λ low. given.memory ∙ taken.memory.stays low;
+        suffices = λ low. given.memory ∙ taken.memory.suffices low;
+        bounded = rw given.memory taken.memory.bounded;
+      };
+    }
 
 module _ {K X C : Type 0} (m : Indexed K X C) (i j : ℕ) where
   need-other : i ≢ j → copy_need m i j ≡ node_count (node_sizes m i)
@@ -75,22 +103,25 @@ module _ {K X C : Type 0} (m : Indexed K X C) (i j : ℕ) where
   need-same : i ≡ j → copy_need m i j ≡ 0
   need-same e = elim (eqb_tells i j) [ inl w ↦ ap (λ b. if b then 0 else node_count (node_sizes m i)) w.0 | inr w ↦ absurd (w.1 e) ]
 
-module _ {K X C : Type 0} {most : ℕ} {cmp : K → K → Ordering} {m : Indexed K X C} (a : AreKept most cmp m) (i : ℕ) where
+module _ {K X C : Type 0} {most : ℕ} {cmp : K → K → Ordering} {m : Indexed K X C} (a : AreKept most cmp m) {most_entries : ℕ} (need : ℕ) (few : (nodes : ℕ) → IsEnoughFor most most_entries nodes → need ≤ nodes) where
   -- the nodes of all lists, with those of one list more, are few
-  one-more : (lists most_entries nodes bound : ℕ) → IsShortOf lists most_entries m → IsEnoughFor most most_entries nodes → lists * nodes ≤ bound
-      → node_count (node_sizes m i) + nodes_in_use m ≤ bound
-  one-more lists most_entries nodes bound short enough room =
+  one-more : (lists nodes bound : ℕ) → IsShortOf lists most_entries m → IsEnoughFor most most_entries nodes → lists * nodes ≤ bound → need + nodes_in_use m ≤ bound
+  one-more lists nodes bound short enough room =
       let each : (q : ℕ) → node_count (node_sizes m q) ≤ nodes = λ q. enough (length (entries m q)) (node_sizes m q) (short.each q) (a.fit q) in
       let all = sum-few (λ (h : Option ℕ). node_count (sizes_of (table m) h)) None nodes m.handles each in
       let more : suc (count m) * nodes ≡ nodes + count m * nodes = omega arith in
       let fewer : suc (count m) ≤ lists = omega (arith, short.fewer) in
-      omega (arith, each i, all, more, mul-le-mul_left nodes fewer, room)
+      omega (arith, few nodes enough, all, more, mul-le-mul_left nodes fewer, room)
 
-  room-more : (lists most_entries : ℕ) → IsShortOf lists most_entries m → HasRoom most lists most_entries (table m) → node_count (node_sizes m i) ≤ free_of (table m)
-  room-more lists most_entries short room = omega (arith, one-more lists most_entries room.0 (slots_of (table m)) short room.1 room.2, a.account)
+  pub room-more : (lists : ℕ) → IsShortOf lists most_entries m → HasRoom most lists most_entries (table m) → need ≤ free_of (table m)
+  room-more lists short room = omega (arith, one-more lists room.0 (slots_of (table m)) short room.1 room.2, a.account)
 
-  may-more : (lists most_entries : ℕ) → IsShortOf lists most_entries m → MayHave most lists most_entries (table m) → node_count (node_sizes m i) ≤ room_of (table m)
-  may-more lists most_entries short room = omega (arith, one-more lists most_entries room.0 (limit_of (table m)) short room.1 room.2, a.account)
+  pub may-more : (lists : ℕ) → IsShortOf lists most_entries m → MayHave most lists most_entries (table m) → need ≤ room_of (table m)
+  may-more lists short room = omega (arith, one-more lists room.0 (limit_of (table m)) short room.1 room.2, a.account)
+
+-- a list has at most the nodes of such a list
+copy-few : {K X C : Type 0} {most : ℕ} {cmp : K → K → Ordering} {m : Indexed K X C} → AreKept most cmp m → (i : ℕ) {lists most_entries : ℕ} → IsShortOf lists most_entries m → (nodes : ℕ) → IsEnoughFor most most_entries nodes → node_count (node_sizes m i) ≤ nodes
+copy-few {m = m} a i short nodes enough = enough (length (entries m i)) (node_sizes m i) (short.each i) (a.fit i)
 
 module _ {K X C : Type 0} {m : Indexed K X C} {i j : ℕ} where
   -- nothing is copied to where it is
@@ -126,8 +157,8 @@ module _ {K X C : Type 0} {m : Indexed K X C} {i j : ℕ} where
         memory = λ bad. subst (λ d. NeedsGrowth d (table m)) (sym (need-other m i j ne)) (call.memory (let same : e ≡ Memory = cc in ap Err same));
         succeeds = λ enough. (let bad = call.succeeds (subst (λ d. d ≤ free_of (table m)) (need-other m i j ne) enough) in absurd cc);
         refused = refl;
-        room = λ lists most_entries short room. (let bad = call.succeeds (room-more a i lists most_entries short room) in absurd cc);
-        never_full = λ lists most_entries short may is. not-both (call.full.0 (let same : e ≡ Full = cc in ap Err same)) (may-more a i lists most_entries short may);
+        room = λ lists most_entries short room. (let bad = call.succeeds (room-more a (node_count (node_sizes m i)) (copy-few a i short) lists short room) in absurd cc);
+        never_full = λ lists most_entries short may is. not-both (call.full.0 (let same : e ≡ Full = cc in ap Err same)) (may-more a (node_count (node_sizes m i)) (copy-few a i short) lists short may);
       }
 
       module _ (within : j < count m) {g k : Forest K X} {c d : Option ℕ} (call : Clones (table m) (handle m i) (Ok c) g) (gone : Clears g (handle m j) k d) where
@@ -143,25 +174,8 @@ module _ {K X C : Type 0} {m : Indexed K X C} {i j : ℕ} where
         enough-room : node_count (node_sizes m i) ≤ room_of (table m)
         enough-room = not-less _ _ (λ low. ok-err c Full (call.full.1 low))
 
-        -- the nodes of j were not touched by the copy
-        old_sizes : sizes_of g (handle m j) ≡ node_sizes m j
-        old_sizes = by (handle m j) (a.live j)
-          where
-            by : (h : Option ℕ) → IsLive (table m) h → sizes_of g h ≡ sizes_of (table m) h
-            by None live = refl
-            by (Some n) live = call.copied.others_sizes n (some-none n) (λ e. live (ap (list_of (table m)) e ∙ call.copied.fresh (λ w. some-none n (e ∙ w))))
-
         account : TakesAndGives (node_count (node_sizes m i)) (node_sizes m j) (table m) k
-        account = record {
-          slots = omega (arith, gone.account.slots, call.account.slots);
-          free = omega (arith, gone.account.free, call.account.free, ap node_count old_sizes);
-          memory = record {
-            grows = rw gone.account.memory call.account.memory.grows;
-            stays = λ low. gone.account.memory ∙ call.account.memory.stays low;
-            suffices = λ low. gone.account.memory ∙ call.account.memory.suffices low;
-            bounded = rw gone.account.memory call.account.memory.bounded;
-          };
-        }
+        account = takes-gives call.copied (handle m j) (a.live j) call.account gone.account
 
         balance : Balances most (table m) (handle m j) k c
         balance = record {
@@ -203,12 +217,7 @@ module _ {K X C : Type 0} {most : ℕ} {cmp : K → K → Ordering} {m : Indexed
   module _ {q : Option ℕ} (within : j < count m) (was : q ≡ get_or m.handles j q) {g : Forest K X} {c : Option ℕ} (call : Clones (table m) h (Ok c) g) where
     -- the handle that was read at j is live beside the copy
     pub old-live : IsLive g q
-    old-live = by q (live-read a within was)
-      where
-        by : (z : Option ℕ) → IsLive (table m) z → IsLive g z
-        by None live = tt
-        by (Some n) live = let b = call.copied in let other : Some n ≢ c = λ e. live (ap (list_of (table m)) e ∙ b.fresh (λ w. some-none n (e ∙ w))) in
-            subst (λ l. l ≢ []) (sym (b.others n (some-none n) other)) live
+    old-live = lives-on call.copied q (live-read a within was)
 
     pub copied-read : {k : Forest K X} {d : Option ℕ} → Clears g q k d → AreKept most cmp (with_tree m j k c) × CopiesAt most m i j (Ok tt) (with_tree m j k c)
     copied-read {k} {d} gone = copied-at a ne within (cloned call) (subst (λ (z : Option ℕ). Clears g z k d) (read a within was) gone)

@@ -1,3 +1,4 @@
 pub mod Edits
 pub mod Handles
 pub mod Indexed
+pub mod Loads

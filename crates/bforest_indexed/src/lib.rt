@@ -6,11 +6,13 @@
 
 mod edit;
 mod handles;
+mod load_error;
 mod maps;
 mod room;
 mod sets;
 
 pub use bforest::{Comparator, OutOfMemory};
 pub use edit::Edit;
+pub use load_error::LoadError;
 pub use maps::Maps;
 pub use sets::Sets;

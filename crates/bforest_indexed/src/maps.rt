@@ -7,6 +7,7 @@ ghost use Rattle.bforest.specs.Memory.{MapsFitInMemory};
 ghost use Rattle.bforest.specs.Retain.{Answers, MayAsk, MayAskEach};
 ghost use Rattle.bforest_indexed.specs.Edits.{EditsAt};
 ghost use Rattle.bforest_indexed.specs.Indexed.{HoldsFor, ReservesFor};
+ghost use Rattle.bforest_indexed.specs.Loads.{LoadsAt};
 ghost use Rattle.bforest_indexed.specs.Indexed.{ClearsAll, ClearsAt, CopiesAt, FiltersAt, GetsOrInsertsAt, InsertsAt, UpdatesAt, UpdatesOrInsertsAt};
 ghost use Rattle.bforest_indexed.specs.Indexed.{KeepsAll, PopsAt, RemovesAt, Swaps};
 ghost use Rattle.bforest.specs.declared.map_forest.TheConstants.{MAP_LEAF};
@@ -15,8 +16,10 @@ ghost use Rattle.std.specs.Prelude.{IfOk, IsOk, IsTrue, OnErr, OnOk, Some, lengt
 
 use crate::edit::{Edit, lend};
 use crate::handles::{add_empty, empty_all, hold};
+use crate::load_error::LoadError;
 use crate::room::{reserve_handles, slots_for};
 use bforest::{Comparator, Map, MapCursor, MapForest, MapIter, MapRange, OutOfMemory};
+use bforest_trees::first_unordered;
 use std::alloc::{AllocError, Global};
 use std::marker::Model;
 use std::mem;
@@ -329,6 +332,33 @@ impl<K: Copy, V: Copy, C: Comparator<K>> Maps<K, V, C> {
         Ok(())
     }
 
+    /// Gives the map at an index these entries, in a tree with the fewest nodes that so many entries can have; its own entries end.
+    ///
+    /// The order is tested first, with one comparison for each key but the first. Then the tree is made, as [`bforest::Map::load`] makes it,
+    /// and only then the nodes that the map had become free. Writes each entry once.
+    ///
+    /// # Errors
+    ///
+    /// [`LoadError::Unordered`] with the index in the slice of the first key that is not less than the next one. [`LoadError::Refused`] where
+    /// too few nodes are available. It does not come where there is room for one more map, by [`Maps::reserve_for`]. Nothing has changed
+    /// then.
+    pub fn load(&mut self, index: usize, entries: &[(K, V)]) -> Result<(), LoadError>
+        requires within { index < count self.old }
+        ensures { LoadsAt MAP_LEAF (C.order (comparator self.old)) self.old index entries.now result self.new }
+    {
+        if let Some(place) = first_unordered(entries, &self.order) {
+            return Err(LoadError::Unordered(place));
+        }
+        match Map::load(entries, &mut self.forest) {
+            Ok(loaded) => {
+                let mut before = mem::replace(&mut self.maps[index], loaded);
+                before.clear(&mut self.forest);
+                Ok(())
+            }
+            Err(refused) => Err(LoadError::Refused(refused)),
+        }
+    }
+
     /// Keeps the entries for which the predicate returns `true`, with the value as the predicate left it, and removes all others. It is
     /// called once for each entry, in order. No comparison, no memory.
     pub fn retain<F: FnMut(K, &mut V) -> bool>(&mut self, index: usize, predicate: F)
@@ -337,6 +367,14 @@ impl<K: Copy, V: Copy, C: Comparator<K>> Maps<K, V, C> {
         ensures { FiltersAt MAP_LEAF (Answers F.FnMut) predicate self.old index self.new }
     {
         self.maps[index].retain(&mut self.forest, predicate);
+    }
+
+    /// Returns how many entries a map has, as [`bforest::Map::len`] counts them. The number of maps is [`Maps::len`].
+    pub fn len_of(&self, index: usize) -> usize
+        requires within { index < count self.now }
+        ensures count { result ≡ length (entries self.now index) }
+    {
+        self.maps[index].len(&self.forest)
     }
 
     /// Returns the height of a map's tree, in levels of nodes: 0 where it is empty, and never more than 17. Visits one node of each level.

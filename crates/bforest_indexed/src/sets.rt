@@ -5,8 +5,9 @@ ghost use Rattle.bforest.specs.Entries.{is_present, value_for};
 ghost use Rattle.bforest.specs.Forest.{IsFitFor, empty, first_level, free_of, limit_of, slots_of};
 ghost use Rattle.bforest.specs.Memory.{SetsFitInMemory};
 ghost use Rattle.bforest.specs.Retain.{MayAskEach};
-ghost use Rattle.bforest.specs.Set.{AnswersKey, MayAskKey, as_popped, as_put, as_removed, the_value};
+ghost use Rattle.bforest.specs.Set.{AnswersKey, MayAskKey, as_popped, as_put, as_removed, the_value, with_unit};
 ghost use Rattle.bforest_indexed.specs.Indexed.{HoldsFor, ReservesFor};
+ghost use Rattle.bforest_indexed.specs.Loads.{LoadsAt};
 ghost use Rattle.bforest_indexed.specs.Indexed.{ClearsAll, ClearsAt, CopiesAt, FiltersAt, InsertsAt, KeepsAll, PopsAt, RemovesAt, Swaps};
 ghost use Rattle.bforest.specs.declared.set_forest.TheConstants.{SET_LEAF};
 ghost use Rattle.bforest_indexed.specs.Indexed.{comparator, count, entries, keys, memory, node_sizes, nodes_in_use, table};
@@ -14,8 +15,10 @@ ghost use Rattle.std.specs.Map.{keys_of};
 ghost use Rattle.std.specs.Prelude.{IfOk, IsOk, IsTrue, OnErr, OnOk, is_some, length, option_map, slice_get, ◌*◌, ◌+◌, ◌-◌, ◌/◌, ◌<◌, ◌^◌, ◌↔◌, ◌≡◌, ◌≤◌, ℕ};
 
 use crate::handles::{add_empty, empty_all, hold};
+use crate::load_error::LoadError;
 use crate::room::{reserve_handles, slots_for};
 use bforest::{Comparator, OutOfMemory, Set, SetForest, SetIter, SetRange};
+use bforest_trees::first_unordered;
 use std::alloc::{AllocError, Global};
 use std::marker::Model;
 use std::mem;
@@ -283,6 +286,33 @@ impl<K: Copy, C: Comparator<K>> Sets<K, C> {
         Ok(())
     }
 
+    /// Gives the set at an index these keys, in a tree with the fewest nodes that so many keys can have; its own keys end.
+    ///
+    /// The order is tested first, with one comparison for each key but the first. Then the tree is made, as [`bforest::Set::load`] makes it,
+    /// and only then the nodes that the set had become free. Writes each key once.
+    ///
+    /// # Errors
+    ///
+    /// [`LoadError::Unordered`] with the index in the slice of the first key that is not less than the next one. [`LoadError::Refused`] where
+    /// too few nodes are available. It does not come where there is room for one more set, by [`Sets::reserve_for`]. Nothing has changed
+    /// then.
+    pub fn load(&mut self, index: usize, keys: &[K]) -> Result<(), LoadError>
+        requires within { index < count self.old }
+        ensures { LoadsAt SET_LEAF (C.order (comparator self.old)) self.old index (with_unit keys.now) result self.new }
+    {
+        if let Some(place) = first_unordered(keys, &self.order) {
+            return Err(LoadError::Unordered(place));
+        }
+        match Set::load(keys, &mut self.forest) {
+            Ok(loaded) => {
+                let mut before = mem::replace(&mut self.sets[index], loaded);
+                before.clear(&mut self.forest);
+                Ok(())
+            }
+            Err(refused) => Err(LoadError::Refused(refused)),
+        }
+    }
+
     /// Keeps the keys for which the predicate returns `true`, and removes all others. It is called once for each key, in order. No
     /// comparison, no memory.
     pub fn retain<F: FnMut(K) -> bool>(&mut self, index: usize, predicate: F)
@@ -292,6 +322,14 @@ impl<K: Copy, C: Comparator<K>> Sets<K, C> {
         ensures { FiltersAt SET_LEAF (AnswersKey F.FnMut) predicate self.old index self.new }
     {
         self.sets[index].retain(&mut self.forest, predicate);
+    }
+
+    /// Returns how many keys a set has, as [`bforest::Set::len`] counts them. The number of sets is [`Sets::len`].
+    pub fn len_of(&self, index: usize) -> usize
+        requires within { index < count self.now }
+        ensures count { result ≡ length (entries self.now index) }
+    {
+        self.sets[index].len(&self.forest)
     }
 
     /// Returns the height of a set's tree, in levels of nodes: 0 where it is empty, and never more than 17. Visits one node of each level.

@@ -72,7 +72,7 @@ fn read_map(call: u32, key: u32, map: &Map<u32, u32>, forest: &MapForest<u32, u3
             cursor.goto_first();
         }
         5 => assert!(map.increases(forest, &()) && forest.holds(map) && map.first(forest) <= map.last(forest)),
-        _ => assert!(map.levels(forest) <= 17 && map.is_empty() == (map.levels(forest) == 0)),
+        _ => assert!(map.levels(forest) <= 17 && map.is_empty() == (map.levels(forest) == 0) && map.len(forest) < 1 << 16),
     }
 }
 
@@ -134,7 +134,7 @@ fn call_set(call: u32, key: u32, set: &mut Set<u32>, forest: &mut SetForest<u32>
             assert!(set.first(forest) <= set.last(forest));
         }
         5 => assert!(set.iter(forest).count() == set.range(.., forest, &()).count()),
-        _ => assert!(set.increases(forest, &()) && forest.holds(set) && set.levels(forest) <= 17),
+        _ => assert!(set.increases(forest, &()) && forest.holds(set) && set.levels(forest) <= 17 && set.len(forest) < 1 << 16),
     }
 }
 

@@ -232,6 +232,7 @@ fn maps_are_loaded_as_a_model_is() {
         let before = forest.slots() - forest.free_slots();
         let mut map = Map::load(&list, &mut forest).unwrap();
         assert_eq!((forest.slots(), forest.free_slots()), (before + fewest, 0));
+        assert_eq!(map.len(&forest), entries);
         assert!(map.increases(&forest, &()) && forest.holds(&map) && map.is_empty() == list.is_empty());
         assert!(map.iter_back(&forest).eq(list.iter().rev().copied()));
         let kept: Vec<(u32, u32)> = other.iter(&forest).collect();
@@ -240,6 +241,7 @@ fn maps_are_loaded_as_a_model_is() {
             if call % 8 == 0 {
                 read_in_turn(&mut random, &map, &forest, &model, at + 3);
                 assert!(map.iter(&forest).eq(model.iter().map(|(key, value)| (*key, *value))));
+                assert_eq!(map.len(&forest), model.len());
             }
         }
         assert!(other.iter(&forest).eq(kept));

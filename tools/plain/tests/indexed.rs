@@ -2,7 +2,7 @@
 
 mod random;
 
-use bforest::{Maps, OutOfMemory, Sets};
+use bforest::{LoadError, Maps, OutOfMemory, Sets};
 use random::Random;
 use std::collections::{BTreeMap, BTreeSet};
 use std::panic::{AssertUnwindSafe, catch_unwind};
@@ -26,7 +26,7 @@ fn read(maps: &Maps<u32, u32>, model: &Model, at: usize, key: u32) {
     assert_eq!(maps.get_or_greater(at, key), entry(map.range(key..).next()));
     assert_eq!(maps.first(at), entry(map.first_key_value()));
     assert_eq!(maps.last(at), entry(map.last_key_value()));
-    assert_eq!(maps.levels(at) == 0, map.is_empty());
+    assert_eq!((maps.levels(at) == 0, maps.len_of(at)), (map.is_empty(), map.len()));
     let range = maps.range(at, key / 2..key);
     assert!(range.eq(map.range(key / 2..key).map(|(k, v)| (*k, *v))));
     let mut cursor = maps.cursor(at);
@@ -170,6 +170,7 @@ fn sets_answer_as_a_vector_of_sets() {
                 },
                 _ => assert_eq!(sets.cursor(at).goto_first(), model[at].first().copied()),
             }
+            assert_eq!(sets.len_of(at), model[at].len());
             if step % 4096 == 4095 {
                 assert_eq!(format!("{sets:?}"), format!("{model:?}"));
                 sets.clear_all();
@@ -179,6 +180,66 @@ fn sets_answer_as_a_vector_of_sets() {
         }
         for (at, set) in model.iter().enumerate() {
             assert!(sets.iter(at).eq(set.iter().copied()));
+        }
+    }
+}
+
+/// The fewest nodes of so many entries, of which a leaf holds at most `leaf`: on each level above the leaves a node for each eight, up to one.
+fn fewest_nodes(entries: usize, leaf: usize) -> u32 {
+    let mut level = entries.div_ceil(leaf);
+    let mut nodes = level;
+    while level > 1 {
+        level = level.div_ceil(8);
+        nodes += level;
+    }
+    nodes as u32
+}
+
+/// What a load has to answer: the order is tested first, and then whether the nodes can be had.
+fn loaded(keys: &[u32], leaf: usize, room: u32) -> Result<(), LoadError> {
+    match keys.windows(2).position(|it| it[0] >= it[1]) {
+        Some(at) => Err(LoadError::Unordered(at)),
+        None if fewest_nodes(keys.len(), leaf) > room => Err(LoadError::Refused(OutOfMemory::Full)),
+        None => Ok(()),
+    }
+}
+
+/// Loads of 0 to 400 entries at one of three indices, one in four with two neighbours that do not increase, under four limits.
+#[test]
+fn loads_by_an_index_answer_as_their_entries_say() {
+    let mut random = Random(0x1234_5678_9abc_def1);
+    for limit in [0, 9, 60, 400] {
+        let mut maps: Maps<u32, u32> = Maps::with_node_limit((), limit);
+        let mut sets: Sets<u32> = Sets::with_node_limit((), limit);
+        maps.grow_to(3).unwrap();
+        sets.grow_to(3).unwrap();
+        let mut model: Model = vec![BTreeMap::new(); 3];
+        let mut of_sets = vec![BTreeSet::new(); 3];
+        for turn in 0..1000 {
+            let (at, len) = (random.below(3) as usize, random.below(if turn % 2 == 0 { 20 } else { 401 }));
+            let mut keys: Vec<u32> = (0..len).map(|it| 3 * it + random.below(3)).collect();
+            if len > 1 && random.below(4) == 0 {
+                let place = random.below(len - 1) as usize;
+                keys[place + 1] = keys[place] - random.below(2).min(keys[place]);
+            }
+            let entries: Vec<(u32, u32)> = keys.iter().map(|key| (*key, random.below(1000))).collect();
+            let room = limit - (maps.slots() - maps.free_slots());
+            let answer = maps.load(at, &entries);
+            assert_eq!(answer, loaded(&keys, 7, room));
+            if answer.is_ok() {
+                model[at] = entries.iter().copied().collect();
+            }
+            let room = limit - (sets.slots() - sets.free_slots());
+            let answer = sets.load(at, &keys);
+            assert_eq!(answer, loaded(&keys, 15, room));
+            if answer.is_ok() {
+                of_sets[at] = keys.iter().copied().collect();
+            }
+            for at in 0..3 {
+                assert!(maps.iter(at).eq(model[at].iter().map(|(key, value)| (*key, *value))));
+                assert!(sets.iter(at).eq(of_sets[at].iter().copied()));
+                assert_eq!((maps.len_of(at), sets.len_of(at)), (model[at].len(), of_sets[at].len()));
+            }
         }
     }
 }
@@ -207,6 +268,8 @@ fn an_index_that_is_not_there_panics_and_is_named() {
         panic_of(|| maps.copy(7, 0)),
         panic_of(|| maps.copy(0, 7)),
         panic_of(|| maps.iter(7).count()),
+        panic_of(|| maps.len_of(7)),
+        panic_of(|| maps.load(7, &[(1, 1)])),
         panic_of(|| maps.cursor_mut(7).next()),
     ] {
         assert!(text.contains("the len is 3") && text.contains("the index is 7"), "{text}");

@@ -88,7 +88,7 @@ type NumbersForest = MapForest<u32, u32>;
 type MapCall = Call<Numbers, NumbersForest>;
 type SetCall = Call<Set<u32>, SetForest<u32>>;
 
-const OF_MAPS: [(&str, MapCall); 27] = [
+const OF_MAPS: [(&str, MapCall); 28] = [
     ("get", |map, forest| _ = map.get(1, forest, &())),
     ("update", |map, forest| _ = map.update(1, |value| value + 1, forest, &())),
     ("get_or_less", |map, forest| _ = map.get_or_less(1, forest, &())),
@@ -106,6 +106,7 @@ const OF_MAPS: [(&str, MapCall); 27] = [
     ("deep_clone", |map, forest| _ = map.deep_clone(forest)),
     ("retain", |map, forest| map.retain(forest, |key, _| key > 1)),
     ("shift", |map, forest| map.shift(1, |key| key + 1, forest, &())),
+    ("len", |map, forest| _ = map.len(forest)),
     ("levels", |map, forest| _ = map.levels(forest)),
     ("iter", |map, forest| _ = map.iter(forest).count()),
     ("iter_back", |map, forest| _ = map.iter_back(forest).count()),
@@ -118,7 +119,7 @@ const OF_MAPS: [(&str, MapCall); 27] = [
     ("debug", |map, forest| _ = format!("{:?}", map.debug(forest))),
 ];
 
-const OF_SETS: [(&str, SetCall); 21] = [
+const OF_SETS: [(&str, SetCall); 22] = [
     ("contains", |set, forest| _ = set.contains(1, forest, &())),
     ("get_or_less", |set, forest| _ = set.get_or_less(1, forest, &())),
     ("get_or_greater", |set, forest| _ = set.get_or_greater(1, forest, &())),
@@ -133,6 +134,7 @@ const OF_SETS: [(&str, SetCall); 21] = [
     ("deep_clone", |set, forest| _ = set.deep_clone(forest)),
     ("retain", |set, forest| set.retain(forest, |key| key > 1)),
     ("shift", |set, forest| set.shift(1, |key| key + 1, forest, &())),
+    ("len", |set, forest| _ = set.len(forest)),
     ("levels", |set, forest| _ = set.levels(forest)),
     ("iter", |set, forest| _ = set.iter(forest).count()),
     ("iter_back", |set, forest| _ = set.iter_back(forest).count()),

@@ -140,6 +140,7 @@ with_both_searches!(
     a_copy_one_node_short_changes_nothing,
     a_copy_and_its_original_change_apart,
     a_loaded_map_has_the_fewest_nodes,
+    a_loaded_set_has_the_fewest_nodes,
     a_map_loaded_one_node_short_changes_nothing,
     retain_changes_values_and_merges_leaves,
     the_sixteenth_key_halves_a_leaf_of_a_set,
@@ -674,6 +675,7 @@ fn a_loaded_map_has_the_fewest_nodes<C: Comparator<u32>>(comp: &C) {
         let map = Numbers::load(&tenfold(1..=most), &mut forest).unwrap();
         assert_eq!(sizes(&map, &forest), Sizes { levels, slots: nodes, free: 0 });
         assert_eq!(map.get(most, &forest, comp), Some(10 * most));
+        assert_eq!(map.len(&forest), most as usize);
     }
 }
 
@@ -688,6 +690,25 @@ fn a_map_loaded_one_node_short_changes_nothing<C: Comparator<u32>>(comp: &C) {
 }
 
 // Sets.
+
+/// 31 keys lie in leaves of 15, 15 and 1; 121 in nine leaves, under parents of eight and of one.
+fn a_loaded_set_has_the_fewest_nodes<C: Comparator<u32>>(comp: &C) {
+    for (most, levels, nodes) in [(0, 0, 0), (1, 1, 1), (15, 1, 1), (16, 2, 3), (31, 2, 4), (120, 2, 9), (121, 3, 12)] {
+        let keys: Vec<u32> = (1..=most).collect();
+        for (limit, room) in [(nodes, true), (nodes.max(1) - 1, nodes == 0)] {
+            let mut forest = SetForest::with_node_limit(limit);
+            let set = Set::load(&keys, &mut forest);
+            assert_eq!(set.as_ref().err(), if room { None } else { Some(&OutOfMemory::Full) });
+            let Ok(mut set) = set else {
+                assert_eq!(forest.slots(), 0);
+                continue;
+            };
+            assert_eq!((set.levels(&forest), forest.slots(), forest.free_slots()), (levels, nodes, 0));
+            assert!(set.iter(&forest).eq(1..=most) && set.increases(&forest, comp) && set.len(&forest) == keys.len());
+            assert_eq!(set.remove(most, &mut forest, comp), most > 0);
+        }
+    }
+}
 
 fn the_sixteenth_key_halves_a_leaf_of_a_set<C: Comparator<u32>>(comp: &C) {
     for insert in [Set::insert, Set::try_insert] {

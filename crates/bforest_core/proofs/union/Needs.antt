@@ -124,11 +124,11 @@ ceil-many b a some many = let z = div_ceil_times a b some in elim (cases_lt 1 (d
   | inr low ↦ absurd (let e : div_ceil a b * b ≤ 1 * b = mul-le-mul_right b low in omega (arith, e, z.0, many))
 ]
 
-over-one : (levels count : ℕ) → count ≤ 1 → nodes_over levels count ≡ 0
+pub over-one : (levels count : ℕ) → count ≤ 1 → nodes_over levels count ≡ 0
 over-one zero count low = refl
 over-one (suc levels) count low = elim (cases_lt 1 count) [ inl high ↦ absurd (omega (arith, high, low)) | inr few ↦ (let e : nat_lt 1 count ≡ false = grind arith in rw e refl) ]
 
-over-more : (levels count : ℕ) → 1 < count → nodes_over (suc levels) count ≡ div_ceil count 8 + nodes_over levels (div_ceil count 8)
+pub over-more : (levels count : ℕ) → 1 < count → nodes_over (suc levels) count ≡ div_ceil count 8 + nodes_over levels (div_ceil count 8)
 over-more levels count many = let e : nat_lt 1 count ≡ true = grind arith in rw e refl
 
 low-width : (most level : ℕ) → 0 < most → level < width most level
@@ -246,7 +246,7 @@ above-of (suc left) count one few = elim (cases_lt 1 count) [
 ]
 
 -- there are no more nodes than entries
-ceil-low : (k most n : ℕ) → 0 < most → k * most < n + most → k ≤ n
+pub ceil-low : (k most n : ℕ) → 0 < most → k * most < n + most → k ≤ n
 ceil-low k most n some less = elim (cases_lt n k) [
   | inl high ↦ absurd (let a : suc n * most ≤ k * most = mul-le-mul_right most high in let b : n * 1 ≤ n * most = mul-le-mul_left n some in let e : suc n * most ≡ most + n * most = omega arith in omega (arith, a, b, e, less))
   | inr low ↦ omega (arith, low)

@@ -1,0 +1,10 @@
+use Rattle.bforest_indexed.proofs.Kept.{live-read, same-list}
+use Rattle.bforest_indexed.proofs.Sizes.{first-field}
+use Rattle.bforest_indexed.proofs.maps.Maps.len_of.Goals as goal
+use Rattle.std.proofs.Common.{ap, length, ◌∙◌}
+
+pub len-requires : goal.len-requires
+len-requires g c = (search first-field, live-read c.self.invariant (rw (← c.self.view_is) at c.requires.within) c.index.ensures)
+
+pub returns : goal.returns
+returns g c = record { count = rw (← c.self.view_is) (c.len.ensures.count ∙ ap length (same-list c.self.invariant (rw (← c.self.view_is) at c.requires.within) c.index.ensures)) }
