@@ -98,6 +98,11 @@ impl<K: Copy, V: Copy, const N: usize> NodePool<K, V, N> {
         self.limit
     }
 
+    /// The allocator that gives the memory for the slots.
+    pub fn allocator(&self) -> Global {
+        self.alloc
+    }
+
     /// The content of a slot. One index.
     pub fn node(&self, node: Node) -> &NodeData<K, V, N>
         requires { node < slot_count self.now }

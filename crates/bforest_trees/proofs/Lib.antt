@@ -37,3 +37,7 @@ pub mod Updating
 pub mod Cloning
 pub mod Shifting
 pub mod Loading
+pub mod Merging
+pub mod Rising
+pub mod Fronts
+pub mod Uniting

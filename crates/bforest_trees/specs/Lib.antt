@@ -3,8 +3,10 @@ pub mod Calls
 pub mod Forest
 pub mod Layout
 pub mod Looks
+pub mod Merge
 pub mod Lending
 pub mod Place
 pub mod Range
 pub mod Retain
 pub mod Shift
+pub mod Union

@@ -13,6 +13,7 @@ ghost use Rattle.bforest_nodes.specs.Entries.{IsIncreasing, is_present, place, v
 ghost use Rattle.std.specs.declared.cmp.Ordering.{Ordering};
 ghost use Rattle.std.specs.Prelude.{Err, IsTrue, None, Option, Some, [], false, true, length, remove, ◌*◌, ◌+◌, ◌-◌, ◌/◌, ◌<◌, ◌^◌, ◌≡◌, ◌≢◌, ◌≤◌, ◌↔◌, ℕ};
 
+mod compare;
 mod copy;
 mod get_or_insert;
 mod load;
@@ -22,6 +23,7 @@ mod put;
 mod range;
 mod remove;
 mod take;
+mod unite;
 mod value;
 mod walk;
 
