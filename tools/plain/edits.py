@@ -152,6 +152,7 @@ EDITS = {
         (r"\n    alloc: Global,(?=\n\})", "", 1),
         (r"\n *blank: NodeData::new\(alloc\)\.unwrap\(\),", "", 1),
         (r"\n            alloc,", "", 1),
+        (r"\n\n    /// [^\n]*\n    pub fn allocator\(&self\) -> Global \{\n        self\.alloc\n    \}", "", 1),
         (r"pub fn with_limit\(alloc: Global, limit: u32\)", "pub fn with_limit(limit: u32)", 1),
         (r"Vec::new\(alloc\)", "Vec::new()", 1),
         (r", self\.alloc\)", ")", 1),
@@ -170,6 +171,12 @@ EDITS = {
         USE_GLOBAL,
         (r"pub fn with_limit\(alloc: Global, limit: u32\)", "pub fn with_limit(limit: u32)", 1),
         (r"NodePool::with_limit\(alloc, limit\)", "NodePool::with_limit(limit)", 1),
+    ],
+    "bforest_trees/trees/unite.rt": [
+        (r"^use crate::trees::Trees;\n", "use crate::trees::Trees;\nuse alloc::vec::Vec;\n", 1),
+        (r"Vec::new\(self\.pool\.allocator\(\)\)", "Vec::new()", 1),
+        (r"union\.reserve_exact\(", "union.try_reserve_exact(", 1),
+        (r"union\.push_reserved\(", "union.push(", 1),
     ],
     # a condition beside a `let` is newer than the package's rust-version
     "live_ranges_example/main.rt": [

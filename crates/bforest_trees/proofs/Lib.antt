@@ -39,3 +39,7 @@ pub mod Cloning
 pub mod Shifting
 pub mod Loading
 pub mod Unordered
+pub mod Merging
+pub mod Rising
+pub mod Fronts
+pub mod Uniting

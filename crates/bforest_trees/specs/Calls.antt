@@ -6,11 +6,12 @@ use Rattle.bforest_core.specs.Sizes.{IsFitFor, shrink}
 use Rattle.bforest_core.specs.declared.pool.OutOfMemory.TheVariants.{Full, Memory}
 use Rattle.bforest_core.specs.declared.pool.OutOfMemory.{OutOfMemory}
 use Rattle.bforest_nodes.specs.Entries.{IsIncreasing, cut, put, value_for}
-use Rattle.bforest_trees.specs.Forest.{Becomes, Forest, Gives, GrowsFor, IsLive, IsTooMany, Keeps, NeedsGrowth, Takes, free_of, list_of, memory_of, need_of, nodes_of, sizes_of, sizes_with, sizes_without, slots_of}
+use Rattle.bforest_trees.specs.Forest.{Becomes, Forest, Gives, GrowsFor, IsLive, IsTooMany, Keeps, NeedsGrowth, Takes, TakesAndGives, free_of, list_of, memory_of, need_of, nodes_of, sizes_of, sizes_with, sizes_without, slots_of}
 use Rattle.bforest_trees.specs.Retain.{Retains}
 use Rattle.bforest_trees.specs.Shift.{Rekeys}
+use Rattle.bforest_trees.specs.Union.{are_among, united}
 use Rattle.std.specs.Fn.{FnOnceReturns, Once}
-use Rattle.std.specs.Prelude.{Bool, Err, IfOk, IfSome, IsOk, IsSome, List, None, Ok, OnErr, OnOk, Option, Result, Some, [], drop, false, if◌then◌else◌, length, nat_lt, remove, slice_get, take, unwrap_or, ◌++◌, ◌+◌, ◌-◌, ◌<◌, ◌↔◌, ◌≡◌, ◌≤◌, ℕ}
+use Rattle.std.specs.Prelude.{Bool, Err, IfOk, IfSome, IsOk, IsSome, List, None, Ok, OnErr, OnOk, Option, Result, Some, [], drop, false, if◌then◌else◌, length, nat_lt, not, remove, slice_get, take, true, unwrap_or, ◌++◌, ◌+◌, ◌-◌, ◌<◌, ◌↔◌, ◌≡◌, ◌≤◌, ℕ}
 use Rattle.std.specs.Cmp.{IsTotalOrder}
 use Rattle.std.specs.Ordering.{is_eq}
 use Rattle.std.specs.declared.cmp.Ordering.{Ordering}
@@ -188,3 +189,28 @@ module _ {K X : Type 0} (most : ℕ) (cmp : K → K → Ordering) where
     pub others : (q : K) → is_eq (cmp k q) ≡ false → value_for cmp (list_of f' h') q ≡ value_for cmp (list_of f h) q
     pub live : IsLive f' h'
     pub increasing : IsIncreasing cmp (list_of f' h')
+
+  -- the number of nodes that a union with the list of `other` takes: those of a packed tree, or none where no key of `other` is new
+  abbrev pub need_of_union : Forest K X → Option ℕ → Option ℕ → ℕ
+  need_of_union f h other =
+      if are_among cmp (list_of f other) (list_of f h) then 0 else fewest most (length (united cmp (list_of f h) (list_of f other)))
+
+  -- The entries of `other` whose key is absent in h were put there, and whether there was one is returned. Where there was one, the tree is a
+  -- packed one, which was made beside the old one; else nothing changed. Or the call was refused, and nothing changed.
+  pub record Unites (f : Forest K X) (h other : Option ℕ) (result : Result Bool OutOfMemory) (f' : Forest K X) (h' : Option ℕ) : Type 0 where
+    pub united : OnOk result (Becomes f h f' h' (united cmp (list_of f h) (list_of f other)))
+    pub changed : IfOk result (λ changed. changed ≡ not (are_among cmp (list_of f other) (list_of f h)))
+    pub packed : result ≡ Ok true → ArePacked most (sizes_of f' h')
+    pub nodes : result ≡ Ok true → nodes_of f' h' ≡ need_of_union f h other
+    pub fit : result ≡ Ok true → IsFitFor most (length (list_of f' h')) (sizes_of f' h')
+    pub account : result ≡ Ok true → TakesAndGives (need_of_union f h other) (sizes_of f h) f f'
+    pub same_forest : result ≡ Ok false → f' ≡ f
+    pub same_handle : result ≡ Ok false → h' ≡ h
+    pub increasing : IsIncreasing cmp (list_of f' h')
+    pub other_live : IsLive f' other
+    pub other_list : list_of f' other ≡ list_of f other
+    pub other_sizes : sizes_of f' other ≡ sizes_of f other
+    pub full : (result ≡ Err Full) ↔ IsTooMany (need_of_union f h other) f
+    pub memory : result ≡ Err Memory → are_among cmp (list_of f other) (list_of f h) ≡ false
+    pub refused_forest : OnErr result (f' ≡ f)
+    pub refused_handle : OnErr result (h' ≡ h)

@@ -3,9 +3,11 @@ pub mod Calls
 pub mod Forest
 pub mod Layout
 pub mod Looks
+pub mod Merge
 pub mod Lending
 pub mod Place
 pub mod Range
 pub mod Retain
 pub mod Shift
 pub mod Order
+pub mod Union

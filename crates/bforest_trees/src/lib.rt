@@ -5,6 +5,7 @@
 #![tactic(auto)]
 
 mod look;
+mod merge;
 mod order;
 mod predicate;
 mod reader;

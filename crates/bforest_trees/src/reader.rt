@@ -88,6 +88,29 @@ impl<'a, K: Copy, V: Copy, const N: usize> Reader<'a, K, V, N> {
         }
     }
 
+    /// Whether an entry is left. Where those of the leaf are read, goes to the next leaf.
+    #[inline(always)]
+    pub(crate) fn has_next(&mut self, trees: &'a Trees<K, V, N>) -> bool
+        requires reader { IsReader trees.now self.old }
+        ensures entered { result ≡ true → Entered trees.now (left_of trees.now self.old) self.new }
+        ensures none { result ≡ false → left_of trees.now self.old ≡ [] }
+        ensures same { result ≡ false → self.new ≡ self.old }
+    {
+        if self.index < self.keys.len() {
+            return true;
+        }
+        self.enter_next(&trees.pool)
+    }
+
+    /// The key of the first entry, which is in the leaf that the reader holds.
+    #[inline(always)]
+    pub(crate) fn key(&self) -> K
+        requires within { self.now.index < length self.now.keys.now }
+        ensures key { slice_get self.now.keys.now self.now.index ≡ Some result }
+    {
+        self.keys[self.index]
+    }
+
     // Goes to the next leaf. Returns whether there is one.
     #[inline(always)]
     fn enter_next(&mut self, pool: &'a NodePool<K, V, N>) -> bool
@@ -106,9 +129,9 @@ impl<'a, K: Copy, V: Copy, const N: usize> Reader<'a, K, V, N> {
         }
     }
 
-    // Removes the first entry, which is in the leaf that the reader holds, and returns it.
+    /// Removes the first entry, which is in the leaf that the reader holds, and returns it.
     #[inline(always)]
-    fn take_first(&mut self) -> (K, V)
+    pub(crate) fn take_first(&mut self) -> (K, V)
         requires within { self.old.index < length self.old.keys.now }
         requires same { length self.old.keys.now ≡ length self.old.vals.now }
         ensures key { slice_get self.old.keys.now self.old.index ≡ Some result.0 }

@@ -14,6 +14,7 @@ ghost use Rattle.std.specs.Cmp.{IsTotalOrder};
 ghost use Rattle.std.specs.declared.cmp.Ordering.{Ordering};
 ghost use Rattle.std.specs.Prelude.{Err, IsTrue, None, Option, Some, [], false, true, length, remove, ◌*◌, ◌+◌, ◌-◌, ◌/◌, ◌<◌, ◌^◌, ◌≡◌, ◌≢◌, ◌≤◌, ◌↔◌, ℕ};
 
+mod compare;
 mod copy;
 mod count;
 mod get_or_insert;
@@ -24,6 +25,7 @@ mod put;
 mod range;
 mod remove;
 mod take;
+mod unite;
 mod value;
 mod walk;
 

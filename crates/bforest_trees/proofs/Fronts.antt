@@ -1,0 +1,131 @@
+-- Two readers side by side: how their next entries compare, and taking one off.
+use Rattle.bforest_trees.proofs.Readers.{held-same, taken}
+use Rattle.bforest_trees.specs.Layout.{Entered, IsReader, left_of}
+use Rattle.bforest_trees.specs.Merge.{CanTake, Compares, HoldsNext, TakesFrom, TakesOff, front_order}
+use Rattle.bforest_trees.specs.declared.reader.Reader.{Reader}
+use Rattle.bforest_core.specs.Table.{Table}
+use Rattle.std.proofs.Common.{List, None, Option, Some, [], ap, arith, length, refl, slice_get, subst, suc, sym, zero, ◌+◌, ◌<◌, ◌∙◌, ◌∷◌, ◌≡◌, ℕ}
+use Rattle.std.specs.declared.cmp.Ordering.TheVariants.{Equal, Greater, Less}
+use Rattle.std.specs.declared.cmp.Ordering.{Ordering}
+
+-- there is an element at each place within a list
+some-at : {A : Type 0} (xs : List A) (i : ℕ) → i < length xs → (x : A) × (slice_get xs i ≡ Some x)
+some-at [] i low = absurd (omega (arith, low))
+some-at (x ∷ xs) zero low = (x, refl)
+some-at (x ∷ xs) (suc i) low = some-at xs i (omega (arith, low))
+
+module _ {K X : Type 0} {n : ℕ} (table : Table K X) where
+  -- a reader that has entries of its leaf left holds the next one
+  pub entered-here : (r : Reader K X n) → IsReader table r → r.index < length r.keys.now → Entered table (left_of table r) r
+  entered-here r is low = record { left_is = refl; reader_is = is; within = low; same = held-same table r is }
+
+  -- what is left begins with the key at hand
+  pub record Begins (r : Reader K X n) (k : K) : Type 0 where
+    pub value : X
+    pub rest : List (K × X)
+    pub left_is : left_of table r ≡ (k, value) ∷ rest
+
+  begins : (r : Reader K X n) (k : K) → IsReader table r → HoldsNext r → slice_get r.keys.now r.index ≡ Some k → Begins r k
+  begins r k is held key =
+      let v = some-at r.vals.now r.index (omega (arith, held.within, held.same)) in
+      let t = taken table r (record r { index = r.index + 1 }) (k, v.0) is key v.1 refl in
+      record { value = v.0; rest = left_of table (record r { index = r.index + 1 }); left_is = t.left }
+
+  -- whichever comes first is held where both are
+  can-both : (first second : Reader K X n) (order : Ordering) → HoldsNext first → HoldsNext second → CanTake (Some order) first second
+  can-both first second Less f s = f
+  can-both first second Greater f s = s
+  can-both first second Equal f s = (f, s)
+
+  module _ (cmp : K → K → Ordering) (first second : Reader K X n) (is : IsReader table first) where
+    module _ (held : HoldsNext first) where
+      -- both readers have a next entry
+      pub compared-both : (second' : Reader K X n) → Entered table (left_of table second) second' → (k q : K) → slice_get first.keys.now first.index ≡ Some k
+          → slice_get second'.keys.now second'.index ≡ Some q → (order : Ordering) → order ≡ cmp k q → Compares table cmp first second (Some order) first second'
+      compared-both second' e k q key other order told =
+          let holds : HoldsNext second' = record { within = e.within; same = e.same } in
+          let b = begins first k is held key in
+          let d = begins second' q e.reader_is holds other in record {
+            order_is = ap Some told ∙ sym ((λ j. front_order cmp (b.left_is j) ((e.left_is ∙ d.left_is) j)));
+            left = refl;
+            second_left = sym e.left_is;
+            reader = is;
+            second_reader = e.reader_is;
+            can = can-both first second' order held holds;
+          }
+
+      -- the second reader has none
+      pub compared-first : (second' : Reader K X n) → IsReader table second → left_of table second ≡ [] → second' ≡ second → Compares table cmp first second (Some Less) first second'
+      compared-first second' second_is none same =
+          let k = some-at first.keys.now first.index held.within in
+          let b = begins first k.0 is held k.1 in
+          subst (λ (z : Reader K X n). Compares table cmp first second (Some Less) first z) (sym same) (record {
+            order_is = sym (λ j. front_order cmp (b.left_is j) (none j));
+            left = refl;
+            second_left = refl;
+            reader = is;
+            second_reader = second_is;
+            can = held;
+          })
+
+    -- the first reader went to its next entry before
+    pub compared-entered : (first' : Reader K X n) → Entered table (left_of table first) first' → (order : Option Ordering) (second' : Reader K X n) → Compares table cmp first' second order first' second' → Compares table cmp first second order first' second'
+    compared-entered first' e order second' c = record {
+      order_is = c.order_is ∙ ap (λ z. front_order cmp z (left_of table second)) (sym e.left_is);
+      left = sym e.left_is;
+      second_left = c.second_left;
+      reader = c.reader;
+      second_reader = c.second_reader;
+      can = c.can;
+    }
+
+    module _ (first' : Reader K X n) (none : left_of table first ≡ []) (same : first' ≡ first) where
+      -- the first reader has no next entry
+      pub compared-second : (second' : Reader K X n) → Entered table (left_of table second) second' → Compares table cmp first second (Some Greater) first' second'
+      compared-second second' e =
+          let holds : HoldsNext second' = record { within = e.within; same = e.same } in
+          let q = some-at second'.keys.now second'.index e.within in
+          let d = begins second' q.0 e.reader_is holds q.1 in
+          subst (λ (z : Reader K X n). Compares table cmp first second (Some Greater) z second') (sym same) (record {
+            order_is = sym (λ j. front_order cmp (none j) ((e.left_is ∙ d.left_is) j));
+            left = refl;
+            second_left = sym e.left_is;
+            reader = is;
+            second_reader = e.reader_is;
+            can = holds;
+          })
+
+      -- neither has
+      pub compared-none : (second' : Reader K X n) → IsReader table second → left_of table second ≡ [] → second' ≡ second → Compares table cmp first second None first' second'
+      compared-none second' second_is second_none second_same =
+          subst (λ (z : Reader K X n). Compares table cmp first second None z second') (sym same) (subst (λ (z : Reader K X n). Compares table cmp first second None first z) (sym second_same) (record {
+            order_is = sym (λ j. front_order cmp (none j) (second_none j));
+            left = refl;
+            second_left = refl;
+            reader = is;
+            second_reader = second_is;
+            can = tt;
+          }))
+
+  module _ (first second : Reader K X n) (is : IsReader table first) (second_is : IsReader table second) (e : K × X) where
+    pub took-first : (first' : Reader K X n) → slice_get first.keys.now first.index ≡ Some e.0 → slice_get first.vals.now first.index ≡ Some e.1 → first' ≡ record first { index = first.index + 1 } → TakesFrom table Less first second e first' second
+    took-first first' key value moved = let t = taken table first first' e is key value moved in
+        record { off = (t.left, refl); reader = t.reader; second_reader = second_is }
+
+    pub took-second : (second' : Reader K X n) → slice_get second.keys.now second.index ≡ Some e.0 → slice_get second.vals.now second.index ≡ Some e.1 → second' ≡ record second { index = second.index + 1 } → TakesFrom table Greater first second e first second'
+    took-second second' key value moved = let t = taken table second second' e second_is key value moved in
+        record { off = (refl, t.left); reader = is; second_reader = t.reader }
+
+    pub took-both : (first' second' : Reader K X n) (other : K × X) → slice_get first.keys.now first.index ≡ Some e.0 → slice_get first.vals.now first.index ≡ Some e.1 → first' ≡ record first { index = first.index + 1 }
+        → slice_get second.keys.now second.index ≡ Some other.0 → slice_get second.vals.now second.index ≡ Some other.1 → second' ≡ record second { index = second.index + 1 } → TakesFrom table Equal first second e first' second'
+    took-both first' second' other key value moved second_key second_value second_moved = let t = taken table first first' e is key value moved in
+        let s = taken table second second' other second_is second_key second_value second_moved in
+        record { off = (t.left, other, s.left); reader = t.reader; second_reader = s.reader }
+
+  -- one turn of a loop over two readers, whose next entries are compared before one is taken off
+  pub turn : (cmp : K → K → Ordering) {first second : Reader K X n} {order : Ordering} {first1 second1 : Reader K X n} {e : K × X} {first2 second2 : Reader K X n}
+      → Compares table cmp first second (Some order) first1 second1 → TakesFrom table order first1 second1 e first2 second2
+      → TakesOff order (left_of table first) (left_of table second) e (left_of table first2) (left_of table second2)
+  turn cmp {first} {second} {order} {first1} {second1} {e} {first2} {second2} c t =
+      subst (λ z. TakesOff order z (left_of table second) e (left_of table first2) (left_of table second2)) c.left
+      (subst (λ z. TakesOff order (left_of table first1) z e (left_of table first2) (left_of table second2)) c.second_left t.off)

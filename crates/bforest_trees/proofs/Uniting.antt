@@ -1,0 +1,266 @@
+-- What a union of two trees answers and leaves, as one record.
+use Rattle.bforest_core.specs.Change.{PlantsTree, node_count}
+use Rattle.bforest_core.specs.Packed.{ArePacked, fewest}
+use Rattle.bforest_core.specs.Sizes.{IsFitFor}
+use Rattle.bforest_core.specs.Trees.{IsUnion}
+use Rattle.bforest_core.specs.declared.pool.OutOfMemory.TheVariants.{Full}
+use Rattle.bforest_core.specs.declared.pool.OutOfMemory.{OutOfMemory}
+use Rattle.bforest_core.proofs.union.Needs.{fewest-least, fewest-many}
+use Rattle.bforest_nodes.specs.Entries.{IsIncreasing}
+use Rattle.bforest_trees.proofs.Accounts.{accounted}
+use Rattle.bforest_trees.proofs.Changed.{becomes-new, sizes-new, takes}
+use Rattle.bforest_trees.proofs.Cutting.{becomes-same}
+use Rattle.bforest_trees.proofs.Fits.{below-slots, fit-at}
+use Rattle.bforest_trees.proofs.Merging.{among-itself, united-same, united-up}
+use Rattle.bforest_trees.specs.Calls.{Clears, Unites, need_of_union}
+use Rattle.bforest_trees.specs.Forest.{Becomes, Forest, IsLive, IsTooMany, Takes, list_at, list_of, nodes_at, numbers_below, sizes_at, sizes_of, slots_of}
+use Rattle.bforest_trees.specs.Merge.{LoadsUnion}
+use Rattle.bforest_trees.specs.Union.{AreSearchable, are_among, united}
+use Rattle.std.proofs.Common.{Bool, Err, List, None, Ok, OnOk, Option, Result, Some, [], ap, arith, false, if◌then◌else◌, inl, inr, is_err, length, not, refl, subst, suc, sym, true, zero, ◌*◌, ◌<◌, ◌∙◌, ◌∷◌, ◌↔◌, ◌≡◌, ◌≢◌, ◌≤◌, ℕ}
+use Rattle.std.proofs.lemmas.Bool.{cases_lt}
+use Rattle.std.proofs.lemmas.List.Sums.{sum_by_push}
+use Rattle.std.specs.Cmp.{IsTotalOrder}
+use Rattle.std.specs.List.{sum_by}
+use Rattle.std.specs.declared.cmp.Ordering.{Ordering}
+
+-- a sum over the numbers below a bound is at least what one of them adds
+part-of-sum : (g : ℕ → ℕ) (bound n : ℕ) → n < bound → g n ≤ sum_by g (numbers_below bound)
+part-of-sum g zero n low = absurd (omega (arith, low))
+part-of-sum g (suc bound) n low = elim (cases_lt n bound) [
+  | inl less ↦ omega (arith, sum_by_push g (numbers_below bound) bound, part-of-sum g bound n less)
+  | inr last ↦ (let same : n ≡ bound = omega (arith, low, last) in omega (arith, sum_by_push g (numbers_below bound) bound, ap g same))
+]
+
+module _ {K X : Type 0} (most : ℕ) (f : Forest K X) (union : IsUnion most f) (slots : slots_of f ≤ 4294967295) where
+  -- a tree has fewer than 2 ^ 41 entries, since it has at most so many nodes as there are slots
+  pub few-entries : (n : ℕ) → length (list_at f n) ≤ 1099511627776
+  few-entries n = go (list_at f n) refl
+    where
+      go : (es : List (K × X)) → list_at f n ≡ es → length (list_at f n) ≤ 1099511627776
+      go [] is = omega (arith, ap length is)
+      go (e ∷ es) is =
+          let capacity = union.1.capacity in
+          let some : 0 < most = omega (arith, capacity.least) in
+          let low = below-slots most f union n (λ none. absurd (let bad : e ∷ es ≡ [] = sym is ∙ none in cc)) in
+          let nodes = fewest-least most (length (list_at f n)) some (sizes_at f n) (fit-at most f union n) in
+          let sum = part-of-sum (nodes_at f) (slots_of f) n low in
+          let account = accounted f most union in
+          elim (cases_lt (4294967295 * most) (length (list_at f n))) [
+            | inl many ↦ absurd (let more = fewest-many most (length (list_at f n)) 4294967295 some many in omega (arith, more, nodes, sum, account, slots))
+            | inr few ↦ omega (arith, few, capacity.most)
+          ]
+
+-- the same of a handle
+pub few-of : {K X : Type 0} (f : Forest K X) → ((n : ℕ) → length (list_at f n) ≤ 1099511627776) → (h : Option ℕ) → length (list_of f h) ≤ 1099511627776
+few-of f few None = omega arith
+few-of f few (Some n) = few n
+
+module _ {K X : Type 0} {f : Forest K X} where
+  -- a handle that is not that of the tree which changed keeps its tree
+  pub other-stays : {h : Option ℕ} {f' : Forest K X} {h' : Option ℕ} {es : List (K × X)} → Becomes f h f' h' es → (other : Option ℕ) → IsLive f other → other ≢ h → IsLive f' other × (list_of f' other ≡ list_of f other) × (sizes_of f' other ≡ sizes_of f other)
+  other-stays b None live apart = (tt, refl, refl)
+  other-stays {h' = h'} b (Some m) live apart =
+      let fresh : Some m ≢ h' = λ e. live (ap (list_of f) e ∙ b.fresh (λ same. apart (e ∙ same))) in
+      let list = b.others m apart fresh in
+      (subst (λ l. l ≢ []) (sym list) live, list, b.others_sizes m apart fresh)
+
+  module _ (h : Option ℕ) (live : IsLive f h) {f1 : Forest K X} {h1 : Option ℕ} {es : List (K × X)} (b : Becomes f None f1 h1 es) where
+    -- the tree of a handle stays while another one is made
+    made-beside : IsLive f1 h × (list_of f1 h ≡ list_of f h) × (sizes_of f1 h ≡ sizes_of f h)
+    made-beside = go h live
+      where
+        go : (h : Option ℕ) → IsLive f h → IsLive f1 h × (list_of f1 h ≡ list_of f h) × (sizes_of f1 h ≡ sizes_of f h)
+        go None live = (tt, refl, refl)
+        go (Some n) live =
+            let none : Some n ≢ None = λ e. absurd (cc) in
+            let fresh : Some n ≢ h1 = λ e. live (ap (list_of f) e ∙ b.fresh (λ d. absurd (none (e ∙ d)))) in
+            let list = b.others n none fresh in
+            (subst (λ l. l ≢ []) (sym list) live, list, b.others_sizes n none fresh)
+
+    pub still-live : IsLive f1 h
+    still-live = made-beside.0
+
+    module _ {f2 : Forest K X} (c : Becomes f1 h f2 None []) where
+      -- the tree that was made stays while the old one ends
+      made-stays : IsLive f2 h1 × (list_of f2 h1 ≡ list_of f1 h1) × (sizes_of f2 h1 ≡ sizes_of f1 h1)
+      made-stays = go h1 refl
+        where
+          go : (r : Option ℕ) → h1 ≡ r → IsLive f2 r × (list_of f2 r ≡ list_of f1 r) × (sizes_of f2 r ≡ sizes_of f1 r)
+          go None is = (tt, refl, refl)
+          go (Some r) is =
+              let none : Some r ≢ None = λ e. absurd (cc) in
+              let fresh : list_at f r ≡ [] = ap (list_of f) (sym is) ∙ b.fresh (λ d. absurd (none (sym is ∙ d))) in
+              let apart : Some r ≢ h = by h live r fresh in
+              let list = c.others r apart none in
+              let there : list_at f1 r ≢ [] = subst (λ z. IsLive f1 z) is b.live in
+              (subst (λ l. l ≢ []) (sym list) there, list, c.others_sizes r apart none)
+            where
+              by : (h : Option ℕ) → IsLive f h → (r : ℕ) → list_at f r ≡ [] → Some r ≢ h
+              by None live r fresh e = absurd (cc)
+              by (Some n) live r fresh e = live (ap (list_of f) (sym e) ∙ fresh)
+
+      -- a tree takes the place of another one
+      pub becomes-made : Becomes f h f2 h1 es
+      becomes-made = record {
+        live = made-stays.0;
+        list = made-stays.1 ∙ b.list;
+        leaves = λ ne. gone h;
+        fresh = λ ne. unused h1 refl;
+        leaves_sizes = λ ne. gone_sizes h;
+        fresh_sizes = λ ne. unused_sizes h1 refl;
+        others = λ n ne ne'. c.others n ne (λ e. absurd (cc)) ∙ b.others n (λ e. absurd (cc)) ne';
+        others_sizes = λ n ne ne'. c.others_sizes n ne (λ e. absurd (cc)) ∙ b.others_sizes n (λ e. absurd (cc)) ne';
+        limit = c.limit ∙ b.limit;
+      }
+        where
+          gone : (q : Option ℕ) → list_of f2 h ≡ []
+          gone q = by h refl
+            where
+              by : (r : Option ℕ) → h ≡ r → list_of f2 r ≡ []
+              by None is = refl
+              by (Some n) is = ap (list_of f2) (sym is) ∙ c.leaves (λ e. absurd (let bad : None ≡ Some n = e ∙ is in cc))
+
+          gone_sizes : (q : Option ℕ) → sizes_of f2 h ≡ []
+          gone_sizes q = by h refl
+            where
+              by : (r : Option ℕ) → h ≡ r → sizes_of f2 r ≡ []
+              by None is = refl
+              by (Some n) is = ap (sizes_of f2) (sym is) ∙ c.leaves_sizes (λ e. absurd (let bad : None ≡ Some n = e ∙ is in cc))
+
+          unused : (r : Option ℕ) → h1 ≡ r → list_of f h1 ≡ []
+          unused None is = ap (list_of f) is
+          unused (Some r) is = b.fresh (λ e. absurd (let bad : Some r ≡ None = sym is ∙ e in cc))
+
+          unused_sizes : (r : Option ℕ) → h1 ≡ r → sizes_of f h1 ≡ []
+          unused_sizes None is = ap (sizes_of f) is
+          unused_sizes (Some r) is = b.fresh_sizes (λ e. absurd (let bad : Some r ≡ None = sym is ∙ e in cc))
+
+-- what holds of a call that succeeded
+pub not-err : {A E P : Type 0} (r : Result A E) → is_err r ≡ false → OnOk r P → P
+not-err (Ok x) t holds = holds
+not-err (Err e) t holds = absurd (cc)
+
+-- what a test of its negation tells
+pub told-all : (new all : Bool) → new ≡ not all → not new ≡ true → all ≡ true
+told-all new true is t = refl
+told-all new false is t = absurd (let bad : false ≡ true = sym (ap not is) ∙ t in cc)
+
+pub told-new : (new all : Bool) → new ≡ not all → not new ≡ false → all ≡ false
+told-new new false is t = refl
+told-new new true is t = absurd (let bad : true ≡ false = sym (ap not is) ∙ t in cc)
+
+-- a table as its pool shows it, and entries as a slice shows them
+module _ {K X : Type 0} (most : ℕ) {p f : Forest K X} (is : p ≡ f) {items es : List (K × X)} (same : items ≡ es) where
+  -- the tree was refused
+  pub loads-refused : {refused : OutOfMemory} → (◌≡◌ {A = Result ℕ OutOfMemory} (Err refused) (Err Full) → IsTooMany (fewest most (length items)) p) → LoadsUnion most f es (Err refused) f
+  loads-refused {refused} full = record {
+    loaded = tt;
+    packed = tt;
+    nodes = tt;
+    fit = tt;
+    account = tt;
+    full = λ e. subst (λ z. IsTooMany (fewest most (length es)) z) is (subst (λ z. IsTooMany (fewest most (length z)) p) same (full (let alike : refused ≡ Full = cc in ap Err alike)));
+    refused = refl;
+  }
+
+  -- the tree was made
+  pub loads-made : {f' : Forest K X} {root : ℕ} → (sizes : List (List ℕ)) × ArePacked most sizes × (node_count sizes ≡ fewest most (length items)) × PlantsTree most p f' root items sizes
+      → LoadsUnion most f es (Ok (Some root)) f'
+  loads-made {f'} {root} (sizes, packed, count, plants) =
+      let b = becomes-new most p f' root items sizes plants.fresh plants.changes in
+      let are = sizes-new most p f' root root items sizes plants.changes in
+      subst (λ z. LoadsUnion most z es (Ok (Some root)) f') is (subst (λ z. LoadsUnion most p z (Ok (Some root)) f') same (record {
+        loaded = b;
+        packed = rw are packed;
+        nodes = ap node_count are ∙ count;
+        fit = subst (λ l. IsFitFor most (length l) (sizes_at f' root)) b.list (fit-at most f' plants.changes.union root);
+        account = subst (λ d. Takes d p f') count (takes _ p f' plants.takes);
+        full = λ bad. absurd (cc);
+        refused = tt;
+      }))
+
+module _ {K X : Type 0} (most : ℕ) (cmp : K → K → Ordering) (o : IsTotalOrder cmp) (f : Forest K X) (h other : Option ℕ) (s : AreSearchable cmp f h other) where
+  -- nothing of the other list is new
+  pub unites-none : are_among cmp (list_of f other) (list_of f h) ≡ true → Unites most cmp f h other (Ok false) f h
+  unites-none all = record {
+    united = subst (λ es. Becomes f h f h es) (sym (united-same cmp (list_of f h) (list_of f other) all)) (becomes-same f h s.live);
+    changed = sym (ap not all);
+    packed = λ bad. absurd (cc);
+    nodes = λ bad. absurd (cc);
+    fit = λ bad. absurd (cc);
+    account = λ bad. absurd (cc);
+    same_forest = λ is. refl;
+    same_handle = λ is. refl;
+    increasing = s.increasing;
+    other_live = s.other_live;
+    other_list = refl;
+    other_sizes = refl;
+    full = (λ bad. absurd (cc), λ low. absurd (let none = ap (λ b. if b then 0 else fewest most (length (united cmp (list_of f h) (list_of f other)))) all in omega (arith, low, none)));
+    memory = λ bad. absurd (cc);
+    refused_forest = tt;
+    refused_handle = tt;
+  }
+
+  module _ (new : are_among cmp (list_of f other) (list_of f h) ≡ false) where
+    need-is : need_of_union most cmp f h other ≡ fewest most (length (united cmp (list_of f h) (list_of f other)))
+    need-is = ap (λ b. if b then 0 else fewest most (length (united cmp (list_of f h) (list_of f other)))) new
+
+    -- the call was refused
+    pub unites-refused : (refused : OutOfMemory) → ((refused ≡ Full) ↔ IsTooMany (fewest most (length (united cmp (list_of f h) (list_of f other)))) f) → Unites most cmp f h other (Err refused) f h
+    unites-refused refused told = record {
+      united = tt;
+      changed = tt;
+      packed = λ bad. absurd (cc);
+      nodes = λ bad. absurd (cc);
+      fit = λ bad. absurd (cc);
+      account = λ bad. absurd (cc);
+      same_forest = λ bad. absurd (cc);
+      same_handle = λ bad. absurd (cc);
+      increasing = s.increasing;
+      other_live = s.other_live;
+      other_list = refl;
+      other_sizes = refl;
+      full = (λ e. subst (λ d. IsTooMany d f) (sym need-is) (told.0 (cc)), λ low. ap Err (told.1 (subst (λ d. IsTooMany d f) need-is low)));
+      memory = λ e. new;
+      refused_forest = refl;
+      refused_handle = refl;
+    }
+
+    -- the packed tree took the place of the old one
+    pub unites-ok : {f1 f2 : Forest K X} {h1 h2 : Option ℕ} → ¬ IsTooMany (fewest most (length (united cmp (list_of f h) (list_of f other)))) f
+        → LoadsUnion most f (united cmp (list_of f h) (list_of f other)) (Ok h1) f1 → Clears f1 h f2 h2 → Unites most cmp f h other (Ok true) f2 h1
+    unites-ok {f1} {f2} {h1} {h2} low l c =
+        let ends = subst (λ z. Becomes f1 h f2 z []) c.handle c.cleared in
+        let b = becomes-made h s.live l.loaded ends in
+        let made = made-stays h s.live l.loaded ends in
+        let beside = made-beside h s.live l.loaded in
+        let apart : other ≢ h = λ e. absurd (let all : are_among cmp (list_of f other) (list_of f h) ≡ true = subst (λ z. are_among cmp (list_of f z) (list_of f h) ≡ true) (sym e) (among-itself cmp o (list_of f h) s.increasing) in cc) in
+        let stays = other-stays b other s.other_live apart in
+        let g = l.account.memory in
+        let gone = c.account in record {
+          united = b;
+          changed = sym (ap not new);
+          packed = λ is. subst (ArePacked most) (sym made.2) l.packed;
+          nodes = λ is. ap node_count made.2 ∙ l.nodes ∙ sym need-is;
+          fit = λ is. rw (b.list, made.2) l.fit;
+          account = λ is. rw need-is (record {
+            slots = gone.slots ∙ l.account.slots;
+            free = omega (arith, gone.free, l.account.free, ap node_count beside.2);
+            memory = record {
+              grows = omega (arith, g.grows, gone.memory);
+              stays = λ enough. gone.memory ∙ g.stays enough;
+              suffices = λ enough. gone.memory ∙ g.suffices enough;
+              bounded = omega (arith, g.bounded, gone.memory);
+            };
+          });
+          same_forest = λ bad. absurd (cc);
+          same_handle = λ bad. absurd (cc);
+          increasing = subst (IsIncreasing cmp) (sym b.list) (united-up cmp o (list_of f h) (list_of f other) s.increasing);
+          other_live = stays.0;
+          other_list = stays.1;
+          other_sizes = stays.2;
+          full = (λ bad. absurd (cc), λ short. absurd (low (subst (λ d. IsTooMany d f) need-is short)));
+          memory = λ bad. absurd (cc);
+          refused_forest = tt;
+          refused_handle = tt;
+        }

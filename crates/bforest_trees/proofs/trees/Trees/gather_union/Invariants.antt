@@ -1,0 +1,14 @@
+use Rattle.bforest_trees.proofs.Merging.{Gathering}
+use Rattle.bforest_trees.proofs.trees.Trees.gather_union.Given as goal
+use Rattle.bforest_trees.specs.Forest.{list_of}
+use Rattle.bforest_trees.specs.Layout.{IsReader, left_of}
+use Rattle.std.proofs.Common.{length, vec_capacity, vec_len, ◌+◌, ◌≡◌}
+
+-- the entries that were taken off are in the vector
+abbrev pub invariant-loop-order : goal.invariant-loop-order
+invariant-loop-order g l = IsReader l.self l.first × IsReader l.self l.second
+    × Gathering (g.C.Comparator.order l.comp) (list_of l.fn.self l.fn.handle) (list_of l.fn.self l.fn.other) l.union.items (left_of l.self l.first) (left_of l.self l.second) × (vec_len l.union ≡ length l.union.items) × (vec_capacity l.union ≡ vec_capacity l.fn.union)
+
+-- the number of entries that are left
+abbrev pub decreases-loop-order : goal.decreases-loop-order
+decreases-loop-order g l = length (left_of l.self l.first) + length (left_of l.self l.second)

@@ -1,0 +1,27 @@
+-- The keys of two lists compared, and the union of two lists.
+use Rattle.bforest_nodes.specs.Entries.{IsIncreasing, is_present, put}
+use Rattle.bforest_trees.specs.Forest.{Forest, IsLive, list_of}
+use Rattle.std.specs.List.{list_all}
+use Rattle.std.specs.Prelude.{Bool, List, Option, [], if◌then◌else◌, not, ◌∷◌, ℕ}
+use Rattle.std.specs.declared.cmp.Ordering.{Ordering}
+
+module _ {K X : Type 0} (cmp : K → K → Ordering) where
+  -- whether each key of es has an equal one in others
+  abbrev pub are_among : List (K × X) → List (K × X) → Bool
+  are_among es others = list_all (λ e. is_present cmp others e.0) es
+
+  -- whether no key of es has an equal one in others
+  abbrev pub are_apart : List (K × X) → List (K × X) → Bool
+  are_apart es others = list_all (λ e. not (is_present cmp others e.0)) es
+
+  -- es, in which the entries of others whose key is absent are put, one after another
+  abbrev pub united : List (K × X) → List (K × X) → List (K × X)
+  united es [] = es
+  united es (other ∷ others) = united (if is_present cmp es other.0 then es else put cmp es other.0 other.1) others
+
+  -- two handles are live, and both lists increase
+  pub record AreSearchable (f : Forest K X) (h other : Option ℕ) : Type 0 where
+    pub live : IsLive f h
+    pub increasing : IsIncreasing cmp (list_of f h)
+    pub other_live : IsLive f other
+    pub other_increasing : IsIncreasing cmp (list_of f other)
