@@ -167,6 +167,15 @@ EDITS = {
         BEHIND_FIRST,
         (r"^pub use bforest_core::\{[^}]*\};\n", "", 1),
     ],
+    # Where an index is tested, the compiler drops the test if the entry is read on each way by itself; where none is, reading it once is less.
+    "bforest_trees/reader.rt": [
+        (
+            r"if self\.has_next\(trees\) \{\n {12}Some\(self\.take_first\(\)\)\n",
+            "if self.index < self.keys.len() {\n            return Some(self.take_first());\n        }\n"
+            "        if self.enter_next(&trees.pool) {\n            Some(self.take_first())\n",
+            1,
+        ),
+    ],
     "bforest_trees/trees.rt": [
         USE_GLOBAL,
         (r"pub fn with_limit\(alloc: Global, limit: u32\)", "pub fn with_limit(limit: u32)", 1),

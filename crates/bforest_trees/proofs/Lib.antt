@@ -25,12 +25,7 @@ pub mod Answered
 pub mod Stepping
 pub mod Writing
 pub mod Taking
-pub mod Slices
-pub mod Between
-pub mod Limits
-pub mod Ranging
-pub mod Beside
-pub mod Narrowing
+pub mod ranges
 pub mod Peeking
 pub mod Popping
 pub mod Ensuring

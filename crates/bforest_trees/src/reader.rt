@@ -78,10 +78,7 @@ impl<'a, K: Copy, V: Copy, const N: usize> Reader<'a, K, V, N> {
         ensures steps { YieldsFirst (left_of trees.now) self.old result self.new }
         ensures reader { IsReader trees.now self.new }
     {
-        if self.index < self.keys.len() {
-            return Some(self.take_first());
-        }
-        if self.enter_next(&trees.pool) {
+        if self.has_next(trees) {
             Some(self.take_first())
         } else {
             None

@@ -103,7 +103,7 @@ impl<K: Copy, V: Copy, const N: usize> Trees<K, V, N> {
             return Err(OutOfMemory::Memory);
         }
         self.gather_union(handle, other, &mut union, comp);
-        let root = self.pool.build_tree(&union)?;
+        let root = self.pool.build_tree(union.as_slice())?;
         Ok(PackedNode::some(root))
     }
 

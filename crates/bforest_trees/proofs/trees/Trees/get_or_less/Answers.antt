@@ -1,4 +1,4 @@
-use Rattle.bforest_trees.proofs.Between.{at-most}
+use Rattle.bforest_trees.proofs.ranges.Between.{at-most}
 use Rattle.bforest_trees.proofs.Changed.{seen-as, seen-asks}
 use Rattle.bforest_trees.proofs.trees.Trees.get_or_less.Goals as goal
 use Rattle.bforest_core.specs.Leaves.{entry_up_to}

@@ -10,7 +10,7 @@ gather_union-requires g c =
 
 pub returns-in_err-root : goal.returns-in_err-root
 returns-in_err-root g c = let told = c.in_err-root.ensures in
-    rw (handed-on c.from_residual.ensures.1, told.err ∙ c.self.view_is) (loads-refused g.row.N c.self.view_is (c.deref.ensures.value ∙ c.gather_union.ensures.entries) told.full.0)
+    rw (handed-on c.from_residual.ensures.1, told.err ∙ c.self.view_is) (loads-refused g.row.N c.self.view_is (c.as_slice.ensures.value ∙ c.gather_union.ensures.entries) told.full.0)
 
 pub returns : goal.returns
-returns g c = rw c.some.ensures.node (loads-made g.row.N c.self.view_is (c.deref.ensures.value ∙ c.gather_union.ensures.entries) c.in_ok-root.ensures.planted)
+returns g c = rw c.some.ensures.node (loads-made g.row.N c.self.view_is (c.as_slice.ensures.value ∙ c.gather_union.ensures.entries) c.in_ok-root.ensures.planted)

@@ -1,7 +1,7 @@
 use Rattle.std.proofs.Common.{None, Option, Some, ap, rules, subst, sym, ◌∙◌, ◌≡◌, ℕ}
 use Rattle.bforest_nodes.specs.Entries.{IsIncreasing}
 use Rattle.bforest_trees.proofs.Changed.{list-root, live-root}
-use Rattle.bforest_trees.proofs.Narrowing.{none-left, none-range, root-told}
+use Rattle.bforest_trees.proofs.ranges.Narrowing.{none-left, none-range, root-told}
 use Rattle.bforest_trees.specs.Bounds.{entries_between}
 use Rattle.bforest_trees.specs.Forest.{IsLive, list_of}
 use Rattle.bforest_trees.specs.Range.{IsRange}

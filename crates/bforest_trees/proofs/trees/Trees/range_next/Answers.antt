@@ -1,7 +1,7 @@
 use Rattle.std.proofs.Common.{ap, rules, subst, sym, ◌∙◌}
 use Rattle.std.specs.Iterator.{YieldsFirst}
 use Rattle.bforest_trees.specs.Range.{front_held}
-use Rattle.bforest_trees.proofs.Ranging.{first-beside, first-taken, front-passed, none-told, passed-asks, some-told}
+use Rattle.bforest_trees.proofs.ranges.Ranging.{first-beside, first-taken, front-passed, none-told, passed-asks, some-told}
 use Rattle.bforest_trees.proofs.trees.Trees.range_next.Goals.{then-is_some-via-then-is_some, then-is_some-via-else-is_some+then-ends}
 use Rattle.bforest_trees.proofs.trees.Trees.range_next.Goals as goal
 

@@ -1,7 +1,7 @@
 use Rattle.std.proofs.Common.{rules, subst, sym, ◌∙◌}
 use Rattle.std.specs.Iterator.{YieldsLast}
 use Rattle.bforest_trees.specs.Range.{back_held}
-use Rattle.bforest_trees.proofs.Ranging.{back-beside, back-passed, back-told, last-after, last-beside, last-taken, none-told, passed-asks}
+use Rattle.bforest_trees.proofs.ranges.Ranging.{back-beside, back-passed, back-told, last-after, last-beside, last-taken, none-told, passed-asks}
 use Rattle.bforest_trees.proofs.trees.Trees.range_next_back.Goals as goal
 
 pub returns-then-is_some : goal.returns-then-is_some

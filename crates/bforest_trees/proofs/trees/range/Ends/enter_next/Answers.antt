@@ -1,5 +1,5 @@
 use Rattle.std.proofs.Common.{refl, rules}
-use Rattle.bforest_trees.proofs.Beside.{closed-end, closed-next, entered-next, gap, met-front}
+use Rattle.bforest_trees.proofs.ranges.Beside.{closed-end, closed-next, entered-next, gap, met-front}
 use Rattle.bforest_trees.proofs.trees.range.Ends.enter_next.Goals.{in-Some+else-not-is_back, in_default}
 use Rattle.bforest_trees.proofs.trees.range.Ends.enter_next.Goals as goal
 

@@ -1,5 +1,5 @@
 use Rattle.std.proofs.Common.{refl, rules}
-use Rattle.bforest_trees.proofs.Beside.{closed-prev, closed-start, entered-prev, gap, met-back}
+use Rattle.bforest_trees.proofs.ranges.Beside.{closed-prev, closed-start, entered-prev, gap, met-back}
 use Rattle.bforest_trees.proofs.trees.range.Ends.enter_prev.Goals.{in-Some+else-not-is_front, in_default}
 use Rattle.bforest_trees.proofs.trees.range.Ends.enter_prev.Goals as goal
 

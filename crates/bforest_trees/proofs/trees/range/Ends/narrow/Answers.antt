@@ -1,7 +1,7 @@
 use Rattle.std.proofs.Common.{sym, ◌∙◌}
 use Rattle.bforest_core.specs.Paths.{list_under}
-use Rattle.bforest_trees.proofs.Limits.{end-limit, no-end, no-start, start-limit}
-use Rattle.bforest_trees.proofs.Narrowing.{all-narrowed, bounds-told}
+use Rattle.bforest_trees.proofs.ranges.Limits.{end-limit, no-end, no-start, start-limit}
+use Rattle.bforest_trees.proofs.ranges.Narrowing.{all-narrowed, bounds-told}
 use Rattle.bforest_trees.proofs.trees.range.Ends.narrow.Goals as goal
 
 pub returns-in-None-None : goal.returns-in-None-None

@@ -1,4 +1,4 @@
-use Rattle.bforest_trees.proofs.Narrowing.{start-narrowed}
+use Rattle.bforest_trees.proofs.ranges.Narrowing.{start-narrowed}
 use Rattle.bforest_trees.proofs.trees.range.Ends.start.Goals as goal
 
 pub returns : goal.returns

@@ -1,8 +1,8 @@
 use Rattle.std.proofs.Common.{rules, sym, ◌∙◌}
 use Rattle.bforest_core.specs.Paths.{list_under}
 use Rattle.bforest_trees.specs.Range.{limit_place}
-use Rattle.bforest_trees.proofs.Limits.{limits-crossed}
-use Rattle.bforest_trees.proofs.Narrowing.{both-narrowed, hold-low, hold-narrowed, none-narrowed, stop-low}
+use Rattle.bforest_trees.proofs.ranges.Limits.{limits-crossed}
+use Rattle.bforest_trees.proofs.ranges.Narrowing.{both-narrowed, hold-low, hold-narrowed, none-narrowed, stop-low}
 use Rattle.bforest_trees.proofs.trees.range.Ends.start_and_stop.Goals as goal
 
 pub returns-in-None : goal.returns-in-None

@@ -1,5 +1,5 @@
 use Rattle.std.proofs.Common.{rules}
-use Rattle.bforest_trees.proofs.Narrowing.{stop-low, stop-narrowed}
+use Rattle.bforest_trees.proofs.ranges.Narrowing.{stop-low, stop-narrowed}
 use Rattle.bforest_trees.proofs.trees.range.Ends.stop.Goals as goal
 
 pub stop_at-requires : goal.stop_at-requires

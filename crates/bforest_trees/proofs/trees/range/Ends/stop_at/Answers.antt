@@ -1,5 +1,5 @@
 use Rattle.std.proofs.Common.{ap, take}
-use Rattle.bforest_trees.proofs.Ranging.{cut-count}
+use Rattle.bforest_trees.proofs.ranges.Ranging.{cut-count}
 use Rattle.bforest_trees.proofs.trees.range.Ends.stop_at.Goals as goal
 
 pub slice_bounds-self-end : goal.slice_bounds-self-end

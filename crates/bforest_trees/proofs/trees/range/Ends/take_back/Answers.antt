@@ -1,5 +1,5 @@
 use Rattle.std.proofs.Common.{arith}
-use Rattle.bforest_trees.proofs.Ranging.{pairs-last, pairs-past}
+use Rattle.bforest_trees.proofs.ranges.Ranging.{pairs-last, pairs-past}
 use Rattle.bforest_trees.proofs.trees.range.Ends.take_back.Goals as goal
 
 pub returns-then-len-gt0-clause-steps : goal.returns-then-len-gt0-clause-steps

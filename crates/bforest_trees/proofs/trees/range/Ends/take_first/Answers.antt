@@ -1,5 +1,5 @@
 use Rattle.std.proofs.Common.{arith}
-use Rattle.bforest_trees.proofs.Ranging.{pairs-next, pairs-past}
+use Rattle.bforest_trees.proofs.ranges.Ranging.{pairs-next, pairs-past}
 use Rattle.bforest_trees.proofs.trees.range.Ends.take_first.Goals as goal
 
 pub returns-then-index-self-clause-steps : goal.returns-then-index-self-clause-steps

@@ -1,5 +1,5 @@
 use Rattle.std.proofs.Common.{arith}
-use Rattle.bforest_trees.proofs.Ranging.{pairs-last-from, pairs-past}
+use Rattle.bforest_trees.proofs.ranges.Ranging.{pairs-last-from, pairs-past}
 use Rattle.bforest_trees.proofs.trees.range.Ends.take_last.Goals as goal
 
 pub returns-then-self-len-clause-steps : goal.returns-then-self-len-clause-steps

@@ -1,5 +1,5 @@
 use Rattle.std.proofs.Common.{sym, ◌∙◌}
-use Rattle.bforest_trees.proofs.Limits.{limit-at, limit-behind, limit-missed, told-of}
+use Rattle.bforest_trees.proofs.ranges.Limits.{limit-at, limit-behind, limit-missed, told-of}
 use Rattle.bforest_trees.proofs.trees.range.Limit.place.Goals.{else-self-via-then-self+else-is_some, else-self-via-else-self}
 use Rattle.bforest_trees.proofs.trees.range.Limit.place.Goals as goal
 

@@ -1,9 +1,9 @@
 -- All entries, narrowed to those between two places.
-use Rattle.bforest_trees.proofs.Beside.{one-code, leaf-low, leaf-read, leaves}
-use Rattle.bforest_trees.proofs.Between.{slice-between, up-to-absent, up-to-present}
+use Rattle.bforest_trees.proofs.ranges.Beside.{one-code, leaf-low, leaf-read, leaves}
+use Rattle.bforest_trees.proofs.ranges.Between.{slice-between, up-to-absent, up-to-present}
 use Rattle.bforest_trees.proofs.Held.{list-is, start-behind, start-is}
-use Rattle.bforest_trees.proofs.Limits.{ends-rise, limit-in-leaf, limit-most, places-rise}
-use Rattle.bforest_trees.proofs.Ranging.{no-part, pairs-all, pairs-take, range-first, range-none}
+use Rattle.bforest_trees.proofs.ranges.Limits.{ends-rise, limit-in-leaf, limit-most, places-rise}
+use Rattle.bforest_trees.proofs.ranges.Ranging.{no-part, pairs-all, pairs-take, range-first, range-none}
 use Rattle.bforest_trees.specs.Bounds.{end_place, entries_between, start_place}
 use Rattle.bforest_trees.proofs.Changed.{list-root}
 use Rattle.bforest_trees.specs.Forest.{Forest, list_of}

@@ -1,5 +1,5 @@
 -- The entries within bounds are a slice of a list that increases.
-use Rattle.bforest_trees.proofs.Slices.{Rises, count-cons, count-same, last-taken, slice-filter}
+use Rattle.bforest_trees.proofs.ranges.Slices.{Rises, count-cons, count-same, last-taken, slice-filter}
 use Rattle.bforest_nodes.proofs.Found.{place-present, search_of-keys_of}
 use Rattle.bforest_nodes.proofs.Searched.{up_to-absent as keys-up_to-absent, up_to-found}
 use Rattle.bforest_nodes.specs.Entries.{IsIncreasing, is_present, place, search_for, value_for}

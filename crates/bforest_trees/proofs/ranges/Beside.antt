@@ -1,5 +1,5 @@
 -- An end of a range goes to the leaf beside its own, or the ends meet in one leaf.
-use Rattle.bforest_trees.proofs.Ranging.{pairs-all, pairs-none, range-first, range-last, range-none, range-past}
+use Rattle.bforest_trees.proofs.ranges.Ranging.{pairs-all, pairs-none, range-first, range-last, range-none, range-past}
 use Rattle.bforest_trees.specs.Forest.{Forest}
 use Rattle.bforest_trees.specs.Range.{IsOpen, IsRange, back_held, back_leaf, front_held, leaf_behind, left_in, pairs}
 use Rattle.bforest_trees.specs.declared.trees.range.Ends.{Ends}

@@ -1,8 +1,8 @@
 -- The place of a range's limit in a list, and in a leaf.
-use Rattle.bforest_trees.proofs.Between.{start-included, start-unbounded, end-unbounded, up-to-absent, up-to-present}
+use Rattle.bforest_trees.proofs.ranges.Between.{start-included, start-unbounded, end-unbounded, up-to-absent, up-to-present}
 use Rattle.bforest_trees.proofs.Held.{start-is}
 use Rattle.bforest_trees.proofs.Putting.{absent-told, present-told}
-use Rattle.bforest_trees.proofs.Slices.{count-cons}
+use Rattle.bforest_trees.proofs.ranges.Slices.{count-cons}
 use Rattle.bforest_trees.specs.Bounds.{end_place, start_place}
 use Rattle.bforest_trees.specs.Looks.{start_of}
 use Rattle.bforest_trees.specs.Range.{limit_of_end, limit_of_start, limit_place}

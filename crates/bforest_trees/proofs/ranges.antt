@@ -1,0 +1,7 @@
+-- Lemmas on ranges of a list, and on places within bounds.
+pub mod Slices
+pub mod Between
+pub mod Limits
+pub mod Ranging
+pub mod Beside
+pub mod Narrowing
