@@ -1,6 +1,6 @@
 -- Where entries do not increase.
 use Rattle.bforest_nodes.specs.Entries.{IsIncreasing}
-use Rattle.std.specs.Prelude.{List, take, suc, ◌≡◌, ℕ}
+use Rattle.std.specs.Prelude.{List, take, suc, ℕ}
 use Rattle.std.specs.declared.cmp.Ordering.{Ordering}
 
 -- the entries up to a place increase, and with the next one they do not
