@@ -1,2 +1,2 @@
 -- What a call that may change one map returns and leaves, as `bforest_trees` defines it.
-pub use Rattle.bforest_trees.specs.Calls.{Clears, Clones, Filters, GetsOrInserts, Inserts, Loads, Pops, Removes, RemovesAt, Reserves, SameLevels, Shifts, Updates, UpdatesOrInserts}
+pub use Rattle.bforest_trees.specs.Calls.{Clears, Clones, Filters, GetsOrInserts, Inserts, Loads, Pops, Removes, RemovesAt, Reserves, SameLevels, Shifts, Unites, Updates, UpdatesOrInserts, need_of_union}
