@@ -11,3 +11,4 @@ pub mod Retain
 pub mod Room
 pub mod Set
 pub mod SetCursor
+pub mod Union

@@ -1,7 +1,7 @@
 //! Handles of maps.
 ghost use Rattle.bforest_nodes.specs.Entries.{IsIncreasing, place, value_for};
 ghost use Rattle.bforest.specs.Bounds.{entries_between, entry_at_least, entry_at_most};
-ghost use Rattle.bforest.specs.Calls.{Clears, Clones, Filters, GetsOrInserts, Inserts, Loads, Pops, Removes, Shifts, Updates, UpdatesOrInserts};
+ghost use Rattle.bforest.specs.Calls.{Clears, Clones, Filters, GetsOrInserts, Inserts, Loads, Pops, Removes, Shifts, Unites, Updates, UpdatesOrInserts};
 ghost use Rattle.bforest.specs.Cursor.{IsCursor, comparator, forest_loan, forest_now, map_loan, map_now, spot};
 ghost use Rattle.bforest.specs.Forest.{Forest, IsLive, IsSearchable, first_level, list_of, sizes_of};
 ghost use Rattle.bforest.specs.Memory.{MapsFitInMemory};
@@ -355,6 +355,33 @@ impl<K: Copy, V: Copy> Map<K, V> {
             root: tree,
             mark: PhantomData,
         })
+    }
+
+    /// Puts each entry of `other` whose key is absent into this map, and returns whether there was one. A present key keeps its own value.
+    ///
+    /// Reads both maps side by side, with at most one comparison for each entry of either. Where nothing is new, that is all: no node
+    /// and no memory is taken, and nothing is written. Else it reads them once more, makes a tree of the union with the fewest nodes beside
+    /// the old one, and frees that. Until the call returns it takes memory for a list of the union.
+    ///
+    /// Other handles to this map's tree are not live then. Where both are one map, nothing is new.
+    ///
+    /// # Errors
+    ///
+    /// [`OutOfMemory::Full`] where a key is new and the forest's limit does not allow the new tree's nodes beside the old ones.
+    /// [`OutOfMemory::Memory`] where a key is new and there was no memory for the list or for a table that had to grow. The map and the
+    /// forest are unchanged then.
+    pub fn union_with<C: Comparator<K>>(
+        &mut self,
+        other: &Map<K, V>,
+        forest: &mut MapForest<K, V>,
+        comp: &C,
+    ) -> Result<bool, OutOfMemory>
+        requires searchable { IsSearchable (C.order comp.now) forest.old self.old }
+        requires other { IsSearchable (C.order comp.now) forest.old other.now }
+        ensures { Unites MAP_LEAF (C.order comp.now) forest.old self.old other.now result forest.new
+            self.new }
+    {
+        forest.trees.unite(&mut self.root, other.root, comp)
     }
 
     /// Keeps the entries for which the predicate returns `true`, with the value as the predicate left it, and removes all others.

@@ -1,12 +1,13 @@
 //! Handles of sets.
 ghost use Rattle.bforest_nodes.specs.Entries.{IsIncreasing, is_present, place, value_for};
 ghost use Rattle.bforest.specs.Bounds.{entries_between, entry_at_least, entry_at_most};
-ghost use Rattle.bforest.specs.Calls.{Clears, Clones, Filters, Inserts, Loads, Pops, Removes, Shifts};
+ghost use Rattle.bforest.specs.Calls.{Clears, Clones, Filters, Inserts, Loads, Pops, Removes, Shifts, Unites};
 ghost use Rattle.bforest.specs.Forest.{Forest, IsLive, IsSearchable, first_level, list_of, sizes_of};
 ghost use Rattle.bforest.specs.Memory.{SetsFitInMemory};
 ghost use Rattle.bforest.specs.Retain.{MayAskEach};
 ghost use Rattle.bforest.specs.Room.{IsEnoughFor, IsMetBy};
 ghost use Rattle.bforest.specs.Set.{AnswersKey, MayAskKey, as_popped, as_put, as_removed, elements, the_value, with_unit};
+ghost use Rattle.bforest.specs.Union.{are_among, are_apart};
 ghost use Rattle.bforest.specs.SetCursor.{IsCursor, comparator, forest_loan, forest_now, set_loan, set_now, spot};
 ghost use Rattle.std.specs.Map.{keys_of};
 ghost use Rattle.std.specs.declared.cmp.Ordering.{Ordering};
@@ -278,6 +279,69 @@ impl<K: Copy> Set<K> {
             root: tree,
             mark: PhantomData,
         })
+    }
+
+    /// Returns whether each key of this set has an equal one in `other`. An empty set is a subset of each set.
+    ///
+    /// Reads both sets side by side, up to the first key that is not in `other`: at most one comparison for each key of this set and of
+    /// `other`, and none where one of them is empty. No search.
+    pub fn is_subset<C: Comparator<K>>(
+        &self,
+        other: &Set<K>,
+        forest: &SetForest<K>,
+        comp: &C,
+    ) -> bool
+        requires searchable { IsSearchable (C.order comp.now) forest.now self.now }
+        requires other { IsSearchable (C.order comp.now) forest.now other.now }
+        ensures among { result ≡ are_among (C.order comp.now) (list_of forest.now self.now)
+            (list_of forest.now other.now) }
+    {
+        forest.trees.all_are(self.root, other.root, true, comp)
+    }
+
+    /// Returns whether no key of this set has an equal one in `other`. An empty set is disjoint from each set.
+    ///
+    /// Reads both sets side by side, up to the first key that both have: at most one comparison for each key of this set and of `other`,
+    /// and none where one of them is empty. No search.
+    pub fn is_disjoint<C: Comparator<K>>(
+        &self,
+        other: &Set<K>,
+        forest: &SetForest<K>,
+        comp: &C,
+    ) -> bool
+        requires searchable { IsSearchable (C.order comp.now) forest.now self.now }
+        requires other { IsSearchable (C.order comp.now) forest.now other.now }
+        ensures apart { result ≡ are_apart (C.order comp.now) (list_of forest.now self.now)
+            (list_of forest.now other.now) }
+    {
+        forest.trees.all_are(self.root, other.root, false, comp)
+    }
+
+    /// Puts each key of `other` that is absent into this set, and returns whether there was one. A stored key that compares equal stays.
+    ///
+    /// Reads both sets side by side, with at most one comparison for each key of either. Where nothing is new, that is all: no node
+    /// and no memory is taken, and nothing is written. Else it reads them once more, makes a tree of the union with the fewest nodes beside
+    /// the old one, and frees that. Until the call returns it takes memory for a list of the union.
+    ///
+    /// Other handles to this set's tree are not live then. Where both are one set, nothing is new.
+    ///
+    /// # Errors
+    ///
+    /// [`OutOfMemory::Full`] where a key is new and the forest's limit does not allow the new tree's nodes beside the old ones.
+    /// [`OutOfMemory::Memory`] where a key is new and there was no memory for the list or for a table that had to grow. The set and the
+    /// forest are unchanged then.
+    pub fn union_with<C: Comparator<K>>(
+        &mut self,
+        other: &Set<K>,
+        forest: &mut SetForest<K>,
+        comp: &C,
+    ) -> Result<bool, OutOfMemory>
+        requires searchable { IsSearchable (C.order comp.now) forest.old self.old }
+        requires other { IsSearchable (C.order comp.now) forest.old other.now }
+        ensures { Unites SET_LEAF (C.order comp.now) forest.old self.old other.now result forest.new
+            self.new }
+    {
+        forest.trees.unite(&mut self.root, other.root, comp)
     }
 
     /// Keeps the keys for which the predicate returns `true`, and removes all others.
