@@ -9,3 +9,4 @@ pub mod Growing
 pub mod SetCursors
 pub mod Sets
 pub mod Shrinking
+pub mod Fewest
