@@ -10,4 +10,5 @@ pub mod Lengths
 pub mod SetCursors
 pub mod Sets
 pub mod Shrinking
+pub mod Fewest
 pub mod Standard

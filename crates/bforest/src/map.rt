@@ -1,16 +1,16 @@
 //! Handles of maps.
 ghost use Rattle.bforest_nodes.specs.Entries.{IsIncreasing, place, value_for};
 ghost use Rattle.bforest.specs.Bounds.{entries_between, entry_at_least, entry_at_most};
-ghost use Rattle.bforest.specs.Calls.{Clears, Clones, Filters, GetsOrInserts, Inserts, Loads, Pops, Removes, Shifts, Unites, Updates, UpdatesOrInserts};
+ghost use Rattle.bforest.specs.Calls.{Clears, Clones, Filters, GetsOrInserts, Inserts, Loads, Pops, Removes, Shifts, Unites, Updates, UpdatesOrInserts, fewest};
 ghost use Rattle.bforest.specs.Cursor.{IsCursor, comparator, forest_loan, forest_now, map_loan, map_now, spot};
-ghost use Rattle.bforest.specs.Forest.{Forest, IsLive, IsSearchable, first_level, list_of, sizes_of};
+ghost use Rattle.bforest.specs.Forest.{Forest, IsFitFor, IsLive, IsSearchable, first_level, list_of, sizes_of};
 ghost use Rattle.bforest.specs.Memory.{MapsFitInMemory};
 ghost use Rattle.bforest.specs.Retain.{Answers, MayAsk, MayAskEach};
-ghost use Rattle.bforest.specs.Room.{IsEnoughFor, IsMetBy};
+ghost use Rattle.bforest.specs.Room.{IsEnoughFor, IsMetBy, node_count};
 ghost use Rattle.std.specs.Option.{option_map_or};
 ghost use Rattle.std.specs.declared.cmp.Ordering.{Ordering};
 ghost use Rattle.std.specs.Ordering.{is_lt};
-ghost use Rattle.std.specs.Prelude.{IsTrue, None, Some, [], true, ◌↔◌, length, reverse, slice_get, ◌+◌, ◌-◌, ◌/◌, ◌<◌, ◌^◌, ◌≡◌, ◌≤◌};
+ghost use Rattle.std.specs.Prelude.{IsTrue, List, ℕ, None, Some, [], true, ◌↔◌, length, reverse, slice_get, ◌+◌, ◌-◌, ◌/◌, ◌<◌, ◌^◌, ◌≡◌, ◌≤◌};
 
 use crate::map_cursor::MapCursor;
 use crate::map_cursor_mut::MapCursorMut;
@@ -19,7 +19,7 @@ use crate::map_into_iter::MapIntoIter;
 use crate::map_iter::MapIter;
 use crate::map_iter_back::MapIterBack;
 use crate::map_range::MapRange;
-use crate::room::most_nodes;
+use crate::room::{fewest_nodes, most_nodes};
 use bforest_core::{Comparator, OutOfMemory, PackedNode, Path};
 use bforest_trees::Asked;
 use std::cmp::Ordering;
@@ -465,6 +465,19 @@ impl<K: Copy, V: Copy> Map<K, V> {
         ensures met { IsMetBy MAP_LEAF entries result }
     {
         most_nodes(entries, MAP_LEAF)
+    }
+
+    /// Returns the fewest nodes that a map of `entries` entries can have, which are those that [`Map::load`] takes: a leaf for each 7,
+    /// and on each further level a node for each 8, up to the root.
+    ///
+    /// At most 22 steps, one for each level of such a tree. No node is visited, and no memory is taken.
+    pub fn fewest_nodes_for(entries: usize) -> usize
+        ensures count { result ≡ fewest MAP_LEAF entries }
+        ensures least { (sizes : List (List ℕ)) → IsFitFor MAP_LEAF entries sizes
+            → result ≤ node_count sizes }
+        ensures met { IsMetBy MAP_LEAF entries result }
+    {
+        fewest_nodes(entries, MAP_LEAF)
     }
 
     /// Returns an iterator over the entries in order. Visits one node of each level, and then each leaf once. No comparison.

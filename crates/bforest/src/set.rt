@@ -1,22 +1,22 @@
 //! Handles of sets.
 ghost use Rattle.bforest_nodes.specs.Entries.{IsIncreasing, is_present, place, value_for};
 ghost use Rattle.bforest.specs.Bounds.{entries_between, entry_at_least, entry_at_most};
-ghost use Rattle.bforest.specs.Calls.{Clears, Clones, Filters, Inserts, Loads, Pops, Removes, Shifts, Unites};
-ghost use Rattle.bforest.specs.Forest.{Forest, IsLive, IsSearchable, first_level, list_of, sizes_of};
+ghost use Rattle.bforest.specs.Calls.{Clears, Clones, Filters, Inserts, Loads, Pops, Removes, Shifts, Unites, fewest};
+ghost use Rattle.bforest.specs.Forest.{Forest, IsFitFor, IsLive, IsSearchable, first_level, list_of, sizes_of};
 ghost use Rattle.bforest.specs.Memory.{SetsFitInMemory};
 ghost use Rattle.bforest.specs.Retain.{MayAskEach};
-ghost use Rattle.bforest.specs.Room.{IsEnoughFor, IsMetBy};
+ghost use Rattle.bforest.specs.Room.{IsEnoughFor, IsMetBy, node_count};
 ghost use Rattle.bforest.specs.Set.{AnswersKey, MayAskKey, as_popped, as_put, as_removed, elements, the_value, with_unit};
 ghost use Rattle.bforest.specs.Union.{are_among, are_apart};
 ghost use Rattle.bforest.specs.SetCursor.{IsCursor, comparator, forest_loan, forest_now, set_loan, set_now, spot};
 ghost use Rattle.std.specs.Map.{keys_of};
 ghost use Rattle.std.specs.declared.cmp.Ordering.{Ordering};
-ghost use Rattle.std.specs.Prelude.{IsTrue, None, [], is_some, length, reverse, option_map, slice_get, ◌*◌, ◌+◌, ◌-◌, ◌/◌, ◌<◌, ◌^◌, ◌≡◌, ◌≤◌, ◌↔◌};
+ghost use Rattle.std.specs.Prelude.{IsTrue, List, ℕ, None, [], is_some, length, reverse, option_map, slice_get, ◌*◌, ◌+◌, ◌-◌, ◌/◌, ◌<◌, ◌^◌, ◌≡◌, ◌≤◌, ◌↔◌};
 
 use crate::asked_key::AskedKey;
 use crate::entry::key_of;
 use crate::map::follows;
-use crate::room::most_nodes;
+use crate::room::{fewest_nodes, most_nodes};
 use crate::set_cursor::SetCursor;
 use crate::set_forest::{SET_LEAF, SetForest};
 use crate::set_iter::SetIter;
@@ -420,6 +420,19 @@ impl<K: Copy> Set<K> {
         ensures met { IsMetBy SET_LEAF keys result }
     {
         most_nodes(keys, SET_LEAF)
+    }
+
+    /// Returns the fewest nodes that a set of `keys` keys can have, which are those that [`Set::load`] takes: a leaf for each 15,
+    /// and on each further level a node for each 8, up to the root.
+    ///
+    /// At most 22 steps, one for each level of such a tree. No node is visited, and no memory is taken.
+    pub fn fewest_nodes_for(keys: usize) -> usize
+        ensures count { result ≡ fewest SET_LEAF keys }
+        ensures least { (sizes : List (List ℕ)) → IsFitFor SET_LEAF keys sizes
+            → result ≤ node_count sizes }
+        ensures met { IsMetBy SET_LEAF keys result }
+    {
+        fewest_nodes(keys, SET_LEAF)
     }
 
     /// Returns an iterator over the keys in order. Visits one node of each level, and then each leaf once. No comparison.

@@ -18,7 +18,7 @@ use Rattle.std.specs.declared.cmp.Ordering.{Ordering}
 some-most : {K X C : Type 0} {most : ℕ} {cmp : K → K → Ordering} {m : Indexed K X C} → AreKept most cmp m → 0 < most
 some-most a = let odd = a.odd in omega arith
 
--- so many entries have few nodes
+-- entries that are as few as a list may have take at most the nodes that such a list may have
 load-few : (most : ℕ) → 0 < most → {n most_entries : ℕ} → n ≤ most_entries → (nodes : ℕ) → IsEnoughFor most most_entries nodes → fewest most n ≤ nodes
 load-few most some {n} few nodes enough = let met = fewest-met most n some in rw (← met.2) (enough n met.0 few met.1)
 

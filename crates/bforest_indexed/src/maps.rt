@@ -344,7 +344,8 @@ impl<K: Copy, V: Copy, C: Comparator<K>> Maps<K, V, C> {
     /// then.
     pub fn load(&mut self, index: usize, entries: &[(K, V)]) -> Result<(), LoadError>
         requires within { index < count self.old }
-        ensures { LoadsAt MAP_LEAF (C.order (comparator self.old)) self.old index entries.now result self.new }
+        ensures { LoadsAt MAP_LEAF (C.order (comparator self.old)) self.old index entries.now
+            result self.new }
     {
         if let Some(place) = first_unordered(entries, &self.order) {
             return Err(LoadError::Unordered(place));

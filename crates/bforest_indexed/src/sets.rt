@@ -298,7 +298,8 @@ impl<K: Copy, C: Comparator<K>> Sets<K, C> {
     /// then.
     pub fn load(&mut self, index: usize, keys: &[K]) -> Result<(), LoadError>
         requires within { index < count self.old }
-        ensures { LoadsAt SET_LEAF (C.order (comparator self.old)) self.old index (with_unit keys.now) result self.new }
+        ensures { LoadsAt SET_LEAF (C.order (comparator self.old)) self.old index (with_unit keys.now)
+            result self.new }
     {
         if let Some(place) = first_unordered(keys, &self.order) {
             return Err(LoadError::Unordered(place));

@@ -217,6 +217,7 @@ fn maps_are_loaded_as_a_model_is() {
         }
         let list: Vec<(u32, u32)> = model.iter().map(|(key, value)| (*key, *value)).collect();
         let fewest = fewest_nodes(entries);
+        assert_eq!(fewest as usize, Map::<u32, u32>::fewest_nodes_for(entries));
         if fewest > 0 {
             let mut short = MapForest::with_node_limit(fewest);
             assert_eq!(other.insert(7, 7, &mut short, &()), Ok(None));

@@ -2,7 +2,7 @@
 
 mod random;
 
-use bforest::{LoadError, Maps, OutOfMemory, Sets};
+use bforest::{LoadError, Map, Maps, OutOfMemory, Set, Sets};
 use random::Random;
 use std::collections::{BTreeMap, BTreeSet};
 use std::panic::{AssertUnwindSafe, catch_unwind};
@@ -192,6 +192,7 @@ fn fewest_nodes(entries: usize, leaf: usize) -> u32 {
         level = level.div_ceil(8);
         nodes += level;
     }
+    assert_eq!(nodes, if leaf == 7 { Map::<u32, u32>::fewest_nodes_for(entries) } else { Set::<u32>::fewest_nodes_for(entries) });
     nodes as u32
 }
 
