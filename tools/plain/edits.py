@@ -235,10 +235,10 @@ CONSTANT = {
 # Functions that only tell something, so that a call whose result is dropped is a mistake.
 TELLING = ["is_empty", "contains", "get", "get_or_less", "get_or_greater", "first", "last", "levels", "increases"]
 MANY = ["new", "with_node_limit", "len", "slots", "free_slots", "node_limit"]
-SET_TELLING = ["is_empty", "contains", "get_or_less", "levels"]
+SET_TELLING = ["is_empty", "contains", "get_or_less", "levels", "is_subset", "is_disjoint"]
 MUST_USE = {
     "bforest/map.rt": ["new", "clone", "cursor", "cursor_mut", "len", *(it for it in TELLING if it != "contains")],
-    "bforest/set.rt": ["new", "clone", "cursor", "len", *(it for it in TELLING if it != "get")],
+    "bforest/set.rt": ["new", "clone", "cursor", "len", "is_subset", "is_disjoint", *(it for it in TELLING if it != "get")],
     "bforest/forest.rt": ["slots", "nodes_in_use", "free_slots", "node_limit"],
     "bforest/map_forest.rt": ["new", "with_node_limit", "holds"],
     "bforest/set_forest.rt": ["new", "with_node_limit", "holds"],

@@ -1,17 +1,21 @@
 -- What contracts see of maps and of sets that are named by an index: a forest, an order, and a handle for each index. A set's values are
 -- all the unit.
+use Rattle.bforest.specs.Calls.{need_of_union}
 use Rattle.bforest.specs.Entries.{IsIncreasing, cut, is_present, put, value_for}
-use Rattle.bforest.specs.Forest.{Forest, Gives, GrowsFor, IsFitFor, IsLive, IsTooMany, NeedsGrowth, Takes, emptied, free_of, limit_of, list_of, need_of, shrink, sizes_of, sizes_with, sizes_without, slots_of}
+use Rattle.bforest.specs.Forest.{ArePacked, Forest, Gives, GrowsFor, IsFitFor, IsLive, IsTooMany, NeedsGrowth, Takes, emptied, free_of, limit_of, list_of, need_of, shrink, sizes_of, sizes_with, sizes_without, slots_of}
+-- `TakesAndGives d sizes f f'`: d slots were taken, and then those of a tree of these sizes freed.
+pub use Rattle.bforest.specs.Forest.{TakesAndGives}
 use Rattle.bforest.specs.Refusal.{Full, Memory, OutOfMemory}
 use Rattle.bforest.specs.Retain.{Retains}
 use Rattle.bforest.specs.Room.{IsEnoughFor, IsMostFor, node_count}
+use Rattle.bforest.specs.Union.{are_among, united}
 use Rattle.std.proofs.Math.Logic.{◌⊎◌}
 use Rattle.bforest_indexed.specs.Handles.{Holds}
 use Rattle.std.specs.Cmp.{IsTotalOrder}
 use Rattle.std.specs.Fn.{FnOnceReturns, Once}
 use Rattle.std.specs.List.{sum_by}
 use Rattle.std.specs.Map.{keys_of}
-use Rattle.std.specs.Prelude.{Bool, Err, IfOk, IfSome, IsOk, IsSome, List, None, Ok, OnErr, OnOk, Option, Result, Some, [], false, get_or, if◌then◌else◌, length, map, max, nat_eq, nat_lt, remove, slice_get, unwrap_or, ℕ, ◌%◌, ◌*◌, ◌+◌, ◌-◌, ◌<◌, ◌↔◌, ◌≡◌, ◌≢◌, ◌≤◌}
+use Rattle.std.specs.Prelude.{Bool, Err, IfOk, IfSome, IsOk, IsSome, List, None, Ok, OnErr, OnOk, Option, Result, Some, [], false, get_or, if◌then◌else◌, length, map, max, nat_eq, nat_lt, not, remove, slice_get, true, unwrap_or, ℕ, ◌%◌, ◌*◌, ◌+◌, ◌-◌, ◌<◌, ◌↔◌, ◌≡◌, ◌≢◌, ◌≤◌}
 use Rattle.std.specs.Ordering.{is_eq}
 use Rattle.std.specs.declared.cmp.Ordering.{Ordering}
 
@@ -28,12 +32,6 @@ HasRoom most lists most_entries f = (nodes : ℕ) × IsEnoughFor most most_entri
 -- the limit allows the table so many slots
 abbrev pub MayHave : {K X : Type 0} → ℕ → ℕ → ℕ → Forest K X → Type 0
 MayHave most lists most_entries f = (nodes : ℕ) × IsEnoughFor most most_entries nodes × (lists * nodes ≤ limit_of f)
-
--- f became f': d slots were taken, and then those of a tree of these sizes freed
-pub record TakesAndGives {K X : Type 0} (d : ℕ) (sizes : List (List ℕ)) (f f' : Forest K X) : Type 0 where
-  pub slots : slots_of f' ≡ slots_of f + (d - free_of f)
-  pub free : free_of f' ≡ (free_of f - d) + node_count sizes
-  pub memory : GrowsFor d f f'
 
 -- Contracts read it by the words below alone.
 pub record Indexed (K X C : Type 0) : Type 0 where
@@ -250,6 +248,20 @@ module _ {K X C : Type 0} where
       pub refused : OnErr result (m' ≡ m)
       pub room : (lists most_entries : ℕ) → StaysWithin cmp lists most_entries m i k → HasRoom most lists most_entries (table m) → IsOk result
       pub never_full : (lists most_entries : ℕ) → StaysWithin cmp lists most_entries m i k → MayHave most lists most_entries (table m) → result ≢ Err Full
+
+    -- The entries of j whose key is absent in i were put there, and whether there was one is answered. Where there was one, the tree of i is
+    -- a packed one, which was made beside the old one; else nothing changed. Or the call was refused, and nothing changed.
+    pub record UnitesAt (m : Indexed K X C) (i j : ℕ) (result : Result Bool OutOfMemory) (m' : Indexed K X C) : Type 0 where
+      pub united : OnOk result (entries m' i ≡ united cmp (entries m i) (entries m j))
+      pub changed : IfOk result (λ changed. changed ≡ not (are_among cmp (entries m j) (entries m i)))
+      pub packed : result ≡ Ok true → ArePacked most (node_sizes m' i)
+      pub nodes : result ≡ Ok true → node_count (node_sizes m' i) ≡ need_of_union most cmp (table m) (handle m i) (handle m j)
+      pub account : result ≡ Ok true → TakesAndGives (need_of_union most cmp (table m) (handle m i) (handle m j)) (node_sizes m i) (table m) (table m')
+      pub beside : ChangesAt m i m'
+      pub same : result ≡ Ok false → m' ≡ m
+      pub full : (result ≡ Err Full) ↔ IsTooMany (need_of_union most cmp (table m) (handle m i) (handle m j)) (table m)
+      pub memory : result ≡ Err Memory → are_among cmp (entries m j) (entries m i) ≡ false
+      pub refused : OnErr result (m' ≡ m)
 
     -- the key k was removed from i, and its value is answered
     pub record RemovesAt (m : Indexed K X C) (i : ℕ) (k : K) (result : Option X) (m' : Indexed K X C) : Type 0 where

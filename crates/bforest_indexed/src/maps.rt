@@ -8,7 +8,7 @@ ghost use Rattle.bforest.specs.Retain.{Answers, MayAsk, MayAskEach};
 ghost use Rattle.bforest_indexed.specs.Edits.{EditsAt};
 ghost use Rattle.bforest_indexed.specs.Indexed.{HoldsFor, ReservesFor};
 ghost use Rattle.bforest_indexed.specs.Loads.{LoadsAt};
-ghost use Rattle.bforest_indexed.specs.Indexed.{ClearsAll, ClearsAt, CopiesAt, FiltersAt, GetsOrInsertsAt, InsertsAt, UpdatesAt, UpdatesOrInsertsAt};
+ghost use Rattle.bforest_indexed.specs.Indexed.{ClearsAll, ClearsAt, CopiesAt, FiltersAt, GetsOrInsertsAt, InsertsAt, UnitesAt, UpdatesAt, UpdatesOrInsertsAt};
 ghost use Rattle.bforest_indexed.specs.Indexed.{KeepsAll, PopsAt, RemovesAt, Swaps};
 ghost use Rattle.bforest.specs.declared.map_forest.TheConstants.{MAP_LEAF};
 ghost use Rattle.bforest_indexed.specs.Indexed.{comparator, count, entries, memory, node_sizes, nodes_in_use, table};
@@ -358,6 +358,25 @@ impl<K: Copy, V: Copy, C: Comparator<K>> Maps<K, V, C> {
             }
             Err(refused) => Err(LoadError::Refused(refused)),
         }
+    }
+
+    /// Puts each entry of the map at `other` whose key is absent into the map at `index`, and returns whether there was one. A present key
+    /// keeps its own value. Where both are one, nothing changes.
+    ///
+    /// As [`bforest::Map::union_with`]: reads both, and where nothing is new, that is all. Else makes a tree of the union with the fewest
+    /// nodes beside the old one, and frees that.
+    ///
+    /// # Errors
+    ///
+    /// [`OutOfMemory`] where a key is new and too few nodes are available beside the old ones, or there is no memory for a list of the union;
+    /// nothing has changed then.
+    pub fn union_with(&mut self, index: usize, other: usize) -> Result<bool, OutOfMemory>
+        requires within { index < count self.old }
+        requires other { other < count self.old }
+        ensures { UnitesAt MAP_LEAF (C.order (comparator self.old)) self.old index other result self.new }
+    {
+        let theirs = self.maps[other].clone();
+        self.maps[index].union_with(&theirs, &mut self.forest, &self.order)
     }
 
     /// Keeps the entries for which the predicate returns `true`, with the value as the predicate left it, and removes all others. It is

@@ -6,9 +6,10 @@ ghost use Rattle.bforest.specs.Forest.{IsFitFor, empty, first_level, free_of, li
 ghost use Rattle.bforest.specs.Memory.{SetsFitInMemory};
 ghost use Rattle.bforest.specs.Retain.{MayAskEach};
 ghost use Rattle.bforest.specs.Set.{AnswersKey, MayAskKey, as_popped, as_put, as_removed, the_value, with_unit};
+ghost use Rattle.bforest.specs.Union.{are_among, are_apart};
 ghost use Rattle.bforest_indexed.specs.Indexed.{HoldsFor, ReservesFor};
 ghost use Rattle.bforest_indexed.specs.Loads.{LoadsAt};
-ghost use Rattle.bforest_indexed.specs.Indexed.{ClearsAll, ClearsAt, CopiesAt, FiltersAt, InsertsAt, KeepsAll, PopsAt, RemovesAt, Swaps};
+ghost use Rattle.bforest_indexed.specs.Indexed.{ClearsAll, ClearsAt, CopiesAt, FiltersAt, InsertsAt, KeepsAll, PopsAt, RemovesAt, Swaps, UnitesAt};
 ghost use Rattle.bforest.specs.declared.set_forest.TheConstants.{SET_LEAF};
 ghost use Rattle.bforest_indexed.specs.Indexed.{comparator, count, entries, keys, memory, node_sizes, nodes_in_use, table};
 ghost use Rattle.std.specs.Map.{keys_of};
@@ -312,6 +313,47 @@ impl<K: Copy, C: Comparator<K>> Sets<K, C> {
             }
             Err(refused) => Err(LoadError::Refused(refused)),
         }
+    }
+
+    /// Returns whether each key of the set at `index` has an equal one in the set at `other`, which may be the same. An empty set is a subset
+    /// of each set. Reads both side by side, up to the first key that is not there: at most one comparison for each key of either.
+    pub fn is_subset(&self, index: usize, other: usize) -> bool
+        requires within { index < count self.now }
+        requires other { other < count self.now }
+        ensures among { result ≡ are_among (C.order (comparator self.now)) (entries self.now index)
+            (entries self.now other) }
+    {
+        self.sets[index].is_subset(&self.sets[other], &self.forest, &self.order)
+    }
+
+    /// Returns whether no key of the set at `index` has an equal one in the set at `other`, which may be the same. An empty set is disjoint
+    /// from each set. Reads both side by side, up to the first key that both have: at most one comparison for each key of either.
+    pub fn is_disjoint(&self, index: usize, other: usize) -> bool
+        requires within { index < count self.now }
+        requires other { other < count self.now }
+        ensures apart { result ≡ are_apart (C.order (comparator self.now)) (entries self.now index)
+            (entries self.now other) }
+    {
+        self.sets[index].is_disjoint(&self.sets[other], &self.forest, &self.order)
+    }
+
+    /// Puts each key of the set at `other` that is absent into the set at `index`, and returns whether there was one. A stored key that
+    /// compares equal stays. Where both are one, nothing changes.
+    ///
+    /// As [`bforest::Set::union_with`]: reads both, and where nothing is new, that is all. Else makes a tree of the union with the fewest
+    /// nodes beside the old one, and frees that.
+    ///
+    /// # Errors
+    ///
+    /// [`OutOfMemory`] where a key is new and too few nodes are available beside the old ones, or there is no memory for a list of the union;
+    /// nothing has changed then.
+    pub fn union_with(&mut self, index: usize, other: usize) -> Result<bool, OutOfMemory>
+        requires within { index < count self.old }
+        requires other { other < count self.old }
+        ensures { UnitesAt SET_LEAF (C.order (comparator self.old)) self.old index other result self.new }
+    {
+        let theirs = self.sets[other].clone();
+        self.sets[index].union_with(&theirs, &mut self.forest, &self.order)
     }
 
     /// Keeps the keys for which the predicate returns `true`, and removes all others. It is called once for each key, in order. No

@@ -88,7 +88,7 @@ type NumbersForest = MapForest<u32, u32>;
 type MapCall = Call<Numbers, NumbersForest>;
 type SetCall = Call<Set<u32>, SetForest<u32>>;
 
-const OF_MAPS: [(&str, MapCall); 28] = [
+const OF_MAPS: [(&str, MapCall); 29] = [
     ("get", |map, forest| _ = map.get(1, forest, &())),
     ("update", |map, forest| _ = map.update(1, |value| value + 1, forest, &())),
     ("get_or_less", |map, forest| _ = map.get_or_less(1, forest, &())),
@@ -104,6 +104,7 @@ const OF_MAPS: [(&str, MapCall); 28] = [
     ("pop_last", |map, forest| _ = map.pop_last(forest)),
     ("clear", |map, forest| map.clear(forest)),
     ("deep_clone", |map, forest| _ = map.deep_clone(forest)),
+    ("union_with", |map, forest| _ = map.union_with(&map.clone(), forest, &())),
     ("retain", |map, forest| map.retain(forest, |key, _| key > 1)),
     ("shift", |map, forest| map.shift(1, |key| key + 1, forest, &())),
     ("len", |map, forest| _ = map.len(forest)),
@@ -119,7 +120,7 @@ const OF_MAPS: [(&str, MapCall); 28] = [
     ("debug", |map, forest| _ = format!("{:?}", map.debug(forest))),
 ];
 
-const OF_SETS: [(&str, SetCall); 22] = [
+const OF_SETS: [(&str, SetCall); 25] = [
     ("contains", |set, forest| _ = set.contains(1, forest, &())),
     ("get_or_less", |set, forest| _ = set.get_or_less(1, forest, &())),
     ("get_or_greater", |set, forest| _ = set.get_or_greater(1, forest, &())),
@@ -132,6 +133,9 @@ const OF_SETS: [(&str, SetCall); 22] = [
     ("pop_last", |set, forest| _ = set.pop_last(forest)),
     ("clear", |set, forest| set.clear(forest)),
     ("deep_clone", |set, forest| _ = set.deep_clone(forest)),
+    ("is_subset", |set, forest| _ = set.is_subset(&set.clone(), forest, &())),
+    ("is_disjoint", |set, forest| _ = set.is_disjoint(&set.clone(), forest, &())),
+    ("union_with", |set, forest| _ = set.union_with(&set.clone(), forest, &())),
     ("retain", |set, forest| set.retain(forest, |key| key > 1)),
     ("shift", |set, forest| set.shift(1, |key| key + 1, forest, &())),
     ("len", |set, forest| _ = set.len(forest)),

@@ -1,0 +1,95 @@
+-- What a union of the trees of two indices leaves of all trees.
+use Rattle.bforest.specs.Calls.{Unites, need_of_union}
+use Rattle.bforest.specs.Forest.{Forest, list_of, room_of, sizes_of}
+use Rattle.bforest.specs.Refusal.{Full, OutOfMemory}
+use Rattle.bforest.specs.Room.{Balances, node_count}
+use Rattle.bforest.specs.Union.{are_among, are_apart}
+use Rattle.bforest_indexed.proofs.Kept.{changes, changes-not, here, kept-set, list-here, ok-err, read, same-list, with_tree}
+use Rattle.bforest_indexed.specs.Indexed.{AreKept, Indexed, UnitesAt, count, entries, handle, table}
+use Rattle.std.proofs.Common.{Bool, Err, None, Ok, Option, Result, ap, arith, false, get_or, inl, inr, refl, slice_set, subst, sym, true, ◌<◌, ◌∙◌, ◌≡◌, ◌≤◌, ℕ}
+use Rattle.std.proofs.lemmas.Bool.Decides.{leb_tells}
+use Rattle.std.proofs.lemmas.List.{set-get_or}
+use Rattle.std.specs.declared.cmp.Ordering.{Ordering}
+
+module _ {K X C : Type 0} {most : ℕ} {cmp : K → K → Ordering} {m : Indexed K X C} {i : ℕ} (j : ℕ) (a : AreKept most cmp m) (within : i < count m) where
+  module _ {f' : Forest K X} {h' : Option ℕ} where
+    -- a packed tree took the place of the old one, within the limit
+    united-balance : Unites most cmp (table m) (handle m i) (handle m j) (Ok true) f' h' → Balances most (table m) (handle m i) f' h'
+    united-balance c =
+        let account = c.account refl in
+        let low : need_of_union most cmp (table m) (handle m i) (handle m j) ≤ room_of (table m) = elim (leb_tells (need_of_union most cmp (table m) (handle m i) (handle m j)) (room_of (table m))) [
+          | inl w ↦ w.1
+          | inr w ↦ absurd (ok-err true Full (c.full.1 w.1))
+        ] in record {
+          fit = c.fit refl;
+          nodes = omega (arith, account.slots, account.free, c.nodes refl);
+          slots = omega (arith, account.slots);
+          within = λ few. omega (arith, account.slots, c.united.limit, low, few);
+        }
+
+    -- a handle that is written back changes nothing
+    unchanged : f' ≡ table m → h' ≡ handle m i → with_tree m i f' h' ≡ m
+    unchanged same_forest same_handle =
+        λ n. record m { forest = same_forest n; handles = (ap (slice_set m.handles i) same_handle ∙ set-get_or m.handles i None) n }
+
+    -- nothing changed
+    united-same : {r : Result Bool OutOfMemory} → f' ≡ table m → h' ≡ handle m i → (with_tree m i f' h' ≡ m → UnitesAt most cmp m i j r (with_tree m i f' h'))
+        → AreKept most cmp (with_tree m i f' h') × UnitesAt most cmp m i j r (with_tree m i f' h')
+    united-same same_forest same_handle told = let same = unchanged same_forest same_handle in (subst (AreKept most cmp) (sym same) a, told same)
+
+    united-here : (r : Result Bool OutOfMemory) → Unites most cmp (table m) (handle m i) (handle m j) r f' h'
+        → AreKept most cmp (with_tree m i f' h') × UnitesAt most cmp m i j r (with_tree m i f' h')
+    united-here (Ok true) call = (
+      kept-set a within call.united call.increasing (united-balance call),
+      record {
+        united = list-here a within call.united;
+        changed = call.changed;
+        packed = λ is. rw (ap (sizes_of f') (here a within call.united)) (call.packed is);
+        nodes = λ is. ap (λ q. node_count (sizes_of f' q)) (here a within call.united) ∙ call.nodes is;
+        account = call.account;
+        beside = changes a within call.united;
+        same = λ bad. absurd (cc);
+        full = call.full;
+        memory = call.memory;
+        refused = tt;
+      },
+    )
+    united-here (Ok false) call = united-same (call.same_forest refl) (call.same_handle refl) (λ same. record {
+      united = list-here a within call.united;
+      changed = call.changed;
+      packed = λ bad. absurd (cc);
+      nodes = λ bad. absurd (cc);
+      account = λ bad. absurd (cc);
+      beside = changes a within call.united;
+      same = λ is. same;
+      full = call.full;
+      memory = call.memory;
+      refused = tt;
+    })
+    united-here (Err refused) call = united-same call.refused_forest call.refused_handle (λ same. record {
+      united = tt;
+      changed = tt;
+      packed = λ bad. absurd (cc);
+      nodes = λ bad. absurd (cc);
+      account = λ bad. absurd (cc);
+      beside = changes-not m (with_tree m i f' h') i same;
+      same = λ bad. absurd (cc);
+      full = call.full;
+      memory = call.memory;
+      refused = same;
+    })
+
+    -- the handles of two indices were read, and their trees united
+    pub united-at : {h q : Option ℕ} → h ≡ get_or m.handles i h → j < count m → q ≡ get_or m.handles j q → {r : Result Bool OutOfMemory} → Unites most cmp (table m) h q r f' h'
+        → AreKept most cmp (with_tree m i f' h') × UnitesAt most cmp m i j r (with_tree m i f' h')
+    united-at {h} {q} is other_within other_is {r} call =
+        united-here r (subst (λ (z : Option ℕ). Unites most cmp (table m) (handle m i) z r f' h') (read a other_within other_is)
+        (subst (λ (z : Option ℕ). Unites most cmp (table m) z q r f' h') (read a within is) call))
+
+  -- what two lists tell is what the handles that were read tell
+  module _ {h q : Option ℕ} (is : h ≡ get_or m.handles i h) (other_within : j < count m) (other_is : q ≡ get_or m.handles j q) where
+    pub among-read : are_among cmp (list_of (table m) h) (list_of (table m) q) ≡ are_among cmp (entries m i) (entries m j)
+    among-read = λ n. are_among cmp (same-list a within is n) (same-list a other_within other_is n)
+
+    pub apart-read : are_apart cmp (list_of (table m) h) (list_of (table m) q) ≡ are_apart cmp (entries m i) (entries m j)
+    apart-read = λ n. are_apart cmp (same-list a within is n) (same-list a other_within other_is n)

@@ -1,0 +1,254 @@
+//! Questions and unions of two whole maps or sets of one forest: worked by hand, beside `BTreeMap` and `BTreeSet`, and one node short.
+
+use bforest::{Comparator, Map, MapForest, Maps, OutOfMemory, Set, SetForest, Sets};
+use std::cell::Cell;
+use std::cmp::Ordering;
+use std::collections::{BTreeMap, BTreeSet};
+
+#[path = "random/mod.rs"]
+mod random;
+use random::Random;
+
+/// Keys that differ in their last digit alone are equal.
+struct Tens;
+
+impl Comparator<u32> for Tens {
+    fn cmp(&self, a: u32, b: u32) -> Ordering {
+        (a / 10).cmp(&(b / 10))
+    }
+}
+
+/// The order of the keys, which counts how often it is asked.
+#[derive(Default)]
+struct Counting(Cell<u32>);
+
+impl Comparator<u32> for Counting {
+    fn cmp(&self, a: u32, b: u32) -> Ordering {
+        self.0.set(self.0.get() + 1);
+        a.cmp(&b)
+    }
+}
+
+fn set_of(keys: impl IntoIterator<Item = u32>, forest: &mut SetForest<u32>) -> Set<u32> {
+    let mut set = Set::new();
+    keys.into_iter().for_each(|key| _ = set.insert(key, forest, &()).unwrap());
+    set
+}
+
+fn map_of(keys: impl IntoIterator<Item = u32>, value: u32, forest: &mut MapForest<u32, u32>) -> Map<u32, u32> {
+    let mut map = Map::new();
+    keys.into_iter().for_each(|key| _ = map.insert(key, value, forest, &()).unwrap());
+    map
+}
+
+/// The fewest nodes of so many entries, whose leaves hold so many.
+fn fewest(entries: usize, leaf: usize) -> usize {
+    let mut level = entries.div_ceil(leaf);
+    let mut nodes = level;
+    while level > 1 {
+        level = level.div_ceil(8);
+        nodes += level;
+    }
+    nodes
+}
+
+// Worked by hand.
+
+#[test]
+fn questions_of_two_sets() {
+    let mut forest = SetForest::new();
+    let (none, odd, all) = (Set::new(), set_of([1, 3, 5], &mut forest), set_of(1..=5, &mut forest));
+    let (even, last) = (set_of([2, 4, 6], &mut forest), set_of([6], &mut forest));
+    let asked = |a: &Set<u32>, b: &Set<u32>| (a.is_subset(b, &forest, &()), a.is_disjoint(b, &forest, &()));
+    assert_eq!(asked(&none, &none), (true, true));
+    assert_eq!(asked(&none, &odd), (true, true));
+    assert_eq!(asked(&odd, &none), (false, true));
+    assert_eq!(asked(&odd, &odd.clone()), (true, false));
+    assert_eq!(asked(&odd, &all), (true, false));
+    assert_eq!(asked(&all, &odd), (false, false));
+    assert_eq!(asked(&odd, &even), (false, true));
+    // The last key alone is not there.
+    assert_eq!(asked(&even, &all), (false, false));
+    assert_eq!(asked(&last, &all), (false, true));
+}
+
+/// Each key of either is compared at most once, and the reading ends where the answer is known.
+#[test]
+fn questions_compare_each_key_once() {
+    let mut forest = SetForest::new();
+    let (few, many) = (set_of([100, 300], &mut forest), set_of(0..200, &mut forest));
+    let order = Counting::default();
+    assert!(!few.is_subset(&many, &forest, &order));
+    assert!(order.0.take() <= 202);
+    assert!(many.is_subset(&many.clone(), &forest, &order));
+    assert_eq!(order.0.take(), 200);
+    assert!(!many.is_subset(&few, &forest, &order));
+    assert_eq!(order.0.take(), 1);
+    assert!(!few.is_disjoint(&many, &forest, &order));
+    assert_eq!(order.0.take(), 101);
+}
+
+#[test]
+fn unions_of_two_maps() {
+    let mut forest = MapForest::new();
+    let mut map = map_of([1, 3, 5], 1, &mut forest);
+    let other = map_of([0, 3, 4, 9], 2, &mut forest);
+    assert_eq!(map.union_with(&other, &mut forest, &()), Ok(true));
+    assert!(map.iter(&forest).eq([(0, 2), (1, 1), (3, 1), (4, 2), (5, 1), (9, 2)]));
+    assert!(other.iter(&forest).eq([(0, 2), (3, 2), (4, 2), (9, 2)]));
+    // The old leaf of the map is free.
+    assert_eq!((forest.slots(), forest.free_slots()), (3, 1));
+    let before = map.clone();
+    assert_eq!(map.union_with(&other, &mut forest, &()), Ok(false));
+    assert_eq!(map.union_with(&before, &mut forest, &()), Ok(false));
+    assert_eq!(map.union_with(&Map::new(), &mut forest, &()), Ok(false));
+    assert_eq!((forest.slots(), forest.free_slots(), forest.holds(&before)), (3, 1, true));
+    // An empty map takes all entries.
+    let mut none = Map::new();
+    assert_eq!(none.union_with(&map, &mut forest, &()), Ok(true));
+    assert!(none.iter(&forest).eq(map.iter(&forest)));
+    assert_eq!((forest.slots(), forest.free_slots()), (3, 0));
+}
+
+/// A stored key that compares equal stays.
+#[test]
+fn unions_keep_their_own_keys() {
+    let mut forest = SetForest::new();
+    let (mut set, mut other) = (Set::new(), Set::new());
+    for key in [11, 35] {
+        set.insert(key, &mut forest, &Tens).unwrap();
+    }
+    for key in [17, 23, 39, 41] {
+        other.insert(key, &mut forest, &Tens).unwrap();
+    }
+    assert_eq!(set.union_with(&other, &mut forest, &Tens), Ok(true));
+    assert!(set.iter(&forest).eq([11, 23, 35, 41]));
+    assert!(set.clone().is_subset(&other, &forest, &Tens));
+}
+
+/// 20 keys and 10 more lie in two full leaves under a root: three nodes beside the three that the set has.
+#[test]
+fn a_union_one_node_short_changes_nothing() {
+    for (limit, answer) in [(6, Err(OutOfMemory::Full)), (7, Ok(true))] {
+        let mut forest = SetForest::with_node_limit(limit);
+        let mut set = set_of(0..20, &mut forest);
+        let other = set_of(20..30, &mut forest);
+        let before = (forest.slots(), forest.free_slots());
+        assert_eq!(before, (4, 0));
+        assert_eq!(set.union_with(&other, &mut forest, &()), answer);
+        assert!(other.iter(&forest).eq(20..30));
+        if answer.is_ok() {
+            assert!(set.iter(&forest).eq(0..30));
+            assert_eq!((forest.slots(), forest.free_slots()), (7, 3));
+        } else {
+            assert!(set.iter(&forest).eq(0..20));
+            assert_eq!((forest.slots(), forest.free_slots()), before);
+        }
+    }
+}
+
+#[test]
+fn unions_by_index() {
+    let mut maps: Maps<u32, char> = Maps::new(());
+    for _ in 0..3 {
+        maps.push().unwrap();
+    }
+    for (index, key, value) in [(0, 1, 'a'), (0, 2, 'b'), (1, 2, 'c'), (1, 3, 'd')] {
+        maps.insert(index, key, value).unwrap();
+    }
+    assert_eq!(maps.union_with(0, 1), Ok(true));
+    assert_eq!(maps.union_with(0, 1), Ok(false));
+    assert_eq!(maps.union_with(0, 0), Ok(false));
+    assert_eq!(maps.union_with(0, 2), Ok(false));
+    assert!(maps.iter(0).eq([(1, 'a'), (2, 'b'), (3, 'd')]));
+    assert!(maps.iter(1).eq([(2, 'c'), (3, 'd')]));
+    let mut sets: Sets<u32> = Sets::new(());
+    sets.grow_to(3).unwrap();
+    for (index, key) in [(0, 1), (0, 2), (1, 2), (1, 3)] {
+        sets.insert(index, key).unwrap();
+    }
+    assert!(sets.is_subset(1, 1) && !sets.is_disjoint(1, 1) && sets.is_subset(2, 0) && sets.is_disjoint(2, 2));
+    assert!(!sets.is_subset(1, 0) && !sets.is_disjoint(0, 1));
+    assert_eq!((sets.union_with(0, 1), sets.union_with(0, 1), sets.union_with(2, 2)), (Ok(true), Ok(false), Ok(false)));
+    assert!(sets.is_subset(1, 0) && sets.iter(0).eq([1, 2, 3]) && sets.iter(1).eq([2, 3]));
+}
+
+// Beside the standard library.
+
+fn some_keys(random: &mut Random, most: u32, bound: u32) -> BTreeSet<u32> {
+    let count = random.below(most + 1);
+    (0..count).map(|_| random.below(bound)).collect()
+}
+
+/// The number of nodes of a set's tree.
+fn nodes_of(set: &Set<u32>, forest: &SetForest<u32>) -> u32 {
+    let mut forest = forest.clone();
+    let free = forest.free_slots();
+    set.clone().clear(&mut forest);
+    forest.free_slots() - free
+}
+
+#[test]
+fn sets_beside_btreeset() {
+    let mut random = Random(7);
+    for round in 0..600 {
+        let (most, bound) = [(4, 6), (40, 60), (200, 300), (600, 5000)][round % 4];
+        let (a, b) = (some_keys(&mut random, most, bound), some_keys(&mut random, most, bound));
+        let made = |limit| {
+            let mut forest = SetForest::with_node_limit(limit);
+            let sets = [&a, &b].map(|keys| set_of(keys.iter().copied(), &mut forest));
+            (forest, sets)
+        };
+        let (mut forest, [mut mine, other]) = made(u32::MAX);
+        assert_eq!(mine.is_subset(&other, &forest, &()), a.is_subset(&b));
+        assert_eq!(mine.is_disjoint(&other, &forest, &()), a.is_disjoint(&b));
+        let union: BTreeSet<u32> = a.union(&b).copied().collect();
+        let changes = union.len() > a.len();
+        let need = if changes { fewest(union.len(), 15) as u32 } else { 0 };
+        let (slots, free, old) = (forest.slots(), forest.free_slots(), nodes_of(&mine, &forest));
+        assert_eq!(mine.union_with(&other, &mut forest, &()), Ok(changes));
+        assert!(mine.iter(&forest).eq(union.iter().copied()) && other.iter(&forest).eq(b.iter().copied()));
+        assert_eq!(forest.slots(), slots + need.saturating_sub(free));
+        assert_eq!(forest.free_slots(), free.saturating_sub(need) + if changes { old } else { 0 });
+        // A limit that allows just the nodes that are needed, and one that allows one node fewer.
+        for short in [0, 1] {
+            if need < free + short {
+                continue;
+            }
+            let (mut forest, [mut mine, other]) = made(slots + need - free - short);
+            let answer = if short == 0 { Ok(changes) } else { Err(OutOfMemory::Full) };
+            assert_eq!(mine.union_with(&other, &mut forest, &()), answer);
+            let left = if answer.is_ok() { &union } else { &a };
+            assert!(mine.iter(&forest).eq(left.iter().copied()) && other.iter(&forest).eq(b.iter().copied()));
+            if answer.is_err() {
+                assert_eq!((forest.slots(), forest.free_slots()), (slots, free));
+            }
+        }
+    }
+}
+
+#[test]
+fn maps_beside_btreemap() {
+    let mut random = Random(11);
+    for round in 0..600 {
+        let (most, bound) = [(4, 6), (40, 60), (200, 300), (600, 5000)][round % 4];
+        let (a, b) = (some_keys(&mut random, most, bound), some_keys(&mut random, most, bound));
+        let mut forest = MapForest::new();
+        let (mut mine, other) = (map_of(a.iter().copied(), 1, &mut forest), map_of(b.iter().copied(), 2, &mut forest));
+        let mut union: BTreeMap<u32, u32> = b.iter().map(|&key| (key, 2)).collect();
+        union.extend(a.iter().map(|&key| (key, 1)));
+        assert_eq!(mine.union_with(&other, &mut forest, &()), Ok(union.len() > a.len()));
+        assert!(mine.iter(&forest).eq(union.iter().map(|(&key, &value)| (key, value))));
+        assert!(other.iter(&forest).eq(b.iter().map(|&key| (key, 2))));
+        assert_eq!(mine.union_with(&other, &mut forest, &()), Ok(false));
+        // The map can be changed as any other.
+        for key in 0..bound.min(50) {
+            assert_eq!(mine.insert(key, 3, &mut forest, &()), Ok(union.insert(key, 3)));
+            assert_eq!(mine.remove(key + 1, &mut forest, &()), union.remove(&(key + 1)));
+        }
+        assert!(mine.iter(&forest).eq(union.into_iter()));
+        mine.clear(&mut forest);
+        other.clone().clear(&mut forest);
+        assert_eq!(forest.nodes_in_use(), 0);
+    }
+}
