@@ -1,6 +1,6 @@
 -- A call on a forest that adds up leaves one that does.
 use Rattle.bforest.proofs.Balances.{clears-balance, filters-balance, inserts-balance, length-written, removes-at-balance, removes-balance, sizes-stay}
-use Rattle.bforest.specs.Calls.{Clears, Filters, Inserts, Removes, RemovesAt}
+use Rattle.bforest.specs.Calls.{Clears, Filters, Inserts, Pops, Removes, RemovesAt}
 use Rattle.bforest.specs.Forest.{Becomes, Forest, IsFitFor, emptied, list_of, nodes_at, sizes_of, slots_of}
 use Rattle.bforest.specs.Room.{Balances}
 use Rattle.bforest_calls.proofs.Sums.{upto, upto-more, upto-one, upto-two}
@@ -117,6 +117,9 @@ module _ {K V : Type 0} where
 
     pub removes-at-add : (p : ℕ) → RemovesAt most f h p f' h' → AddsUp most f'
     removes-at-add p r = changed most f f' h h' (remove (list_of f h) p) a r.removed (removes-at-balance most odd f f' h h' (fit-of most f a h) p r)
+
+    pub pops-add : (p : ℕ) (entry : Option (K × V)) → Pops most f h p entry f' h' → AddsUp most f'
+    pops-add p entry r = removes-at-add p r.removed
 
     module _ (cmp : K → K → Ordering) (k : K) where
       pub removes-add : (result : Option V) → Removes most cmp f h k result f' h' → AddsUp most f'

@@ -1,5 +1,5 @@
 -- Each step of a script, and each call of a list, leaves a forest that adds up where it began with one.
-use Rattle.bforest_calls.proofs.Accounts.{clears-add, filters-add, inserts-add, none-adds, removes-add, removes-at-add, still, writes-add}
+use Rattle.bforest_calls.proofs.Accounts.{clears-add, filters-add, inserts-add, none-adds, pops-add, removes-add, removes-at-add, still, writes-add}
 use Rattle.bforest_calls.specs.Machine.{Lacks, Orders, State, Step, held_at, number_at, order_at}
 use Rattle.bforest_calls.specs.State.{Acts, Held, KeepsIf, Script, StillAddsUp}
 use Rattle.bforest_calls.specs.declared.call.Act.TheVariants as act
@@ -43,6 +43,9 @@ module _ {K V : Type 0} (most : ℕ) (odd : most % 2 ≡ 1) where
   pub step-adds : (reads : Bool) (orders : Orders K) (old : State K V) (made : Call K V) (given : Answer K V) (new : State K V) → Step most reads orders old made given new → StillAddsUp most old.forest new.forest
   step-adds reads orders old (call.Get h c k) given new step a = elim step [ inl w ↦ same-forest old new w.1 a | inr w ↦ same-forest old new w.3.1 a ]
   step-adds reads orders old (call.GetOrLess h c k) given new step a = elim step [ inl w ↦ same-forest old new w.1 a | inr w ↦ same-forest old new w.3.1 a ]
+  step-adds reads orders old (call.GetOrGreater h c k) given new step a = elim step [ inl w ↦ same-forest old new w.1 a | inr w ↦ same-forest old new w.3.1 a ]
+  step-adds reads orders old (call.First h) given new step a = elim step [ inl w ↦ same-forest old new w.1 a | inr w ↦ same-forest old new w.3.1 a ]
+  step-adds reads orders old (call.Last h) given new step a = elim step [ inl w ↦ same-forest old new w.1 a | inr w ↦ same-forest old new w.3.1 a ]
   step-adds reads orders old (call.Insert h c k v) given new step a = elim step [
     | inl w ↦ same-forest old new w.1 a
     | inr w ↦ inserts-add most odd old.forest new.forest (number_at old h) w.3.2.0 a (order_at orders c) k v w.3.0 w.3.2.2
@@ -51,11 +54,20 @@ module _ {K V : Type 0} (most : ℕ) (odd : most % 2 ≡ 1) where
     | inl w ↦ same-forest old new w.1 a
     | inr w ↦ removes-add most odd old.forest new.forest (number_at old h) w.3.2.0 a (order_at orders c) k w.3.0 w.3.2.2
   ]
+  step-adds reads orders old (call.PopFirst h) given new step a = elim step [
+    | inl w ↦ same-forest old new w.1 a
+    | inr w ↦ pops-add most odd old.forest new.forest (number_at old h) w.3.2.0 a _ w.3.0 w.3.2.2
+  ]
+  step-adds reads orders old (call.PopLast h) given new step a = elim step [
+    | inl w ↦ same-forest old new w.1 a
+    | inr w ↦ pops-add most odd old.forest new.forest (number_at old h) w.3.2.0 a _ w.3.0 w.3.2.2
+  ]
   step-adds reads orders old (call.Clear h) given new step a = elim step [
     | inl w ↦ same-forest old new w.1 a
     | inr w ↦ clears-add most odd old.forest new.forest (number_at old h) w.3.1.0 a w.3.1.2
   ]
   step-adds reads orders old (call.Iter h) given new step a = elim step [ inl w ↦ same-forest old new w.1 a | inr w ↦ same-forest old new w.3.3 a ]
+  step-adds reads orders old (call.IterBack h) given new step a = elim step [ inl w ↦ same-forest old new w.1 a | inr w ↦ same-forest old new w.3.3 a ]
   step-adds true orders old (call.Read h c steps) given new step a = elim step [ inl w ↦ same-forest old new w.1 a | inr w ↦ same-forest old new w.3.1 a ]
   step-adds false orders old (call.Read h c steps) given new step a = same-forest old new (lacks-same _ old given new step) a
   step-adds reads orders old (call.Edit h c steps) given new step a = elim step [

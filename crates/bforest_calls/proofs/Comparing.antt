@@ -1,8 +1,9 @@
--- The tests of a call, and a call that compares keys, from what its handle and its comparator tell.
+-- The tests of a call, and a call that compares keys, or is at an end of a list, from what its handle and its comparator tell.
 use Rattle.bforest.specs.Calls.{Inserts, Removes}
 use Rattle.bforest_calls.specs.Compared.{IsComparing, IsListed, Makes}
-use Rattle.bforest_calls.specs.Machine.{AsksRoom, Compares, On, Orders, Passes, Refuses, State, Step, Tests, order_at}
-use Rattle.bforest_calls.specs.State.{Edits, Held}
+use Rattle.bforest_calls.specs.Ends.{IsAtEnd, MakesAtEnd}
+use Rattle.bforest_calls.specs.Machine.{AsksRoom, Compares, Names, On, Orders, Passes, Refuses, State, Step, Tests, order_at}
+use Rattle.bforest_calls.specs.State.{Edits, FirstPopped, Held, LastPopped}
 use Rattle.bforest_calls.specs.declared.call.Answer.TheVariants as answer
 use Rattle.bforest_calls.specs.declared.call.Answer.{Answer}
 use Rattle.bforest_calls.specs.declared.call.Call.TheVariants as call
@@ -57,6 +58,7 @@ module _ {K V : Type 0} (most : ℕ) (reads : Bool) (orders : Orders K) (h c : �
       → Step most reads orders old made given new
   step-of (call.Get a b k) is t = at (λ m n. Step most reads orders old (call.Get m n k) given new) (then given (looks h old new) t) a b is.0 is.1
   step-of (call.GetOrLess a b k) is t = at (λ m n. Step most reads orders old (call.GetOrLess m n k) given new) (then given (looks h old new) t) a b is.0 is.1
+  step-of (call.GetOrGreater a b k) is t = at (λ m n. Step most reads orders old (call.GetOrGreater m n k) given new) (then given (looks h old new) t) a b is.0 is.1
   step-of (call.Insert a b k v) is t = at (λ m n. Step most reads orders old (call.Insert m n k v) given new)
       (then given (changes (λ result held after. Inserts most (order_at orders c) held.forest held.number k v result after.forest after.number) h old new) t)
       a b is.0 is.1
@@ -70,8 +72,14 @@ module _ {K V : Type 0} (most : ℕ) (reads : Bool) (orders : Orders K) (h c : �
       (then given (changes (λ sights held after. Edits most (order_at orders c) steps.items sights.items held after) h old new) t) a b is.0 is.1
   step-of (call.Range a b lo hi ends) is t = at (λ m n. Step most reads orders old (call.Range m n lo hi ends) given new)
       (then given (looks h old new) t) a b is.0 is.1
-  step-of (call.Retain a b keys put) is t = absurd is
-  step-of (call.Clear a) is t = absurd is
-  step-of (call.Iter a) is t = absurd is
-  step-of (call.Alias from to) is t = absurd is
-  step-of call.ForestClear is t = absurd is
+  step-of other is t = absurd is
+
+module _ {K V : Type 0} (most : ℕ) (reads : Bool) (orders : Orders K) (h : ℕ) (old : State K V) (given : Answer K V) (new : State K V) where
+  -- a call at an end of a list, from what is made on its handle
+  pub step-at-end : (made : Call K V) → IsAtEnd h made → Names h old given new (On h old new (λ held after. MakesAtEnd most made held given after))
+      → Step most reads orders old made given new
+  step-at-end (call.First a) is t = rw is (then given (looks h old new) t)
+  step-at-end (call.Last a) is t = rw is (then given (looks h old new) t)
+  step-at-end (call.PopFirst a) is t = rw is (then given (changes (FirstPopped most) h old new) t)
+  step-at-end (call.PopLast a) is t = rw is (then given (changes (LastPopped most) h old new) t)
+  step-at-end other is t = absurd is

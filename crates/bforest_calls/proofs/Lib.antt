@@ -5,6 +5,7 @@ pub mod Chains
 pub mod Comparing
 pub mod Indexed
 pub mod Kept
+pub mod Offers
 pub mod Runs
 pub mod Sums
 pub mod Units

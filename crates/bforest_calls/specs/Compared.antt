@@ -1,5 +1,5 @@
 -- A call that compares keys: on one handle, by one comparator, where both are there and all tests are passed.
-use Rattle.bforest.specs.Bounds.{entries_between, entry_at_most}
+use Rattle.bforest.specs.Bounds.{entries_between, entry_at_least, entry_at_most}
 use Rattle.bforest.specs.Calls.{Inserts, Removes}
 use Rattle.bforest_calls.specs.Looks.{all_taken, sights_of}
 use Rattle.bforest_calls.specs.Machine.{Shows}
@@ -20,6 +20,7 @@ module _ {K V : Type 0} where
   abbrev pub IsComparing : Bool → ℕ → ℕ → Call K V → Type 0
   IsComparing reads h c (call.Get a b k) = (a ≡ h) × (b ≡ c)
   IsComparing reads h c (call.GetOrLess a b k) = (a ≡ h) × (b ≡ c)
+  IsComparing reads h c (call.GetOrGreater a b k) = (a ≡ h) × (b ≡ c)
   IsComparing reads h c (call.Insert a b k v) = (a ≡ h) × (b ≡ c)
   IsComparing reads h c (call.Remove a b k) = (a ≡ h) × (b ≡ c)
   IsComparing reads h c (call.Read a b steps) = (a ≡ h) × (b ≡ c) × (reads ≡ true)
@@ -39,6 +40,7 @@ module _ {K V : Type 0} where
     abbrev pub Makes : Call K V → Held K V → Answer K V → Held K V → Type 0
     Makes (call.Get h c k) old given new = (given ≡ answer.Value (value_for order (entries old) k)) × (new ≡ old)
     Makes (call.GetOrLess h c k) old given new = (given ≡ answer.Pair (entry_at_most order (entries old) k)) × (new ≡ old)
+    Makes (call.GetOrGreater h c k) old given new = (given ≡ answer.Pair (entry_at_least order (entries old) k)) × (new ≡ old)
     Makes (call.Insert h c k v) old given new =
         (result : Result (Option V) OutOfMemory) × (given ≡ answer.Put result) × Inserts most order old.forest old.number k v result new.forest new.number
     Makes (call.Remove h c k) old given new = (value : Option V) × (given ≡ answer.Value value) × Removes most order old.forest old.number k value new.forest new.number

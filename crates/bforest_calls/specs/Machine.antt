@@ -1,9 +1,9 @@
 -- The machine that a list of calls runs: what each call may answer, and what it leaves.
-use Rattle.bforest.specs.Bounds.{entries_between, entry_at_most}
+use Rattle.bforest.specs.Bounds.{entries_between, entry_at_least, entry_at_most}
 use Rattle.bforest.specs.Calls.{Clears, Inserts, Removes}
 use Rattle.bforest.specs.Forest.{Forest, IsLive, emptied, list_of}
 use Rattle.bforest_calls.specs.Looks.{all_taken, sights_of}
-use Rattle.bforest_calls.specs.State.{Edits, Held, Retained, StillAddsUp}
+use Rattle.bforest_calls.specs.State.{Edits, FirstPopped, Held, LastPopped, Retained, StillAddsUp}
 use Rattle.bforest_calls.specs.declared.call.Answer.TheVariants as answer
 use Rattle.bforest_calls.specs.declared.call.Answer.{Answer}
 use Rattle.bforest_calls.specs.declared.call.Call.TheVariants as call
@@ -13,7 +13,7 @@ use Rattle.bforest_core.specs.declared.pool.OutOfMemory.{OutOfMemory}
 use Rattle.bforest_nodes.specs.Entries.{IsIncreasing, value_for}
 use Rattle.std.proofs.Math.Logic.{◌⊎◌}
 use Rattle.std.specs.Global.{Global}
-use Rattle.std.specs.Prelude.{Bool, List, None, Option, Result, Some, Vec, [], false, get_or, length, slice_get, slice_set, true, ◌<◌, ◌≡◌, ◌∷◌, ℕ}
+use Rattle.std.specs.Prelude.{Bool, List, None, Option, Result, Some, Vec, [], false, get_or, length, reverse, slice_get, slice_set, true, ◌-◌, ◌<◌, ◌≡◌, ◌∷◌, ℕ}
 use Rattle.std.specs.declared.cmp.Ordering.TheVariants.{Equal}
 use Rattle.std.specs.declared.cmp.Ordering.{Ordering}
 
@@ -93,6 +93,7 @@ module _ {K V : Type 0} where
   -- reading cursors are offered
   abbrev pub AsksRoom : (reads : Bool) → Orders K → State K V → Call K V → Type 0
   AsksRoom reads orders state (call.Iter h) = (h < length state.handles) × Live state h
+  AsksRoom reads orders state (call.IterBack h) = (h < length state.handles) × Live state h
   AsksRoom reads orders state (call.Read h c steps) = (reads ≡ true) × Passes orders state h c
   AsksRoom reads orders state (call.Edit h c steps) = Passes orders state h c
   AsksRoom reads orders state (call.Range h c lo hi ends) = Passes orders state h c
@@ -115,16 +116,27 @@ module _ {K V : Type 0} where
         Compares orders h c old given new ((given ≡ answer.Value (value_for (order_at orders c) (list_in old h) k)) × (new ≡ old))
     Step orders old (call.GetOrLess h c k) given new =
         Compares orders h c old given new ((given ≡ answer.Pair (entry_at_most (order_at orders c) (list_in old h) k)) × (new ≡ old))
+    Step orders old (call.GetOrGreater h c k) given new =
+        Compares orders h c old given new ((given ≡ answer.Pair (entry_at_least (order_at orders c) (list_in old h) k)) × (new ≡ old))
+    Step orders old (call.First h) given new = Names h old given new ((given ≡ answer.Pair (slice_get (list_in old h) 0)) × (new ≡ old))
+    Step orders old (call.Last h) given new =
+        Names h old given new ((given ≡ answer.Pair (slice_get (list_in old h) (length (list_in old h) - 1))) × (new ≡ old))
     Step orders old (call.Insert h c k v) given new = Compares orders h c old given new
         ((result : Result (Option V) OutOfMemory) × (given ≡ answer.Put result)
         × On h old new (λ held after. Inserts most (order_at orders c) held.forest held.number k v result after.forest after.number))
     Step orders old (call.Remove h c k) given new = Compares orders h c old given new
         ((value : Option V) × (given ≡ answer.Value value)
         × On h old new (λ held after. Removes most (order_at orders c) held.forest held.number k value after.forest after.number))
+    Step orders old (call.PopFirst h) given new = Names h old given new
+        ((entry : Option (K × V)) × (given ≡ answer.Pair entry) × On h old new (FirstPopped most entry))
+    Step orders old (call.PopLast h) given new = Names h old given new
+        ((entry : Option (K × V)) × (given ≡ answer.Pair entry) × On h old new (LastPopped most entry))
     Step orders old (call.Clear h) given new = Names h old given new
         ((given ≡ answer.Done) × On h old new (λ held after. Clears held.forest held.number after.forest after.number))
     Step orders old (call.Iter h) given new = Names h old given new
         ((pairs : Vec (K × V) Global) × (given ≡ answer.Pairs pairs) × (pairs.items ≡ list_in old h) × (new ≡ old))
+    Step orders old (call.IterBack h) given new = Names h old given new
+        ((pairs : Vec (K × V) Global) × (given ≡ answer.Pairs pairs) × (pairs.items ≡ reverse (list_in old h)) × (new ≡ old))
     Step orders old (call.Read h c steps) given new = Offered reads
         (Compares orders h c old given new (Shows (sights_of (order_at orders c) (list_in old h) (length (list_in old h)) steps.items) given × (new ≡ old)))
         (Lacks ((h < length old.handles) × (c < length orders)) old given new)

@@ -1,5 +1,5 @@
 -- The state of a call on one handle, and what the call leaves.
-use Rattle.bforest.specs.Calls.{Filters, Inserts, RemovesAt}
+use Rattle.bforest.specs.Calls.{Filters, Inserts, Pops, RemovesAt}
 use Rattle.bforest.specs.Forest.{Becomes, Forest, IsAccounted, free_of, limit_of, list_at, list_of, memory_of, sizes_at, sizes_of, slots_of}
 use Rattle.bforest_calls.specs.Looks.{place_after, sight_of}
 use Rattle.bforest_calls.specs.declared.call.Act.TheVariants as act
@@ -13,7 +13,7 @@ use Rattle.bforest_core.specs.declared.pool.OutOfMemory.{OutOfMemory}
 use Rattle.bforest_nodes.specs.Entries.{place, with_value}
 use Rattle.std.specs.List.{list_any}
 use Rattle.std.specs.Ordering.{is_eq}
-use Rattle.std.specs.Prelude.{Bool, List, Option, Result, [], is_some, length, slice_get, unwrap_or, ◌≡◌, ◌≤◌, ◌∷◌, ℕ}
+use Rattle.std.specs.Prelude.{Bool, List, Option, Result, [], is_some, length, slice_get, unwrap_or, ◌-◌, ◌≡◌, ◌≤◌, ◌∷◌, ℕ}
 use Rattle.std.specs.declared.cmp.Ordering.{Ordering}
 
 -- Each number's sizes are those of a fit tree of its list, the slots are the free ones and the nodes of all
@@ -54,6 +54,13 @@ module _ {K V : Type 0} where
     pub slots : slots_of new.forest ≡ slots_of old.forest
     pub free : free_of new.forest ≡ free_of old.forest
     pub memory : memory_of new.forest ≡ memory_of old.forest
+
+  -- the first entry was popped, or the last one, where a leaf has at most `most` entries
+  abbrev pub FirstPopped : ℕ → Option (K × V) → Held K V → Held K V → Type 0
+  FirstPopped most entry old new = Pops most old.forest old.number 0 entry new.forest new.number
+
+  abbrev pub LastPopped : ℕ → Option (K × V) → Held K V → Held K V → Type 0
+  LastPopped most entry old new = Pops most old.forest old.number (length (entries old) - 1) entry new.forest new.number
 
   -- `most` is the number of entries that a leaf has at most
   module _ (most : ℕ) (order : K → K → Ordering) where

@@ -17,6 +17,20 @@ pub enum Call<K: Copy, V: Copy> {
         c: usize,
         k: K,
     },
+    /// `get_or_greater`. Answers [`Answer::Pair`].
+    GetOrGreater {
+        h: usize,
+        c: usize,
+        k: K,
+    },
+    /// `first`. Answers [`Answer::Pair`].
+    First {
+        h: usize,
+    },
+    /// `last`. Answers [`Answer::Pair`].
+    Last {
+        h: usize,
+    },
     /// `insert`. Answers [`Answer::Put`].
     Insert {
         h: usize,
@@ -30,12 +44,24 @@ pub enum Call<K: Copy, V: Copy> {
         c: usize,
         k: K,
     },
+    /// `pop_first`. Answers [`Answer::Pair`].
+    PopFirst {
+        h: usize,
+    },
+    /// `pop_last`. Answers [`Answer::Pair`].
+    PopLast {
+        h: usize,
+    },
     /// `clear` of the map or set. Answers [`Answer::Done`].
     Clear {
         h: usize,
     },
     /// `iter` to its end. Answers [`Answer::Pairs`].
     Iter {
+        h: usize,
+    },
+    /// `iter_back` to its end. Answers [`Answer::Pairs`].
+    IterBack {
         h: usize,
     },
     /// A reading cursor and each step in turn. Answers [`Answer::Script`], for sets [`Answer::NotOffered`].

@@ -2,9 +2,10 @@
 ghost use Rattle.bforest.specs.Calls.{Clears};
 ghost use Rattle.bforest.specs.Forest.{Forest, IsLive, emptied, list_of};
 ghost use Rattle.bforest_calls.specs.Compared.{IsComparing, IsListed, Makes};
+ghost use Rattle.bforest_calls.specs.Ends.{IsAtEnd, MakesAtEnd};
 ghost use Rattle.bforest_calls.specs.State.{Retained};
 ghost use Rattle.bforest_nodes.specs.Entries.{IsIncreasing};
-ghost use Rattle.std.specs.Prelude.{Bool, IfOk, IsTrue, List, None, OnErr, Option, get_or, length, slice_set, ◌%◌, ◌<◌, ◌↔◌, ◌≡◌, ℕ};
+ghost use Rattle.std.specs.Prelude.{Bool, IfOk, IsTrue, List, None, OnErr, Option, get_or, length, reverse, slice_set, ◌%◌, ◌<◌, ◌↔◌, ◌≡◌, ℕ};
 
 use crate::call::{Answer, Call};
 use bforest::Comparator;
@@ -52,6 +53,22 @@ pub trait Collection<K: Copy, V: Copy>: Drop {
         requires live { IsLive (trees forest.now) (number self.now) }
         ensures entries { IfOk result (λ entries.
             entries.items ≡ list_of (trees forest.now) (number self.now)) };
+
+    /// All entries from the last to the first, by an iterator.
+    fn entries_back(&self, alloc: Global, forest: &Self::Forest) -> Result<Vec<(K, V)>, AllocError>
+        requires fits { fits }
+        requires live { IsLive (trees forest.now) (number self.now) }
+        ensures entries { IfOk result (λ entries.
+            entries.items ≡ reverse (list_of (trees forest.now) (number self.now))) };
+
+    /// Makes a call at an end of the list.
+    fn answer_at_end(&mut self, call: &Call<K, V>, forest: &mut Self::Forest) -> Answer<K, V>
+        requires fits { fits }
+        requires at_end { (h : ℕ) × IsAtEnd h call.now }
+        requires live { IsLive (trees forest.old) (number self.old) }
+        ensures makes { MakesAtEnd most call.now
+            (record { forest = trees forest.old; number = number self.old }) result
+            (record { forest = trees forest.new; number = number self.new }) };
 
     /// Makes a call that compares keys. Room for an answer that is a list is taken before anything changes.
     fn answer<C: Comparator<K>>(

@@ -1,5 +1,6 @@
 //! One call, and the tests before it.
 ghost use Rattle.bforest_calls.specs.Compared.{IsComparing};
+ghost use Rattle.bforest_calls.specs.Ends.{IsAtEnd};
 ghost use Rattle.bforest_calls.specs.Machine.{AsksRoom, Live, Refuses, Step};
 ghost use Rattle.bforest_calls.specs.declared.call.Call.TheVariants as call;
 ghost use Rattle.std.specs.Prelude.{IfOk, IfSome, None, OnErr, false, length, map, ◌<◌, ◌≡◌, ℕ};
@@ -34,6 +35,7 @@ pub fn make<K: Copy, V: Copy, C: Comparator<K>, T: Collection<K, V>>(
     match call {
         Call::Get { h, c, .. }
         | Call::GetOrLess { h, c, .. }
+        | Call::GetOrGreater { h, c, .. }
         | Call::Insert { h, c, .. }
         | Call::Remove { h, c, .. }
         | Call::Edit { h, c, .. }
@@ -45,9 +47,13 @@ pub fn make<K: Copy, V: Copy, C: Comparator<K>, T: Collection<K, V>>(
                 Ok(lacks(*h, *c, comps, handles))
             }
         }
+        Call::First { h } | Call::Last { h } | Call::PopFirst { h } | Call::PopLast { h } => {
+            Ok(at_end(call, *h, handles, forest))
+        }
         Call::Retain { h, c, keys, put } => Ok(retain(*h, *c, keys, *put, comps, handles, forest)),
         Call::Clear { h } => Ok(clear(*h, handles, forest)),
         Call::Iter { h } => iter(alloc, *h, handles, forest),
+        Call::IterBack { h } => iter_back(alloc, *h, handles, forest),
         Call::Alias { from, to } => Ok(alias(*from, *to, handles)),
         Call::ForestClear => {
             T::clear_all(forest);
@@ -108,6 +114,25 @@ fn compare<K: Copy, V: Copy, C: Comparator<K>, T: Collection<K, V>>(
     }
     let given = handles[h].answer(alloc, call, forest, &comps[c])?;
     Ok(given)
+}
+
+/// Makes a call at an end of the list of handle `h`.
+fn at_end<K: Copy, V: Copy, T: Collection<K, V>>(
+    call: &Call<K, V>,
+    h: usize,
+    handles: &mut [T],
+    forest: &mut T::Forest,
+) -> Answer<K, V>
+    requires fits { T.fits }
+    requires at_end { IsAtEnd h call.now }
+    ensures { (orders : _) → Step T.most T.READS orders
+        (record { forest = T.trees forest.old; handles = T.numbers handles.old }) call.now result
+        (record { forest = T.trees forest.new; handles = T.numbers handles.new }) }
+{
+    if let Some(given) = unnamed(h, handles, forest) {
+        return given;
+    }
+    handles[h].answer_at_end(call, forest)
 }
 
 /// The answer to a reading cursor that is not offered.
@@ -185,6 +210,26 @@ fn iter<K: Copy, V: Copy, T: Collection<K, V>>(
         return Ok(given);
     }
     let pairs = handles[h].entries(alloc, forest)?;
+    Ok(Answer::Pairs(pairs))
+}
+
+fn iter_back<K: Copy, V: Copy, T: Collection<K, V>>(
+    alloc: Global,
+    h: usize,
+    handles: &[T],
+    forest: &T::Forest,
+) -> Result<Answer<K, V>, AllocError>
+    requires fits { T.fits }
+    ensures step { (orders : _) → IfOk result (λ given. Step T.most T.READS orders
+        (record { forest = T.trees forest.now; handles = T.numbers handles.now }) (call.IterBack h) given
+        (record { forest = T.trees forest.now; handles = T.numbers handles.now })) }
+    ensures room { (orders : _) → OnErr result (AsksRoom T.READS orders
+        (record { forest = T.trees forest.now; handles = T.numbers handles.now }) (call.IterBack h)) }
+{
+    if let Some(given) = unnamed(h, handles, forest) {
+        return Ok(given);
+    }
+    let pairs = handles[h].entries_back(alloc, forest)?;
     Ok(Answer::Pairs(pairs))
 }
 

@@ -74,6 +74,24 @@ impl<K: Copy, V: Copy> Collection<K, V> for Map<K, V> {
         self.iter(forest).collect(alloc)
     }
 
+    fn entries_back(
+        &self,
+        alloc: Global,
+        forest: &MapForest<K, V>,
+    ) -> Result<Vec<(K, V)>, AllocError> {
+        self.iter_back(forest).collect(alloc)
+    }
+
+    fn answer_at_end(&mut self, call: &Call<K, V>, forest: &mut MapForest<K, V>) -> Answer<K, V> {
+        match call {
+            Call::First { .. } => Answer::Pair(self.first(forest)),
+            Call::Last { .. } => Answer::Pair(self.last(forest)),
+            Call::PopFirst { .. } => Answer::Pair(self.pop_first(forest)),
+            Call::PopLast { .. } => Answer::Pair(self.pop_last(forest)),
+            _ => unreachable!(),
+        }
+    }
+
     fn answer<C: Comparator<K>>(
         &mut self,
         alloc: Global,
@@ -84,6 +102,7 @@ impl<K: Copy, V: Copy> Collection<K, V> for Map<K, V> {
         match call {
             Call::Get { k, .. } => Ok(Answer::Value(self.get(*k, forest, comp))),
             Call::GetOrLess { k, .. } => Ok(Answer::Pair(self.get_or_less(*k, forest, comp))),
+            Call::GetOrGreater { k, .. } => Ok(Answer::Pair(self.get_or_greater(*k, forest, comp))),
             Call::Insert { k, v, .. } => Ok(Answer::Put(self.insert(*k, *v, forest, comp))),
             Call::Remove { k, .. } => Ok(Answer::Value(self.remove(*k, forest, comp))),
             Call::Read { steps, .. } => {
@@ -98,11 +117,7 @@ impl<K: Copy, V: Copy> Collection<K, V> for Map<K, V> {
                 let mut range = self.range((*lo, *hi), forest, comp);
                 each(alloc, ends, &mut range)
             }
-            Call::Retain { .. }
-            | Call::Clear { .. }
-            | Call::Iter { .. }
-            | Call::Alias { .. }
-            | Call::ForestClear => unreachable!(),
+            _ => unreachable!(),
         }
     }
 

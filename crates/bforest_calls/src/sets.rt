@@ -81,6 +81,28 @@ impl<K: Copy> Collection<K, ()> for Set<K> {
         Ok(entries)
     }
 
+    fn entries_back(
+        &self,
+        alloc: Global,
+        forest: &SetForest<K>,
+    ) -> Result<Vec<(K, ())>, AllocError> {
+        let mut entries = Vec::new(alloc);
+        for key in self.iter_back(forest) {
+            entries.push((key, ()))?;
+        }
+        Ok(entries)
+    }
+
+    fn answer_at_end(&mut self, call: &Call<K, ()>, forest: &mut SetForest<K>) -> Answer<K, ()> {
+        match call {
+            Call::First { .. } => Answer::Pair(with_unit(self.first(forest))),
+            Call::Last { .. } => Answer::Pair(with_unit(self.last(forest))),
+            Call::PopFirst { .. } => Answer::Pair(with_unit(self.pop_first(forest))),
+            Call::PopLast { .. } => Answer::Pair(with_unit(self.pop_last(forest))),
+            _ => unreachable!(),
+        }
+    }
+
     fn answer<C: Comparator<K>>(
         &mut self,
         alloc: Global,
@@ -93,6 +115,9 @@ impl<K: Copy> Collection<K, ()> for Set<K> {
             Call::GetOrLess { k, .. } => Ok(Answer::Pair(with_unit(self.get_or_less(
                 *k, forest, comp,
             )))),
+            Call::GetOrGreater { k, .. } => Ok(Answer::Pair(with_unit(self.get_or_greater(
+                *k, forest, comp,
+            )))),
             Call::Insert { k, .. } => Ok(Answer::Put(old_unit(self.insert(*k, forest, comp)))),
             Call::Remove { k, .. } => Ok(Answer::Value(unit_if(self.remove(*k, forest, comp)))),
             Call::Edit { steps, .. } => {
@@ -103,12 +128,7 @@ impl<K: Copy> Collection<K, ()> for Set<K> {
                 let mut range = self.range((*lo, *hi), forest, comp);
                 each(alloc, ends, &mut range)
             }
-            Call::Read { .. }
-            | Call::Retain { .. }
-            | Call::Clear { .. }
-            | Call::Iter { .. }
-            | Call::Alias { .. }
-            | Call::ForestClear => unreachable!(),
+            _ => unreachable!(),
         }
     }
 

@@ -1,10 +1,10 @@
 -- A run with two handles exchanged.
 use Rattle.bforest.specs.Calls.{Clears, Inserts, Removes}
 use Rattle.bforest.specs.Forest.{IsLive, list_of}
-use Rattle.bforest.specs.Bounds.{entries_between, entry_at_most}
+use Rattle.bforest.specs.Bounds.{entries_between, entry_at_least, entry_at_most}
 use Rattle.bforest_calls.specs.Looks.{all_taken, sights_of}
 use Rattle.bforest_calls.specs.Machine.{Compares, Lacks, Names, NamesBoth, Offered, On, Orders, Refuses, Run, State, Step, Tests, list_in, number_at, order_at}
-use Rattle.bforest_calls.specs.State.{Edits, Held, Retained}
+use Rattle.bforest_calls.specs.State.{Edits, FirstPopped, Held, LastPopped, Retained}
 use Rattle.bforest_calls.specs.declared.call.Answer.TheVariants as answer
 use Rattle.bforest_calls.specs.declared.call.Answer.{Answer}
 use Rattle.bforest_calls.specs.declared.call.Call.TheVariants as call
@@ -13,7 +13,7 @@ use Rattle.bforest_calls_tests.proofs.Exchange.{at-exchange, exchange-within, sw
 use Rattle.bforest_calls_tests.proofs.Sparing.{lacking, offered}
 use Rattle.bforest_calls_tests.specs.Exchange.{AreAliases, exchange, exchanged}
 use Rattle.bforest.specs.Entries.{IsIncreasing, value_for}
-use Rattle.std.proofs.Common.{Bool, List, None, Option, [], ap, false, inl, inr, length, map, refl, subst, sym, true, ◌<◌, ◌∙◌, ◌∷◌, ◌≡◌, ℕ}
+use Rattle.std.proofs.Common.{Bool, List, None, Option, [], ap, false, inl, inr, length, map, refl, reverse, slice_get, subst, sym, true, ◌-◌, ◌<◌, ◌∙◌, ◌∷◌, ◌≡◌, ℕ}
 use Rattle.std.proofs.lemmas.List.{length-set}
 use Rattle.std.specs.Prelude.{slice_set, swap}
 
@@ -99,10 +99,16 @@ module _ {K V : Type 0} where
       step-exchanged : (call : Call K V) (given : Answer K V) → Step most reads orders old call given new → Step most reads orders (turned i j old) (exchanged i j call) given (turned i j new)
       step-exchanged (call.Get h c k) given s = compares-too orders given h c _ _ (λ t m. (told given h (λ es. answer.Value (value_for (order_at orders c) es k)) m.0, stays m.1)) s
       step-exchanged (call.GetOrLess h c k) given s = compares-too orders given h c _ _ (λ t m. (told given h (λ es. answer.Pair (entry_at_most (order_at orders c) es k)) m.0, stays m.1)) s
+      step-exchanged (call.GetOrGreater h c k) given s = compares-too orders given h c _ _ (λ t m. (told given h (λ es. answer.Pair (entry_at_least (order_at orders c) es k)) m.0, stays m.1)) s
+      step-exchanged (call.First h) given s = names-too orders given h _ _ (λ t m. (told given h (λ es. answer.Pair (slice_get es 0)) m.0, stays m.1)) s
+      step-exchanged (call.Last h) given s = names-too orders given h _ _ (λ t m. (told given h (λ es. answer.Pair (slice_get es (length es - 1))) m.0, stays m.1)) s
       step-exchanged (call.Insert h c k v) given s = compares-too orders given h c _ _ (λ t m. (m.0, m.1, on-exchanged h (λ held after. Inserts most (order_at orders c) held.forest held.number k v m.0 after.forest after.number) t m.2)) s
       step-exchanged (call.Remove h c k) given s = compares-too orders given h c _ _ (λ t m. (m.0, m.1, on-exchanged h (λ held after. Removes most (order_at orders c) held.forest held.number k m.0 after.forest after.number) t m.2)) s
+      step-exchanged (call.PopFirst h) given s = names-too orders given h _ _ (λ t m. (m.0, m.1, on-exchanged h (FirstPopped most m.0) t m.2)) s
+      step-exchanged (call.PopLast h) given s = names-too orders given h _ _ (λ t m. (m.0, m.1, on-exchanged h (LastPopped most m.0) t m.2)) s
       step-exchanged (call.Clear h) given s = names-too orders given h _ _ (λ t m. (m.0, on-exchanged h (λ held after. Clears held.forest held.number after.forest after.number) t m.1)) s
       step-exchanged (call.Iter h) given s = names-too orders given h _ _ (λ t m. (m.0, m.1, told m.0.items h (λ es. es) m.2, stays m.3)) s
+      step-exchanged (call.IterBack h) given s = names-too orders given h _ _ (λ t m. (m.0, m.1, told m.0.items h (λ es. reverse es) m.2, stays m.3)) s
       step-exchanged (call.Read h c steps) given s = offered-too reads _ _ _ _
           (compares-too orders given h c _ _ (λ t m. ((m.0.0, m.0.1, told m.0.0.items h (λ es. sights_of (order_at orders c) es (length es) steps.items) m.0.2), stays m.1)))
           (lacks-too ((h < length old.handles) × (c < length orders)) ((exchange i j h < length (swap old.handles i j)) × (c < length orders)) old new (turned i j old) (turned i j new) given
@@ -133,10 +139,16 @@ module _ {K V : Type 0} where
     as-many : (old : State K V) (call : Call K V) (given : Answer K V) (new : State K V) → Step most reads orders old call given new → length new.handles ≡ length old.handles
     as-many old (call.Get h c k) given new s = elim s [ inl r ↦ kept old new r.1 | inr r ↦ kept old new r.3.1 ]
     as-many old (call.GetOrLess h c k) given new s = elim s [ inl r ↦ kept old new r.1 | inr r ↦ kept old new r.3.1 ]
+    as-many old (call.GetOrGreater h c k) given new s = elim s [ inl r ↦ kept old new r.1 | inr r ↦ kept old new r.3.1 ]
+    as-many old (call.First h) given new s = elim s [ inl r ↦ kept old new r.1 | inr r ↦ kept old new r.3.1 ]
+    as-many old (call.Last h) given new s = elim s [ inl r ↦ kept old new r.1 | inr r ↦ kept old new r.3.1 ]
     as-many old (call.Insert h c k v) given new s = elim s [ inl r ↦ kept old new r.1 | inr r ↦ wrote old new h r.3.2.0 r.3.2.1 ]
     as-many old (call.Remove h c k) given new s = elim s [ inl r ↦ kept old new r.1 | inr r ↦ wrote old new h r.3.2.0 r.3.2.1 ]
+    as-many old (call.PopFirst h) given new s = elim s [ inl r ↦ kept old new r.1 | inr r ↦ wrote old new h r.3.2.0 r.3.2.1 ]
+    as-many old (call.PopLast h) given new s = elim s [ inl r ↦ kept old new r.1 | inr r ↦ wrote old new h r.3.2.0 r.3.2.1 ]
     as-many old (call.Clear h) given new s = elim s [ inl r ↦ kept old new r.1 | inr r ↦ wrote old new h r.3.1.0 r.3.1.1 ]
     as-many old (call.Iter h) given new s = elim s [ inl r ↦ kept old new r.1 | inr r ↦ kept old new r.3.3 ]
+    as-many old (call.IterBack h) given new s = elim s [ inl r ↦ kept old new r.1 | inr r ↦ kept old new r.3.3 ]
     as-many old (call.Read h c steps) given new s =
         offered reads (λ t. elim t [ inl r ↦ kept old new r.1 | inr r ↦ kept old new r.3.1 ]) (λ l. kept old new (lacking _ old given new l)) s
     as-many old (call.Edit h c steps) given new s = elim s [ inl r ↦ kept old new r.1 | inr r ↦ wrote old new h r.3.2.0 r.3.2.1 ]

@@ -13,7 +13,7 @@ use Rattle.std.specs.declared.cmp.Ordering.{Ordering}
 
 module _ {K V : Type 0} where
   -- a change makes the handle's list what it is afterwards
-  retold : (f f' : Forest K V) (h h' : Option ℕ) (es : List (K × V)) → Becomes f h f' h' es → Becomes f h f' h' (list_of f' h')
+  pub retold : (f f' : Forest K V) (h h' : Option ℕ) (es : List (K × V)) → Becomes f h f' h' es → Becomes f h f' h' (list_of f' h')
   retold f f' h h' es b = subst (λ (xs : List (K × V)). Becomes f h f' h' xs) (sym b.list) b
 
   -- a forest that does not change becomes its own list

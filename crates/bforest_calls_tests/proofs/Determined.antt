@@ -1,19 +1,19 @@
 -- Two runs of one list of calls that go in step.
-use Rattle.bforest.specs.Bounds.{entries_between, entry_at_most}
+use Rattle.bforest.specs.Bounds.{entries_between, entry_at_least, entry_at_most}
 use Rattle.bforest.specs.Forest.{Becomes, Forest, IsLive, emptied, list_of, sizes_of}
 use Rattle.bforest_trees.specs.Forest.{list_at, sizes_at}
 use Rattle.bforest_calls.specs.Looks.{all_taken, sights_of}
-use Rattle.bforest_calls.specs.Machine.{Compares, Lacks, Offered, Orders, Refuses, Run, State, Step, Tests, order_at}
-use Rattle.bforest_calls.specs.State.{Held}
+use Rattle.bforest_calls.specs.Machine.{Compares, Lacks, Offered, On, Orders, Refuses, Run, State, Step, Tests, order_at}
+use Rattle.bforest_calls.specs.State.{FirstPopped, Held, LastPopped}
 use Rattle.bforest_calls.specs.declared.call.Answer.TheVariants as answer
 use Rattle.bforest_calls.specs.declared.call.Answer.{Answer}
 use Rattle.bforest_calls.specs.declared.call.Call.TheVariants as call
 use Rattle.bforest_calls.specs.declared.call.Call.{Call}
-use Rattle.bforest_calls_tests.proofs.Changes.{inserted, scripted}
-use Rattle.bforest_calls_tests.proofs.Resembling.{Resembles, clears-alike, inserts-alike, removes-alike, retains-alike, scripts-alike}
+use Rattle.bforest_calls_tests.proofs.Changes.{inserted, retold, scripted}
+use Rattle.bforest_calls_tests.proofs.Resembling.{Resembles, clears-alike, inserts-alike, pops-alike, removes-alike, retains-alike, scripts-alike}
 use Rattle.bforest_calls_tests.specs.Determined.{AreAlike, AreDetermined, GoInStep, HadMemory, IsSameAnswer, RunsThrough}
 use Rattle.bforest.specs.Entries.{IsIncreasing, value_for}
-use Rattle.std.proofs.Common.{Bool, List, None, Option, Some, [], ap, false, get_or, inl, inr, length, refl, subst, sym, true, ◌<◌, ◌∙◌, ◌∷◌, ◌≡◌, ◌≢◌, ◌⊎◌, ℕ}
+use Rattle.std.proofs.Common.{Bool, List, None, Option, Some, [], ap, false, get_or, inl, inr, length, refl, reverse, slice_get, subst, sym, true, ◌-◌, ◌<◌, ◌∙◌, ◌∷◌, ◌≡◌, ◌≢◌, ◌⊎◌, ℕ}
 use Rattle.std.proofs.lemmas.Bool.Decides.{eqb_tells}
 use Rattle.std.proofs.lemmas.List.Elements.{recursion_from_All}
 use Rattle.std.proofs.lemmas.List.{get_or-set_same}
@@ -211,12 +211,30 @@ module _ {K V : Type 0} where
             changed-alike f g handles a new new' (number h) k es es' same b
             (subst (λ (q : Option ℕ). Becomes g (number h) new'.forest q es') one b') (subst (λ (q : Option ℕ). Resembles (held new.forest k) (held new'.forest q)) one r)
 
+        -- a change of handle h in both states, that answers alike and leaves alike
+        altered : {X : Type 0} (shown : X → Answer K V) (R : X → Held K V → Held K V → Type 0) (h : ℕ) → h < length handles → new'.handles ≡ new.handles
+            → ((x : X) (one one' : Held K V) → IsLive one.forest one.number → R x one one' → Becomes one.forest one.number one'.forest one'.number (list_of one'.forest one'.number))
+            → ((x x' : X) (one one' other other' : Held K V) → Resembles one other → given ≡ shown x → given' ≡ shown x' → R x one one' → R x' other other' → (x' ≡ x) × Resembles one' other')
+            → IsLive f (number h) → IsLive g (number h)
+            → (x : X) × (given ≡ shown x) × On h (at f handles) new (R x) → (x : X) × (given' ≡ shown x) × On h (at g handles) new' (R x) → Agree
+        altered shown R h t same becomes alike l l' m m' =
+            let r = alike m.0 m'.0 (held f (number h)) (held new.forest m.2.0) (held g (number h)) (held new'.forest m'.2.0) (held-alike f g handles a (number h)) m.1 m'.1 m.2.2 m'.2.2 in (
+              answers-same given given' (m'.1 ∙ ap shown r.0 ∙ sym m.1),
+              changed h m.2.0 m'.2.0 _ _ t m.2.1 m'.2.1 same (becomes m.0 (held f (number h)) (held new.forest m.2.0) l m.2.2) (becomes m'.0 (held g (number h)) (held new'.forest m'.2.0) l' m'.2.2) r.1,
+            )
+
       step-alike : (call : Call K V) (given given' : Answer K V) (new new' : State K V) → Step most reads orders (at f handles) call given new → Step most reads orders (at g handles) call given' new'
           → new'.handles ≡ new.handles → HadMemory given → HadMemory given' → Agree given given' new new'
       step-alike (call.Get h c k) given given' new new' s s' same had had' = compares given given' new new' h c _ _
           (λ t l l' m m'. looked given given' new new' _ _ m.0 m'.0 (λ z. answer.Value (value_for (order c) (lists h z) k)) m.1 m'.1) s s'
       step-alike (call.GetOrLess h c k) given given' new new' s s' same had had' = compares given given' new new' h c _ _
           (λ t l l' m m'. looked given given' new new' _ _ m.0 m'.0 (λ z. answer.Pair (entry_at_most (order c) (lists h z) k)) m.1 m'.1) s s'
+      step-alike (call.GetOrGreater h c k) given given' new new' s s' same had had' = compares given given' new new' h c _ _
+          (λ t l l' m m'. looked given given' new new' _ _ m.0 m'.0 (λ z. answer.Pair (entry_at_least (order c) (lists h z) k)) m.1 m'.1) s s'
+      step-alike (call.First h) given given' new new' s s' same had had' = names given given' new new' (h < length handles) h _ _
+          (λ t l l' m m'. looked given given' new new' _ _ m.0 m'.0 (λ z. answer.Pair (slice_get (lists h z) 0)) m.1 m'.1) s s'
+      step-alike (call.Last h) given given' new new' s s' same had had' = names given given' new new' (h < length handles) h _ _
+          (λ t l l' m m'. looked given given' new new' _ _ m.0 m'.0 (λ z. answer.Pair (slice_get (lists h z) (length (lists h z) - 1))) m.1 m'.1) s s'
       step-alike (call.Insert h c k v) given given' new new' s s' same had had' = compares given given' new new' h c _ _
           (λ t l l' m m'.
           let r = inserts-alike most (order c) (held f (number h)) (held g (number h)) (held-alike f g handles a (number h)) k v m.0 m'.0 (held new.forest m.2.0) (held new'.forest m'.2.0) m.2.2 m'.2.2
@@ -231,6 +249,12 @@ module _ {K V : Type 0} where
             answers-alike given given' (answer.Value m.0) (answer.Value m'.0) m.1 m'.1 (ap (λ x. answer.Value x) r.0),
             changed given given' new new' h m.2.0 m'.2.0 _ _ t m.2.1 m'.2.1 same m.2.2.cut m'.2.2.cut r.1,
           )) s s'
+      step-alike (call.PopFirst h) given given' new new' s s' same had had' = names given given' new new' (h < length handles) h _ _
+          (λ t l l' m m'. altered given given' new new' (λ x. answer.Pair x) (FirstPopped most) h t same (λ x one one' l r. retold _ _ _ _ _ r.removed.removed)
+          (λ x x' one one' other other' r e e' p p'. pops-alike most (order 0) one other r 0 0 x x' one' other' refl p p') l l' m m') s s'
+      step-alike (call.PopLast h) given given' new new' s s' same had had' = names given given' new new' (h < length handles) h _ _
+          (λ t l l' m m'. altered given given' new new' (λ x. answer.Pair x) (LastPopped most) h t same (λ x one one' l r. retold _ _ _ _ _ r.removed.removed)
+          (λ x x' one one' other other' r e e' p p'. pops-alike most (order 0) one other r _ _ x x' one' other' (λ z. length (r.list z) - 1) p p') l l' m m') s s'
       step-alike (call.Clear h) given given' new new' s s' same had had' = names given given' new new' (h < length handles) h _ _
           (λ t l l' m m'. (
             answers-alike given given' answer.Done answer.Done m.0 m'.0 refl,
@@ -239,6 +263,8 @@ module _ {K V : Type 0} where
           )) s s'
       step-alike (call.Iter h) given given' new new' s s' same had had' = names given given' new new' (h < length handles) h _ _
           (λ t l l' m m'. looked given given' new new' (answer.Pairs m.0) (answer.Pairs m'.0) m.1 m'.1 (m'.2 ∙ lists h ∙ sym m.2) m.3 m'.3) s s'
+      step-alike (call.IterBack h) given given' new new' s s' same had had' = names given given' new new' (h < length handles) h _ _
+          (λ t l l' m m'. looked given given' new new' (answer.Pairs m.0) (answer.Pairs m'.0) m.1 m'.1 (m'.2 ∙ ap (λ es. reverse es) (lists h) ∙ sym m.2) m.3 m'.3) s s'
       step-alike (call.Read h c steps) given given' new new' s s' same had had' = offered-alike reads _ _ _ _
           (compares given given' new new' h c _ _
           (λ t l l' m m'. looked given given' new new' (answer.Script m.0.0) (answer.Script m'.0.0) m.0.1 m'.0.1

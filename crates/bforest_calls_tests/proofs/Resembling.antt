@@ -1,5 +1,5 @@
 -- Changes of trees that resemble one another.
-use Rattle.bforest.specs.Calls.{Clears, Inserts, Removes, RemovesAt}
+use Rattle.bforest.specs.Calls.{Clears, Inserts, Pops, Removes, RemovesAt}
 use Rattle.bforest.specs.Forest.{Gives, IsTooMany, free_of, limit_of, need_of, sizes_of, slots_of}
 use Rattle.bforest.specs.Retain.{AsksEach, kept_by, sizes_by}
 use Rattle.bforest_calls.specs.Looks.{place_after, sight_of}
@@ -112,6 +112,12 @@ module _ {K V : Type 0} where
             free = given.1;
             limit = c'.removed.limit ∙ r.limit ∙ sym c.removed.limit;
           }
+
+      pub pops-alike : (p p' : ℕ) (entry entry' : Option (K × V)) (one' other' : Held K V) → p' ≡ p
+          → Pops most one.forest one.number p entry one'.forest one'.number → Pops most other.forest other.number p' entry' other'.forest other'.number
+          → (entry' ≡ entry) × Resembles one' other'
+      pops-alike p p' entry entry' one' other' e c c' =
+          (c'.entry ∙ (λ z. slice_get (r.list z) (e z)) ∙ sym c.entry, removes-at-alike p p' one' other' e c.removed c'.removed)
 
       writes-at-alike : (p p' : ℕ) (v : V) (one' other' : Held K V) → p' ≡ p → WritesAt one p v one' → WritesAt other p' v other' → Resembles one' other'
       writes-at-alike p p' v one' other' e w w' = record {

@@ -63,6 +63,9 @@ module _ {K V : Type 0} where
     spared-step : (m : ℕ) (old : State K V) (call : Call K V) (given : Answer K V) (new : State K V) → list_at old.forest m ≢ [] → Spares m old call → Step most reads orders old call given new → IsSpared m old new
     spared-step m old (call.Get h c k) given new here apart s = elim s [ inl r ↦ same m old new r.1 | inr r ↦ same m old new r.3.1 ]
     spared-step m old (call.GetOrLess h c k) given new here apart s = elim s [ inl r ↦ same m old new r.1 | inr r ↦ same m old new r.3.1 ]
+    spared-step m old (call.GetOrGreater h c k) given new here apart s = elim s [ inl r ↦ same m old new r.1 | inr r ↦ same m old new r.3.1 ]
+    spared-step m old (call.First h) given new here apart s = elim s [ inl r ↦ same m old new r.1 | inr r ↦ same m old new r.3.1 ]
+    spared-step m old (call.Last h) given new here apart s = elim s [ inl r ↦ same m old new r.1 | inr r ↦ same m old new r.3.1 ]
     spared-step m old (call.Insert h c k v) given new here apart s = elim s [
       | inl r ↦ same m old new r.1
       | inr r ↦ changed m old new h r.3.2.0 _ r.0.0 here apart r.3.2.1 (inserted most (order_at orders c) old.forest (number_at old h) k v r.3.0 new.forest r.3.2.0 r.1 r.3.2.2)
@@ -71,11 +74,20 @@ module _ {K V : Type 0} where
       | inl r ↦ same m old new r.1
       | inr r ↦ changed m old new h r.3.2.0 _ r.0.0 here apart r.3.2.1 r.3.2.2.cut
     ]
+    spared-step m old (call.PopFirst h) given new here apart s = elim s [
+      | inl r ↦ same m old new r.1
+      | inr r ↦ changed m old new h r.3.2.0 _ r.0 here apart r.3.2.1 r.3.2.2.removed.removed
+    ]
+    spared-step m old (call.PopLast h) given new here apart s = elim s [
+      | inl r ↦ same m old new r.1
+      | inr r ↦ changed m old new h r.3.2.0 _ r.0 here apart r.3.2.1 r.3.2.2.removed.removed
+    ]
     spared-step m old (call.Clear h) given new here apart s = elim s [
       | inl r ↦ same m old new r.1
       | inr r ↦ changed m old new h r.3.1.0 _ r.0 here apart r.3.1.1 r.3.1.2.cleared
     ]
     spared-step m old (call.Iter h) given new here apart s = elim s [ inl r ↦ same m old new r.1 | inr r ↦ same m old new r.3.3 ]
+    spared-step m old (call.IterBack h) given new here apart s = elim s [ inl r ↦ same m old new r.1 | inr r ↦ same m old new r.3.3 ]
     spared-step m old (call.Read h c steps) given new here apart s =
         offered reads (λ t. elim t [ inl r ↦ same m old new r.1 | inr r ↦ same m old new r.3.1 ]) (λ l. same m old new (lacking _ old given new l)) s
     spared-step m old (call.Edit h c steps) given new here apart s = elim s [
@@ -101,6 +113,8 @@ module _ {K V : Type 0} where
     later : (m : ℕ) (old mid : State K V) → IsSpared m old mid → (call : Call K V) → Spares m old call → Spares m mid call
     later m old mid a (call.Insert h c k v) apart = λ e. apart (a.handles h e)
     later m old mid a (call.Remove h c k) apart = λ e. apart (a.handles h e)
+    later m old mid a (call.PopFirst h) apart = λ e. apart (a.handles h e)
+    later m old mid a (call.PopLast h) apart = λ e. apart (a.handles h e)
     later m old mid a (call.Clear h) apart = λ e. apart (a.handles h e)
     later m old mid a (call.Edit h c steps) apart = λ e. apart (a.handles h e)
     later m old mid a (call.Retain h c keys put) apart = λ e. apart (a.handles h e)

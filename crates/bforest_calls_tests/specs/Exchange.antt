@@ -11,10 +11,16 @@ exchange i j h = if nat_eq h i then j else if nat_eq h j then i else h
 abbrev pub exchanged : {K V : Type 0} → ℕ → ℕ → Call K V → Call K V
 exchanged i j (call.Get h c k) = call.Get (exchange i j h) c k
 exchanged i j (call.GetOrLess h c k) = call.GetOrLess (exchange i j h) c k
+exchanged i j (call.GetOrGreater h c k) = call.GetOrGreater (exchange i j h) c k
+exchanged i j (call.First h) = call.First (exchange i j h)
+exchanged i j (call.Last h) = call.Last (exchange i j h)
 exchanged i j (call.Insert h c k v) = call.Insert (exchange i j h) c k v
 exchanged i j (call.Remove h c k) = call.Remove (exchange i j h) c k
+exchanged i j (call.PopFirst h) = call.PopFirst (exchange i j h)
+exchanged i j (call.PopLast h) = call.PopLast (exchange i j h)
 exchanged i j (call.Clear h) = call.Clear (exchange i j h)
 exchanged i j (call.Iter h) = call.Iter (exchange i j h)
+exchanged i j (call.IterBack h) = call.IterBack (exchange i j h)
 exchanged i j (call.Read h c steps) = call.Read (exchange i j h) c steps
 exchanged i j (call.Edit h c steps) = call.Edit (exchange i j h) c steps
 exchanged i j (call.Range h c lo hi ends) = call.Range (exchange i j h) c lo hi ends

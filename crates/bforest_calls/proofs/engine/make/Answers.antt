@@ -25,3 +25,9 @@ returns-in-Alias-clause-step g c = rw c.in-Alias.is (c.alias.ensures (map g.C.Co
 
 pub returns-in-Iter-clause-room : goal.returns-in-Iter-clause-room
 returns-in-Iter-clause-room g c = rw c.in-Iter.is (c.iter.ensures.room (map g.C.Comparator.order c.args.comps.now))
+
+pub returns-in-IterBack-clause-step : goal.returns-in-IterBack-clause-step
+returns-in-IterBack-clause-step g c = rw c.in-IterBack.is (c.iter_back.ensures.step (map g.C.Comparator.order c.args.comps.now))
+
+pub returns-in-IterBack-clause-room : goal.returns-in-IterBack-clause-room
+returns-in-IterBack-clause-room g c = rw c.in-IterBack.is (c.iter_back.ensures.room (map g.C.Comparator.order c.args.comps.now))

@@ -1,11 +1,12 @@
 use Rattle.bforest_calls.proofs.Chains.{edited, loans-stay, looks-of, shows-all, shows-taken}
+use Rattle.bforest_calls.proofs.Offers.{comparing-alone}
 use Rattle.bforest_calls.proofs.Runs.{on_err_from}
 use Rattle.bforest_calls.proofs.maps.MapCollection.answer.Goals as goal
 use Rattle.bforest_calls.specs.Looks.{sights_of}
 use Rattle.bforest_calls.specs.State.{Held}
 use Rattle.bforest_calls.specs.Steps.{LooksBy, map_view}
 use Rattle.bforest_calls.specs.declared.call.Answer.TheVariants as answer
-use Rattle.std.proofs.Common.{ap, refl, sym, ◌∙◌}
+use Rattle.std.proofs.Common.{ap, refl, sym, true, ◌∙◌}
 
 pub returns-in-Get-clause-makes : goal.returns-in-Get-clause-makes
 returns-in-Get-clause-makes g c = rw c.in-Get.is (ap answer.Value c.get.ensures.value, refl)
@@ -43,3 +44,7 @@ returns-in-Range g c =
     let r = c.each-in-Range.result in
     let taken = shows-taken _ _ r c.each-in-Range.ensures.chain c.range-range.ensures.entries c.deref-in-Range.ensures.value refl in
     record { makes = rw c.in-Range.is taken; room = rw c.in-Range.is (on_err_from r tt); err_forest = on_err_from r refl; err_self = on_err_from r refl }
+
+pub unreachable-requires : goal.unreachable-requires
+unreachable-requires g c = let d = c.in_default in
+    comparing-alone true c.args.call.now c.requires.compares d.not-Get d.not-GetOrLess d.not-GetOrGreater d.not-Insert d.not-Remove (λ offered. d.not-Read) d.not-Edit d.not-Range

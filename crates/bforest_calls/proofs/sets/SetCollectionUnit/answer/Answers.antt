@@ -2,6 +2,7 @@ use Rattle.bforest.specs.Calls.{Inserts, Removes}
 use Rattle.bforest.specs.Forest.{list_of}
 use Rattle.bforest.specs.Set.{as_removed}
 use Rattle.bforest_calls.proofs.Chains.{edited, loans-stay, shows-taken}
+use Rattle.bforest_calls.proofs.Offers.{comparing-alone}
 use Rattle.bforest_calls.proofs.Runs.{on_err_from}
 use Rattle.bforest_calls.proofs.Units.{removed-value, whole-each}
 use Rattle.bforest_calls.proofs.sets.SetCollectionUnit.answer.Goals as goal
@@ -9,7 +10,7 @@ use Rattle.bforest_calls.specs.Looks.{with_each}
 use Rattle.bforest_calls.specs.State.{Held}
 use Rattle.bforest_calls.specs.Steps.{set_view}
 use Rattle.bforest_calls.specs.declared.call.Answer.TheVariants as answer
-use Rattle.std.proofs.Common.{ap, refl, subst, sym, ◌∙◌}
+use Rattle.std.proofs.Common.{ap, false, refl, subst, sym, ◌∙◌}
 
 pub returns-in-Get-clause-makes : goal.returns-in-Get-clause-makes
 returns-in-Get-clause-makes g c =
@@ -51,3 +52,7 @@ returns-in-Range g c =
     let r = c.each-in-Range.result in
     let taken = shows-taken _ _ r c.each-in-Range.ensures.chain (ap with_each c.range-range.ensures.keys ∙ whole-each _) c.deref-in-Range.ensures.value refl in
     record { makes = rw c.in-Range.is taken; room = rw c.in-Range.is (on_err_from r tt); err_forest = on_err_from r refl; err_self = on_err_from r refl }
+
+pub unreachable-requires : goal.unreachable-requires
+unreachable-requires g c = let d = c.in_default in
+    comparing-alone false c.args.call.now c.requires.compares d.not-Get d.not-GetOrLess d.not-GetOrGreater d.not-Insert d.not-Remove (λ offered. absurd (cc)) d.not-Edit d.not-Range
