@@ -22,16 +22,24 @@ module _ {K V : Type 0} where
   pub comparing-alone : (reads : Bool) (made : Call K V) → (h : ℕ) × (c : ℕ) × IsComparing reads h c made
       → ((h c : ℕ) (k : K) → made ≡ call.Get h c k → ⊥) → ((h c : ℕ) (k : K) → made ≡ call.GetOrLess h c k → ⊥)
       → ((h c : ℕ) (k : K) → made ≡ call.GetOrGreater h c k → ⊥) → ((h c : ℕ) (k : K) (v : V) → made ≡ call.Insert h c k v → ⊥)
+      → (reads ≡ true → (h c : ℕ) (k : K) (v : V) → made ≡ call.GetOrInsert h c k v → ⊥)
+      → (reads ≡ true → (h c : ℕ) (k : K) (v : V) → made ≡ call.Update h c k v → ⊥)
+      → (reads ≡ true → (h c : ℕ) (k : K) (v put : V) → made ≡ call.UpdateOrInsert h c k v put → ⊥)
+      → ((h c : ℕ) (from : K) (keys : Vec (K × K) Global) → made ≡ call.Shift h c from keys → ⊥)
       → ((h c : ℕ) (k : K) → made ≡ call.Remove h c k → ⊥)
       → (reads ≡ true → (h c : ℕ) (steps : Vec (Look K) Global) → made ≡ call.Read h c steps → ⊥)
       → ((h c : ℕ) (steps : Vec (Act K V) Global) → made ≡ call.Edit h c steps → ⊥)
       → ((h c : ℕ) (lo hi : Bound K) (ends : Vec Side Global) → made ≡ call.Range h c lo hi ends → ⊥) → ⊥
-  comparing-alone reads (call.Get h c k) w get less greater insert remove read edit range = get h c k refl
-  comparing-alone reads (call.GetOrLess h c k) w get less greater insert remove read edit range = less h c k refl
-  comparing-alone reads (call.GetOrGreater h c k) w get less greater insert remove read edit range = greater h c k refl
-  comparing-alone reads (call.Insert h c k v) w get less greater insert remove read edit range = insert h c k v refl
-  comparing-alone reads (call.Remove h c k) w get less greater insert remove read edit range = remove h c k refl
-  comparing-alone reads (call.Read h c steps) w get less greater insert remove read edit range = read w.2.2 h c steps refl
-  comparing-alone reads (call.Edit h c steps) w get less greater insert remove read edit range = edit h c steps refl
-  comparing-alone reads (call.Range h c lo hi ends) w get less greater insert remove read edit range = range h c lo hi ends refl
-  comparing-alone reads other w get less greater insert remove read edit range = absurd w.2
+  comparing-alone reads (call.Get h c k) w get less greater insert got update put shift remove read edit range = get h c k refl
+  comparing-alone reads (call.GetOrLess h c k) w get less greater insert got update put shift remove read edit range = less h c k refl
+  comparing-alone reads (call.GetOrGreater h c k) w get less greater insert got update put shift remove read edit range = greater h c k refl
+  comparing-alone reads (call.Insert h c k v) w get less greater insert got update put shift remove read edit range = insert h c k v refl
+  comparing-alone reads (call.GetOrInsert h c k v) w get less greater insert got update put shift remove read edit range = got w.2.2 h c k v refl
+  comparing-alone reads (call.Update h c k v) w get less greater insert got update put shift remove read edit range = update w.2.2 h c k v refl
+  comparing-alone reads (call.UpdateOrInsert h c k v x) w get less greater insert got update put shift remove read edit range = put w.2.2 h c k v x refl
+  comparing-alone reads (call.Shift h c from keys) w get less greater insert got update put shift remove read edit range = shift h c from keys refl
+  comparing-alone reads (call.Remove h c k) w get less greater insert got update put shift remove read edit range = remove h c k refl
+  comparing-alone reads (call.Read h c steps) w get less greater insert got update put shift remove read edit range = read w.2.2 h c steps refl
+  comparing-alone reads (call.Edit h c steps) w get less greater insert got update put shift remove read edit range = edit h c steps refl
+  comparing-alone reads (call.Range h c lo hi ends) w get less greater insert got update put shift remove read edit range = range h c lo hi ends refl
+  comparing-alone reads other w get less greater insert got update put shift remove read edit range = absurd w.2

@@ -38,6 +38,38 @@ pub enum Call<K: Copy, V: Copy> {
         k: K,
         v: V,
     },
+    /// `get_or_insert`. Answers [`Answer::Put`] with the value that the key has then, for sets [`Answer::NotOffered`].
+    GetOrInsert {
+        h: usize,
+        c: usize,
+        k: K,
+        v: V,
+    },
+    /// `update`: the value of a key that is present becomes `v`. Answers [`Answer::Value`], for sets [`Answer::NotOffered`].
+    Update {
+        h: usize,
+        c: usize,
+        k: K,
+        v: V,
+    },
+    /// `update_or_insert`: the value of a key that is present becomes `put`, else `v` is inserted. Answers [`Answer::Put`] with the value
+    /// that the key has then, for sets [`Answer::NotOffered`].
+    UpdateOrInsert {
+        h: usize,
+        c: usize,
+        k: K,
+        v: V,
+        put: V,
+    },
+    /// `shift`: each key that is not less than `from` becomes the new key of the first pair in `keys` whose old key compares equal to it.
+    /// A key without such a pair stays. Whether the list increases then is not tested: later calls that compare answer
+    /// [`Answer::Unordered`] where it does not. Answers [`Answer::Done`].
+    Shift {
+        h: usize,
+        c: usize,
+        from: K,
+        keys: Vec<(K, K)>,
+    },
     /// `remove`. Answers [`Answer::Value`].
     Remove {
         h: usize,
@@ -97,6 +129,18 @@ pub enum Call<K: Copy, V: Copy> {
         from: usize,
         to: usize,
     },
+    /// Handle `to` becomes a `deep_clone` of handle `from`, where one is made; the tree that `to` named before stays. Answers
+    /// [`Answer::Made`].
+    DeepClone {
+        from: usize,
+        to: usize,
+    },
+    /// Handle `h` becomes a `load` of the entries, where one is made; the tree that it named before stays. Whether they increase is not
+    /// tested, as after a shift. Answers [`Answer::Made`], for sets [`Answer::NotOffered`].
+    Load {
+        h: usize,
+        entries: Vec<(K, V)>,
+    },
     /// `clear` of the forest; the handles keep their numbers. Answers [`Answer::Done`].
     ForestClear,
 }
@@ -109,6 +153,8 @@ pub enum Answer<K: Copy, V: Copy> {
     Put(Result<Option<V>, OutOfMemory>),
     Pairs(Vec<(K, V)>),
     Script(Vec<Seen<K, V>>),
+    /// A tree was made, or nodes for it were refused.
+    Made(Result<(), OutOfMemory>),
     Done,
     /// An index is past the end of its slice.
     NoIndex,
