@@ -1,8 +1,10 @@
 -- A call on a forest that adds up leaves one that does.
-use Rattle.bforest.proofs.Balances.{clears-balance, filters-balance, inserts-balance, length-written, removes-at-balance, removes-balance, sizes-stay}
-use Rattle.bforest.specs.Calls.{Clears, Filters, Inserts, Removes, RemovesAt}
-use Rattle.bforest.specs.Forest.{Becomes, Forest, IsFitFor, emptied, list_of, nodes_at, sizes_of, slots_of}
+use Rattle.bforest.proofs.Balances.{clears-balance, filters-balance, inserts-balance, length-written, removes-at-balance, removes-balance, sizes-stay, updates-balance}
+use Rattle.bforest.specs.Calls.{Clears, Clones, Filters, GetsOrInserts, Inserts, Loads, Pops, Removes, RemovesAt, Shifts, Updates, UpdatesOrInserts}
+use Rattle.bforest.specs.Forest.{Becomes, Forest, IsFitFor, IsTooMany, Takes, emptied, fewest, free_of, list_of, nodes_at, nodes_of, room_of, sizes_of, slots_of}
 use Rattle.bforest.specs.Room.{Balances}
+use Rattle.bforest_calls.proofs.Packing.{loaded-fits}
+use Rattle.bforest_calls.proofs.Updating.{got-or-inserted, shifted-length, updated-or-inserted}
 use Rattle.bforest_calls.proofs.Sums.{upto, upto-more, upto-one, upto-two}
 use Rattle.bforest_calls.specs.State.{AddsUp, WritesAt}
 use Rattle.bforest_core.proofs.union.Forests.{used_within}
@@ -11,10 +13,12 @@ use Rattle.bforest_core.specs.Levels.{flat, sizes_of as tree_sizes}
 use Rattle.bforest_core.specs.Trees.{is_root, tree_of}
 use Rattle.bforest_core.specs.declared.pool.OutOfMemory.{OutOfMemory}
 use Rattle.bforest_nodes.specs.Entries.{cut, put, with_value}
+use Rattle.bforest_trees.specs.Calls.{as_inserted}
 use Rattle.bforest_trees.specs.Forest.{list_at, sizes_at}
-use Rattle.std.proofs.Common.{Bool, Err, List, None, Ok, Option, Result, Some, [], ap, arith, false, if◌then◌else◌, inl, inr, length, refl, remove, subst, sym, true, ◌%◌, ◌+◌, ◌∙◌, ◌≡◌, ◌≢◌, ◌≤◌, ◌⊎◌, ℕ}
+use Rattle.std.proofs.Common.{Bool, Err, List, None, Ok, Option, Result, Some, [], ap, arith, false, if◌then◌else◌, inl, inr, length, refl, remove, subst, sym, take, true, ◌%◌, ◌+◌, ◌++◌, ◌∙◌, ◌≡◌, ◌≢◌, ◌≤◌, ◌⊎◌, ℕ}
 use Rattle.std.proofs.lemmas.Bool.{and_parts}
-use Rattle.std.proofs.lemmas.Bool.Decides.{eqb_tells}
+use Rattle.std.proofs.lemmas.Bool.Decides.{eqb_tells, leb_tells}
+use Rattle.std.specs.Fn.{Once}
 use Rattle.std.specs.declared.cmp.Ordering.{Ordering}
 
 -- whether a handle has a number
@@ -104,13 +108,18 @@ module _ {K V : Type 0} where
     pub clears-add : Clears f h f' h' → AddsUp most f'
     clears-add c = changed most f f' h h' [] a c.cleared (clears-balance most odd f f' h h' (fit-of most f a h) c)
 
-    pub writes-add : (p : ℕ) (v : V) → WritesAt (record { forest = f; number = h }) p v (record { forest = f'; number = h' }) → AddsUp most f'
-    writes-add p v w = changed most f f' h h' (with_value (list_of f h) p v) a w.becomes (record {
-      fit = sizes-stay most f f' h h' (fit-of most f a h) (ap length w.becomes.list ∙ length-written (list_of f h) p v) w.sizes;
-      nodes = omega (arith, w.slots, w.free, ap node_count w.sizes);
-      slots = omega (arith, w.slots);
-      within = λ few. omega (arith, w.slots, w.becomes.limit, few);
+    -- a list of the same length, in nodes of the same sizes
+    same-sizes-add : (es : List (K × V)) → Becomes f h f' h' es → length es ≡ length (list_of f h) → sizes_of f' h' ≡ sizes_of f h → slots_of f' ≡ slots_of f
+        → free_of f' ≡ free_of f → AddsUp most f'
+    same-sizes-add es b many sizes slots free = changed most f f' h h' es a b (record {
+      fit = sizes-stay most f f' h h' (fit-of most f a h) (ap length b.list ∙ many) sizes;
+      nodes = omega (arith, slots, free, ap node_count sizes);
+      slots = omega (arith, slots);
+      within = λ few. omega (arith, slots, b.limit, few);
     })
+
+    pub writes-add : (p : ℕ) (v : V) → WritesAt (record { forest = f; number = h }) p v (record { forest = f'; number = h' }) → AddsUp most f'
+    writes-add p v w = same-sizes-add (with_value (list_of f h) p v) w.becomes (length-written (list_of f h) p v) w.sizes w.slots w.free
 
     pub filters-add : {F : Type 0} (step : F → K → V → Bool → V → F → Type 0) (q : F) → Filters most step f h q f' h' → AddsUp most f'
     filters-add step q r = changed most f f' h h' (list_of f' h') a r.changed (filters-balance most odd f f' h h' (fit-of most f a h) step q r)
@@ -118,10 +127,50 @@ module _ {K V : Type 0} where
     pub removes-at-add : (p : ℕ) → RemovesAt most f h p f' h' → AddsUp most f'
     removes-at-add p r = changed most f f' h h' (remove (list_of f h) p) a r.removed (removes-at-balance most odd f f' h h' (fit-of most f a h) p r)
 
+    pub pops-add : (p : ℕ) (entry : Option (K × V)) → Pops most f h p entry f' h' → AddsUp most f'
+    pops-add p entry r = removes-at-add p r.removed
+
     module _ (cmp : K → K → Ordering) (k : K) where
       pub removes-add : (result : Option V) → Removes most cmp f h k result f' h' → AddsUp most f'
       removes-add result r = changed most f f' h h' (cut cmp (list_of f h) k) a r.cut (removes-balance most odd f f' h h' (fit-of most f a h) cmp k result r)
 
+      pub updates-add : {F : Type 0} {g : Once F (V × Unit {0}) V} {q : F} (result : Option V) → Updates g cmp f h k q result f' h' → AddsUp most f'
+      updates-add None u = still most f f' (u.absent_forest refl) a
+      updates-add (Some w) u = changed most f f' h h' (put cmp (list_of f h) k w) a u.put (updates-balance most odd f f' h h' (fit-of most f a h) cmp k (Some w) u)
+
       pub inserts-add : (v : V) (result : Result (Option V) OutOfMemory) → Inserts most cmp f h k v result f' h' → AddsUp most f'
       inserts-add v (Err e) r = still most f f' r.refused_forest a
       inserts-add v (Ok old) r = changed most f f' h h' (put cmp (list_of f h) k v) a r.put (inserts-balance most odd f f' h h' (fit-of most f a h) cmp k v (Ok old) r)
+
+      pub gets-or-inserts-add : (v : V) (result : Result V OutOfMemory) → GetsOrInserts most cmp f h k v result f' h' → AddsUp most f'
+      gets-or-inserts-add v result r = got-or-inserted r (λ same stays. still most f f' same a) (λ put. inserts-add v (as_inserted result) put)
+
+      pub updates-or-inserts-add : {F : Type 0} {g : Once F (V × Unit {0}) V} {q : F} (v : V) (result : Result V OutOfMemory) → UpdatesOrInserts most cmp g f h k v q result f' h' → AddsUp most f'
+      updates-or-inserts-add v result r = updated-or-inserted result r (λ w is u. updates-add (Some w) u) (λ none put. inserts-add v (as_inserted result) put)
+
+  module _ (most : ℕ) (odd : most % 2 ≡ 1) (f f' : Forest K V) (h : Option ℕ) (a : AddsUp most f) where
+    pub shifts-add : {calls : K → K → Type 0} (place : ℕ) → Shifts calls place f h f' → AddsUp most f'
+    shifts-add {calls} place s =
+        same-sizes-add most odd f f' h h a (take place (list_of f h) ++ s.moved) s.shifted (shifted-length calls (list_of f h) s.moved place s.rekeys) s.sizes s.slots s.free
+
+    -- a tree of these entries was made of so many nodes
+    made-add : {n : Option ℕ} (d : ℕ) (es : List (K × V)) → Becomes f None f' n es → IsFitFor most (length (list_of f' n)) (sizes_of f' n) → Takes d f f'
+        → (IsTooMany d f → ⊥) → nodes_of f' n ≡ d → AddsUp most f'
+    made-add {n} d es b fit takes room nodes =
+        let within : d ≤ room_of f = elim (leb_tells d (room_of f)) [ inl w ↦ w.1 | inr w ↦ absurd (room (omega (arith, w.1))) ] in
+        changed most f f' None n es a b (record {
+          fit = fit;
+          nodes = omega (arith, takes.slots, takes.free, nodes);
+          slots = omega (arith, takes.slots);
+          within = λ few. omega (arith, takes.slots, b.limit, within, few);
+        })
+
+    pub clones-add : (result : Result (Option ℕ) OutOfMemory) → Clones f h result f' → AddsUp most f'
+    clones-add (Err e) c = still most f f' c.refused a
+    clones-add (Ok n) c = made-add (nodes_of f h) (list_of f h) c.copied (rw (c.copied.list, c.sizes) (fit-of most f a h)) c.account
+        (λ few. let full = c.full.1 few in absurd (cc)) (ap node_count c.sizes)
+
+    pub loads-add : (es : List (K × V)) (result : Result (Option ℕ) OutOfMemory) → Loads most f es result f' → AddsUp most f'
+    loads-add es (Err e) l = still most f f' l.refused a
+    loads-add es (Ok n) l =
+        made-add (fewest most (length es)) es l.loaded (rw (l.loaded.list) (loaded-fits most odd f f' es n l)) l.account (λ few. let full = l.full.1 few in absurd (cc)) l.nodes

@@ -1,5 +1,5 @@
 -- Each step of a script, and each call of a list, leaves a forest that adds up where it began with one.
-use Rattle.bforest_calls.proofs.Accounts.{clears-add, filters-add, inserts-add, none-adds, removes-add, removes-at-add, still, writes-add}
+use Rattle.bforest_calls.proofs.Accounts.{clears-add, clones-add, filters-add, gets-or-inserts-add, inserts-add, loads-add, none-adds, pops-add, removes-add, removes-at-add, shifts-add, still, updates-add, updates-or-inserts-add, writes-add}
 use Rattle.bforest_calls.specs.Machine.{Lacks, Orders, State, Step, held_at, number_at, order_at}
 use Rattle.bforest_calls.specs.State.{Acts, Held, KeepsIf, Script, StillAddsUp}
 use Rattle.bforest_calls.specs.declared.call.Act.TheVariants as act
@@ -9,7 +9,7 @@ use Rattle.bforest_calls.specs.declared.call.Answer.{Answer}
 use Rattle.bforest_calls.specs.declared.call.Call.TheVariants as call
 use Rattle.bforest_calls.specs.declared.call.Call.{Call}
 use Rattle.bforest_calls.specs.declared.call.Seen.{Seen}
-use Rattle.std.proofs.Common.{Bool, List, [], ap, false, inl, inr, true, ◌%◌, ◌∷◌, ◌≡◌, ℕ}
+use Rattle.std.proofs.Common.{Bool, List, None, [], ap, false, inl, inr, true, ◌%◌, ◌∷◌, ◌≡◌, ℕ}
 use Rattle.std.specs.declared.cmp.Ordering.{Ordering}
 
 module _ {K V : Type 0} (most : ℕ) (odd : most % 2 ≡ 1) where
@@ -43,19 +43,50 @@ module _ {K V : Type 0} (most : ℕ) (odd : most % 2 ≡ 1) where
   pub step-adds : (reads : Bool) (orders : Orders K) (old : State K V) (made : Call K V) (given : Answer K V) (new : State K V) → Step most reads orders old made given new → StillAddsUp most old.forest new.forest
   step-adds reads orders old (call.Get h c k) given new step a = elim step [ inl w ↦ same-forest old new w.1 a | inr w ↦ same-forest old new w.3.1 a ]
   step-adds reads orders old (call.GetOrLess h c k) given new step a = elim step [ inl w ↦ same-forest old new w.1 a | inr w ↦ same-forest old new w.3.1 a ]
+  step-adds reads orders old (call.GetOrGreater h c k) given new step a = elim step [ inl w ↦ same-forest old new w.1 a | inr w ↦ same-forest old new w.3.1 a ]
+  step-adds reads orders old (call.First h) given new step a = elim step [ inl w ↦ same-forest old new w.1 a | inr w ↦ same-forest old new w.3.1 a ]
+  step-adds reads orders old (call.Last h) given new step a = elim step [ inl w ↦ same-forest old new w.1 a | inr w ↦ same-forest old new w.3.1 a ]
   step-adds reads orders old (call.Insert h c k v) given new step a = elim step [
     | inl w ↦ same-forest old new w.1 a
     | inr w ↦ inserts-add most odd old.forest new.forest (number_at old h) w.3.2.0 a (order_at orders c) k v w.3.0 w.3.2.2
   ]
+  step-adds true orders old (call.GetOrInsert h c k v) given new step a = elim step [
+    | inl w ↦ same-forest old new w.1 a
+    | inr w ↦ gets-or-inserts-add most odd old.forest new.forest (number_at old h) w.3.2.0 a (order_at orders c) k v w.3.0 w.3.2.2
+  ]
+  step-adds false orders old (call.GetOrInsert h c k v) given new step a = same-forest old new (lacks-same _ old given new step) a
+  step-adds true orders old (call.Update h c k v) given new step a = elim step [
+    | inl w ↦ same-forest old new w.1 a
+    | inr w ↦ updates-add most odd old.forest new.forest (number_at old h) w.3.2.0 a (order_at orders c) k w.3.0 w.3.2.2
+  ]
+  step-adds false orders old (call.Update h c k v) given new step a = same-forest old new (lacks-same _ old given new step) a
+  step-adds true orders old (call.UpdateOrInsert h c k v put) given new step a = elim step [
+    | inl w ↦ same-forest old new w.1 a
+    | inr w ↦ updates-or-inserts-add most odd old.forest new.forest (number_at old h) w.3.2.0 a (order_at orders c) k v w.3.0 w.3.2.2
+  ]
+  step-adds false orders old (call.UpdateOrInsert h c k v put) given new step a = same-forest old new (lacks-same _ old given new step) a
+  step-adds reads orders old (call.Shift h c from keys) given new step a = elim step [
+    | inl w ↦ same-forest old new w.1 a
+    | inr w ↦ shifts-add most odd old.forest new.forest (number_at old h) a _ w.3.1.2.0
+  ]
   step-adds reads orders old (call.Remove h c k) given new step a = elim step [
     | inl w ↦ same-forest old new w.1 a
     | inr w ↦ removes-add most odd old.forest new.forest (number_at old h) w.3.2.0 a (order_at orders c) k w.3.0 w.3.2.2
+  ]
+  step-adds reads orders old (call.PopFirst h) given new step a = elim step [
+    | inl w ↦ same-forest old new w.1 a
+    | inr w ↦ pops-add most odd old.forest new.forest (number_at old h) w.3.2.0 a _ w.3.0 w.3.2.2
+  ]
+  step-adds reads orders old (call.PopLast h) given new step a = elim step [
+    | inl w ↦ same-forest old new w.1 a
+    | inr w ↦ pops-add most odd old.forest new.forest (number_at old h) w.3.2.0 a _ w.3.0 w.3.2.2
   ]
   step-adds reads orders old (call.Clear h) given new step a = elim step [
     | inl w ↦ same-forest old new w.1 a
     | inr w ↦ clears-add most odd old.forest new.forest (number_at old h) w.3.1.0 a w.3.1.2
   ]
   step-adds reads orders old (call.Iter h) given new step a = elim step [ inl w ↦ same-forest old new w.1 a | inr w ↦ same-forest old new w.3.3 a ]
+  step-adds reads orders old (call.IterBack h) given new step a = elim step [ inl w ↦ same-forest old new w.1 a | inr w ↦ same-forest old new w.3.3 a ]
   step-adds true orders old (call.Read h c steps) given new step a = elim step [ inl w ↦ same-forest old new w.1 a | inr w ↦ same-forest old new w.3.1 a ]
   step-adds false orders old (call.Read h c steps) given new step a = same-forest old new (lacks-same _ old given new step) a
   step-adds reads orders old (call.Edit h c steps) given new step a = elim step [
@@ -68,4 +99,13 @@ module _ {K V : Type 0} (most : ℕ) (odd : most % 2 ≡ 1) where
     | inr w ↦ filters-add most odd old.forest new.forest (number_at old h) w.3.1.0 a (KeepsIf (order_at orders c) keys.items put) tt w.3.1.2
   ]
   step-adds reads orders old (call.Alias from to) given new step a = elim step [ inl w ↦ same-forest old new w.1 a | inr w ↦ still most old.forest new.forest (ap (λ s. s.forest) w.3.1) a ]
+  step-adds reads orders old (call.DeepClone from to) given new step a = elim step [
+    | inl w ↦ same-forest old new w.1 a
+    | inr w ↦ clones-add most odd old.forest new.forest (number_at old from) a w.3.0 w.3.3
+  ]
+  step-adds true orders old (call.Load h entries) given new step a = elim step [
+    | inl w ↦ same-forest old new w.1 a
+    | inr w ↦ loads-add most odd old.forest new.forest None a entries.items w.3.0 w.3.3
+  ]
+  step-adds false orders old (call.Load h entries) given new step a = same-forest old new (lacks-same _ old given new step) a
   step-adds reads orders old call.ForestClear given new step a = still most _ new.forest (ap (λ s. s.forest) step.1) (none-adds most old.forest)

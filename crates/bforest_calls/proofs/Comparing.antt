@@ -1,13 +1,14 @@
--- The tests of a call, and a call that compares keys, from what its handle and its comparator tell.
+-- The tests of a call, and a call that compares keys, or is at an end of a list, from what its handle and its comparator tell.
 use Rattle.bforest.specs.Calls.{Inserts, Removes}
-use Rattle.bforest_calls.specs.Compared.{IsComparing, IsListed, Makes}
-use Rattle.bforest_calls.specs.Machine.{AsksRoom, Compares, On, Orders, Passes, Refuses, State, Step, Tests, order_at}
-use Rattle.bforest_calls.specs.State.{Edits, Held}
+use Rattle.bforest_calls.specs.Compared.{IsComparing, IsListed, IsOfMaps, Makes}
+use Rattle.bforest_calls.specs.Ends.{IsAtEnd, MakesAtEnd}
+use Rattle.bforest_calls.specs.Machine.{AsksRoom, Compares, Lacks, Names, On, Orders, Passes, Refuses, State, Step, Tests, order_at}
+use Rattle.bforest_calls.specs.State.{Edits, FirstPopped, GotOrInserted, Held, LastPopped, Shifted, Updated, UpdatedOrInserted}
 use Rattle.bforest_calls.specs.declared.call.Answer.TheVariants as answer
 use Rattle.bforest_calls.specs.declared.call.Answer.{Answer}
 use Rattle.bforest_calls.specs.declared.call.Call.TheVariants as call
 use Rattle.bforest_calls.specs.declared.call.Call.{Call}
-use Rattle.std.proofs.Common.{Bool, None, ap, inl, inr, subst, sym, true, ◌∙◌, ◌≡◌, ℕ}
+use Rattle.std.proofs.Common.{Bool, None, ap, false, inl, inr, length, subst, sym, true, ◌<◌, ◌∙◌, ◌≡◌, ℕ}
 use Rattle.std.proofs.Math.ListN.{set}
 use Rattle.std.proofs.lemmas.List.{set-get_or}
 
@@ -30,6 +31,10 @@ module _ {K V : Type 0} where
   looks h old new w =
       let handles : new.handles ≡ old.handles = w.1 ∙ ap (λ (s : Held K V). set old.handles h s.number) w.2.1 ∙ set-get_or old.handles h None in
       (w.2.0, λ j. record { forest = (w.2.1 j).forest; handles = handles j })
+
+  -- the change with a fact of the answer in front
+  changes-so : {P : Type 0} (R : Held K V → Held K V → Type 0) (h : ℕ) (old new : State K V) → On h old new (λ held after. P × R held after) → P × On h old new R
+  changes-so R h old new w = (w.2.0, (w.0, w.1, w.2.1))
 
   -- the change with its result in front
   changes : {X : Type 0} {P : X → Type 0} (R : X → Held K V → Held K V → Type 0) (h : ℕ) (old new : State K V)
@@ -57,9 +62,23 @@ module _ {K V : Type 0} (most : ℕ) (reads : Bool) (orders : Orders K) (h c : �
       → Step most reads orders old made given new
   step-of (call.Get a b k) is t = at (λ m n. Step most reads orders old (call.Get m n k) given new) (then given (looks h old new) t) a b is.0 is.1
   step-of (call.GetOrLess a b k) is t = at (λ m n. Step most reads orders old (call.GetOrLess m n k) given new) (then given (looks h old new) t) a b is.0 is.1
+  step-of (call.GetOrGreater a b k) is t = at (λ m n. Step most reads orders old (call.GetOrGreater m n k) given new) (then given (looks h old new) t) a b is.0 is.1
   step-of (call.Insert a b k v) is t = at (λ m n. Step most reads orders old (call.Insert m n k v) given new)
       (then given (changes (λ result held after. Inserts most (order_at orders c) held.forest held.number k v result after.forest after.number) h old new) t)
       a b is.0 is.1
+  step-of (call.GetOrInsert a b k v) is t =
+      subst (λ r. Step most r orders old (call.GetOrInsert a b k v) given new) (sym is.2)
+      (at (λ m n. Step most true orders old (call.GetOrInsert m n k v) given new) (then given (changes (GotOrInserted most (order_at orders c) k v) h old new) t)
+      a b is.0 is.1)
+  step-of (call.Update a b k v) is t =
+      subst (λ r. Step most r orders old (call.Update a b k v) given new) (sym is.2)
+      (at (λ m n. Step most true orders old (call.Update m n k v) given new) (then given (changes (Updated (order_at orders c) k v) h old new) t) a b is.0 is.1)
+  step-of (call.UpdateOrInsert a b k v put) is t =
+      subst (λ r. Step most r orders old (call.UpdateOrInsert a b k v put) given new) (sym is.2)
+      (at (λ m n. Step most true orders old (call.UpdateOrInsert m n k v put) given new)
+      (then given (changes (UpdatedOrInserted most (order_at orders c) k v put) h old new) t) a b is.0 is.1)
+  step-of (call.Shift a b from keys) is t = at (λ m n. Step most reads orders old (call.Shift m n from keys) given new)
+      (then given (changes-so (Shifted (order_at orders c) from keys.items) h old new) t) a b is.0 is.1
   step-of (call.Remove a b k) is t = at (λ m n. Step most reads orders old (call.Remove m n k) given new)
       (then given (changes (λ value held after. Removes most (order_at orders c) held.forest held.number k value after.forest after.number) h old new) t)
       a b is.0 is.1
@@ -70,8 +89,23 @@ module _ {K V : Type 0} (most : ℕ) (reads : Bool) (orders : Orders K) (h c : �
       (then given (changes (λ sights held after. Edits most (order_at orders c) steps.items sights.items held after) h old new) t) a b is.0 is.1
   step-of (call.Range a b lo hi ends) is t = at (λ m n. Step most reads orders old (call.Range m n lo hi ends) given new)
       (then given (looks h old new) t) a b is.0 is.1
-  step-of (call.Retain a b keys put) is t = absurd is
-  step-of (call.Clear a) is t = absurd is
-  step-of (call.Iter a) is t = absurd is
-  step-of (call.Alias from to) is t = absurd is
-  step-of call.ForestClear is t = absurd is
+  step-of other is t = absurd is
+
+  -- a call that is not offered, from the tests of its indices
+  pub step-lacking : (made : Call K V) → IsOfMaps h c made → Lacks ((h < length old.handles) × (c < length orders)) old given new
+      → Step most false orders old made given new
+  step-lacking (call.GetOrInsert a b k v) is l = at (λ m n. Step most false orders old (call.GetOrInsert m n k v) given new) l a b is.0 is.1
+  step-lacking (call.Update a b k v) is l = at (λ m n. Step most false orders old (call.Update m n k v) given new) l a b is.0 is.1
+  step-lacking (call.UpdateOrInsert a b k v put) is l = at (λ m n. Step most false orders old (call.UpdateOrInsert m n k v put) given new) l a b is.0 is.1
+  step-lacking (call.Read a b steps) is l = at (λ m n. Step most false orders old (call.Read m n steps) given new) l a b is.0 is.1
+  step-lacking other is l = absurd is
+
+module _ {K V : Type 0} (most : ℕ) (reads : Bool) (orders : Orders K) (h : ℕ) (old : State K V) (given : Answer K V) (new : State K V) where
+  -- a call at an end of a list, from what is made on its handle
+  pub step-at-end : (made : Call K V) → IsAtEnd h made → Names h old given new (On h old new (λ held after. MakesAtEnd most made held given after))
+      → Step most reads orders old made given new
+  step-at-end (call.First a) is t = rw is (then given (looks h old new) t)
+  step-at-end (call.Last a) is t = rw is (then given (looks h old new) t)
+  step-at-end (call.PopFirst a) is t = rw is (then given (changes (FirstPopped most) h old new) t)
+  step-at-end (call.PopLast a) is t = rw is (then given (changes (LastPopped most) h old new) t)
+  step-at-end other is t = absurd is

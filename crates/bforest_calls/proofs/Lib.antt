@@ -5,6 +5,11 @@ pub mod Chains
 pub mod Comparing
 pub mod Indexed
 pub mod Kept
+pub mod Making
+pub mod Offers
+pub mod Packing
+pub mod Pairing
 pub mod Runs
 pub mod Sums
 pub mod Units
+pub mod Updating

@@ -1,10 +1,10 @@
 -- The keys of a set as entries.
-use Rattle.bforest.specs.Set.{as_removed}
+use Rattle.bforest.specs.Set.{as_popped, as_removed}
 use Rattle.bforest_calls.specs.Looks.{with_each}
 use Rattle.bforest_core.specs.Place.{entry_before}
 use Rattle.bforest_nodes.specs.Entries.{is_present, value_at_place, value_for, with_value}
-use Rattle.std.proofs.Common.{List, None, Option, Some, [], ap, arith, drop, length, refl, suc, sym, take, zero, ◌++◌, ◌-◌, ◌∙◌, ◌≡◌, ◌∷◌, ℕ}
-use Rattle.std.proofs.lemmas.List.{append_assoc}
+use Rattle.std.proofs.Common.{List, None, Option, Some, [], ap, arith, drop, length, refl, reverse, suc, sym, take, zero, ◌++◌, ◌-◌, ◌∙◌, ◌≡◌, ◌∷◌, ℕ}
+use Rattle.std.proofs.lemmas.List.{append_assoc, reverse-append}
 use Rattle.std.specs.Iterator.{YieldsFirst, YieldsLast}
 use Rattle.std.specs.Map.{keys_of}
 use Rattle.std.specs.Prelude.{is_some, option_map, slice_get}
@@ -66,6 +66,24 @@ module _ {K : Type 0} where
   whole-each [] = refl
   whole-each (e ∷ es) = ap (λ z. e ∷ z) (whole-each es)
 
+  each-end : (ks : List K) (x : K) → with_each (ks ++ x ∷ []) ≡ with_each ks ++ (x, tt) ∷ []
+  each-end [] x = refl
+  each-end (k ∷ ks) x = ap (λ z. (k, tt) ∷ z) (each-end ks x)
+
+  each-reversed : (ks : List K) → with_each (reverse ks) ≡ reverse (with_each ks)
+  each-reversed [] = refl
+  each-reversed (k ∷ ks) =
+      ap with_each (reverse-append (k ∷ []) ks) ∙ each-end (reverse ks) k ∙ ap (λ z. z ++ (k, tt) ∷ []) (each-reversed ks)
+      ∙ sym (reverse-append ((k, tt) ∷ []) (with_each ks))
+
+  pub back-each : (es : List (K × Unit {0})) → with_each (reverse (keys_of es)) ≡ reverse es
+  back-each es = each-reversed (keys_of es) ∙ ap reverse (whole-each es)
+
+  -- a key that is popped, with the unit, is the entry that is popped
+  pub popped-entry : (k : Option K) → as_popped k ≡ option_map (λ k. (k, tt)) k
+  popped-entry None = refl
+  popped-entry (Some k) = refl
+
   pub key-at : (es : List (K × Unit {0})) (p : ℕ) → slice_get (keys_of es) p ≡ option_map (λ e. e.0) (slice_get es p)
   key-at [] p = refl
   key-at (e ∷ es) zero = refl
@@ -116,10 +134,6 @@ module _ {K : Type 0} where
   pub each-rest : (old new : List K) (r : Option K) → YieldsFirst (λ (ks : List K). ks) old r new → with_each new ≡ drop 1 (with_each old)
   each-rest old new None h = ap with_each h.1 ∙ ap (λ ks. drop 1 (with_each ks)) (sym h.0)
   each-rest old new (Some x) h = ap (λ ks. drop 1 (with_each ks)) (sym h)
-
-  each-end : (ks : List K) (x : K) → with_each (ks ++ x ∷ []) ≡ with_each ks ++ (x, tt) ∷ []
-  each-end [] x = refl
-  each-end (k ∷ ks) x = ap (λ z. (k, tt) ∷ z) (each-end ks x)
 
   pub each-last : (old new : List K) (r : Option K) → YieldsLast (λ (ks : List K). ks) old r new → option_map (λ k. (k, tt)) r ≡ entry_before (with_each old) (length (with_each old))
   each-last old new None h = ap (λ ks. entry_before (with_each ks) (length (with_each ks))) (sym h.0)

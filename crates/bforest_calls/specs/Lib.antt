@@ -1,4 +1,5 @@
 pub mod Compared
+pub mod Ends
 pub mod Looks
 pub mod Machine
 pub mod State

@@ -1,9 +1,9 @@
 -- The machine that a list of calls runs: what each call may answer, and what it leaves.
-use Rattle.bforest.specs.Bounds.{entries_between, entry_at_most}
-use Rattle.bforest.specs.Calls.{Clears, Inserts, Removes}
+use Rattle.bforest.specs.Bounds.{entries_between, entry_at_least, entry_at_most}
+use Rattle.bforest.specs.Calls.{Clears, Clones, Inserts, Loads, Removes}
 use Rattle.bforest.specs.Forest.{Forest, IsLive, emptied, list_of}
 use Rattle.bforest_calls.specs.Looks.{all_taken, sights_of}
-use Rattle.bforest_calls.specs.State.{Edits, Held, Retained, StillAddsUp}
+use Rattle.bforest_calls.specs.State.{Edits, FirstPopped, GotOrInserted, Held, LastPopped, Retained, Shifted, StillAddsUp, Updated, UpdatedOrInserted, as_had}
 use Rattle.bforest_calls.specs.declared.call.Answer.TheVariants as answer
 use Rattle.bforest_calls.specs.declared.call.Answer.{Answer}
 use Rattle.bforest_calls.specs.declared.call.Call.TheVariants as call
@@ -13,7 +13,7 @@ use Rattle.bforest_core.specs.declared.pool.OutOfMemory.{OutOfMemory}
 use Rattle.bforest_nodes.specs.Entries.{IsIncreasing, value_for}
 use Rattle.std.proofs.Math.Logic.{◌⊎◌}
 use Rattle.std.specs.Global.{Global}
-use Rattle.std.specs.Prelude.{Bool, List, None, Option, Result, Some, Vec, [], false, get_or, length, slice_get, slice_set, true, ◌<◌, ◌≡◌, ◌∷◌, ℕ}
+use Rattle.std.specs.Prelude.{Bool, Err, List, None, Ok, Option, Result, Some, Vec, [], false, get_or, length, reverse, slice_get, slice_set, true, ◌-◌, ◌<◌, ◌≡◌, ◌∷◌, ℕ}
 use Rattle.std.specs.declared.cmp.Ordering.TheVariants.{Equal}
 use Rattle.std.specs.declared.cmp.Ordering.{Ordering}
 
@@ -33,6 +33,16 @@ order_at orders c = get_or orders c (λ _ _. Equal)
 abbrev pub Offered : Bool → (Made Lacking : Type 0) → Type 0
 Offered true Made Lacking = Made
 Offered false Made Lacking = Lacking
+
+-- what is answered where a tree was made or nodes for it were refused, from its handle's number
+abbrev pub as_made : Result (Option ℕ) OutOfMemory → Result (Unit {0}) OutOfMemory
+as_made (Ok number) = Ok tt
+as_made (Err refused) = Err refused
+
+-- the handles where handle h names a tree that was made; they stay where none was
+abbrev pub with_made : ℕ → Result (Option ℕ) OutOfMemory → List (Option ℕ) → List (Option ℕ)
+with_made h (Ok number) handles = slice_set handles h number
+with_made h (Err refused) handles = handles
 
 module _ {K V : Type 0} where
   -- the number of a handle, what it holds, and its list
@@ -80,19 +90,30 @@ module _ {K V : Type 0} where
   Lacks there old answer.NotOffered new = there × (new ≡ old)
   Lacks there old given new = ⊥
 
+  -- a call on handle h that compares keys by c, and that only maps offer, where `offered`
+  abbrev pub ComparesIf : (offered : Bool) → Orders K → ℕ → ℕ → State K V → Answer K V → State K V → Type 0 → Type 0
+  ComparesIf offered orders h c old given new Made =
+      Offered offered (Compares orders h c old given new Made) (Lacks ((h < length old.handles) × (c < length orders)) old given new)
+
   -- A change of handle h and of its tree: each other handle keeps its number.
   abbrev pub On : ℕ → State K V → State K V → (Held K V → Held K V → Type 0) → Type 0
   On h old new R =
       (number : Option ℕ) × (new.handles ≡ slice_set old.handles h number) × R (held_at old h) (record { forest = new.forest; number = number })
+
+  -- A tree was made for handle h, or nodes for it were refused: the tree that h named before stays.
+  abbrev pub MakesFor : ℕ → State K V → Answer K V → State K V → (Result (Option ℕ) OutOfMemory → Forest K V → Type 0) → Type 0
+  MakesFor h old given new R =
+      (result : Result (Option ℕ) OutOfMemory) × (given ≡ answer.Made (as_made result)) × (new.handles ≡ with_made h result old.handles) × R result new.forest
 
   -- a call on handle h that compares keys by comparator c passes all tests
   abbrev pub Passes : Orders K → State K V → ℕ → ℕ → Type 0
   Passes orders state h c = (h < length state.handles) × (c < length orders) × Live state h × Ordered orders state h c
 
   -- memory is requested for the answer of a call: it is a list, and the call is offered and passes its tests. `reads` is whether
-  -- reading cursors are offered
+  -- the calls that only maps have are offered
   abbrev pub AsksRoom : (reads : Bool) → Orders K → State K V → Call K V → Type 0
   AsksRoom reads orders state (call.Iter h) = (h < length state.handles) × Live state h
+  AsksRoom reads orders state (call.IterBack h) = (h < length state.handles) × Live state h
   AsksRoom reads orders state (call.Read h c steps) = (reads ≡ true) × Passes orders state h c
   AsksRoom reads orders state (call.Edit h c steps) = Passes orders state h c
   AsksRoom reads orders state (call.Range h c lo hi ends) = Passes orders state h c
@@ -107,7 +128,7 @@ module _ {K V : Type 0} where
   abbrev pub Shows : List (Seen K V) → Answer K V → Type 0
   Shows list given = (sights : Vec (Seen K V) Global) × (given ≡ answer.Script sights) × (sights.items ≡ list)
 
-  -- `most` is the number of entries that a leaf has at most; `reads` is whether reading cursors are offered
+  -- `most` is the number of entries that a leaf has at most; `reads` is whether the calls that only maps have are offered
   module _ (most : ℕ) (reads : Bool) where
     -- from old, the machine may give this answer to the call and go on to new
     abbrev pub Step : Orders K → State K V → Call K V → Answer K V → State K V → Type 0
@@ -115,19 +136,37 @@ module _ {K V : Type 0} where
         Compares orders h c old given new ((given ≡ answer.Value (value_for (order_at orders c) (list_in old h) k)) × (new ≡ old))
     Step orders old (call.GetOrLess h c k) given new =
         Compares orders h c old given new ((given ≡ answer.Pair (entry_at_most (order_at orders c) (list_in old h) k)) × (new ≡ old))
+    Step orders old (call.GetOrGreater h c k) given new =
+        Compares orders h c old given new ((given ≡ answer.Pair (entry_at_least (order_at orders c) (list_in old h) k)) × (new ≡ old))
+    Step orders old (call.First h) given new = Names h old given new ((given ≡ answer.Pair (slice_get (list_in old h) 0)) × (new ≡ old))
+    Step orders old (call.Last h) given new =
+        Names h old given new ((given ≡ answer.Pair (slice_get (list_in old h) (length (list_in old h) - 1))) × (new ≡ old))
     Step orders old (call.Insert h c k v) given new = Compares orders h c old given new
         ((result : Result (Option V) OutOfMemory) × (given ≡ answer.Put result)
         × On h old new (λ held after. Inserts most (order_at orders c) held.forest held.number k v result after.forest after.number))
+    Step orders old (call.GetOrInsert h c k v) given new = ComparesIf reads orders h c old given new
+        ((result : Result V OutOfMemory) × (given ≡ answer.Put (as_had result)) × On h old new (GotOrInserted most (order_at orders c) k v result))
+    Step orders old (call.Update h c k v) given new = ComparesIf reads orders h c old given new
+        ((value : Option V) × (given ≡ answer.Value value) × On h old new (Updated (order_at orders c) k v value))
+    Step orders old (call.UpdateOrInsert h c k v put) given new = ComparesIf reads orders h c old given new
+        ((result : Result V OutOfMemory) × (given ≡ answer.Put (as_had result)) × On h old new (UpdatedOrInserted most (order_at orders c) k v put result))
+    Step orders old (call.Shift h c from keys) given new =
+        Compares orders h c old given new ((given ≡ answer.Done) × On h old new (Shifted (order_at orders c) from keys.items))
     Step orders old (call.Remove h c k) given new = Compares orders h c old given new
         ((value : Option V) × (given ≡ answer.Value value)
         × On h old new (λ held after. Removes most (order_at orders c) held.forest held.number k value after.forest after.number))
+    Step orders old (call.PopFirst h) given new = Names h old given new
+        ((entry : Option (K × V)) × (given ≡ answer.Pair entry) × On h old new (FirstPopped most entry))
+    Step orders old (call.PopLast h) given new = Names h old given new
+        ((entry : Option (K × V)) × (given ≡ answer.Pair entry) × On h old new (LastPopped most entry))
     Step orders old (call.Clear h) given new = Names h old given new
         ((given ≡ answer.Done) × On h old new (λ held after. Clears held.forest held.number after.forest after.number))
     Step orders old (call.Iter h) given new = Names h old given new
         ((pairs : Vec (K × V) Global) × (given ≡ answer.Pairs pairs) × (pairs.items ≡ list_in old h) × (new ≡ old))
-    Step orders old (call.Read h c steps) given new = Offered reads
-        (Compares orders h c old given new (Shows (sights_of (order_at orders c) (list_in old h) (length (list_in old h)) steps.items) given × (new ≡ old)))
-        (Lacks ((h < length old.handles) × (c < length orders)) old given new)
+    Step orders old (call.IterBack h) given new = Names h old given new
+        ((pairs : Vec (K × V) Global) × (given ≡ answer.Pairs pairs) × (pairs.items ≡ reverse (list_in old h)) × (new ≡ old))
+    Step orders old (call.Read h c steps) given new = ComparesIf reads orders h c old given new
+        (Shows (sights_of (order_at orders c) (list_in old h) (length (list_in old h)) steps.items) given × (new ≡ old))
     Step orders old (call.Edit h c steps) given new = Compares orders h c old given new
         ((sights : Vec (Seen K V) Global) × (given ≡ answer.Script sights) × On h old new (Edits most (order_at orders c) steps.items sights.items))
     Step orders old (call.Range h c lo hi ends) given new = Compares orders h c old given new
@@ -136,6 +175,11 @@ module _ {K V : Type 0} where
         NamesBoth orders h c old given new ((given ≡ answer.Done) × On h old new (Retained most (order_at orders c) keys.items put))
     Step orders old (call.Alias from to) given new = Tests ((from < length old.handles) × (to < length old.handles)) (Unit {0}) (Unit {0}) old given new
         ((given ≡ answer.Done) × (new ≡ record old { handles = slice_set old.handles to (number_at old from) }))
+    Step orders old (call.DeepClone from to) given new = Tests ((from < length old.handles) × (to < length old.handles)) (Live old from) (Unit {0}) old given new
+        (MakesFor to old given new (Clones old.forest (number_at old from)))
+    Step orders old (call.Load h entries) given new = Offered reads
+        (Tests (h < length old.handles) (Unit {0}) (Unit {0}) old given new (MakesFor h old given new (Loads most old.forest entries.items)))
+        (Lacks (h < length old.handles) old given new)
     Step orders old call.ForestClear given new = (given ≡ answer.Done) × (new ≡ record old { forest = emptied old.forest })
 
     -- the steps of a list of calls, each from the state that the call before it left

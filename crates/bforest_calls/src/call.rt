@@ -17,6 +17,20 @@ pub enum Call<K: Copy, V: Copy> {
         c: usize,
         k: K,
     },
+    /// `get_or_greater`. Answers [`Answer::Pair`].
+    GetOrGreater {
+        h: usize,
+        c: usize,
+        k: K,
+    },
+    /// `first`. Answers [`Answer::Pair`].
+    First {
+        h: usize,
+    },
+    /// `last`. Answers [`Answer::Pair`].
+    Last {
+        h: usize,
+    },
     /// `insert`. Answers [`Answer::Put`].
     Insert {
         h: usize,
@@ -24,11 +38,51 @@ pub enum Call<K: Copy, V: Copy> {
         k: K,
         v: V,
     },
+    /// `get_or_insert`. Answers [`Answer::Put`] with the value that the key has then, for sets [`Answer::NotOffered`].
+    GetOrInsert {
+        h: usize,
+        c: usize,
+        k: K,
+        v: V,
+    },
+    /// `update`: the value of a key that is present becomes `v`. Answers [`Answer::Value`], for sets [`Answer::NotOffered`].
+    Update {
+        h: usize,
+        c: usize,
+        k: K,
+        v: V,
+    },
+    /// `update_or_insert`: the value of a key that is present becomes `put`, else `v` is inserted. Answers [`Answer::Put`] with the value
+    /// that the key has then, for sets [`Answer::NotOffered`].
+    UpdateOrInsert {
+        h: usize,
+        c: usize,
+        k: K,
+        v: V,
+        put: V,
+    },
+    /// `shift`: each key that is not less than `from` becomes the new key of the first pair in `keys` whose old key compares equal to it.
+    /// A key without such a pair stays. Whether the list increases then is not tested: later calls that compare answer
+    /// [`Answer::Unordered`] where it does not. Answers [`Answer::Done`].
+    Shift {
+        h: usize,
+        c: usize,
+        from: K,
+        keys: Vec<(K, K)>,
+    },
     /// `remove`. Answers [`Answer::Value`].
     Remove {
         h: usize,
         c: usize,
         k: K,
+    },
+    /// `pop_first`. Answers [`Answer::Pair`].
+    PopFirst {
+        h: usize,
+    },
+    /// `pop_last`. Answers [`Answer::Pair`].
+    PopLast {
+        h: usize,
     },
     /// `clear` of the map or set. Answers [`Answer::Done`].
     Clear {
@@ -36,6 +90,10 @@ pub enum Call<K: Copy, V: Copy> {
     },
     /// `iter` to its end. Answers [`Answer::Pairs`].
     Iter {
+        h: usize,
+    },
+    /// `iter_back` to its end. Answers [`Answer::Pairs`].
+    IterBack {
         h: usize,
     },
     /// A reading cursor and each step in turn. Answers [`Answer::Script`], for sets [`Answer::NotOffered`].
@@ -71,6 +129,18 @@ pub enum Call<K: Copy, V: Copy> {
         from: usize,
         to: usize,
     },
+    /// Handle `to` becomes a `deep_clone` of handle `from`, where one is made; the tree that `to` named before stays. Answers
+    /// [`Answer::Made`].
+    DeepClone {
+        from: usize,
+        to: usize,
+    },
+    /// Handle `h` becomes a `load` of the entries, where one is made; the tree that it named before stays. Whether they increase is not
+    /// tested, as after a shift. Answers [`Answer::Made`], for sets [`Answer::NotOffered`].
+    Load {
+        h: usize,
+        entries: Vec<(K, V)>,
+    },
     /// `clear` of the forest; the handles keep their numbers. Answers [`Answer::Done`].
     ForestClear,
 }
@@ -83,6 +153,8 @@ pub enum Answer<K: Copy, V: Copy> {
     Put(Result<Option<V>, OutOfMemory>),
     Pairs(Vec<(K, V)>),
     Script(Vec<Seen<K, V>>),
+    /// A tree was made, or nodes for it were refused.
+    Made(Result<(), OutOfMemory>),
     Done,
     /// An index is past the end of its slice.
     NoIndex,

@@ -1,13 +1,14 @@
 //! What the engine requires of a map or of a set.
-ghost use Rattle.bforest.specs.Calls.{Clears};
+ghost use Rattle.bforest.specs.Calls.{Clears, Clones, Loads};
 ghost use Rattle.bforest.specs.Forest.{Forest, IsLive, emptied, list_of};
 ghost use Rattle.bforest_calls.specs.Compared.{IsComparing, IsListed, Makes};
+ghost use Rattle.bforest_calls.specs.Ends.{IsAtEnd, MakesAtEnd};
 ghost use Rattle.bforest_calls.specs.State.{Retained};
 ghost use Rattle.bforest_nodes.specs.Entries.{IsIncreasing};
-ghost use Rattle.std.specs.Prelude.{Bool, IfOk, IsTrue, List, None, OnErr, Option, get_or, length, slice_set, ◌%◌, ◌<◌, ◌↔◌, ◌≡◌, ℕ};
+ghost use Rattle.std.specs.Prelude.{Bool, Err, IfErr, IfOk, IsTrue, List, None, Ok, OnErr, Option, get_or, length, reverse, slice_set, ◌%◌, ◌<◌, ◌↔◌, ◌≡◌, ℕ};
 
 use crate::call::{Answer, Call};
-use bforest::Comparator;
+use bforest::{Comparator, OutOfMemory};
 use std::alloc::{AllocError, Global};
 
 /// A handle of a map or of a set, with the calls that [`crate::make`] makes on it: implemented for [`bforest::Map`] and, with the unit as
@@ -16,7 +17,7 @@ pub trait Collection<K: Copy, V: Copy>: Drop {
     /// The forest in which the handle's entries lie.
     type Forest;
 
-    /// Whether reading cursors are offered.
+    /// Whether the calls that only maps have are offered: reading cursors, loads, and the calls that insert or update a value.
     const READS: bool;
 
     ghost READS: { Bool };
@@ -52,6 +53,22 @@ pub trait Collection<K: Copy, V: Copy>: Drop {
         requires live { IsLive (trees forest.now) (number self.now) }
         ensures entries { IfOk result (λ entries.
             entries.items ≡ list_of (trees forest.now) (number self.now)) };
+
+    /// All entries from the last to the first, by an iterator.
+    fn entries_back(&self, alloc: Global, forest: &Self::Forest) -> Result<Vec<(K, V)>, AllocError>
+        requires fits { fits }
+        requires live { IsLive (trees forest.now) (number self.now) }
+        ensures entries { IfOk result (λ entries.
+            entries.items ≡ reverse (list_of (trees forest.now) (number self.now))) };
+
+    /// Makes a call at an end of the list.
+    fn answer_at_end(&mut self, call: &Call<K, V>, forest: &mut Self::Forest) -> Answer<K, V>
+        requires fits { fits }
+        requires at_end { (h : ℕ) × IsAtEnd h call.now }
+        requires live { IsLive (trees forest.old) (number self.old) }
+        ensures makes { MakesAtEnd most call.now
+            (record { forest = trees forest.old; number = number self.old }) result
+            (record { forest = trees forest.new; number = number self.new }) };
 
     /// Makes a call that compares keys. Room for an answer that is a list is taken before anything changes.
     fn answer<C: Comparator<K>>(
@@ -91,6 +108,24 @@ pub trait Collection<K: Copy, V: Copy>: Drop {
         requires fits { fits }
         requires live { IsLive (trees forest.old) (number self.old) }
         ensures clears { Clears (trees forest.old) (number self.old) (trees forest.new) (number self.new) };
+
+    /// A handle to a second tree with the list of this one.
+    fn deep_clone(&self, forest: &mut Self::Forest) -> Result<Self, OutOfMemory>
+        requires fits { fits }
+        requires live { IsLive (trees forest.old) (number self.now) }
+        ensures made { IfOk result (λ copy.
+            Clones (trees forest.old) (number self.now) (Ok (number copy)) (trees forest.new)) }
+        ensures refused { IfErr result (λ why.
+            Clones (trees forest.old) (number self.now) (Err why) (trees forest.new)) };
+
+    /// A handle to a tree of these entries.
+    fn load(entries: &[(K, V)], forest: &mut Self::Forest) -> Result<Self, OutOfMemory>
+        requires fits { fits }
+        requires offered { IsTrue READS }
+        ensures made { IfOk result (λ tree.
+            Loads most (trees forest.old) entries.now (Ok (number tree)) (trees forest.new)) }
+        ensures refused { IfErr result (λ why.
+            Loads most (trees forest.old) entries.now (Err why) (trees forest.new)) };
 
     /// A second handle to the same tree.
     fn alias(&self) -> Self

@@ -1,12 +1,14 @@
 //! One call, and the tests before it.
-ghost use Rattle.bforest_calls.specs.Compared.{IsComparing};
-ghost use Rattle.bforest_calls.specs.Machine.{AsksRoom, Live, Refuses, Step};
+ghost use Rattle.bforest_calls.specs.Compared.{IsComparing, IsOfMaps};
+ghost use Rattle.bforest_calls.specs.Ends.{IsAtEnd};
+ghost use Rattle.bforest_calls.specs.Machine.{AsksRoom, Lacks, Live, Refuses, Step};
+ghost use Rattle.bforest_calls.specs.declared.call.Answer.TheVariants as answer;
 ghost use Rattle.bforest_calls.specs.declared.call.Call.TheVariants as call;
-ghost use Rattle.std.specs.Prelude.{IfOk, IfSome, None, OnErr, false, length, map, ◌<◌, ◌≡◌, ℕ};
+ghost use Rattle.std.specs.Prelude.{Err, IfErr, IfOk, IfSome, None, Ok, OnErr, false, length, map, slice_set, ◌<◌, ◌≡◌, ℕ};
 
 use crate::call::{Answer, Call};
 use crate::collection::Collection;
-use bforest::Comparator;
+use bforest::{Comparator, OutOfMemory};
 use std::alloc::{AllocError, Global};
 
 /// Makes one call, on maps or on sets. Handles and orders may be any: the call tests them. Room for its answer is taken before anything
@@ -34,21 +36,32 @@ pub fn make<K: Copy, V: Copy, C: Comparator<K>, T: Collection<K, V>>(
     match call {
         Call::Get { h, c, .. }
         | Call::GetOrLess { h, c, .. }
+        | Call::GetOrGreater { h, c, .. }
         | Call::Insert { h, c, .. }
         | Call::Remove { h, c, .. }
+        | Call::Shift { h, c, .. }
         | Call::Edit { h, c, .. }
         | Call::Range { h, c, .. } => compare(alloc, call, *h, *c, comps, handles, forest),
-        Call::Read { h, c, .. } => {
+        Call::GetOrInsert { h, c, .. }
+        | Call::Update { h, c, .. }
+        | Call::UpdateOrInsert { h, c, .. }
+        | Call::Read { h, c, .. } => {
             if T::READS {
                 compare(alloc, call, *h, *c, comps, handles, forest)
             } else {
-                Ok(lacks(*h, *c, comps, handles))
+                Ok(not_offered(call, *h, *c, comps, handles))
             }
+        }
+        Call::First { h } | Call::Last { h } | Call::PopFirst { h } | Call::PopLast { h } => {
+            Ok(at_end(call, *h, handles, forest))
         }
         Call::Retain { h, c, keys, put } => Ok(retain(*h, *c, keys, *put, comps, handles, forest)),
         Call::Clear { h } => Ok(clear(*h, handles, forest)),
         Call::Iter { h } => iter(alloc, *h, handles, forest),
+        Call::IterBack { h } => iter_back(alloc, *h, handles, forest),
         Call::Alias { from, to } => Ok(alias(*from, *to, handles)),
+        Call::DeepClone { from, to } => Ok(deep_clone(*from, *to, handles, forest)),
+        Call::Load { h, entries } => Ok(load(*h, entries, handles, forest)),
         Call::ForestClear => {
             T::clear_all(forest);
             Ok(Answer::Done)
@@ -110,15 +123,50 @@ fn compare<K: Copy, V: Copy, C: Comparator<K>, T: Collection<K, V>>(
     Ok(given)
 }
 
-/// The answer to a reading cursor that is not offered.
+/// Makes a call at an end of the list of handle `h`.
+fn at_end<K: Copy, V: Copy, T: Collection<K, V>>(
+    call: &Call<K, V>,
+    h: usize,
+    handles: &mut [T],
+    forest: &mut T::Forest,
+) -> Answer<K, V>
+    requires fits { T.fits }
+    requires at_end { IsAtEnd h call.now }
+    ensures { (orders : _) → Step T.most T.READS orders
+        (record { forest = T.trees forest.old; handles = T.numbers handles.old }) call.now result
+        (record { forest = T.trees forest.new; handles = T.numbers handles.new }) }
+{
+    if let Some(given) = unnamed(h, handles, forest) {
+        return given;
+    }
+    handles[h].answer_at_end(call, forest)
+}
+
+/// The answer to a call that only maps offer.
+fn not_offered<K: Copy, V: Copy, C: Comparator<K>, T: Collection<K, V>>(
+    call: &Call<K, V>,
+    h: usize,
+    c: usize,
+    comps: &[C],
+    handles: &[T],
+) -> Answer<K, V>
+    requires of_maps { IsOfMaps h c call.now }
+    ensures { (trees : _) → Step T.most false (map C.order comps.now)
+        (record { forest = trees; handles = T.numbers handles.now }) call.now result
+        (record { forest = trees; handles = T.numbers handles.now }) }
+{
+    lacks(h, c, comps, handles)
+}
+
+/// The answer to a call on handle `h`, by comparator `c`, that is not offered.
 fn lacks<K: Copy, V: Copy, C: Comparator<K>, T: Collection<K, V>>(
     h: usize,
     c: usize,
     comps: &[C],
     handles: &[T],
 ) -> Answer<K, V>
-    ensures { (trees : _) (steps : _) → Step T.most false (map C.order comps.now)
-        (record { forest = trees; handles = T.numbers handles.now }) (call.Read h c steps) result
+    ensures { (trees : _) → Lacks ((h < length (T.numbers handles.now)) × (c < length (map C.order comps.now)))
+        (record { forest = trees; handles = T.numbers handles.now }) result
         (record { forest = trees; handles = T.numbers handles.now }) }
 {
     if h >= handles.len() || c >= comps.len() {
@@ -188,6 +236,26 @@ fn iter<K: Copy, V: Copy, T: Collection<K, V>>(
     Ok(Answer::Pairs(pairs))
 }
 
+fn iter_back<K: Copy, V: Copy, T: Collection<K, V>>(
+    alloc: Global,
+    h: usize,
+    handles: &[T],
+    forest: &T::Forest,
+) -> Result<Answer<K, V>, AllocError>
+    requires fits { T.fits }
+    ensures step { (orders : _) → IfOk result (λ given. Step T.most T.READS orders
+        (record { forest = T.trees forest.now; handles = T.numbers handles.now }) (call.IterBack h) given
+        (record { forest = T.trees forest.now; handles = T.numbers handles.now })) }
+    ensures room { (orders : _) → OnErr result (AsksRoom T.READS orders
+        (record { forest = T.trees forest.now; handles = T.numbers handles.now }) (call.IterBack h)) }
+{
+    if let Some(given) = unnamed(h, handles, forest) {
+        return Ok(given);
+    }
+    let pairs = handles[h].entries_back(alloc, forest)?;
+    Ok(Answer::Pairs(pairs))
+}
+
 fn alias<K: Copy, V: Copy, T: Collection<K, V>>(
     from: usize,
     to: usize,
@@ -202,4 +270,65 @@ fn alias<K: Copy, V: Copy, T: Collection<K, V>>(
     }
     handles[to] = handles[from].alias();
     Answer::Done
+}
+
+fn deep_clone<K: Copy, V: Copy, T: Collection<K, V>>(
+    from: usize,
+    to: usize,
+    handles: &mut [T],
+    forest: &mut T::Forest,
+) -> Answer<K, V>
+    requires fits { T.fits }
+    ensures { (orders : _) → Step T.most T.READS orders
+        (record { forest = T.trees forest.old; handles = T.numbers handles.old }) (call.DeepClone from to) result
+        (record { forest = T.trees forest.new; handles = T.numbers handles.new }) }
+{
+    if to >= handles.len() {
+        return Answer::NoIndex;
+    }
+    if let Some(given) = unnamed(from, handles, forest) {
+        return given;
+    }
+    name(handles[from].deep_clone(forest), to, handles)
+}
+
+fn load<K: Copy, V: Copy, T: Collection<K, V>>(
+    h: usize,
+    entries: &Vec<(K, V)>,
+    handles: &mut [T],
+    forest: &mut T::Forest,
+) -> Answer<K, V>
+    requires fits { T.fits }
+    ensures { (orders : _) → Step T.most T.READS orders
+        (record { forest = T.trees forest.old; handles = T.numbers handles.old }) (call.Load h entries.now) result
+        (record { forest = T.trees forest.new; handles = T.numbers handles.new }) }
+{
+    if h >= handles.len() {
+        return Answer::NoIndex;
+    }
+    if !T::READS {
+        return Answer::NotOffered;
+    }
+    name(T::load(entries, forest), h, handles)
+}
+
+/// Handle `h` becomes the one of a tree that was made, and stays where none was.
+fn name<K: Copy, V: Copy, T: Collection<K, V>>(
+    made: Result<T, OutOfMemory>,
+    h: usize,
+    handles: &mut [T],
+) -> Answer<K, V>
+    requires within { h < length handles.old }
+    ensures made { IfOk made (λ tree. (result ≡ answer.Made (Ok tt))
+        × (T.numbers handles.new ≡ slice_set (T.numbers handles.old) h (T.number tree))) }
+    ensures refused { IfErr made (λ why. (result ≡ answer.Made (Err why))
+        × (T.numbers handles.new ≡ T.numbers handles.old)) }
+{
+    match made {
+        Ok(tree) => {
+            handles[h] = tree;
+            Answer::Made(Ok(()))
+        }
+        Err(why) => Answer::Made(Err(why)),
+    }
 }

@@ -7,6 +7,7 @@ mod engine;
 mod maps;
 mod run;
 mod sets;
+mod shift;
 mod steps;
 
 pub use call::{Act, Answer, Call, Look, Seen, Side};

@@ -1,9 +1,9 @@
 //! Lists of calls on maps, and maps as the engine takes them.
 ghost use Rattle.bforest.specs.Cursor.{Goes, IsCursor, entries, forest_now, map_now, spot};
-ghost use Rattle.bforest.specs.Forest.{IsLive};
+ghost use Rattle.bforest.specs.Forest.{IsLive, IsSearchable};
 ghost use Rattle.bforest.specs.Memory.{MapsFitInMemory};
 ghost use Rattle.bforest_calls.specs.Machine.{MayStopAt, Run};
-ghost use Rattle.bforest_calls.specs.State.{Retained, WritesAt, is_listed};
+ghost use Rattle.bforest_calls.specs.State.{Retained, Shifted, Updated, UpdatedOrInserted, WritesAt, as_had, is_listed};
 ghost use Rattle.bforest_calls.specs.Steps.{ActsBy, LooksBy, TakesFrom, map_view};
 ghost use Rattle.std.proofs.Common.{◌∙◌};
 ghost use Rattle.std.proofs.lemmas.List.{get_or_default};
@@ -12,8 +12,9 @@ ghost use Rattle.std.specs.Prelude.{IfOk, None, OnErr, is_some, map, refl, slice
 use crate::call::{Act, Answer, Call, Look, Seen, Side};
 use crate::collection::Collection;
 use crate::run::run;
+use crate::shift::new_key;
 use crate::steps::{Steps, each};
-use bforest::{Comparator, Map, MapCursor, MapCursorMut, MapForest, MapRange};
+use bforest::{Comparator, Map, MapCursor, MapCursorMut, MapForest, MapRange, OutOfMemory};
 use std::alloc::{AllocError, Global};
 use std::cmp::Ordering;
 
@@ -74,6 +75,24 @@ impl<K: Copy, V: Copy> Collection<K, V> for Map<K, V> {
         self.iter(forest).collect(alloc)
     }
 
+    fn entries_back(
+        &self,
+        alloc: Global,
+        forest: &MapForest<K, V>,
+    ) -> Result<Vec<(K, V)>, AllocError> {
+        self.iter_back(forest).collect(alloc)
+    }
+
+    fn answer_at_end(&mut self, call: &Call<K, V>, forest: &mut MapForest<K, V>) -> Answer<K, V> {
+        match call {
+            Call::First { .. } => Answer::Pair(self.first(forest)),
+            Call::Last { .. } => Answer::Pair(self.last(forest)),
+            Call::PopFirst { .. } => Answer::Pair(self.pop_first(forest)),
+            Call::PopLast { .. } => Answer::Pair(self.pop_last(forest)),
+            _ => unreachable!(),
+        }
+    }
+
     fn answer<C: Comparator<K>>(
         &mut self,
         alloc: Global,
@@ -84,7 +103,19 @@ impl<K: Copy, V: Copy> Collection<K, V> for Map<K, V> {
         match call {
             Call::Get { k, .. } => Ok(Answer::Value(self.get(*k, forest, comp))),
             Call::GetOrLess { k, .. } => Ok(Answer::Pair(self.get_or_less(*k, forest, comp))),
+            Call::GetOrGreater { k, .. } => Ok(Answer::Pair(self.get_or_greater(*k, forest, comp))),
             Call::Insert { k, v, .. } => Ok(Answer::Put(self.insert(*k, *v, forest, comp))),
+            Call::GetOrInsert { k, v, .. } => {
+                Ok(Answer::Put(some(self.get_or_insert(*k, *v, forest, comp))))
+            }
+            Call::Update { k, v, .. } => Ok(Answer::Value(update(self, *k, *v, forest, comp))),
+            Call::UpdateOrInsert { k, v, put, .. } => Ok(Answer::Put(some(update_or_insert(
+                self, *k, *v, *put, forest, comp,
+            )))),
+            Call::Shift { from, keys, .. } => {
+                shift(self, *from, keys, forest, comp);
+                Ok(Answer::Done)
+            }
             Call::Remove { k, .. } => Ok(Answer::Value(self.remove(*k, forest, comp))),
             Call::Read { steps, .. } => {
                 let mut cursor = self.cursor(forest, comp);
@@ -98,11 +129,7 @@ impl<K: Copy, V: Copy> Collection<K, V> for Map<K, V> {
                 let mut range = self.range((*lo, *hi), forest, comp);
                 each(alloc, ends, &mut range)
             }
-            Call::Retain { .. }
-            | Call::Clear { .. }
-            | Call::Iter { .. }
-            | Call::Alias { .. }
-            | Call::ForestClear => unreachable!(),
+            _ => unreachable!(),
         }
     }
 
@@ -126,6 +153,14 @@ impl<K: Copy, V: Copy> Collection<K, V> for Map<K, V> {
         self.clear(forest);
     }
 
+    fn deep_clone(&self, forest: &mut MapForest<K, V>) -> Result<Map<K, V>, OutOfMemory> {
+        self.deep_clone(forest)
+    }
+
+    fn load(entries: &[(K, V)], forest: &mut MapForest<K, V>) -> Result<Map<K, V>, OutOfMemory> {
+        Map::load(entries, forest)
+    }
+
     fn alias(&self) -> Map<K, V> {
         self.clone()
     }
@@ -141,6 +176,59 @@ impl<K: Copy, V: Copy> Collection<K, V> for Map<K, V> {
     ghost at = { λ xs h x within is. is ∙ get_or_default xs h x None within };
 
     ghost written = { λ xs h x. refl };
+}
+
+/// Writes a value where the key is present, and returns it then.
+fn update<K: Copy, V: Copy, C: Comparator<K>>(
+    map: &mut Map<K, V>,
+    k: K,
+    v: V,
+    forest: &mut MapForest<K, V>,
+    comp: &C,
+) -> Option<V>
+    requires { IsSearchable (C.order comp.now) forest.old map.old }
+    ensures { Updated (C.order comp.now) k v result (record { forest = forest.old; number = map.old })
+        (record { forest = forest.new; number = map.new }) }
+{
+    map.update(k, |_| v, forest, comp)
+}
+
+/// Writes `put` where the key is present, and inserts `v` where it is absent. Returns the value that the key has then.
+fn update_or_insert<K: Copy, V: Copy, C: Comparator<K>>(
+    map: &mut Map<K, V>,
+    k: K,
+    v: V,
+    put: V,
+    forest: &mut MapForest<K, V>,
+    comp: &C,
+) -> Result<V, OutOfMemory>
+    requires { IsSearchable (C.order comp.now) forest.old map.old }
+    ensures { UpdatedOrInserted 7 (C.order comp.now) k v put result
+        (record { forest = forest.old; number = map.old }) (record { forest = forest.new; number = map.new }) }
+{
+    map.update_or_insert(k, v, |_| put, forest, comp)
+}
+
+/// The value that a key has, as the one that was there.
+fn some<V: Copy>(had: Result<V, OutOfMemory>) -> Result<Option<V>, OutOfMemory>
+    ensures { result ≡ as_had had }
+{
+    Ok(Some(had?))
+}
+
+/// Gives the listed new keys to the entries from a key on.
+fn shift<K: Copy, V: Copy, C: Comparator<K>>(
+    map: &mut Map<K, V>,
+    from: K,
+    keys: &[(K, K)],
+    forest: &mut MapForest<K, V>,
+    comp: &C,
+)
+    requires { IsSearchable (C.order comp.now) forest.old map.old }
+    ensures { Shifted (C.order comp.now) from keys.now (record { forest = forest.old; number = map.old })
+        (record { forest = forest.new; number = map.new }) }
+{
+    map.shift(from, |key| new_key(comp, keys, key), forest, comp);
 }
 
 /// Writes the value of `put`, if there is one, and returns whether one of the keys compares equal to the entry's.

@@ -1,11 +1,11 @@
 //! Lists of calls on sets, and sets as the engine takes them: the value of a key is the unit.
-ghost use Rattle.bforest.specs.Forest.{IsLive, list_of};
+ghost use Rattle.bforest.specs.Forest.{IsLive, IsSearchable, list_of};
 ghost use Rattle.bforest.specs.Memory.{SetsFitInMemory};
 ghost use Rattle.bforest.specs.Set.{as_put, as_removed};
 ghost use Rattle.bforest.specs.SetCursor.{IsCursor};
 ghost use Rattle.bforest_calls.specs.Looks.{with_each};
 ghost use Rattle.bforest_calls.specs.Machine.{MayStopAt, Run};
-ghost use Rattle.bforest_calls.specs.State.{Retained, is_listed};
+ghost use Rattle.bforest_calls.specs.State.{Retained, Shifted, is_listed};
 ghost use Rattle.bforest_calls.specs.Steps.{ActsBy, TakesFrom, set_view};
 ghost use Rattle.std.proofs.Common.{◌∙◌};
 ghost use Rattle.std.proofs.lemmas.List.{get_or_default};
@@ -14,13 +14,15 @@ ghost use Rattle.std.specs.Prelude.{IfOk, None, OnErr, false, map, option_map, r
 use crate::call::{Act, Answer, Call, Seen, Side};
 use crate::collection::Collection;
 use crate::run::run;
+use crate::shift::new_key;
 use crate::steps::{Steps, each};
 use bforest::{Comparator, OutOfMemory, Set, SetCursor, SetForest, SetRange};
 use std::alloc::{AllocError, Global};
 use std::cmp::Ordering;
 
 /// Makes the calls in order, on sets, and returns one answer for each. The only value is the unit: [`Call::Get`] is
-/// `contains`, and an insertion answers the unit where the key was present. [`Call::Read`] is not offered.
+/// `contains`, and an insertion answers the unit where the key was present. [`Call::Read`],
+/// [`Call::GetOrInsert`], [`Call::Update`], [`Call::UpdateOrInsert`] and [`Call::Load`] are not offered.
 ///
 /// Room for all answers is taken first, and room for the answer of a call before that call changes anything.
 ///
@@ -81,6 +83,28 @@ impl<K: Copy> Collection<K, ()> for Set<K> {
         Ok(entries)
     }
 
+    fn entries_back(
+        &self,
+        alloc: Global,
+        forest: &SetForest<K>,
+    ) -> Result<Vec<(K, ())>, AllocError> {
+        let mut entries = Vec::new(alloc);
+        for key in self.iter_back(forest) {
+            entries.push((key, ()))?;
+        }
+        Ok(entries)
+    }
+
+    fn answer_at_end(&mut self, call: &Call<K, ()>, forest: &mut SetForest<K>) -> Answer<K, ()> {
+        match call {
+            Call::First { .. } => Answer::Pair(with_unit(self.first(forest))),
+            Call::Last { .. } => Answer::Pair(with_unit(self.last(forest))),
+            Call::PopFirst { .. } => Answer::Pair(with_unit(self.pop_first(forest))),
+            Call::PopLast { .. } => Answer::Pair(with_unit(self.pop_last(forest))),
+            _ => unreachable!(),
+        }
+    }
+
     fn answer<C: Comparator<K>>(
         &mut self,
         alloc: Global,
@@ -93,7 +117,14 @@ impl<K: Copy> Collection<K, ()> for Set<K> {
             Call::GetOrLess { k, .. } => Ok(Answer::Pair(with_unit(self.get_or_less(
                 *k, forest, comp,
             )))),
+            Call::GetOrGreater { k, .. } => Ok(Answer::Pair(with_unit(self.get_or_greater(
+                *k, forest, comp,
+            )))),
             Call::Insert { k, .. } => Ok(Answer::Put(old_unit(self.insert(*k, forest, comp)))),
+            Call::Shift { from, keys, .. } => {
+                shift(self, *from, keys, forest, comp);
+                Ok(Answer::Done)
+            }
             Call::Remove { k, .. } => Ok(Answer::Value(unit_if(self.remove(*k, forest, comp)))),
             Call::Edit { steps, .. } => {
                 let mut cursor = self.cursor(forest, comp);
@@ -103,12 +134,7 @@ impl<K: Copy> Collection<K, ()> for Set<K> {
                 let mut range = self.range((*lo, *hi), forest, comp);
                 each(alloc, ends, &mut range)
             }
-            Call::Read { .. }
-            | Call::Retain { .. }
-            | Call::Clear { .. }
-            | Call::Iter { .. }
-            | Call::Alias { .. }
-            | Call::ForestClear => unreachable!(),
+            _ => unreachable!(),
         }
     }
 
@@ -132,6 +158,14 @@ impl<K: Copy> Collection<K, ()> for Set<K> {
         self.clear(forest);
     }
 
+    fn deep_clone(&self, forest: &mut SetForest<K>) -> Result<Set<K>, OutOfMemory> {
+        self.deep_clone(forest)
+    }
+
+    fn load(_entries: &[(K, ())], _forest: &mut SetForest<K>) -> Result<Set<K>, OutOfMemory> {
+        unreachable!()
+    }
+
     fn alias(&self) -> Set<K> {
         self.clone()
     }
@@ -147,6 +181,21 @@ impl<K: Copy> Collection<K, ()> for Set<K> {
     ghost at = { λ xs h x within is. is ∙ get_or_default xs h x None within };
 
     ghost written = { λ xs h x. refl };
+}
+
+/// Makes the listed new keys of those from a key on.
+fn shift<K: Copy, C: Comparator<K>>(
+    set: &mut Set<K>,
+    from: K,
+    keys: &[(K, K)],
+    forest: &mut SetForest<K>,
+    comp: &C,
+)
+    requires { IsSearchable (C.order comp.now) forest.old set.old }
+    ensures { Shifted (C.order comp.now) from keys.now (record { forest = forest.old; number = set.old })
+        (record { forest = forest.new; number = set.new }) }
+{
+    set.shift(from, |key| new_key(comp, keys, key), forest, comp);
 }
 
 /// Whether one of the keys compares equal to `key`.

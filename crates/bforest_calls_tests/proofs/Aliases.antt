@@ -1,10 +1,10 @@
 -- A run with two handles exchanged.
-use Rattle.bforest.specs.Calls.{Clears, Inserts, Removes}
+use Rattle.bforest.specs.Calls.{Clears, Clones, Inserts, Removes}
 use Rattle.bforest.specs.Forest.{IsLive, list_of}
-use Rattle.bforest.specs.Bounds.{entries_between, entry_at_most}
+use Rattle.bforest.specs.Bounds.{entries_between, entry_at_least, entry_at_most}
 use Rattle.bforest_calls.specs.Looks.{all_taken, sights_of}
-use Rattle.bforest_calls.specs.Machine.{Compares, Lacks, Names, NamesBoth, Offered, On, Orders, Refuses, Run, State, Step, Tests, list_in, number_at, order_at}
-use Rattle.bforest_calls.specs.State.{Edits, Held, Retained}
+use Rattle.bforest_calls.specs.Machine.{Compares, ComparesIf, Lacks, Names, NamesBoth, Offered, On, Orders, Refuses, Run, State, Step, Tests, list_in, number_at, order_at, with_made}
+use Rattle.bforest_calls.specs.State.{Edits, FirstPopped, GotOrInserted, Held, LastPopped, Retained, Shifted, Updated, UpdatedOrInserted}
 use Rattle.bforest_calls.specs.declared.call.Answer.TheVariants as answer
 use Rattle.bforest_calls.specs.declared.call.Answer.{Answer}
 use Rattle.bforest_calls.specs.declared.call.Call.TheVariants as call
@@ -12,8 +12,9 @@ use Rattle.bforest_calls.specs.declared.call.Call.{Call}
 use Rattle.bforest_calls_tests.proofs.Exchange.{at-exchange, exchange-within, swap-aliases, swap-set, within-exchange}
 use Rattle.bforest_calls_tests.proofs.Sparing.{lacking, offered}
 use Rattle.bforest_calls_tests.specs.Exchange.{AreAliases, exchange, exchanged}
+use Rattle.bforest.specs.Refusal.{OutOfMemory}
 use Rattle.bforest.specs.Entries.{IsIncreasing, value_for}
-use Rattle.std.proofs.Common.{Bool, List, None, Option, [], ap, false, inl, inr, length, map, refl, subst, sym, true, ◌<◌, ◌∙◌, ◌∷◌, ◌≡◌, ℕ}
+use Rattle.std.proofs.Common.{Bool, Err, List, None, Ok, Option, Result, [], ap, false, inl, inr, length, map, refl, reverse, slice_get, subst, sym, true, ◌-◌, ◌<◌, ◌∙◌, ◌∷◌, ◌≡◌, ℕ}
 use Rattle.std.proofs.lemmas.List.{length-set}
 use Rattle.std.specs.Prelude.{slice_set, swap}
 
@@ -96,17 +97,37 @@ module _ {K V : Type 0} where
           (λ t. (here h t.0, t.1)) (λ t. (back h t.0, t.1)) stays (λ t m. made t.0 m) s
 
     module _ (most : ℕ) (reads : Bool) (orders : Orders K) where
+      -- a call that only maps offer
+      if-offered : (given : Answer K V) (h c : ℕ) (Made Made' : Type 0) → (h < length old.handles → Made → Made') → ComparesIf reads orders h c old given new Made
+          → ComparesIf reads orders (exchange i j h) c (turned i j old) given (turned i j new) Made'
+      if-offered given h c Made Made' made s = offered-too reads _ _ _ _ (compares-too orders given h c _ _ made)
+          (lacks-too ((h < length old.handles) × (c < length orders)) ((exchange i j h < length (swap old.handles i j)) × (c < length orders)) old new (turned i j old) (turned i j new) given
+          (λ t. (here h t.0, t.1)) (λ t. (back h t.0, t.1)) stays) s
+
+      -- the handles with a tree that was made, or not
+      with-exchanged : (h : ℕ) (result : Result (Option ℕ) OutOfMemory) → h < length old.handles → new.handles ≡ with_made h result old.handles
+          → swap new.handles i j ≡ with_made (exchange i j h) result (swap old.handles i j)
+      with-exchanged h (Ok n) w e = ap (λ hs. swap hs i j) e ∙ swap-set old.handles i j within within' h n w
+      with-exchanged h (Err why) w e = ap (λ hs. swap hs i j) e
+
       step-exchanged : (call : Call K V) (given : Answer K V) → Step most reads orders old call given new → Step most reads orders (turned i j old) (exchanged i j call) given (turned i j new)
       step-exchanged (call.Get h c k) given s = compares-too orders given h c _ _ (λ t m. (told given h (λ es. answer.Value (value_for (order_at orders c) es k)) m.0, stays m.1)) s
       step-exchanged (call.GetOrLess h c k) given s = compares-too orders given h c _ _ (λ t m. (told given h (λ es. answer.Pair (entry_at_most (order_at orders c) es k)) m.0, stays m.1)) s
+      step-exchanged (call.GetOrGreater h c k) given s = compares-too orders given h c _ _ (λ t m. (told given h (λ es. answer.Pair (entry_at_least (order_at orders c) es k)) m.0, stays m.1)) s
+      step-exchanged (call.First h) given s = names-too orders given h _ _ (λ t m. (told given h (λ es. answer.Pair (slice_get es 0)) m.0, stays m.1)) s
+      step-exchanged (call.Last h) given s = names-too orders given h _ _ (λ t m. (told given h (λ es. answer.Pair (slice_get es (length es - 1))) m.0, stays m.1)) s
       step-exchanged (call.Insert h c k v) given s = compares-too orders given h c _ _ (λ t m. (m.0, m.1, on-exchanged h (λ held after. Inserts most (order_at orders c) held.forest held.number k v m.0 after.forest after.number) t m.2)) s
+      step-exchanged (call.GetOrInsert h c k v) given s = if-offered given h c _ _ (λ t m. (m.0, m.1, on-exchanged h (GotOrInserted most (order_at orders c) k v m.0) t m.2)) s
+      step-exchanged (call.Update h c k v) given s = if-offered given h c _ _ (λ t m. (m.0, m.1, on-exchanged h (Updated (order_at orders c) k v m.0) t m.2)) s
+      step-exchanged (call.UpdateOrInsert h c k v put) given s = if-offered given h c _ _ (λ t m. (m.0, m.1, on-exchanged h (UpdatedOrInserted most (order_at orders c) k v put m.0) t m.2)) s
+      step-exchanged (call.Shift h c from keys) given s = compares-too orders given h c _ _ (λ t m. (m.0, on-exchanged h (Shifted (order_at orders c) from keys.items) t m.1)) s
       step-exchanged (call.Remove h c k) given s = compares-too orders given h c _ _ (λ t m. (m.0, m.1, on-exchanged h (λ held after. Removes most (order_at orders c) held.forest held.number k m.0 after.forest after.number) t m.2)) s
+      step-exchanged (call.PopFirst h) given s = names-too orders given h _ _ (λ t m. (m.0, m.1, on-exchanged h (FirstPopped most m.0) t m.2)) s
+      step-exchanged (call.PopLast h) given s = names-too orders given h _ _ (λ t m. (m.0, m.1, on-exchanged h (LastPopped most m.0) t m.2)) s
       step-exchanged (call.Clear h) given s = names-too orders given h _ _ (λ t m. (m.0, on-exchanged h (λ held after. Clears held.forest held.number after.forest after.number) t m.1)) s
       step-exchanged (call.Iter h) given s = names-too orders given h _ _ (λ t m. (m.0, m.1, told m.0.items h (λ es. es) m.2, stays m.3)) s
-      step-exchanged (call.Read h c steps) given s = offered-too reads _ _ _ _
-          (compares-too orders given h c _ _ (λ t m. ((m.0.0, m.0.1, told m.0.0.items h (λ es. sights_of (order_at orders c) es (length es) steps.items) m.0.2), stays m.1)))
-          (lacks-too ((h < length old.handles) × (c < length orders)) ((exchange i j h < length (swap old.handles i j)) × (c < length orders)) old new (turned i j old) (turned i j new) given
-          (λ t. (here h t.0, t.1)) (λ t. (back h t.0, t.1)) stays) s
+      step-exchanged (call.IterBack h) given s = names-too orders given h _ _ (λ t m. (m.0, m.1, told m.0.items h (λ es. reverse es) m.2, stays m.3)) s
+      step-exchanged (call.Read h c steps) given s = if-offered given h c _ _ (λ t m. ((m.0.0, m.0.1, told m.0.0.items h (λ es. sights_of (order_at orders c) es (length es) steps.items) m.0.2), stays m.1)) s
       step-exchanged (call.Edit h c steps) given s = compares-too orders given h c _ _ (λ t m. (m.0, m.1, on-exchanged h (Edits most (order_at orders c) steps.items m.0.items) t m.2)) s
       step-exchanged (call.Range h c lo hi ends) given s = compares-too orders given h c _ _
           (λ t m. ((m.0.0, m.0.1, told m.0.0.items h (λ es. all_taken (entries_between (order_at orders c) lo hi es) ends.items) m.0.2), stays m.1)) s
@@ -120,6 +141,15 @@ module _ {K V : Type 0} where
               handles = (swap-set old.handles i j within within' to (number_at old from) t.1 ∙ ap (slice_set (swap old.handles i j) (exchange i j to)) (sym (number from))) z;
             }),
           )) s
+      step-exchanged (call.DeepClone from to) given s =
+          tested-too ((from < length old.handles) × (to < length old.handles)) ((exchange i j from < length (swap old.handles i j)) × (exchange i j to < length (swap old.handles i j)))
+          (λ n. IsLive old.forest n) (λ n. Unit {0}) (number_at old from) (number_at (turned i j old) (exchange i j from)) old new (turned i j old) (turned i j new) given _ _ (number from)
+          (λ t. (here from t.0, here to t.1)) (λ t. (back from t.0, back to t.1)) stays
+          (λ t m. (m.0, m.1, with-exchanged to m.0 t.1 m.2, subst (λ (n : Option ℕ). Clones old.forest n m.0 new.forest) (sym (number from)) m.3)) s
+      step-exchanged (call.Load h entries) given s = offered-too reads _ _ _ _
+          (tested-too (h < length old.handles) (exchange i j h < length (swap old.handles i j)) (λ n. Unit {0}) (λ n. Unit {0}) None None old new (turned i j old) (turned i j new) given _ _ refl
+          (here h) (back h) stays (λ t m. (m.0, m.1, with-exchanged h m.0 t m.2, m.3)))
+          (lacks-too (h < length old.handles) (exchange i j h < length (swap old.handles i j)) old new (turned i j old) (turned i j new) given (here h) (back h) stays) s
       step-exchanged call.ForestClear given s = (s.0, ap (turned i j) s.1)
 
   module _ (most : ℕ) (reads : Bool) (orders : Orders K) where
@@ -129,16 +159,32 @@ module _ {K V : Type 0} where
     wrote : (old new : State K V) (h : ℕ) (n : Option ℕ) → new.handles ≡ slice_set old.handles h n → length new.handles ≡ length old.handles
     wrote old new h n e = ap (λ (hs : List (Option ℕ)). length hs) e ∙ length-set old.handles h n
 
+    with-many : (old new : State K V) (h : ℕ) (result : Result (Option ℕ) OutOfMemory) → new.handles ≡ with_made h result old.handles → length new.handles ≡ length old.handles
+    with-many old new h (Ok n) e = wrote old new h n e
+    with-many old new h (Err why) e = ap (λ (hs : List (Option ℕ)). length hs) e
+
     -- a step keeps the number of handles
     as-many : (old : State K V) (call : Call K V) (given : Answer K V) (new : State K V) → Step most reads orders old call given new → length new.handles ≡ length old.handles
     as-many old (call.Get h c k) given new s = elim s [ inl r ↦ kept old new r.1 | inr r ↦ kept old new r.3.1 ]
     as-many old (call.GetOrLess h c k) given new s = elim s [ inl r ↦ kept old new r.1 | inr r ↦ kept old new r.3.1 ]
+    as-many old (call.GetOrGreater h c k) given new s = elim s [ inl r ↦ kept old new r.1 | inr r ↦ kept old new r.3.1 ]
+    as-many old (call.First h) given new s = elim s [ inl r ↦ kept old new r.1 | inr r ↦ kept old new r.3.1 ]
+    as-many old (call.Last h) given new s = elim s [ inl r ↦ kept old new r.1 | inr r ↦ kept old new r.3.1 ]
     as-many old (call.Insert h c k v) given new s = elim s [ inl r ↦ kept old new r.1 | inr r ↦ wrote old new h r.3.2.0 r.3.2.1 ]
+    as-many old (call.GetOrInsert h c k v) given new s =
+        offered reads (λ t. elim t [ inl r ↦ kept old new r.1 | inr r ↦ wrote old new h r.3.2.0 r.3.2.1 ]) (λ l. kept old new (lacking _ old given new l)) s
+    as-many old (call.Update h c k v) given new s =
+        offered reads (λ t. elim t [ inl r ↦ kept old new r.1 | inr r ↦ wrote old new h r.3.2.0 r.3.2.1 ]) (λ l. kept old new (lacking _ old given new l)) s
+    as-many old (call.UpdateOrInsert h c k v put) given new s =
+        offered reads (λ t. elim t [ inl r ↦ kept old new r.1 | inr r ↦ wrote old new h r.3.2.0 r.3.2.1 ]) (λ l. kept old new (lacking _ old given new l)) s
+    as-many old (call.Shift h c from keys) given new s = elim s [ inl r ↦ kept old new r.1 | inr r ↦ wrote old new h r.3.1.0 r.3.1.1 ]
     as-many old (call.Remove h c k) given new s = elim s [ inl r ↦ kept old new r.1 | inr r ↦ wrote old new h r.3.2.0 r.3.2.1 ]
+    as-many old (call.PopFirst h) given new s = elim s [ inl r ↦ kept old new r.1 | inr r ↦ wrote old new h r.3.2.0 r.3.2.1 ]
+    as-many old (call.PopLast h) given new s = elim s [ inl r ↦ kept old new r.1 | inr r ↦ wrote old new h r.3.2.0 r.3.2.1 ]
     as-many old (call.Clear h) given new s = elim s [ inl r ↦ kept old new r.1 | inr r ↦ wrote old new h r.3.1.0 r.3.1.1 ]
     as-many old (call.Iter h) given new s = elim s [ inl r ↦ kept old new r.1 | inr r ↦ kept old new r.3.3 ]
-    as-many old (call.Read h c steps) given new s =
-        offered reads (λ t. elim t [ inl r ↦ kept old new r.1 | inr r ↦ kept old new r.3.1 ]) (λ l. kept old new (lacking _ old given new l)) s
+    as-many old (call.IterBack h) given new s = elim s [ inl r ↦ kept old new r.1 | inr r ↦ kept old new r.3.3 ]
+    as-many old (call.Read h c steps) given new s = offered reads (λ t. elim t [ inl r ↦ kept old new r.1 | inr r ↦ kept old new r.3.1 ]) (λ l. kept old new (lacking _ old given new l)) s
     as-many old (call.Edit h c steps) given new s = elim s [ inl r ↦ kept old new r.1 | inr r ↦ wrote old new h r.3.2.0 r.3.2.1 ]
     as-many old (call.Range h c lo hi ends) given new s = elim s [ inl r ↦ kept old new r.1 | inr r ↦ kept old new r.3.1 ]
     as-many old (call.Retain h c keys put) given new s = elim s [ inl r ↦ kept old new r.1 | inr r ↦ wrote old new h r.3.1.0 r.3.1.1 ]
@@ -146,6 +192,9 @@ module _ {K V : Type 0} where
       | inl r ↦ kept old new r.1
       | inr r ↦ wrote old new to (number_at old from) (ap (λ (t : State K V). t.handles) r.3.1)
     ]
+    as-many old (call.DeepClone from to) given new s = elim s [ inl r ↦ kept old new r.1 | inr r ↦ with-many old new to r.3.0 r.3.2 ]
+    as-many old (call.Load h entries) given new s =
+        offered reads (λ t. elim t [ inl r ↦ kept old new r.1 | inr r ↦ with-many old new h r.3.0 r.3.2 ]) (λ l. kept old new (lacking _ old given new l)) s
     as-many old call.ForestClear given new s = ap (λ (t : State K V). length t.handles) s.1
 
     run-exchanged : (i j : ℕ) (old : State K V) (calls : List (Call K V)) (answers : List (Answer K V)) (new : State K V) → i < length old.handles → j < length old.handles

@@ -1,19 +1,21 @@
 -- Two runs of one list of calls that go in step.
-use Rattle.bforest.specs.Bounds.{entries_between, entry_at_most}
+use Rattle.bforest.specs.Bounds.{entries_between, entry_at_least, entry_at_most}
 use Rattle.bforest.specs.Forest.{Becomes, Forest, IsLive, emptied, list_of, sizes_of}
 use Rattle.bforest_trees.specs.Forest.{list_at, sizes_at}
 use Rattle.bforest_calls.specs.Looks.{all_taken, sights_of}
-use Rattle.bforest_calls.specs.Machine.{Compares, Lacks, Offered, Orders, Refuses, Run, State, Step, Tests, order_at}
-use Rattle.bforest_calls.specs.State.{Held}
+use Rattle.bforest_calls.specs.Machine.{Compares, ComparesIf, Lacks, MakesFor, Offered, On, Orders, Refuses, Run, State, Step, Tests, as_made, order_at, with_made}
+use Rattle.bforest_calls.specs.State.{FirstPopped, GotOrInserted, Held, LastPopped, Updated, UpdatedOrInserted, as_had}
 use Rattle.bforest_calls.specs.declared.call.Answer.TheVariants as answer
 use Rattle.bforest_calls.specs.declared.call.Answer.{Answer}
 use Rattle.bforest_calls.specs.declared.call.Call.TheVariants as call
 use Rattle.bforest_calls.specs.declared.call.Call.{Call}
-use Rattle.bforest_calls_tests.proofs.Changes.{inserted, scripted}
-use Rattle.bforest_calls_tests.proofs.Resembling.{Resembles, clears-alike, inserts-alike, removes-alike, retains-alike, scripts-alike}
+use Rattle.bforest_calls_tests.proofs.Changes.{got-inserted, inserted, retold, scripted, shifted, updated, updated-inserted}
+use Rattle.bforest_calls_tests.proofs.Resembling.{IsMade, Resembles, clears-alike, clones-made, clones-sizes, gets-or-inserts-alike, inserts-alike, loads-made, loads-sizes, made-alike, pops-alike, removes-alike, retains-alike, scripts-alike, shifts-alike, updates-alike, updates-or-inserts-alike}
 use Rattle.bforest_calls_tests.specs.Determined.{AreAlike, AreDetermined, GoInStep, HadMemory, IsSameAnswer, RunsThrough}
+use Rattle.bforest_core.specs.Change.{node_count}
+use Rattle.bforest.specs.Refusal.{Memory, OutOfMemory}
 use Rattle.bforest.specs.Entries.{IsIncreasing, value_for}
-use Rattle.std.proofs.Common.{Bool, List, None, Option, Some, [], ap, false, get_or, inl, inr, length, refl, subst, sym, true, ◌<◌, ◌∙◌, ◌∷◌, ◌≡◌, ◌≢◌, ◌⊎◌, ℕ}
+use Rattle.std.proofs.Common.{Bool, Err, List, None, Ok, Option, Result, Some, [], ap, false, get_or, inl, inr, length, refl, reverse, slice_get, subst, sym, true, ◌%◌, ◌-◌, ◌<◌, ◌∙◌, ◌∷◌, ◌≡◌, ◌≢◌, ◌⊎◌, ℕ}
 use Rattle.std.proofs.lemmas.Bool.Decides.{eqb_tells}
 use Rattle.std.proofs.lemmas.List.Elements.{recursion_from_All}
 use Rattle.std.proofs.lemmas.List.{get_or-set_same}
@@ -60,6 +62,15 @@ cleared-lists f g n = refl
 cleared-sizes : {K V : Type 0} (f g : Forest K V) (n : ℕ) → sizes_at (emptied g) n ≡ sizes_at (emptied f) n
 unfolding sizes_at
 cleared-sizes f g n = refl
+
+-- where memory was had for the answer, it was had for the result that it tells
+not-memory : (result : Result (Option ℕ) OutOfMemory) → as_made result ≢ Err Memory → result ≢ Err Memory
+not-memory (Ok n) m e = absurd (cc)
+not-memory (Err why) m e = m (cc)
+
+put-memory : {V : Type 0} (result : Result V OutOfMemory) → as_had result ≢ Err Memory → result ≢ Err Memory
+put-memory (Ok v) m e = absurd (cc)
+put-memory (Err why) m e = m (cc)
 
 module _ {K V : Type 0} where
   list-alike : (f g : Forest K V) → ((n : ℕ) → list_at g n ≡ list_at f n) → (h : Option ℕ) → list_of g h ≡ list_of f h
@@ -166,7 +177,7 @@ module _ {K V : Type 0} where
   memory-had : (given told : Answer K V) → given ≡ told → HadMemory given → HadMemory told
   memory-had given told e had = subst (λ (x : Answer K V). HadMemory x) e had
 
-  module _ (most : ℕ) (reads : Bool) (orders : Orders K) where
+  module _ (most : ℕ) (odd : most % 2 ≡ 1) (reads : Bool) (orders : Orders K) where
     module _ (f g : Forest K V) (handles : List (Option ℕ)) (a : AreAlike (at f handles) (at g handles)) where
       abbrev number : ℕ → Option ℕ
       number h = get_or handles h None
@@ -211,12 +222,52 @@ module _ {K V : Type 0} where
             changed-alike f g handles a new new' (number h) k es es' same b
             (subst (λ (q : Option ℕ). Becomes g (number h) new'.forest q es') one b') (subst (λ (q : Option ℕ). Resembles (held new.forest k) (held new'.forest q)) one r)
 
+        compares-if : (h c : ℕ) (Made Made' : Type 0) → (h < length handles → IsLive f (number h) → IsLive g (number h) → Made → Made' → Agree)
+            → ComparesIf reads orders h c (at f handles) given new Made → ComparesIf reads orders h c (at g handles) given' new' Made' → Agree
+        compares-if h c Made Made' made s s' = offered-alike reads _ _ _ _ (compares h c _ _ made)
+            (λ l l'. let r = lacks-alike _ (at f handles) new (at g handles) new' given given' l l' in stays r.0 r.1 r.2) s s'
+
+        -- a tree that was made in both states, or in none
+        made : (h : ℕ) (d d' : ℕ) (es es' : List (K × V)) → h < length handles → new'.handles ≡ new.handles → HadMemory given → HadMemory given' → d' ≡ d → es' ≡ es
+            → (m : MakesFor h (at f handles) given new (IsMade f d es)) → (m' : MakesFor h (at g handles) given' new' (IsMade g d' es'))
+            → ((n n' : Option ℕ) → m.0 ≡ Ok n → m'.0 ≡ Ok n' → sizes_of new'.forest n' ≡ sizes_of new.forest n) → Agree
+        made h d d' es es' t same had had' nodes list m m' sizes =
+            made-alike (held f None) (held g None) m.0 m'.0 new.forest new'.forest (held-alike f g handles a None) nodes list m.3 m'.3
+            (not-memory m.0 (memory-had given (answer.Made (as_made m.0)) m.1 had)) (not-memory m'.0 (memory-had given' (answer.Made (as_made m'.0)) m'.1 had')) sizes
+            (λ n n' e e' b b' r.
+            let handles-are = m.2 ∙ ap (λ x. with_made h x handles) e in let handles-are' = m'.2 ∙ ap (λ x. with_made h x handles) e' in
+            let one : n' ≡ n = numbers-alike handles new.handles new'.handles h n n' t handles-are handles-are' same in (
+              answers-same given given' (m'.1 ∙ ap (λ x. answer.Made (as_made x)) (e' ∙ (λ z. Ok (one z)) ∙ sym e) ∙ sym m.1),
+              changed-alike f g handles a new new' None n es es' same b (subst (λ (q : Option ℕ). Becomes g None new'.forest q es') one b')
+                  (subst (λ (q : Option ℕ). Resembles (held new.forest n) (held new'.forest q)) one r),
+            ))
+            (λ e e' x x'. stays (m'.1 ∙ ap (λ y. answer.Made (as_made y)) (e' ∙ sym e) ∙ sym m.1)
+            (λ z. record { forest = x z; handles = (m.2 ∙ ap (λ y. with_made h y handles) e) z }) (λ z. record { forest = x' z; handles = (m'.2 ∙ ap (λ y. with_made h y handles) e') z }))
+
+        -- a change of handle h in both states, that answers alike and leaves alike
+        altered : {X : Type 0} (shown : X → Answer K V) (R : X → Held K V → Held K V → Type 0) (h : ℕ) → h < length handles → new'.handles ≡ new.handles
+            → ((x : X) (one one' : Held K V) → IsLive one.forest one.number → R x one one' → Becomes one.forest one.number one'.forest one'.number (list_of one'.forest one'.number))
+            → ((x x' : X) (one one' other other' : Held K V) → Resembles one other → given ≡ shown x → given' ≡ shown x' → R x one one' → R x' other other' → (x' ≡ x) × Resembles one' other')
+            → IsLive f (number h) → IsLive g (number h)
+            → (x : X) × (given ≡ shown x) × On h (at f handles) new (R x) → (x : X) × (given' ≡ shown x) × On h (at g handles) new' (R x) → Agree
+        altered shown R h t same becomes alike l l' m m' =
+            let r = alike m.0 m'.0 (held f (number h)) (held new.forest m.2.0) (held g (number h)) (held new'.forest m'.2.0) (held-alike f g handles a (number h)) m.1 m'.1 m.2.2 m'.2.2 in (
+              answers-same given given' (m'.1 ∙ ap shown r.0 ∙ sym m.1),
+              changed h m.2.0 m'.2.0 _ _ t m.2.1 m'.2.1 same (becomes m.0 (held f (number h)) (held new.forest m.2.0) l m.2.2) (becomes m'.0 (held g (number h)) (held new'.forest m'.2.0) l' m'.2.2) r.1,
+            )
+
       step-alike : (call : Call K V) (given given' : Answer K V) (new new' : State K V) → Step most reads orders (at f handles) call given new → Step most reads orders (at g handles) call given' new'
           → new'.handles ≡ new.handles → HadMemory given → HadMemory given' → Agree given given' new new'
       step-alike (call.Get h c k) given given' new new' s s' same had had' = compares given given' new new' h c _ _
           (λ t l l' m m'. looked given given' new new' _ _ m.0 m'.0 (λ z. answer.Value (value_for (order c) (lists h z) k)) m.1 m'.1) s s'
       step-alike (call.GetOrLess h c k) given given' new new' s s' same had had' = compares given given' new new' h c _ _
           (λ t l l' m m'. looked given given' new new' _ _ m.0 m'.0 (λ z. answer.Pair (entry_at_most (order c) (lists h z) k)) m.1 m'.1) s s'
+      step-alike (call.GetOrGreater h c k) given given' new new' s s' same had had' = compares given given' new new' h c _ _
+          (λ t l l' m m'. looked given given' new new' _ _ m.0 m'.0 (λ z. answer.Pair (entry_at_least (order c) (lists h z) k)) m.1 m'.1) s s'
+      step-alike (call.First h) given given' new new' s s' same had had' = names given given' new new' (h < length handles) h _ _
+          (λ t l l' m m'. looked given given' new new' _ _ m.0 m'.0 (λ z. answer.Pair (slice_get (lists h z) 0)) m.1 m'.1) s s'
+      step-alike (call.Last h) given given' new new' s s' same had had' = names given given' new new' (h < length handles) h _ _
+          (λ t l l' m m'. looked given given' new new' _ _ m.0 m'.0 (λ z. answer.Pair (slice_get (lists h z) (length (lists h z) - 1))) m.1 m'.1) s s'
       step-alike (call.Insert h c k v) given given' new new' s s' same had had' = compares given given' new new' h c _ _
           (λ t l l' m m'.
           let r = inserts-alike most (order c) (held f (number h)) (held g (number h)) (held-alike f g handles a (number h)) k v m.0 m'.0 (held new.forest m.2.0) (held new'.forest m'.2.0) m.2.2 m'.2.2
@@ -225,12 +276,36 @@ module _ {K V : Type 0} where
             changed given given' new new' h m.2.0 m'.2.0 _ _ t m.2.1 m'.2.1 same
                 (inserted most (order c) f (number h) k v m.0 new.forest m.2.0 l m.2.2) (inserted most (order c) g (number h) k v m'.0 new'.forest m'.2.0 l' m'.2.2) r.1,
           )) s s'
+      step-alike (call.GetOrInsert h c k v) given given' new new' s s' same had had' = compares-if given given' new new' h c _ _
+          (λ t l l' m m'. altered given given' new new' (λ x. answer.Put (as_had x)) (GotOrInserted most (order c) k v) h t same (λ x one one' l r. got-inserted most (order c) one one' k v x l r)
+          (λ x x' one one' other other' r e e' p p'. gets-or-inserts-alike most (order c) one other r k v x x' one' other' (put-memory x (memory-had given (answer.Put (as_had x)) e had))
+          (put-memory x' (memory-had given' (answer.Put (as_had x')) e' had')) p p') l l' m m') s s'
+      step-alike (call.Update h c k v) given given' new new' s s' same had had' = compares-if given given' new new' h c _ _
+          (λ t l l' m m'. altered given given' new new' (λ x. answer.Value x) (Updated (order c) k v) h t same (λ x one one' l r. updated (order c) one one' k v x l r)
+          (λ x x' one one' other other' r e e' p p'. updates-alike most (order c) one other r k v x x' one' other' p p') l l' m m') s s'
+      step-alike (call.UpdateOrInsert h c k v w) given given' new new' s s' same had had' = compares-if given given' new new' h c _ _
+          (λ t l l' m m'. altered given given' new new' (λ x. answer.Put (as_had x)) (UpdatedOrInserted most (order c) k v w) h t same (λ x one one' l r. updated-inserted most (order c) one one' k v w x l r)
+          (λ x x' one one' other other' r e e' p p'. updates-or-inserts-alike most (order c) one other r k v w x x' one' other' (put-memory x (memory-had given (answer.Put (as_had x)) e had))
+          (put-memory x' (memory-had given' (answer.Put (as_had x')) e' had')) p p') l l' m m') s s'
+      step-alike (call.Shift h c from keys) given given' new new' s s' same had had' = compares given given' new new' h c _ _
+          (λ t l l' m m'. (
+            answers-alike given given' answer.Done answer.Done m.0 m'.0 refl,
+            changed given given' new new' h m.1.0 m'.1.0 _ _ t m.1.1 m'.1.1 same (shifted (order c) (held f (number h)) (held new.forest m.1.0) from keys.items m.1.2)
+                (shifted (order c) (held g (number h)) (held new'.forest m'.1.0) from keys.items m'.1.2)
+                (shifts-alike most (order c) (held f (number h)) (held g (number h)) (held-alike f g handles a (number h)) from keys.items (held new.forest m.1.0) (held new'.forest m'.1.0) m.1.2 m'.1.2),
+          )) s s'
       step-alike (call.Remove h c k) given given' new new' s s' same had had' = compares given given' new new' h c _ _
           (λ t l l' m m'.
           let r = removes-alike most (order c) (held f (number h)) (held g (number h)) (held-alike f g handles a (number h)) k m.0 m'.0 (held new.forest m.2.0) (held new'.forest m'.2.0) m.2.2 m'.2.2 in (
             answers-alike given given' (answer.Value m.0) (answer.Value m'.0) m.1 m'.1 (ap (λ x. answer.Value x) r.0),
             changed given given' new new' h m.2.0 m'.2.0 _ _ t m.2.1 m'.2.1 same m.2.2.cut m'.2.2.cut r.1,
           )) s s'
+      step-alike (call.PopFirst h) given given' new new' s s' same had had' = names given given' new new' (h < length handles) h _ _
+          (λ t l l' m m'. altered given given' new new' (λ x. answer.Pair x) (FirstPopped most) h t same (λ x one one' l r. retold _ _ _ _ _ r.removed.removed)
+          (λ x x' one one' other other' r e e' p p'. pops-alike most (order 0) one other r 0 0 x x' one' other' refl p p') l l' m m') s s'
+      step-alike (call.PopLast h) given given' new new' s s' same had had' = names given given' new new' (h < length handles) h _ _
+          (λ t l l' m m'. altered given given' new new' (λ x. answer.Pair x) (LastPopped most) h t same (λ x one one' l r. retold _ _ _ _ _ r.removed.removed)
+          (λ x x' one one' other other' r e e' p p'. pops-alike most (order 0) one other r _ _ x x' one' other' (λ z. length (r.list z) - 1) p p') l l' m m') s s'
       step-alike (call.Clear h) given given' new new' s s' same had had' = names given given' new new' (h < length handles) h _ _
           (λ t l l' m m'. (
             answers-alike given given' answer.Done answer.Done m.0 m'.0 refl,
@@ -239,11 +314,11 @@ module _ {K V : Type 0} where
           )) s s'
       step-alike (call.Iter h) given given' new new' s s' same had had' = names given given' new new' (h < length handles) h _ _
           (λ t l l' m m'. looked given given' new new' (answer.Pairs m.0) (answer.Pairs m'.0) m.1 m'.1 (m'.2 ∙ lists h ∙ sym m.2) m.3 m'.3) s s'
-      step-alike (call.Read h c steps) given given' new new' s s' same had had' = offered-alike reads _ _ _ _
-          (compares given given' new new' h c _ _
+      step-alike (call.IterBack h) given given' new new' s s' same had had' = names given given' new new' (h < length handles) h _ _
+          (λ t l l' m m'. looked given given' new new' (answer.Pairs m.0) (answer.Pairs m'.0) m.1 m'.1 (m'.2 ∙ ap (λ es. reverse es) (lists h) ∙ sym m.2) m.3 m'.3) s s'
+      step-alike (call.Read h c steps) given given' new new' s s' same had had' = compares-if given given' new new' h c _ _
           (λ t l l' m m'. looked given given' new new' (answer.Script m.0.0) (answer.Script m'.0.0) m.0.1 m'.0.1
-          (m'.0.2 ∙ (λ z. sights_of (order c) (lists h z) (length (lists h z)) steps.items) ∙ sym m.0.2) m.1 m'.1))
-          (λ l l'. let r = lacks-alike _ (at f handles) new (at g handles) new' given given' l l' in stays given given' new new' r.0 r.1 r.2) s s'
+          (m'.0.2 ∙ (λ z. sights_of (order c) (lists h z) (length (lists h z)) steps.items) ∙ sym m.0.2) m.1 m'.1) s s'
       step-alike (call.Edit h c steps) given given' new new' s s' same had had' = compares given given' new new' h c _ _
           (λ t l l' m m'.
           let r = scripts-alike most (order c) (held f (number h)) (held g (number h)) (held-alike f g handles a (number h)) _ _ steps.items m.0.items m'.0.items
@@ -270,6 +345,16 @@ module _ {K V : Type 0} where
             alike-same (at f (slice_set handles to (number from))) (at g (slice_set handles to (number from))) new new'
                 (record { handles = refl; lists = a.lists; sizes = a.sizes; slots = a.slots; free = a.free; limit = a.limit }) m.1 m'.1,
           )) s s'
+      step-alike (call.DeepClone from to) given given' new new' s s' same had had' = names given given' new new' ((from < length handles) × (to < length handles)) from _ _
+          (λ t l l' m m'.
+          let r = held-alike f g handles a (number from) in
+          made given given' new new' to _ _ (list_of f (number from)) (list_of g (number from)) t.1 same had had' (ap node_count r.sizes) r.list (m.0, m.1, m.2, clones-made m.3)
+          (m'.0, m'.1, m'.2, clones-made m'.3) (clones-sizes (held f (number from)) (held g (number from)) r m.3 m'.3)) s s'
+      step-alike (call.Load h entries) given given' new new' s s' same had had' = offered-alike reads _ _ _ _
+          (tests-alike (h < length handles) (Unit {0}) (Unit {0}) (Unit {0}) (Unit {0}) (at f handles) new (at g handles) new' given given' _ _ (λ x. x) (λ x. x) (λ x. x) (λ x. x) (stays given given' new new')
+          (λ t l l' m m'. made given given' new new' h _ _ entries.items entries.items t same had had' refl refl (m.0, m.1, m.2, loads-made m.3) (m'.0, m'.1, m'.2, loads-made m'.3)
+          (loads-sizes most odd m.3 m'.3)))
+          (λ l l'. let r = lacks-alike _ (at f handles) new (at g handles) new' given given' l l' in stays given given' new new' r.0 r.1 r.2) s s'
       step-alike call.ForestClear given given' new new' s s' same had had' = (
         answers-alike given given' answer.Done answer.Done s.0 s'.0 refl,
         alike-same (at (emptied f) handles) (at (emptied g) handles) new new'

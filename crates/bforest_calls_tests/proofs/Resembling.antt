@@ -1,9 +1,11 @@
 -- Changes of trees that resemble one another.
-use Rattle.bforest.specs.Calls.{Clears, Inserts, Removes, RemovesAt}
-use Rattle.bforest.specs.Forest.{Gives, IsTooMany, free_of, limit_of, need_of, sizes_of, slots_of}
+use Rattle.bforest.specs.Calls.{Clears, Clones, Inserts, Loads, Pops, Removes, RemovesAt}
+use Rattle.bforest.specs.Forest.{Becomes, Forest, Gives, IsTooMany, Takes, fewest, free_of, limit_of, list_of, need_of, nodes_of, sizes_of, slots_of}
 use Rattle.bforest.specs.Retain.{AsksEach, kept_by, sizes_by}
+use Rattle.bforest_calls.proofs.Packing.{loaded-fits, packed-same}
+use Rattle.bforest_calls.proofs.Updating.{updated-or-inserted}
 use Rattle.bforest_calls.specs.Looks.{place_after, sight_of}
-use Rattle.bforest_calls.specs.State.{Acts, Held, KeepsIf, Retained, Script, WritesAt, entries, is_listed}
+use Rattle.bforest_calls.specs.State.{Acts, GotOrInserted, Held, KeepsIf, Retained, Script, Shifted, Updated, UpdatedOrInserted, WritesAt, entries, is_listed, new_key}
 use Rattle.bforest_calls.specs.declared.call.Act.TheVariants as act
 use Rattle.bforest_calls.specs.declared.call.Act.{Act}
 use Rattle.bforest_calls.specs.declared.call.Look.TheVariants as look
@@ -14,9 +16,12 @@ use Rattle.bforest_core.specs.Change.{node_count}
 use Rattle.bforest_core.specs.Sizes.{growth, need, shrink}
 use Rattle.bforest.specs.Refusal.{Full, Memory, OutOfMemory}
 use Rattle.bforest.specs.Entries.{cut, is_present, place, put, value_for, with_value}
-use Rattle.std.proofs.Common.{Bool, Err, List, Ok, Option, Result, [], ap, arith, length, map, refl, subst, sym, ◌+◌, ◌-◌, ◌<◌, ◌∙◌, ◌∷◌, ◌≡◌, ◌≢◌, ℕ}
+use Rattle.bforest_trees.specs.Calls.{as_inserted}
+use Rattle.bforest_trees.specs.Shift.{Rekeys}
+use Rattle.std.proofs.Common.{Bool, Err, List, None, Ok, Option, Result, Some, [], ap, arith, drop, length, map, refl, subst, sym, take, ◌+◌, ◌++◌, ◌-◌, ◌<◌, ◌∙◌, ◌∷◌, ◌≡◌, ◌≢◌, ℕ}
 use Rattle.std.specs.List.{AllByRecursion}
-use Rattle.std.specs.Prelude.{if◌then◌else◌, is_some, nat_lt, remove, slice_get, unwrap_or}
+use Rattle.std.proofs.lemmas.Result.{IfOk-weaker}
+use Rattle.std.specs.Prelude.{IfOk, IsOk, OnErr, OnOk, ◌%◌, ◌↔◌, if◌then◌else◌, is_some, nat_lt, remove, slice_get, unwrap_or}
 use Rattle.std.specs.declared.cmp.Ordering.{Ordering}
 
 -- where equal numbers of slots are freed, the numbers of free slots stay equal
@@ -53,6 +58,69 @@ module _ {K V : Type 0} where
         r.free (ap node_count r.sizes) (ap node_count e) g.free g'.free,
   )
 
+  -- slots that are taken alike
+  takes-alike : (one other : Held K V) (f f' : Forest K V) (d d' : ℕ) → Resembles one other → d' ≡ d → Takes d one.forest f → Takes d' other.forest f'
+      → (slots_of f' ≡ slots_of f) × (free_of f' ≡ free_of f)
+  takes-alike one other f f' d d' r e t t' = (
+    t'.slots ∙ (λ z. r.slots z + (e z - r.free z)) ∙ sym t.slots,
+    t'.free ∙ (λ z. r.free z - e z) ∙ sym t.free,
+  )
+
+  few-alike : (one other : Held K V) {d d' : ℕ} → Resembles one other → d' ≡ d → IsTooMany d one.forest ≡ IsTooMany d' other.forest
+  few-alike one other r e = λ z. sym r.free z + (sym r.limit z - sym r.slots z) < sym e z
+
+  -- a tree of these entries was made of d nodes, or refused
+  pub record IsMade (f : Forest K V) (d : ℕ) (es : List (K × V)) (result : Result (Option ℕ) OutOfMemory) (f' : Forest K V) : Type 0 where
+    pub becomes : IfOk result (λ n. Becomes f None f' n es)
+    pub account : OnOk result (Takes d f f')
+    pub full : (result ≡ Err Full) ↔ IsTooMany d f
+    pub refused : OnErr result (f' ≡ f)
+
+  pub clones-made : {f f' : Forest K V} {h : Option ℕ} {result : Result (Option ℕ) OutOfMemory} → Clones f h result f' → IsMade f (nodes_of f h) (list_of f h) result f'
+  clones-made c = record { becomes = c.copied; account = c.account; full = c.full; refused = c.refused }
+
+  pub loads-made : {most : ℕ} {f f' : Forest K V} {es : List (K × V)} {result : Result (Option ℕ) OutOfMemory} → Loads most f es result f'
+      → IsMade f (fewest most (length es)) es result f'
+  loads-made l = record { becomes = l.loaded; account = l.account; full = l.full; refused = l.refused }
+
+  -- copies of one tree, and loads of one list, have nodes of the same sizes
+  pub clones-sizes : (one other : Held K V) {f f' : Forest K V} {result result' : Result (Option ℕ) OutOfMemory} → Resembles one other → Clones one.forest one.number result f
+      → Clones other.forest other.number result' f' → (n n' : Option ℕ) → result ≡ Ok n → result' ≡ Ok n' → sizes_of f' n' ≡ sizes_of f n
+  clones-sizes one other {f} {f'} r c c' n n' e e' =
+      subst (λ x. IfOk x (λ q. sizes_of f' q ≡ sizes_of other.forest other.number)) e' c'.sizes ∙ r.sizes
+      ∙ sym (subst (λ x. IfOk x (λ q. sizes_of f q ≡ sizes_of one.forest one.number)) e c.sizes)
+
+  pub loads-sizes : (most : ℕ) → most % 2 ≡ 1 → {f f' g g' : Forest K V} {es : List (K × V)} {result result' : Result (Option ℕ) OutOfMemory} → Loads most f es result f'
+      → Loads most g es result' g' → (n n' : Option ℕ) → result ≡ Ok n → result' ≡ Ok n' → sizes_of g' n' ≡ sizes_of f' n
+  loads-sizes most odd {f} {f'} {g} {g'} {es} l l' n n' e e' =
+      let one = subst (λ x. Loads most f es x f') e l in
+      let other = subst (λ x. Loads most g es x g') e' l' in
+      packed-same most (length es) odd (sizes_of g' n') (sizes_of f' n) other.packed one.packed (loaded-fits most odd g g' es n' other) (loaded-fits most odd f f' es n one)
+
+  -- trees that are made of equal lists and numbers of nodes: both are made, or both refused
+  pub made-alike : {P : Type 0} (one other : Held K V) {d d' : ℕ} {es es' : List (K × V)} (result result' : Result (Option ℕ) OutOfMemory) (f f' : Forest K V) → Resembles one other
+      → d' ≡ d → es' ≡ es → IsMade one.forest d es result f → IsMade other.forest d' es' result' f' → result ≢ Err Memory → result' ≢ Err Memory
+      → ((n n' : Option ℕ) → result ≡ Ok n → result' ≡ Ok n' → sizes_of f' n' ≡ sizes_of f n)
+      → ((n n' : Option ℕ) → result ≡ Ok n → result' ≡ Ok n' → Becomes one.forest None f n es → Becomes other.forest None f' n' es'
+      → Resembles (record { forest = f; number = n }) (record { forest = f'; number = n' }) → P)
+      → (result ≡ Err Full → result' ≡ Err Full → f ≡ one.forest → f' ≡ other.forest → P) → P
+  made-alike one other (Ok n) (Ok n') f f' r e l c c' m m' sizes made refused =
+      let taken = takes-alike one other f f' _ _ r e c.account c'.account in
+      made n n' refl refl c.becomes c'.becomes (record {
+        list = c'.becomes.list ∙ l ∙ sym c.becomes.list;
+        sizes = sizes n n' refl refl;
+        slots = taken.0;
+        free = taken.1;
+        limit = c'.becomes.limit ∙ r.limit ∙ sym c.becomes.limit;
+      })
+  made-alike one other (Err Full) (Err Full) f f' r e l c c' m m' sizes made refused = refused refl refl c.refused c'.refused
+  made-alike one other (Ok n) (Err Full) f f' r e l c c' m m' sizes made refused =
+      let full = c.full.1 (subst (λ (P : Type 0). P) (sym (few-alike one other r e)) (c'.full.0 refl)) in absurd (cc)
+  made-alike one other (Err Full) (Ok n') f f' r e l c c' m m' sizes made refused =
+      let full = c'.full.1 (subst (λ (P : Type 0). P) (few-alike one other r e) (c.full.0 refl)) in absurd (cc)
+  made-alike one other (Err Memory) result' f f' r e l c c' m m' sizes made refused = absurd (m refl)
+  made-alike one other result (Err Memory) f f' r e l c c' m m' sizes made refused = absurd (m' refl)
+
   module _ (most : ℕ) (order : K → K → Ordering) where
     module _ (one other : Held K V) (r : Resembles one other) where
       need-alike : (k : K) → need_of most order other.forest other.number k ≡ need_of most order one.forest one.number k
@@ -84,6 +152,103 @@ module _ {K V : Type 0} where
       inserts-alike k x (Err Memory) result' one' other' i i' m m' = absurd (m refl)
       inserts-alike k x result (Err Memory) one' other' i i' m m' = absurd (m' refl)
 
+      -- results of a call that returns the value of a key, where that of the insertion is equal
+      results-alike : (x : V) (result result' : Result V OutOfMemory) → as_inserted result' ≡ as_inserted result → IfOk result (λ w. w ≡ x) → IfOk result' (λ w. w ≡ x) → result' ≡ result
+      results-alike x (Ok w) (Ok w') e is is' = ap (λ v. Ok v) (is' ∙ sym is)
+      results-alike x (Err why) (Err why') e is is' = cc
+      results-alike x (Ok w) (Err why') e is is' = absurd (cc)
+      results-alike x (Err why) (Ok w') e is is' = absurd (cc)
+
+      had-memory : (result : Result V OutOfMemory) → result ≢ Err Memory → as_inserted result ≢ Err Memory
+      had-memory (Ok w) m e = absurd (cc)
+      had-memory (Err why) m e = m (cc)
+
+      -- a value that was there is returned by both
+      has-value : (v : V) (result result' : Result V OutOfMemory) → IfOk result (λ w. w ≡ v) → IfOk result' (λ w. w ≡ v) → IsOk result → IsOk result' → result' ≡ result
+      has-value v (Ok w) (Ok w') is is' ok ok' = ap (λ x. Ok x) (is' ∙ sym is)
+      has-value v (Err why) result' is is' ok ok' = absurd (cc)
+      has-value v (Ok w) (Err why) is is' ok ok' = absurd (cc)
+
+      module _ (k : K) (x : V) (result result' : Result V OutOfMemory) (one' other' : Held K V) (m : result ≢ Err Memory) (m' : result' ≢ Err Memory) where
+        -- an absent key was inserted in both
+        both-inserted : IfOk result (λ w. w ≡ x) → IfOk result' (λ w. w ≡ x)
+            → Inserts most order one.forest one.number k x (as_inserted result) one'.forest one'.number → Inserts most order other.forest other.number k x (as_inserted result') other'.forest other'.number
+            → (result' ≡ result) × Resembles one' other'
+        both-inserted is is' i i' =
+            let done = inserts-alike k x (as_inserted result) (as_inserted result') one' other' i i' (had-memory result m) (had-memory result' m') in
+            (results-alike x result result' done.0 is is', done.1)
+
+        pub gets-or-inserts-alike : GotOrInserted most order k x result one one' → GotOrInserted most order k x result' other other' → (result' ≡ result) × Resembles one' other'
+        gets-or-inserts-alike g g' = by (value_for order (entries one) k) refl
+          where
+            by : (o : Option V) → value_for order (entries one) k ≡ o → (result' ≡ result) × Resembles one' other'
+            by None e =
+                let e' = (λ z. value_for order (r.list z) k) ∙ e in
+                both-inserted (IfOk-weaker result _ _ (λ w is. is ∙ ap (λ o. unwrap_or o x) e) g.value) (IfOk-weaker result' _ _ (λ w is. is ∙ ap (λ o. unwrap_or o x) e') g'.value) (g.absent e) (g'.absent e')
+            by (Some v) e =
+                let e' = (λ z. value_for order (r.list z) k) ∙ e in (
+                  has-value v result result' (IfOk-weaker result _ _ (λ w is. is ∙ ap (λ o. unwrap_or o x) e) g.value) (IfOk-weaker result' _ _ (λ w is. is ∙ ap (λ o. unwrap_or o x) e') g'.value)
+                      (g.present (rw e refl)) (g'.present (rw e' refl)),
+                  resembling-same one other one' other' r (held-same one one' (g.present_forest (rw e refl)) (g.present_handle (rw e refl)))
+                      (held-same other other' (g'.present_forest (rw e' refl)) (g'.present_handle (rw e' refl))),
+                )
+
+      pub updates-alike : (k : K) (x : V) (result result' : Option V) (one' other' : Held K V) → Updated order k x result one one' → Updated order k x result' other other'
+          → (result' ≡ result) × Resembles one' other'
+      updates-alike k x None None one' other' u u' =
+          (refl, resembling-same one other one' other' r (held-same one one' (u.absent_forest refl) u.handle) (held-same other other' (u'.absent_forest refl) u'.handle))
+      updates-alike k x (Some w) (Some w') one' other' u u' = (
+        ap (λ v. Some v) (u'.called.2 ∙ sym u.called.2),
+        record {
+          list = u'.put.list ∙ (λ z. put order (r.list z) k (u'.called.2 z)) ∙ (λ z. put order (entries one) k (sym u.called.2 z)) ∙ sym u.put.list;
+          sizes = u'.sizes ∙ r.sizes ∙ sym u.sizes;
+          slots = u'.slots ∙ r.slots ∙ sym u.slots;
+          free = u'.free ∙ r.free ∙ sym u.free;
+          limit = u'.put.limit ∙ r.limit ∙ sym u.put.limit;
+        },
+      )
+      updates-alike k x None (Some w') one' other' u u' =
+          let no : Some u'.called.0 ≡ None = sym u'.called.1 ∙ (λ z. value_for order (r.list z) k) ∙ u.absent refl in absurd (cc)
+      updates-alike k x (Some w) None one' other' u u' =
+          let no : Some u.called.0 ≡ None = sym u.called.1 ∙ (λ z. value_for order (sym r.list z) k) ∙ u'.absent refl in absurd (cc)
+
+      pub updates-or-inserts-alike : (k : K) (x w : V) (result result' : Result V OutOfMemory) (one' other' : Held K V) → result ≢ Err Memory → result' ≢ Err Memory
+          → UpdatedOrInserted most order k x w result one one' → UpdatedOrInserted most order k x w result' other other' → (result' ≡ result) × Resembles one' other'
+      updates-or-inserts-alike k x w result result' one' other' m m' g g' =
+          updated-or-inserted result g
+          (λ v is u. updated-or-inserted result' g'
+          (λ v' is' u'. let done = updates-alike k w (Some v) (Some v') one' other' u u' in (is' ∙ (λ z. some-ok (done.0 z)) ∙ sym is, done.1))
+          (λ none i'. let no : Some u.called.0 ≡ None = sym u.called.1 ∙ (λ z. value_for order (sym r.list z) k) ∙ none in absurd (cc)))
+          (λ none i. updated-or-inserted result' g'
+          (λ v' is' u'. let no : Some u'.called.0 ≡ None = sym u'.called.1 ∙ (λ z. value_for order (r.list z) k) ∙ none in absurd (cc))
+          (λ none' i'. both-inserted k x result result' one' other' m m' (g.value none) (g'.value none') i i'))
+        where
+          some-ok : Option V → Result V OutOfMemory
+          some-ok None = Err Full
+          some-ok (Some v) = Ok v
+
+      -- the entries with new keys
+      rekeyed-of : (keys : List (K × K)) (es moved : List (K × V)) → Rekeys (λ k k'. k' ≡ new_key order keys k) es moved → moved ≡ map (λ e. (new_key order keys e.0, e.1)) es
+      rekeyed-of keys [] moved a = a
+      rekeyed-of keys (e ∷ es) [] a = absurd a
+      rekeyed-of keys (e ∷ es) (e' ∷ moved) a = λ z. (a.0 z, a.1 z) ∷ rekeyed-of keys es moved a.2 z
+
+      abbrev shifted-list : K → List (K × K) → List (K × V) → List (K × V)
+      shifted-list from keys es = take (place order es from) es ++ map (λ e. (new_key order keys e.0, e.1)) (drop (place order es from) es)
+
+      pub shifts-alike : (from : K) (keys : List (K × K)) (one' other' : Held K V) → Shifted order from keys one one' → Shifted order from keys other other' → Resembles one' other'
+      shifts-alike from keys one' other' s s' =
+          let told = ap (λ moved. take (place order (entries one) from) (entries one) ++ moved) (rekeyed-of keys _ s.0.moved s.0.rekeys) in
+          let told' = ap (λ moved. take (place order (entries other) from) (entries other) ++ moved) (rekeyed-of keys _ s'.0.moved s'.0.rekeys) in
+          record {
+            list = ap (λ (n : Option ℕ). list_of other'.forest n) s'.1 ∙ s'.0.shifted.list ∙ told' ∙ (λ z. shifted-list from keys (r.list z)) ∙ sym told ∙ sym s.0.shifted.list
+                ∙ ap (λ (n : Option ℕ). list_of one'.forest n) (sym s.1);
+            sizes = ap (λ (n : Option ℕ). sizes_of other'.forest n) s'.1 ∙ s'.0.sizes ∙ r.sizes ∙ sym s.0.sizes ∙ ap (λ (n : Option ℕ). sizes_of one'.forest n) (sym s.1);
+            slots = s'.0.slots ∙ r.slots ∙ sym s.0.slots;
+            free = s'.0.free ∙ r.free ∙ sym s.0.free;
+            limit = s'.0.shifted.limit ∙ r.limit ∙ sym s.0.shifted.limit;
+          }
+
       pub removes-alike : (k : K) (value value' : Option V) (one' other' : Held K V)
           → Removes most order one.forest one.number k value one'.forest one'.number → Removes most order other.forest other.number k value' other'.forest other'.number
           → (value' ≡ value) × Resembles one' other'
@@ -112,6 +277,12 @@ module _ {K V : Type 0} where
             free = given.1;
             limit = c'.removed.limit ∙ r.limit ∙ sym c.removed.limit;
           }
+
+      pub pops-alike : (p p' : ℕ) (entry entry' : Option (K × V)) (one' other' : Held K V) → p' ≡ p
+          → Pops most one.forest one.number p entry one'.forest one'.number → Pops most other.forest other.number p' entry' other'.forest other'.number
+          → (entry' ≡ entry) × Resembles one' other'
+      pops-alike p p' entry entry' one' other' e c c' =
+          (c'.entry ∙ (λ z. slice_get (r.list z) (e z)) ∙ sym c.entry, removes-at-alike p p' one' other' e c.removed c'.removed)
 
       writes-at-alike : (p p' : ℕ) (v : V) (one' other' : Held K V) → p' ≡ p → WritesAt one p v one' → WritesAt other p' v other' → Resembles one' other'
       writes-at-alike p p' v one' other' e w w' = record {

@@ -1,12 +1,13 @@
 -- A list of calls keeps each tree that it spares.
 use Rattle.bforest.specs.Forest.{Becomes, list_at, list_of, sizes_at}
-use Rattle.bforest_calls.specs.Machine.{Lacks, MayStopAt, Offered, Orders, Run, State, Step, number_at, order_at}
+use Rattle.bforest_calls.specs.Machine.{Lacks, MayStopAt, Offered, Orders, Run, State, Step, number_at, order_at, with_made}
 use Rattle.bforest_calls.specs.declared.call.Answer.TheVariants as answer
 use Rattle.bforest_calls.specs.declared.call.Answer.{Answer}
 use Rattle.bforest_calls.specs.declared.call.Call.TheVariants as call
 use Rattle.bforest_calls.specs.declared.call.Call.{Call}
-use Rattle.bforest_calls_tests.proofs.Changes.{inserted, scripted}
+use Rattle.bforest_calls_tests.proofs.Changes.{got-inserted, inserted, scripted, shifted, updated, updated-inserted}
 use Rattle.bforest_calls_tests.specs.Sparing.{IsSpared, Spares}
+use Rattle.bforest.specs.Refusal.{OutOfMemory}
 use Rattle.std.proofs.Common.{Bool, Err, List, None, Ok, Option, Result, Some, [], ap, false, get_or, inl, inr, length, subst, suc, sym, take, true, zero, ◌<◌, ◌∙◌, ◌∷◌, ◌≡◌, ◌≢◌, ℕ}
 use Rattle.std.proofs.lemmas.Bool.{cases_eq}
 use Rattle.std.proofs.lemmas.List.Elements.{recursion_from_All}
@@ -53,6 +54,18 @@ module _ {K V : Type 0} where
         handles = written m old.handles new.handles h number within other writes;
       }
 
+  -- a tree that was made, or not, for a handle spares number m
+  made : (m : ℕ) (old new : State K V) (h : ℕ) (result : Result (Option ℕ) OutOfMemory) (es : List (K × V)) → h < length old.handles → list_at old.forest m ≢ []
+      → new.handles ≡ with_made h result old.handles → IfOk result (λ number. Becomes old.forest None new.forest number es) → OnErr result (new.forest ≡ old.forest) → IsSpared m old new
+  made m old new h (Err e) es within here handles b stays = same m old new (λ z. record { forest = stays z; handles = handles z })
+  made m old new h (Ok number) es within here handles b stays =
+      let other : number ≢ Some m = λ e. here (subst (λ (q : Option ℕ). list_of old.forest q ≡ []) e (b.fresh (λ d. let no : Some m ≡ None = sym e ∙ d in absurd (cc)))) in
+      record {
+        list = b.others m (λ e. absurd (cc)) (λ e. other (sym e));
+        sizes = b.others_sizes m (λ e. absurd (cc)) (λ e. other (sym e));
+        handles = written m old.handles new.handles h number within other handles;
+      }
+
   -- a call that is not offered changes nothing
   pub lacking : (there : Type 0) (old : State K V) (given : Answer K V) (new : State K V) → Lacks there old given new → new ≡ old
   lacking there old answer.NoIndex new l = l.1
@@ -63,19 +76,47 @@ module _ {K V : Type 0} where
     spared-step : (m : ℕ) (old : State K V) (call : Call K V) (given : Answer K V) (new : State K V) → list_at old.forest m ≢ [] → Spares m old call → Step most reads orders old call given new → IsSpared m old new
     spared-step m old (call.Get h c k) given new here apart s = elim s [ inl r ↦ same m old new r.1 | inr r ↦ same m old new r.3.1 ]
     spared-step m old (call.GetOrLess h c k) given new here apart s = elim s [ inl r ↦ same m old new r.1 | inr r ↦ same m old new r.3.1 ]
+    spared-step m old (call.GetOrGreater h c k) given new here apart s = elim s [ inl r ↦ same m old new r.1 | inr r ↦ same m old new r.3.1 ]
+    spared-step m old (call.First h) given new here apart s = elim s [ inl r ↦ same m old new r.1 | inr r ↦ same m old new r.3.1 ]
+    spared-step m old (call.Last h) given new here apart s = elim s [ inl r ↦ same m old new r.1 | inr r ↦ same m old new r.3.1 ]
     spared-step m old (call.Insert h c k v) given new here apart s = elim s [
       | inl r ↦ same m old new r.1
       | inr r ↦ changed m old new h r.3.2.0 _ r.0.0 here apart r.3.2.1 (inserted most (order_at orders c) old.forest (number_at old h) k v r.3.0 new.forest r.3.2.0 r.1 r.3.2.2)
     ]
+    spared-step m old (call.GetOrInsert h c k v) given new here apart s = offered reads (λ t. elim t [
+      | inl r ↦ same m old new r.1
+      | inr r ↦ changed m old new h r.3.2.0 _ r.0.0 here apart r.3.2.1 (got-inserted most (order_at orders c) _ (record { forest = new.forest; number = r.3.2.0 }) k v r.3.0 r.1 r.3.2.2)
+    ]) (λ l. same m old new (lacking _ old given new l)) s
+    spared-step m old (call.Update h c k v) given new here apart s = offered reads (λ t. elim t [
+      | inl r ↦ same m old new r.1
+      | inr r ↦ changed m old new h r.3.2.0 _ r.0.0 here apart r.3.2.1 (updated (order_at orders c) _ (record { forest = new.forest; number = r.3.2.0 }) k v r.3.0 r.1 r.3.2.2)
+    ]) (λ l. same m old new (lacking _ old given new l)) s
+    spared-step m old (call.UpdateOrInsert h c k v put) given new here apart s = offered reads (λ t. elim t [
+      | inl r ↦ same m old new r.1
+      | inr r ↦ changed m old new h r.3.2.0 _ r.0.0 here apart r.3.2.1 (updated-inserted most (order_at orders c) _ (record { forest = new.forest; number = r.3.2.0 }) k v put r.3.0 r.1 r.3.2.2)
+    ]) (λ l. same m old new (lacking _ old given new l)) s
+    spared-step m old (call.Shift h c from keys) given new here apart s = elim s [
+      | inl r ↦ same m old new r.1
+      | inr r ↦ changed m old new h r.3.1.0 _ r.0.0 here apart r.3.1.1 (shifted (order_at orders c) _ (record { forest = new.forest; number = r.3.1.0 }) from keys.items r.3.1.2)
+    ]
     spared-step m old (call.Remove h c k) given new here apart s = elim s [
       | inl r ↦ same m old new r.1
       | inr r ↦ changed m old new h r.3.2.0 _ r.0.0 here apart r.3.2.1 r.3.2.2.cut
+    ]
+    spared-step m old (call.PopFirst h) given new here apart s = elim s [
+      | inl r ↦ same m old new r.1
+      | inr r ↦ changed m old new h r.3.2.0 _ r.0 here apart r.3.2.1 r.3.2.2.removed.removed
+    ]
+    spared-step m old (call.PopLast h) given new here apart s = elim s [
+      | inl r ↦ same m old new r.1
+      | inr r ↦ changed m old new h r.3.2.0 _ r.0 here apart r.3.2.1 r.3.2.2.removed.removed
     ]
     spared-step m old (call.Clear h) given new here apart s = elim s [
       | inl r ↦ same m old new r.1
       | inr r ↦ changed m old new h r.3.1.0 _ r.0 here apart r.3.1.1 r.3.1.2.cleared
     ]
     spared-step m old (call.Iter h) given new here apart s = elim s [ inl r ↦ same m old new r.1 | inr r ↦ same m old new r.3.3 ]
+    spared-step m old (call.IterBack h) given new here apart s = elim s [ inl r ↦ same m old new r.1 | inr r ↦ same m old new r.3.3 ]
     spared-step m old (call.Read h c steps) given new here apart s =
         offered reads (λ t. elim t [ inl r ↦ same m old new r.1 | inr r ↦ same m old new r.3.1 ]) (λ l. same m old new (lacking _ old given new l)) s
     spared-step m old (call.Edit h c steps) given new here apart s = elim s [
@@ -95,12 +136,26 @@ module _ {K V : Type 0} where
         handles = written m old.handles new.handles to (number_at old from) r.0.1 apart (ap (λ (t : State K V). t.handles) r.3.1);
       }
     ]
+    spared-step m old (call.DeepClone from to) given new here apart s = elim s [
+      | inl r ↦ same m old new r.1
+      | inr r ↦ made m old new to r.3.0 _ r.0.1 here r.3.2 r.3.3.copied r.3.3.refused
+    ]
+    spared-step m old (call.Load h entries) given new here apart s = offered reads (λ t. elim t [
+      | inl r ↦ same m old new r.1
+      | inr r ↦ made m old new h r.3.0 _ r.0 here r.3.2 r.3.3.loaded r.3.3.refused
+    ]) (λ l. same m old new (lacking _ old given new l)) s
     spared-step m old call.ForestClear given new here apart s = absurd apart
 
     -- a call that spares a tree spares it in a later state too
     later : (m : ℕ) (old mid : State K V) → IsSpared m old mid → (call : Call K V) → Spares m old call → Spares m mid call
     later m old mid a (call.Insert h c k v) apart = λ e. apart (a.handles h e)
+    later m old mid a (call.GetOrInsert h c k v) apart = λ e. apart (a.handles h e)
+    later m old mid a (call.Update h c k v) apart = λ e. apart (a.handles h e)
+    later m old mid a (call.UpdateOrInsert h c k v put) apart = λ e. apart (a.handles h e)
+    later m old mid a (call.Shift h c from keys) apart = λ e. apart (a.handles h e)
     later m old mid a (call.Remove h c k) apart = λ e. apart (a.handles h e)
+    later m old mid a (call.PopFirst h) apart = λ e. apart (a.handles h e)
+    later m old mid a (call.PopLast h) apart = λ e. apart (a.handles h e)
     later m old mid a (call.Clear h) apart = λ e. apart (a.handles h e)
     later m old mid a (call.Edit h c steps) apart = λ e. apart (a.handles h e)
     later m old mid a (call.Retain h c keys put) apart = λ e. apart (a.handles h e)

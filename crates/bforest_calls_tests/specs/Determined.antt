@@ -28,6 +28,7 @@ module _ {K V : Type 0} where
   -- no memory was refused to the call or to a step of its cursor
   abbrev pub HadMemory : Answer K V → Type 0
   HadMemory (answer.Put result) = result ≢ Err Memory
+  HadMemory (answer.Made result) = result ≢ Err Memory
   HadMemory (answer.Script sights) = All (λ sight. sight ≢ seen.Put (Err Memory)) sights.items
   HadMemory given = Unit {0}
 

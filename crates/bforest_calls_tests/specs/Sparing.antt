@@ -11,7 +11,13 @@ module _ {K V : Type 0} where
   -- the tree, and overwrite its handles.
   abbrev pub Spares : ℕ → State K V → Call K V → Type 0
   Spares m state (call.Insert h c k v) = number_at state h ≢ Some m
+  Spares m state (call.GetOrInsert h c k v) = number_at state h ≢ Some m
+  Spares m state (call.Update h c k v) = number_at state h ≢ Some m
+  Spares m state (call.UpdateOrInsert h c k v put) = number_at state h ≢ Some m
+  Spares m state (call.Shift h c from keys) = number_at state h ≢ Some m
   Spares m state (call.Remove h c k) = number_at state h ≢ Some m
+  Spares m state (call.PopFirst h) = number_at state h ≢ Some m
+  Spares m state (call.PopLast h) = number_at state h ≢ Some m
   Spares m state (call.Clear h) = number_at state h ≢ Some m
   Spares m state (call.Edit h c steps) = number_at state h ≢ Some m
   Spares m state (call.Retain h c keys put) = number_at state h ≢ Some m

@@ -3,6 +3,8 @@
 
 mod callers;
 #[cfg(test)]
+mod each;
+#[cfg(test)]
 mod lists;
 
 pub use callers::beside::{run_beside, run_beside_sets};

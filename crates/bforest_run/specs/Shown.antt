@@ -63,6 +63,8 @@ module _ {V : Type 0} (value_text : Option V → List ℕ) (entry_text : ℕ × 
   answer_text (answer.Put result) = put_text result
   answer_text (answer.Pairs pairs) = codes "[" ++ texts entry_text pairs.items ++ codes "]"
   answer_text (answer.Script sights) = texts seen_text sights.items
+  answer_text (answer.Made (Ok it)) = codes "ok"
+  answer_text (answer.Made (Err why)) = refusal_text why
   answer_text answer.Done = codes "ok"
   answer_text answer.NoIndex = codes "no index"
   answer_text answer.Dead = codes "dead"

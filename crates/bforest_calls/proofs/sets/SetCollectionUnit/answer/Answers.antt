@@ -2,14 +2,15 @@ use Rattle.bforest.specs.Calls.{Inserts, Removes}
 use Rattle.bforest.specs.Forest.{list_of}
 use Rattle.bforest.specs.Set.{as_removed}
 use Rattle.bforest_calls.proofs.Chains.{edited, loans-stay, shows-taken}
+use Rattle.bforest_calls.proofs.Offers.{comparing-alone}
 use Rattle.bforest_calls.proofs.Runs.{on_err_from}
 use Rattle.bforest_calls.proofs.Units.{removed-value, whole-each}
 use Rattle.bforest_calls.proofs.sets.SetCollectionUnit.answer.Goals as goal
 use Rattle.bforest_calls.specs.Looks.{with_each}
-use Rattle.bforest_calls.specs.State.{Held}
+use Rattle.bforest_calls.specs.State.{Held, Shifted}
 use Rattle.bforest_calls.specs.Steps.{set_view}
 use Rattle.bforest_calls.specs.declared.call.Answer.TheVariants as answer
-use Rattle.std.proofs.Common.{ap, refl, subst, sym, ◌∙◌}
+use Rattle.std.proofs.Common.{ap, false, refl, subst, sym, ◌∙◌}
 
 pub returns-in-Get-clause-makes : goal.returns-in-Get-clause-makes
 returns-in-Get-clause-makes g c =
@@ -43,7 +44,7 @@ returns-in-Edit g c =
     let loans = loans-stay 15 refl view _ _ e.chain e.err in
     let old : Held g.row.K.Denot (Unit {0}) = record { forest = c.args.forest.now; number = c.args.self.now } in
     let w = edited 15 refl view _ _ e.chain e.err old _ made.forest made.set (c.forest-1.given.1 (sym (loans.1 ∙ made.forest_loan)))
-    (c.self-1.given.1 (sym (loans.0 ∙ made.set_loan))) (ap g.C.Comparator.order made.comparator) made.spot c.deref.ensures.value in
+    (c.self-1.given.1 (sym (loans.0 ∙ made.set_loan))) (ap g.C.Comparator.order made.comparator) made.spot c.deref-in-Edit.ensures.value in
     record { makes = rw c.in-Edit.is w.0; room = rw c.in-Edit.is (on_err_from c.each.result tt); err_forest = w.1; err_self = w.2 }
 
 pub returns-in-Range : goal.returns-in-Range
@@ -51,3 +52,14 @@ returns-in-Range g c =
     let r = c.each-in-Range.result in
     let taken = shows-taken _ _ r c.each-in-Range.ensures.chain (ap with_each c.range-range.ensures.keys ∙ whole-each _) c.deref-in-Range.ensures.value refl in
     record { makes = rw c.in-Range.is taken; room = rw c.in-Range.is (on_err_from r tt); err_forest = on_err_from r refl; err_self = on_err_from r refl }
+
+pub unreachable-requires : goal.unreachable-requires
+unreachable-requires g c = let d = c.in_default in
+    comparing-alone false c.args.call.now c.requires.compares d.not-Get d.not-GetOrLess d.not-GetOrGreater d.not-Insert (λ offered. absurd (cc)) (λ offered. absurd (cc))
+    (λ offered. absurd (cc)) d.not-Shift d.not-Remove (λ offered. absurd (cc)) d.not-Edit d.not-Range
+
+pub returns-in-Shift-clause-makes : goal.returns-in-Shift-clause-makes
+returns-in-Shift-clause-makes g c =
+    let old : Held g.row.K.Denot (Unit {0}) = record { forest = c.args.forest.now; number = c.args.self.now } in
+    let new : Held g.row.K.Denot (Unit {0}) = record { forest = c.shift.new.forest; number = c.shift.new.set } in
+    rw c.in-Shift.is (refl, subst (λ keys. Shifted (g.C.Comparator.order c.args.comp.now) c.in-Shift.from keys old new) c.deref.ensures.value c.shift.ensures)

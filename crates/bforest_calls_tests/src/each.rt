@@ -1,0 +1,206 @@
+//! Calls that lists of the other tests do not have, each of them once.
+use bforest::{Map, MapForest, Set, SetForest};
+use bforest_calls::{Answer, Call, run_map, run_set};
+use std::alloc::{AllocError, Global};
+
+/// The handle of the tree that is filled, and the one of its copy.
+const FILLED: usize = 0;
+
+const COPY: usize = 1;
+
+/// The one comparator of a list.
+const ORDER: usize = 0;
+
+/// The value that an insertion or an update writes.
+const NEW: u32 = 7;
+
+fn insert<V: Copy>(k: u32, v: V) -> Call<u32, V> {
+    let (h, c) = (FILLED, ORDER);
+    Call::Insert { h, c, k, v }
+}
+
+fn greater<V: Copy>(h: usize, k: u32) -> Call<u32, V> {
+    Call::GetOrGreater { h, c: ORDER, k }
+}
+
+/// Calls on the keys 10, 20 and 30, with these values, and on a copy, in which 20 becomes 25 and 30 becomes 15.
+fn calls<V: Copy>(first: V, second: V, third: V, keys: Vec<(u32, u32)>) -> [Call<u32, V>; 12] {
+    [
+        insert(10, first),
+        insert(20, second),
+        insert(30, third),
+        greater(FILLED, 15),
+        Call::First { h: FILLED },
+        Call::Last { h: FILLED },
+        Call::DeepClone {
+            from: FILLED,
+            to: COPY,
+        },
+        Call::PopFirst { h: FILLED },
+        Call::PopLast { h: FILLED },
+        Call::Shift {
+            h: COPY,
+            c: ORDER,
+            from: 15,
+            keys,
+        },
+        Call::IterBack { h: COPY },
+        greater(COPY, 15),
+    ]
+}
+
+/// Their answers, where the entries of the copy are `left` from the last to the first.
+fn wanted<V: Copy>(first: V, second: V, third: V, left: Vec<(u32, V)>) -> [Answer<u32, V>; 12] {
+    [
+        Answer::Put(Ok(None)),
+        Answer::Put(Ok(None)),
+        Answer::Put(Ok(None)),
+        Answer::Pair(Some((20, second))),
+        Answer::Pair(Some((10, first))),
+        Answer::Pair(Some((30, third))),
+        Answer::Made(Ok(())),
+        Answer::Pair(Some((10, first))),
+        Answer::Pair(Some((30, third))),
+        Answer::Done,
+        Answer::Pairs(left),
+        Answer::Unordered,
+    ]
+}
+
+/// A list of a few values.
+fn list<T: Copy, const N: usize>(alloc: Global, values: [T; N]) -> Result<Vec<T>, AllocError> {
+    let mut list = Vec::new(alloc);
+    for value in values {
+        list.push(value)?;
+    }
+    Ok(list)
+}
+
+fn are<V: Copy + PartialEq>(answers: &[Answer<u32, V>], wanted: &[Answer<u32, V>]) -> bool {
+    answers == wanted
+}
+
+fn are_right_on_maps(alloc: Global) -> Result<bool, AllocError> {
+    let keys = list(alloc, [(20, 25), (30, 15)])?;
+    let left = list(alloc, [(15, 3u32), (25, 2), (10, 1)])?;
+    let answers = run_map(
+        alloc,
+        &calls(1, 2, 3, keys),
+        &[()],
+        &mut [Map::new(), Map::new()],
+        &mut MapForest::new(alloc),
+    )?;
+    Ok(are(&answers, &wanted(1, 2, 3, left)))
+}
+
+fn are_right_on_sets(alloc: Global) -> Result<bool, AllocError> {
+    let keys = list(alloc, [(20, 25), (30, 15)])?;
+    let left = list(alloc, [(15, ()), (25, ()), (10, ())])?;
+    let answers = run_set(
+        alloc,
+        &calls((), (), (), keys),
+        &[()],
+        &mut [Set::new(), Set::new()],
+        &mut SetForest::new(alloc),
+    )?;
+    Ok(are(&answers, &wanted((), (), (), left)))
+}
+
+#[test]
+fn calls_on_maps_are_answered(rt: HostRuntime) {
+    assert_eq!(rt; are_right_on_maps(rt.alloc()), Ok(true));
+}
+
+#[test]
+fn calls_on_sets_are_answered(rt: HostRuntime) {
+    assert_eq!(rt; are_right_on_sets(rt.alloc()), Ok(true));
+}
+
+/// A load of these entries, of which 10 has the value `first`, and updates and insertions of the keys 10 and 20.
+fn updates<V: Copy>(entries: Vec<(u32, V)>, first: V, new: V) -> [Call<u32, V>; 6] {
+    let (h, c) = (FILLED, ORDER);
+    [
+        Call::Load { h, entries },
+        Call::GetOrInsert {
+            h,
+            c,
+            k: 10,
+            v: new,
+        },
+        Call::Update {
+            h,
+            c,
+            k: 20,
+            v: new,
+        },
+        Call::UpdateOrInsert {
+            h,
+            c,
+            k: 20,
+            v: first,
+            put: new,
+        },
+        Call::UpdateOrInsert {
+            h,
+            c,
+            k: 20,
+            v: first,
+            put: new,
+        },
+        Call::Update {
+            h,
+            c,
+            k: 10,
+            v: new,
+        },
+    ]
+}
+
+/// Makes them on a map, and returns whether each is answered as it has to be.
+fn are_updated(alloc: Global) -> Result<bool, AllocError> {
+    let entries = list(alloc, [(10, 1), (30, 3)])?;
+    let answers = run_map(
+        alloc,
+        &updates(entries, 1, NEW),
+        &[()],
+        &mut [Map::new()],
+        &mut MapForest::new(alloc),
+    )?;
+    let wanted = [
+        Answer::Made(Ok(())),
+        Answer::Put(Ok(Some(1))),
+        Answer::Value(None),
+        Answer::Put(Ok(Some(1))),
+        Answer::Put(Ok(Some(NEW))),
+        Answer::Value(Some(NEW)),
+    ];
+    Ok(are(&answers, &wanted))
+}
+
+/// Makes them on a set, and returns whether none is offered.
+fn are_not_offered(alloc: Global) -> Result<bool, AllocError> {
+    let entries = list(alloc, [(10, ())])?;
+    let answers = run_set(
+        alloc,
+        &updates(entries, (), ()),
+        &[()],
+        &mut [Set::new()],
+        &mut SetForest::new(alloc),
+    )?;
+    for answer in &answers {
+        if *answer != Answer::NotOffered {
+            return Ok(false);
+        }
+    }
+    Ok(answers.len() == 6)
+}
+
+#[test]
+fn values_of_maps_are_updated(rt: HostRuntime) {
+    assert_eq!(rt; are_updated(rt.alloc()), Ok(true));
+}
+
+#[test]
+fn values_of_sets_are_not_updated(rt: HostRuntime) {
+    assert_eq!(rt; are_not_offered(rt.alloc()), Ok(true));
+}
