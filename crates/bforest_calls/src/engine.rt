@@ -165,7 +165,8 @@ fn lacks<K: Copy, V: Copy, C: Comparator<K>, T: Collection<K, V>>(
     comps: &[C],
     handles: &[T],
 ) -> Answer<K, V>
-    ensures { (trees : _) → Lacks ((h < length (T.numbers handles.now)) × (c < length (map C.order comps.now)))
+    ensures { (trees : _) → Lacks
+        ((h < length (T.numbers handles.now)) × (c < length (map C.order comps.now)))
         (record { forest = trees; handles = T.numbers handles.now }) result
         (record { forest = trees; handles = T.numbers handles.now }) }
 {

@@ -34,7 +34,4 @@ pub mod Cloning
 pub mod Shifting
 pub mod Loading
 pub mod Unordered
-pub mod Merging
-pub mod Rising
-pub mod Fronts
-pub mod Uniting
+pub mod unions

@@ -209,7 +209,7 @@ least-low : (half most : ℕ) → 1 ≤ half → half ≤ most → (rest : List 
 least-low half most one low [] = omega (arith, one, low)
 least-low half most one low (next ∷ rest) = low
 
--- so many nodes hold n: all but the last are full
+-- a level of `count` nodes that has n entries or children: all nodes are full but the last
 record Level (half most count n : ℕ) : Type 0 where
   pub sizes : List ℕ
   pub sum : sum_by (λ (size : ℕ). size) sizes ≡ n

@@ -1,4 +1,4 @@
-use Rattle.bforest_trees.proofs.Fronts.{compared-entered, compared-none, compared-second}
+use Rattle.bforest_trees.proofs.unions.Fronts.{compared-entered, compared-none, compared-second}
 use Rattle.bforest_trees.proofs.merge.next_order.Goals as goal
 use Rattle.std.proofs.Common.{Some, rules}
 

@@ -1,4 +1,4 @@
-use Rattle.bforest_trees.proofs.Fronts.{compared-both, compared-first}
+use Rattle.bforest_trees.proofs.unions.Fronts.{compared-both, compared-first}
 use Rattle.bforest_trees.proofs.merge.order_of.Goals as goal
 use Rattle.std.proofs.Common.{rules}
 

@@ -1,4 +1,4 @@
-use Rattle.bforest_trees.proofs.Fronts.{took-both, took-first, took-second}
+use Rattle.bforest_trees.proofs.unions.Fronts.{took-both, took-first, took-second}
 use Rattle.bforest_trees.proofs.merge.take.Goals as goal
 
 pub returns-in-Less : goal.returns-in-Less

@@ -8,5 +8,7 @@ pub contains-requires : goal.contains-requires
 contains-requires g c = (search first-field, ordered-read c.self.invariant (rw (← c.self.view_is) at c.requires.within) c.index.ensures)
 
 pub returns : goal.returns
-returns g c = record { present = rw (← c.self.view_is) (c.contains.ensures.present ∙ present-read c.self.invariant (rw (← c.self.view_is) at c.requires.within) c.index.ensures _);
-  value = rw (← c.self.view_is) (c.contains.ensures.value ∙ ap is_some (value-read c.self.invariant (rw (← c.self.view_is) at c.requires.within) c.index.ensures _)) }
+returns g c = record {
+  present = rw (← c.self.view_is) (c.contains.ensures.present ∙ present-read c.self.invariant (rw (← c.self.view_is) at c.requires.within) c.index.ensures _);
+  value = rw (← c.self.view_is) (c.contains.ensures.value ∙ ap is_some (value-read c.self.invariant (rw (← c.self.view_is) at c.requires.within) c.index.ensures _));
+}

@@ -1,5 +1,5 @@
-use Rattle.bforest_trees.proofs.Fronts.{compared-entered, turn}
-use Rattle.bforest_trees.proofs.Merging.{comparing-end, comparing-next, comparing-no, each-told, steps-less}
+use Rattle.bforest_trees.proofs.unions.Fronts.{compared-entered, turn}
+use Rattle.bforest_trees.proofs.unions.Merging.{comparing-end, comparing-next, comparing-no, each-told, steps-less}
 use Rattle.bforest_trees.proofs.trees.Trees.all_are.Goals as goal
 use Rattle.bforest_trees.specs.Forest.{list_of}
 use Rattle.std.proofs.Common.{Some, refl, rules, sym, ◌∙◌}

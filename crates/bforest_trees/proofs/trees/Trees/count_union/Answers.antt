@@ -1,5 +1,5 @@
-use Rattle.bforest_trees.proofs.Fronts.{turn}
-use Rattle.bforest_trees.proofs.Merging.{counting-end, counting-low, counting-next, front-none, steps-less}
+use Rattle.bforest_trees.proofs.unions.Fronts.{turn}
+use Rattle.bforest_trees.proofs.unions.Merging.{counting-end, counting-low, counting-next, front-none, steps-less}
 use Rattle.bforest_trees.proofs.trees.Trees.count_union.Goals as goal
 use Rattle.bforest_trees.specs.Merge.{Compares}
 use Rattle.std.proofs.Common.{Some, arith, refl, rules, sym, ◌∙◌}

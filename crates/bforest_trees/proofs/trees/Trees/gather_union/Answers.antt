@@ -1,5 +1,5 @@
-use Rattle.bforest_trees.proofs.Fronts.{turn}
-use Rattle.bforest_trees.proofs.Merging.{front-none, gathering-end, gathering-low, gathering-next, steps-less}
+use Rattle.bforest_trees.proofs.unions.Fronts.{turn}
+use Rattle.bforest_trees.proofs.unions.Merging.{front-none, gathering-end, gathering-low, gathering-next, steps-less}
 use Rattle.bforest_trees.proofs.trees.Trees.gather_union.Goals as goal
 use Rattle.bforest_trees.specs.Merge.{Compares}
 use Rattle.std.proofs.Common.{Some, ap, arith, length, length-append, refl, rules, sym, ◌∙◌, ◌∷◌, []}

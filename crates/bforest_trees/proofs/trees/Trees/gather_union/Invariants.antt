@@ -1,4 +1,4 @@
-use Rattle.bforest_trees.proofs.Merging.{Gathering}
+use Rattle.bforest_trees.proofs.unions.Merging.{Gathering}
 use Rattle.bforest_trees.proofs.trees.Trees.gather_union.Given as goal
 use Rattle.bforest_trees.specs.Forest.{list_of}
 use Rattle.bforest_trees.specs.Layout.{IsReader, left_of}

@@ -1,5 +1,5 @@
 use Rattle.bforest_trees.proofs.After.{handed-on}
-use Rattle.bforest_trees.proofs.Uniting.{loads-made, loads-refused, not-err}
+use Rattle.bforest_trees.proofs.unions.Uniting.{loads-made, loads-refused, not-err}
 use Rattle.bforest_trees.proofs.trees.Trees.load_union.Goals as goal
 use Rattle.std.proofs.Common.{arith, rules, sym, ◌∙◌}
 

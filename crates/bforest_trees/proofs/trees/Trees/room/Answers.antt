@@ -1,4 +1,4 @@
-use Rattle.bforest_trees.proofs.Uniting.{few-entries}
+use Rattle.bforest_trees.proofs.unions.Uniting.{few-entries}
 use Rattle.bforest_trees.proofs.trees.Trees.room.Goals as goal
 use Rattle.bforest_trees.specs.Forest.{Forest, list_at}
 use Rattle.std.proofs.Common.{arith, length, subst, ◌≤◌}

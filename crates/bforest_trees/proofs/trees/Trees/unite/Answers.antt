@@ -1,7 +1,7 @@
 use Rattle.bforest_core.specs.Packed.{fewest}
 use Rattle.bforest_trees.proofs.After.{handed-on}
-use Rattle.bforest_trees.proofs.Merging.{united-length, united-some}
-use Rattle.bforest_trees.proofs.Uniting.{few-of, still-live, told-all, told-new, unites-none, unites-ok, unites-refused}
+use Rattle.bforest_trees.proofs.unions.Merging.{united-length, united-some}
+use Rattle.bforest_trees.proofs.unions.Uniting.{few-of, still-live, told-all, told-new, unites-none, unites-ok, unites-refused}
 use Rattle.bforest_trees.proofs.trees.Trees.unite.Goals as goal
 use Rattle.bforest_trees.specs.Forest.{list_of}
 use Rattle.bforest_core.specs.declared.pool.OutOfMemory.TheVariants.{Full}

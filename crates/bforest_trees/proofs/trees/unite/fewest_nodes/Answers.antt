@@ -1,4 +1,4 @@
-use Rattle.bforest_trees.proofs.Rising.{rising-first, rising-last, rising-less, rising-low, rising-next}
+use Rattle.bforest_trees.proofs.unions.Rising.{rising-first, rising-last, rising-less, rising-low, rising-next}
 use Rattle.bforest_trees.proofs.trees.unite.fewest_nodes.Goals as goal
 use Rattle.std.proofs.Common.{arith}
 

@@ -1,4 +1,4 @@
-use Rattle.bforest_trees.proofs.Rising.{Rising}
+use Rattle.bforest_trees.proofs.unions.Rising.{Rising}
 use Rattle.bforest_trees.proofs.trees.unite.fewest_nodes.Given as goal
 
 -- the levels up to this one are counted

@@ -11,7 +11,7 @@ use Rattle.bforest_trees.proofs.Accounts.{accounted}
 use Rattle.bforest_trees.proofs.Changed.{becomes-new, sizes-new, takes}
 use Rattle.bforest_trees.proofs.Cutting.{becomes-same}
 use Rattle.bforest_trees.proofs.Fits.{below-slots, fit-at}
-use Rattle.bforest_trees.proofs.Merging.{among-itself, united-same, united-up}
+use Rattle.bforest_trees.proofs.unions.Merging.{among-itself, united-same, united-up}
 use Rattle.bforest_trees.specs.Calls.{Clears, Unites, need_of_union}
 use Rattle.bforest_trees.specs.Forest.{Becomes, Forest, IsLive, IsTooMany, Takes, list_at, list_of, nodes_at, numbers_below, sizes_at, sizes_of, slots_of}
 use Rattle.bforest_trees.specs.Merge.{LoadsUnion}
