@@ -93,6 +93,9 @@ EDITS = {
     "bforest/set_forest.rt": [*FOREST, (r"^(pub type .*)\bSET_LEAF>", r"\g<1>15>", 1)],
     "bforest/map.rt": [*RANGE, (r"(?:\s|///)*\(docs/RULES\.md[^)]*\)", "", None)],
     "bforest/set.rt": RANGE,
+    "bforest_calls/collection.rt": [(r"(pub trait Collection<K: Copy, V: Copy>)(?:: Drop)? \{", r"\1: Sized {", 1)],
+    # The call that is not offered is named by the contract alone.
+    "bforest_calls/engine.rt": [(r"(fn not_offered<[^(]*\(\n {4})call:", r"\1_call:", 1)],
     "bforest_indexed/lib.rt": [
         (r"^pub use bforest::\{Comparator, OutOfMemory\};\n", "", 1),
         (r"^(?:mod edit|pub use edit::Edit);\n", "", 2),
