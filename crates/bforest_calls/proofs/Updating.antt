@@ -44,6 +44,8 @@ module _ {F K V : Type 0} {g : Once F (V × Unit {0}) V} {q : F} {x : V} (plain 
   updates-plain None u = record {
     called = tt;
     put = tt;
+    found = tt;
+    others = u.others;
     handle = u.handle;
     sizes = u.sizes;
     slots = u.slots;
@@ -57,6 +59,8 @@ module _ {F K V : Type 0} {g : Once F (V × Unit {0}) V} {q : F} {x : V} (plain 
   updates-plain (Some w) u = record {
     called = (u.called.0, u.called.1, plain u.called.0 w u.called.2);
     put = u.put;
+    found = u.found;
+    others = u.others;
     handle = u.handle;
     sizes = u.sizes;
     slots = u.slots;
@@ -75,10 +79,12 @@ module _ {F K V : Type 0} {g : Once F (V × Unit {0}) V} {q : F} {x : V} (plain 
     updated = λ there. updates-plain (Some w) (r.updated there);
     absent = r.absent;
     value = r.value;
+    found = r.found;
+    others = r.others;
     live = r.live;
     increasing = r.increasing;
   }
-  updates-or-inserts-plain (Err e) r = record { present = r.present; updated = r.updated; absent = r.absent; value = r.value; live = r.live; increasing = r.increasing }
+  updates-or-inserts-plain (Err e) r = record { present = r.present; updated = r.updated; absent = r.absent; value = r.value; found = tt; others = r.others; live = r.live; increasing = r.increasing }
 
 module _ {K V : Type 0} {calls : K → K → Type 0} where
   -- new keys, as another relation tells them
