@@ -1,12 +1,15 @@
 pub mod Balances
 pub mod Becoming
+pub mod Clients
 pub mod Cursors
+pub mod Each
 pub mod Ends
 pub mod Enough
 pub mod Entries
 pub mod Evens
 pub mod Growing
 pub mod Lengths
+pub mod Loops
 pub mod SetCursors
 pub mod Sets
 pub mod Shrinking

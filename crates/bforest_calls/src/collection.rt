@@ -5,7 +5,7 @@ ghost use Rattle.bforest_calls.specs.Compared.{IsComparing, IsListed, Makes};
 ghost use Rattle.bforest_calls.specs.Ends.{IsAtEnd, MakesAtEnd};
 ghost use Rattle.bforest_calls.specs.State.{Retained};
 ghost use Rattle.bforest_nodes.specs.Entries.{IsIncreasing};
-ghost use Rattle.std.specs.Prelude.{Bool, Err, IfErr, IfOk, IsTrue, List, None, Ok, OnErr, Option, get_or, length, reverse, slice_set, ◌%◌, ◌<◌, ◌↔◌, ◌≡◌, ℕ};
+ghost use Rattle.std.specs.Prelude.{Bool, Err, IfErr, IfOk, IfSome, IsTrue, List, None, Ok, OnErr, Option, get_or, is_some, length, reverse, slice_set, ◌%◌, ◌<◌, ◌↔◌, ◌≡◌, ℕ};
 
 use crate::call::{Answer, Call};
 use bforest::{Comparator, OutOfMemory};
@@ -118,14 +118,15 @@ pub trait Collection<K: Copy, V: Copy>: Drop {
         ensures refused { IfErr result (λ why.
             Clones (trees forest.old) (number self.now) (Err why) (trees forest.new)) };
 
-    /// A handle to a tree of these entries.
-    fn load(entries: &[(K, V)], forest: &mut Self::Forest) -> Result<Self, OutOfMemory>
+    /// A handle to a tree of these entries; `None` where a load is not offered.
+    fn load(entries: &[(K, V)], forest: &mut Self::Forest) -> Option<Result<Self, OutOfMemory>>
         requires fits { fits }
-        requires offered { IsTrue READS }
-        ensures made { IfOk result (λ tree.
-            Loads most (trees forest.old) entries.now (Ok (number tree)) (trees forest.new)) }
-        ensures refused { IfErr result (λ why.
-            Loads most (trees forest.old) entries.now (Err why) (trees forest.new)) };
+        ensures offered { is_some result ≡ READS }
+        ensures made { IfSome result (λ loaded. IfOk loaded (λ tree.
+            Loads most (trees forest.old) entries.now (Ok (number tree)) (trees forest.new))) }
+        ensures refused { IfSome result (λ loaded. IfErr loaded (λ why.
+            Loads most (trees forest.old) entries.now (Err why) (trees forest.new))) }
+        ensures left { result ≡ None → forest.new ≡ forest.old };
 
     /// A second handle to the same tree.
     fn alias(&self) -> Self

@@ -307,10 +307,10 @@ fn load<K: Copy, V: Copy, T: Collection<K, V>>(
     if h >= handles.len() {
         return Answer::NoIndex;
     }
-    if !T::READS {
-        return Answer::NotOffered;
+    match T::load(entries, forest) {
+        Some(loaded) => name(loaded, h, handles),
+        None => Answer::NotOffered,
     }
-    name(T::load(entries, forest), h, handles)
 }
 
 /// Handle `h` becomes the one of a tree that was made, and stays where none was.

@@ -157,8 +157,11 @@ impl<K: Copy, V: Copy> Collection<K, V> for Map<K, V> {
         self.deep_clone(forest)
     }
 
-    fn load(entries: &[(K, V)], forest: &mut MapForest<K, V>) -> Result<Map<K, V>, OutOfMemory> {
-        Map::load(entries, forest)
+    fn load(
+        entries: &[(K, V)],
+        forest: &mut MapForest<K, V>,
+    ) -> Option<Result<Map<K, V>, OutOfMemory>> {
+        Some(Map::load(entries, forest))
     }
 
     fn alias(&self) -> Map<K, V> {

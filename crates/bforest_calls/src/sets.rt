@@ -162,8 +162,11 @@ impl<K: Copy> Collection<K, ()> for Set<K> {
         self.deep_clone(forest)
     }
 
-    fn load(_entries: &[(K, ())], _forest: &mut SetForest<K>) -> Result<Set<K>, OutOfMemory> {
-        unreachable!()
+    fn load(
+        _entries: &[(K, ())],
+        _forest: &mut SetForest<K>,
+    ) -> Option<Result<Set<K>, OutOfMemory>> {
+        None
     }
 
     fn alias(&self) -> Set<K> {

@@ -1,7 +1,7 @@
 -- The lists of all indices, as one list of lists.
-use Rattle.bforest.specs.Forest.{list_of}
-use Rattle.bforest_indexed.specs.Indexed.{ChangesAt, Indexed, KeepsAll, count, entries, lists, table}
-use Rattle.std.proofs.Common.{List, None, [], ap, arith, get_or, inl, inr, length, map, refl, replicate, slice_set, subst, suc, sym, zero, ◌<◌, ◌∙◌, ◌≡◌, ◌≢◌, ◌∷◌, ℕ}
+use Rattle.bforest.specs.Forest.{list_of, sizes_of}
+use Rattle.bforest_indexed.specs.Indexed.{ChangesAt, Indexed, KeepsAll, count, entries, lists, node_sizes, table}
+use Rattle.std.proofs.Common.{List, None, Option, [], ap, arith, get_or, inl, inr, length, map, refl, replicate, slice_set, subst, suc, sym, zero, ◌<◌, ◌∙◌, ◌≡◌, ◌≢◌, ◌∷◌, ℕ}
 use Rattle.std.proofs.lemmas.Bool.Decides.{eqb_tells}
 use Rattle.std.proofs.lemmas.List.{get_or-set_other, get_or-set_same, length-set}
 
@@ -73,3 +73,11 @@ module _ {K X C : Type 0} where
       no-lists : (ls : List (List (K × X))) → length ls ≡ 0 → ls ≡ []
       no-lists [] is = refl
       no-lists (l ∷ ls) is = absurd (omega (arith, is))
+
+  -- and no node
+  pub sizes-past-end : (m : Indexed K X C) (i : ℕ) → count m ≡ 0 → node_sizes m i ≡ []
+  sizes-past-end m i none = ap (sizes_of (table m)) (no-handle m.handles none)
+    where
+      no-handle : (hs : List (Option ℕ)) → length hs ≡ 0 → get_or hs i None ≡ None
+      no-handle [] is = refl
+      no-handle (h ∷ hs) is = absurd (omega (arith, is))

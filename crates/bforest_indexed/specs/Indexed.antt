@@ -15,7 +15,7 @@ use Rattle.std.specs.Cmp.{IsTotalOrder}
 use Rattle.std.specs.Fn.{FnOnceReturns, Once}
 use Rattle.std.specs.List.{sum_by}
 use Rattle.std.specs.Map.{keys_of}
-use Rattle.std.specs.Prelude.{Bool, Err, IfOk, IfSome, IsOk, IsSome, List, None, Ok, OnErr, OnOk, Option, Result, Some, [], false, get_or, if◌then◌else◌, length, map, max, nat_eq, nat_lt, not, remove, slice_get, true, unwrap_or, ℕ, ◌%◌, ◌*◌, ◌+◌, ◌-◌, ◌<◌, ◌↔◌, ◌≡◌, ◌≢◌, ◌≤◌}
+use Rattle.std.specs.Prelude.{Bool, Err, IfOk, IfSome, IsOk, IsSome, List, None, Ok, OnErr, OnOk, Option, Result, Some, [], false, get_or, if◌then◌else◌, length, map, max, nat_eq, nat_lt, not, remove, slice_get, suc, true, unwrap_or, zero, ℕ, ◌%◌, ◌*◌, ◌+◌, ◌-◌, ◌<◌, ◌↔◌, ◌∷◌, ◌≡◌, ◌≢◌, ◌≤◌}
 use Rattle.std.specs.Ordering.{is_eq}
 use Rattle.std.specs.declared.cmp.Ordering.{Ordering}
 
@@ -72,6 +72,11 @@ module _ {K X C : Type 0} where
   -- the lists of all indices
   abbrev pub lists : Indexed K X C → List (List (K × X))
   lists m = map (list_of (table m)) m.handles
+
+  -- the lists of the first n indices as a stack, on which the last of them lies on top
+  abbrev pub stack : Indexed K X C → ℕ → List (List (K × X))
+  stack m zero = []
+  stack m (suc n) = entries m n ∷ stack m n
 
   -- the keys of an index
   abbrev pub keys : Indexed K X C → ℕ → List K

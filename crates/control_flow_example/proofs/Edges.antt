@@ -1,39 +1,23 @@
 -- The invariant of a graph where an edge is added and removed.
-use Rattle.bforest.specs.Entries.{cut, is_present, place, put}
-use Rattle.bforest.specs.Forest.{free_of, inner_gain, leaf_gain, need, need_above, need_of}
+use Rattle.bforest.proofs.Clients.{is_present-cut_other, is_present-put_other, nat-unequal, need-levels, present-value}
+use Rattle.bforest.proofs.Entries.{is_present-cut, is_present-put}
+use Rattle.bforest.specs.Entries.{cut, is_present, put}
+use Rattle.bforest.specs.Forest.{free_of, need_of}
 use Rattle.bforest.specs.Refusal.{OutOfMemory}
 use Rattle.bforest.specs.Set.{as_put, the_value}
 use Rattle.bforest_indexed.proofs.Lists.{length-lists, lists-at, lists-changed, lists-empty, lists-kept, past-end}
 use Rattle.bforest_indexed.specs.Indexed.{ChangesAt, Indexed, InsertsAt, KeepsAll, RemovesAt, count, entries, handle, lists, node_sizes, table}
-use Rattle.control_flow_example.proofs.Keeping.{mirrored-set, present-cut, present-cut_other, present-put, present-put_other, present-value}
+use Rattle.control_flow_example.proofs.Keeping.{mirrored-set}
 use Rattle.control_flow_example.specs.Graphs.{AreKept, Graph, IsMirrored, blocks, branch_of, graph_of, list_in, with_edge, without_edge}
-use Rattle.std.proofs.Common.{Bool, Err, IsOk, List, None, Ok, OnErr, OnOk, Option, Result, Some, [], ap, arith, false, if◌then◌else◌, length, refl, replicate, slice_set, subst, sym, true, ◌+◌, ◌-◌, ◌<◌, ◌∙◌, ◌∷◌, ◌≡◌, ◌≢◌, ◌≤◌, ℕ}
+use Rattle.std.proofs.Common.{Bool, Err, IsOk, List, Ok, OnErr, OnOk, Option, Result, [], ap, arith, false, length, refl, replicate, slice_set, subst, sym, true, ◌+◌, ◌-◌, ◌<◌, ◌∙◌, ◌≡◌, ◌≢◌, ◌≤◌, ℕ}
+use Rattle.std.proofs.lemmas.Cmp.{nat_cmp_total}
 use Rattle.std.specs.Option.{is_some}
 use Rattle.std.specs.Ordering.{nat_cmp}
 
--- the levels above need at most two nodes more than there are levels
-need_above-most : (o : Option ℕ) (levels : List (List ℕ)) → need_above o levels ≤ length levels + 2
-need_above-most None levels = omega arith
-need_above-most (Some p) [] = omega arith
-need_above-most (Some p) (level ∷ levels) =
-    let h = need_above-most (inner_gain p level).0 levels in omega (arith, h)
-
-need-most : (most p : ℕ) (sizes : List (List ℕ)) → need most p sizes ≤ length sizes + 1
-need-most most p [] = omega arith
-need-most most p (leaves ∷ levels) =
-    let h = need_above-most (leaf_gain most p leaves).0 levels in omega (arith, h)
-
 -- the nodes that were reserved for an insertion are enough
-enough : (most : ℕ) (s : Indexed ℕ (Unit {0}) (Unit {0})) (i k levels : ℕ) → levels ≡ length (node_sizes s i) → levels + 1 ≤ free_of (table s) → need_of most nat_cmp (table s) (handle s i) k ≤ free_of (table s)
-enough most s i k levels is free = go (is_present nat_cmp (entries s i) k)
-  where
-    go : (b : Bool) → (if b then 0 else need most (place nat_cmp (entries s i) k) (node_sizes s i)) ≤ free_of (table s)
-    go true = omega arith
-    go false = let n = need-most most (place nat_cmp (entries s i) k) (node_sizes s i) in omega (arith, n, free, is)
-
 pub enough-after : {ss s1 : Indexed ℕ (Unit {0}) (Unit {0})} (i k : ℕ) {levels : ℕ} → KeepsAll ss s1 → levels ≡ length (node_sizes ss i) → levels + 1 ≤ free_of (table s1)
     → need_of 15 nat_cmp (table s1) (handle s1 i) k ≤ free_of (table s1)
-enough-after {ss} {s1} i k {levels} kept is free = enough 15 s1 i k levels (is ∙ ap length (sym (kept.sizes i))) free
+enough-after {ss} {s1} i k {levels} kept is free = omega (arith, need-levels 15 nat_cmp (table s1) (handle s1 i) k, free, is, ap length (kept.sizes i))
 
 pub kept-self : {K X C : Type 0} (m : Indexed K X C) → KeepsAll m m
 kept-self m = record { lists = λ i. refl; sizes = λ i. refl; same_comparator = refl }
@@ -100,10 +84,10 @@ module _ {ss s1 : Successors} {ps : Predecessors} {from to : ℕ} (a : AreKept s
 
     pub added-kept : AreKept s' p'
     added-kept = changed-kept b.beside (of_done told done b.put) d.beside (of_done said yes d.put) true
-        (present-put (entries s1 from) to b.increasing the_value)
-        (present-put (entries ps to) from d.increasing branch)
-        (λ q ne. present-put_other (entries s1 from) to b.increasing the_value q ne ∙ ap (λ l. is_present nat_cmp l q) forward-list)
-        (λ p ne. present-put_other (entries ps to) from d.increasing branch p ne ∙ ap (λ l. is_present nat_cmp l p) backward-list)
+        (is_present-put nat_cmp nat_cmp_total to the_value (entries s1 from) b.increasing)
+        (is_present-put nat_cmp nat_cmp_total from branch (entries ps to) d.increasing)
+        (λ q ne. is_present-put_other nat_cmp nat_cmp_total (entries s1 from) to q the_value (nat-unequal to q (λ e. ne (sym e))) b.increasing ∙ ap (λ l. is_present nat_cmp l q) forward-list)
+        (λ p ne. is_present-put_other nat_cmp nat_cmp_total (entries ps to) from p branch (nat-unequal from p (λ e. ne (sym e))) d.increasing ∙ ap (λ l. is_present nat_cmp l p) backward-list)
 
   -- an edge is removed
   module _ {s' : Successors} {p' : Predecessors} {told : Option (Unit {0})} {said : Option ℕ} (b : RemovesAt 15 nat_cmp s1 from to told s') (d : RemovesAt 7 nat_cmp ps to from said p') where
@@ -115,10 +99,10 @@ module _ {ss s1 : Successors} {ps : Predecessors} {from to : ℕ} (a : AreKept s
 
     pub removed-kept : AreKept s' p'
     removed-kept = changed-kept b.beside b.cut d.beside d.cut false
-        (present-cut (entries s1 from) to b.increasing)
-        (present-cut (entries ps to) from d.increasing)
-        (λ q ne. present-cut_other (entries s1 from) to b.increasing q ne ∙ ap (λ l. is_present nat_cmp l q) forward-list)
-        (λ p ne. present-cut_other (entries ps to) from d.increasing p ne ∙ ap (λ l. is_present nat_cmp l p) backward-list)
+        (is_present-cut nat_cmp nat_cmp_total (entries s1 from) to b.increasing)
+        (is_present-cut nat_cmp nat_cmp_total (entries ps to) from d.increasing)
+        (λ q ne. is_present-cut_other nat_cmp nat_cmp_total (entries s1 from) to q (nat-unequal to q (λ e. ne (sym e))) b.increasing ∙ ap (λ l. is_present nat_cmp l q) forward-list)
+        (λ p ne. is_present-cut_other nat_cmp nat_cmp_total (entries ps to) from p (nat-unequal from p (λ e. ne (sym e))) d.increasing ∙ ap (λ l. is_present nat_cmp l p) backward-list)
 
 -- the blocks of a graph are the indices of both
 pub in-blocks : (ss : Successors) (ps : Predecessors) {g : Graph} → graph_of ss ps ≡ g → (n : ℕ) → n < blocks g → n < count ps
@@ -127,7 +111,7 @@ in-blocks ss ps {g} view n low = subst (λ k. n < k) (ap blocks (sym view) ∙ l
 -- a block leads to another exactly where its successors have it
 pub led : {ss : Successors} {ps : Predecessors} {g : Graph} → AreKept ss ps → graph_of ss ps ≡ g → (from to : ℕ) → is_present nat_cmp (entries ss from) to ≡ is_some (branch_of g from to)
 led {ss} {ps} {g} a view from to =
-    ap (λ l. is_present nat_cmp l to) (sym (lists-at ss from)) ∙ a.mirrored from to ∙ present-value (list_in (lists ps) to) from ∙ ap (λ (g : Graph). is_some (branch_of g from to)) view
+    ap (λ l. is_present nat_cmp l to) (sym (lists-at ss from)) ∙ a.mirrored from to ∙ present-value nat_cmp (list_in (lists ps) to) from ∙ ap (λ (g : Graph). is_some (branch_of g from to)) view
 
 -- maps or sets that were made and grown are empty
 module _ {K X C : Type 0} {m m' : Indexed K X C} (none : count m ≡ 0) (kept : KeepsAll m m') where

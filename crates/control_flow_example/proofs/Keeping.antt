@@ -1,52 +1,10 @@
--- The keys that are present after an insertion and a removal, and edges that stay mirrored.
-use Rattle.bforest.proofs.Entries.{value_for-put, value_for-put_other}
-use Rattle.bforest.specs.Entries.{IsIncreasing, cut, entry_for, is_present, put, value_for}
-use Rattle.bforest.proofs.Entries.{value_for-cut, value_for-cut_other}
+-- Edges that stay mirrored.
+use Rattle.bforest.specs.Entries.{is_present}
 use Rattle.control_flow_example.specs.Graphs.{list_in}
-use Rattle.std.proofs.Common.{Bool, List, None, Option, Some, [], ap, cond, false, get_or, inl, inr, length, refl, slice_set, sym, true, ◌<◌, ◌==◌, ◌∙◌, ◌≡◌, ◌≢◌, ℕ}
+use Rattle.std.proofs.Common.{Bool, List, [], ap, get_or, inl, inr, length, slice_set, sym, ◌<◌, ◌∙◌, ◌≡◌, ◌≢◌, ℕ}
 use Rattle.std.proofs.lemmas.Bool.Decides.{eqb_tells}
-use Rattle.std.proofs.lemmas.Bool.{cases_order, lt-ltb}
-use Rattle.std.proofs.lemmas.Cmp.{nat_cmp_total}
 use Rattle.std.proofs.lemmas.List.{get_or-set_other, get_or-set_same}
-use Rattle.std.specs.Option.{is_some, option_map}
-use Rattle.std.specs.Ordering.{is_eq, nat_cmp, ordering_reverse}
-use Rattle.std.specs.declared.cmp.Ordering.TheVariants.{Equal, Greater, Less}
-
--- comparisons of different numbers
-less : (a b : ℕ) → a < b → nat_cmp a b ≡ Less
-less a b h = ap (λ t. cond t Less (cond (a == b) Equal Greater)) (lt-ltb a b h)
-
-unequal : (a b : ℕ) → a ≢ b → is_eq (nat_cmp a b) ≡ false
-unequal a b ne = elim (cases_order a b) [
-  | inl same ↦ absurd (ne same)
-  | inr other ↦ elim other [
-    | inl before ↦ ap is_eq (less a b before)
-    | inr after ↦ ap is_eq (nat_cmp_total.antisymm a b ∙ ap ordering_reverse (less b a after))
-  ]
-]
-
-module _ {X : Type 0} (es : List (ℕ × X)) where
-  -- a key is present exactly where it has a value
-  pub present-value : (k : ℕ) → is_present nat_cmp es k ≡ is_some (value_for nat_cmp es k)
-  present-value k = go (entry_for nat_cmp es k)
-    where
-      go : (o : Option (ℕ × X)) → is_some o ≡ is_some (option_map (λ (e : ℕ × X). e.1) o)
-      go None = refl
-      go (Some e) = refl
-
--- the keys that are present after an insertion and after a removal
-module _ {X : Type 0} (es : List (ℕ × X)) (k : ℕ) (h : IsIncreasing nat_cmp es) where
-  pub present-put : (x : X) → is_present nat_cmp (put nat_cmp es k x) k ≡ true
-  present-put x = present-value (put nat_cmp es k x) k ∙ ap is_some (value_for-put nat_cmp nat_cmp_total k x es h)
-
-  pub present-put_other : (x : X) (q : ℕ) → q ≢ k → is_present nat_cmp (put nat_cmp es k x) q ≡ is_present nat_cmp es q
-  present-put_other x q ne = present-value (put nat_cmp es k x) q ∙ ap is_some (value_for-put_other nat_cmp nat_cmp_total k q x (unequal k q (λ e. ne (sym e))) es h) ∙ sym (present-value es q)
-
-  pub present-cut : is_present nat_cmp (cut nat_cmp es k) k ≡ false
-  present-cut = present-value (cut nat_cmp es k) k ∙ ap is_some (value_for-cut nat_cmp nat_cmp_total es k h)
-
-  pub present-cut_other : (q : ℕ) → q ≢ k → is_present nat_cmp (cut nat_cmp es k) q ≡ is_present nat_cmp es q
-  present-cut_other q ne = present-value (cut nat_cmp es k) q ∙ ap is_some (value_for-cut_other nat_cmp nat_cmp_total k q (unequal k q (λ e. ne (sym e))) es h) ∙ sym (present-value es q)
+use Rattle.std.specs.Ordering.{nat_cmp}
 
 -- the list of a block after one list was changed
 module _ {X : Type 0} (lists : List (List X)) (i : ℕ) (es : List X) where

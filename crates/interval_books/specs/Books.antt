@@ -1,7 +1,9 @@
 -- What contracts see of books: a forest, and the map of each resource in it.
 use Rattle.bforest.specs.declared.map_forest.TheConstants.{MAP_LEAF}
-use Rattle.bforest.specs.Forest.{Forest, Gives, IsLive, IsTooMany, NeedsGrowth, Takes, limit_of, list_of, need_of, room_of, sizes_of, sizes_with, sizes_without}
+use Rattle.bforest.specs.Forest.{Forest, Gives, IsTooMany, NeedsGrowth, Takes, limit_of, list_of, need_of, room_of, sizes_of, sizes_with, sizes_without}
 use Rattle.bforest.specs.Refusal.{Full, Memory}
+use Rattle.bforest_indexed.specs.Indexed.{Indexed}
+use Rattle.bforest_indexed.specs.Indexed as indexed
 use Rattle.interval_books.specs.Bookings.{AreApart, end_of, first_met, holding, with_booking, without_booking}
 use Rattle.interval_books.specs.declared.book_error.BookError.TheVariants as why
 use Rattle.interval_books.specs.declared.book_error.BookError.{BookError}
@@ -33,11 +35,13 @@ bookings b r = list_of (table b) (map_of b r)
 abbrev pub node_sizes : Books → ℕ → List (List ℕ)
 node_sizes b r = sizes_of (table b) (map_of b r)
 
--- each resource's map is live, no two have one tree, and the bookings of each resource are apart
-pub record AreKept (b : Books) : Type 0 where
-  pub live : (r : ℕ) → IsLive (table b) (map_of b r)
-  pub different : (q r n : ℕ) → map_of b q ≡ Some n → map_of b r ≡ Some n → q ≡ r
-  pub apart : (r : ℕ) → AreApart (bookings b r)
+-- the bookings of each resource are apart
+abbrev pub AreApartAll : Books → Type 0
+AreApartAll b = (r : ℕ) → AreApart (bookings b r)
+
+-- what contracts see of the maps of all resources
+abbrev pub books_of : Indexed ℕ ℕ (Unit {0}) → Books
+books_of m = record { forest = indexed.table m; maps = m.handles }
 
 -- Why a booking can't be made, if it can't: the resource is unknown, the interval is empty, or it meets a
 -- booked one.

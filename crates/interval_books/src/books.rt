@@ -2,11 +2,11 @@
 ghost use Rattle.interval_books.specs.Books.{Books, Cancelled, Recorded, at_moment, bookings, node_sizes, resource_count, table};
 ghost use Rattle.interval_books.specs.Bookings.{AreApart};
 ghost use Rattle.bforest.specs.Forest.{empty};
-ghost use Rattle.std.specs.Prelude.{IfOk, None, [], replicate, ◌≡◌, ℕ};
+ghost use Rattle.std.specs.Prelude.{IfOk, [], ◌≡◌, ℕ};
 
 use crate::book_error::BookError;
 use crate::intervals::{first_met, holding};
-use bforest::{Map, MapForest};
+use bforest_indexed::Maps;
 use std::alloc::{AllocError, Global};
 use std::marker::Model;
 
@@ -16,18 +16,17 @@ use std::marker::Model;
 /// two intervals that only touch do not meet.
 #[derive(Drop)]
 pub struct Books {
-    forest: MapForest<u64, u64>,
-    maps: Vec<Map<u64, u64>>,
+    maps: Maps<u64, u64, ()>,
 }
 
 impl Model for Books {
-    ghost use Rattle.interval_books.specs.Books.{AreKept, Books};
+    ghost use Rattle.interval_books.specs.Books.{AreApartAll, Books, books_of};
 
     ghost Value = { Books };
 
-    ghost view = { λ b. record { forest = b.forest; maps = b.maps.items } };
+    ghost view = { λ b. books_of b.maps };
 
-    ghost invariant = { λ b. AreKept (record { forest = b.forest; maps = b.maps.items }) };
+    ghost invariant = { λ b. AreApartAll (books_of b.maps) };
 }
 
 impl Books {
@@ -42,10 +41,9 @@ impl Books {
         ensures sizes { IfOk result (λ b. (r : ℕ) → node_sizes b r ≡ []) }
         ensures table { IfOk result (λ b. table b ≡ empty u32.MAX) }
     {
-        Ok(Books {
-            forest: MapForest::new(alloc),
-            maps: empty_maps(alloc, resources)?,
-        })
+        let mut maps = Maps::new(alloc, ());
+        maps.grow_to(resources as usize)?;
+        Ok(Books { maps })
     }
 
     /// Books a resource from `start` up to `end`. Three searches in the resource's map: about 9 comparisons.
@@ -57,16 +55,17 @@ impl Books {
     pub fn book(&mut self, resource: u32, start: u64, end: u64) -> Result<(), BookError>
         ensures { Recorded self.old resource start end result self.new }
     {
-        let Some(map) = self.maps.get_mut(resource as usize) else {
+        let index = resource as usize;
+        if index >= self.maps.len() {
             return Err(BookError::UnknownResource);
-        };
+        }
         if start >= end {
             return Err(BookError::EmptyInterval);
         }
-        if let Some(met) = first_met(map, &self.forest, start, end) {
+        if let Some(met) = first_met(&self.maps, index, start, end) {
             return Err(BookError::Overlaps(met.0, met.1));
         }
-        match map.try_insert(start, end, &mut self.forest, &()) {
+        match self.maps.insert(index, start, end) {
             Ok(_) => Ok(()),
             Err(refused) => Err(BookError::Forest(refused)),
         }
@@ -80,11 +79,11 @@ impl Books {
     pub fn cancel(&mut self, resource: u32, start: u64) -> Result<u64, BookError>
         ensures { Cancelled self.old resource start result self.new }
     {
-        let Some(map) = self.maps.get_mut(resource as usize) else {
+        let index = resource as usize;
+        if index >= self.maps.len() {
             return Err(BookError::UnknownResource);
-        };
-        map.remove(start, &mut self.forest, &())
-            .ok_or(BookError::NotBooked)
+        }
+        self.maps.remove(index, start).ok_or(BookError::NotBooked)
     }
 
     /// The booked interval that contains a moment: its start and its end. One search.
@@ -96,20 +95,10 @@ impl Books {
         ensures answer { result ≡ at_moment self.now resource moment }
         ensures apart { (r : ℕ) → AreApart (bookings self.now r) }
     {
-        match self.maps.get(resource as usize) {
-            Some(map) => Ok(holding(map, &self.forest, moment)),
-            None => Err(BookError::UnknownResource),
+        let index = resource as usize;
+        if index >= self.maps.len() {
+            return Err(BookError::UnknownResource);
         }
+        Ok(holding(&self.maps, index, moment))
     }
-}
-
-// A list of `count` empty handles, in memory that is taken once.
-fn empty_maps(alloc: Global, count: u32) -> Result<Vec<Map<u64, u64>>, AllocError>
-    ensures { IfOk result (λ maps. maps.items ≡ replicate count None) }
-{
-    let mut maps = Vec::with_capacity(alloc, count as usize)?;
-    for _ in 0..count {
-        maps.push_reserved(Map::new());
-    }
-    Ok(maps)
 }

@@ -1,14 +1,11 @@
-use Rattle.interval_books.proofs.Kept.{cancelled-at, kept-cancelled-at, searchable-read}
+use Rattle.interval_books.proofs.Kept.{apart-cancelled, cancelled}
 use Rattle.interval_books.proofs.books.Books.cancel.Goals as goal
-use Rattle.std.proofs.Common.{rules}
+use Rattle.interval_books.specs.Books.{Cancelled, books_of}
+use Rattle.std.proofs.Common.{arith, subst, sym}
 
-pub remove-requires : goal.remove-requires
-remove-requires c = (search rules, searchable-read c.self.inside.forest c.self.inside.maps.items c.args.resource c.in-Some.map.now c.self.invariant c.in-Some.ensures.item.3.0 c.in-Some.ensures.item.1)
-
-pub invariant_of-self-2 : goal.invariant_of-self-2
-invariant_of-self-2 c =
-    kept-cancelled-at c.self.inside.forest c.self.inside.maps.items c.args.resource c.in-Some.map.now c.self.invariant c.in-Some.ensures.item.3.0 c.in-Some.ensures.item.1 c.remove.new.forest c.remove.new.self c.args.start c.remove.result c.ok_or.result c.ok_or.ensures.value c.remove.ensures
+pub invariant_of-self : goal.invariant_of-self
+invariant_of-self c = apart-cancelled c.self.inside.maps (omega (arith, c.if-index-len.false, c.len.ensures.count)) c.self.invariant c.remove.ensures
 
 pub returns : goal.returns
-returns c =
-    rw (← c.self.view_is) (cancelled-at c.self.inside.forest c.self.inside.maps.items c.args.resource c.in-Some.map.now c.self.invariant c.in-Some.ensures.item.3.0 c.in-Some.ensures.item.1 c.remove.new.forest c.remove.new.self c.args.start c.remove.result c.ok_or.result c.ok_or.ensures.value c.remove.ensures)
+returns c = rw (← c.self.view_is) (subst (λ r. Cancelled (books_of c.self.inside.maps) c.args.resource c.args.start r (books_of c.remove.new.self)) (sym c.ok_or.ensures.value)
+    (cancelled c.self.inside.maps (omega (arith, c.if-index-len.false, c.len.ensures.count)) c.self.invariant c.remove.ensures))
