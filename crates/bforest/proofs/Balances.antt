@@ -3,17 +3,18 @@
 use Rattle.bforest.proofs.Growing.{growth-fits}
 use Rattle.bforest.proofs.Shrinking.{shrink-fits}
 pub use Rattle.bforest.proofs.Lengths.{length-written}
-use Rattle.bforest.specs.Calls.{Clears, Filters, GetsOrInserts, Inserts, Pops, Removes, RemovesAt, Updates}
+use Rattle.bforest.specs.Calls.{Clears, Filters, GetsOrInserts, Inserts, KeepsFrom, Pops, Removes, RemovesAt, Updates}
 use Rattle.bforest.specs.Entries.{is_present, place, value_for}
-use Rattle.bforest.specs.Forest.{Becomes, Forest, Gives, IsFitFor, Takes, growth, limit_of, list_of, need, need_of, room_of, shrink, sizes_of}
+use Rattle.bforest.specs.Forest.{Becomes, Forest, Gives, IsFitFor, IsLive, Takes, growth, limit_of, list_of, need, need_of, room_of, shrink, sizes_of}
 use Rattle.bforest.specs.Refusal.{OutOfMemory}
 use Rattle.bforest.specs.Retain.{AsksEach, kept_by, sizes_by}
+use Rattle.bforest.specs.Union.{fits, kept_from, kept_of}
 use Rattle.bforest.specs.Room.{Balances, IsFitAt, node_count}
 use Rattle.bforest_nodes.proofs.Found.{place-present, put-absent, put-present}
 use Rattle.bforest_trees.proofs.Putting.{present-some}
 use Rattle.bforest_trees.specs.Calls.{as_inserted}
 use Rattle.std.specs.Fn.{Once}
-use Rattle.std.proofs.Common.{Bool, Err, List, None, Ok, Option, Result, Some, [], ap, arith, false, if◌then◌else◌, inl, inr, length, refl, remove, subst, suc, sym, true, ◌%◌, ◌+◌, ◌-◌, ◌<◌, ◌∙◌, ◌∷◌, ◌≡◌, ◌≤◌, ℕ}
+use Rattle.std.proofs.Common.{Bool, Err, List, None, Ok, Option, Result, Some, [], ap, arith, false, if◌then◌else◌, inl, inr, length, refl, remove, subst, suc, sym, true, ◌%◌, ◌+◌, ◌-◌, ◌<◌, ◌∙◌, ◌∷◌, ◌≡◌, ◌≢◌, ◌≤◌, ℕ}
 use Rattle.std.proofs.lemmas.Bool.Decides.{leb_tells}
 use Rattle.std.proofs.lemmas.List.Edits.{length-insert, length-remove}
 use Rattle.std.proofs.lemmas.List.Sums.{count_by-le-length}
@@ -83,6 +84,25 @@ module _ {K V : Type 0} where
         given-balance most f f' h h'
         (rw (r.kept.sizes_are, r.kept.kept_is) (sifted-all most odd step q (list_of f h) r.kept.answers (sizes_of f h) r.kept.asked fit))
         r.changed.limit r.account
+
+    pub keeps-balance : {cmp : K → K → Ordering} {present : Bool} {other : Option ℕ} {result : Bool} → KeepsFrom most cmp present f h other result f' h' → Balances most f h f' h'
+    keeps-balance {cmp} {present} {other} r = given-balance most f f' h h' (go h' r.kept.live r.kept.list r.sizes) r.kept.limit r.account
+      where
+        any : Unit {0} → K → V → Bool → V → Unit {0} → Type 0
+        any q k v b w q' = Unit {0}
+
+        asked : (es : List (K × V)) → AsksEach any tt es (kept_of cmp present es (list_of f other))
+        asked [] = refl
+        asked (e ∷ es) = (tt, tt, asked es)
+
+        kept-by : (es : List (K × V)) → kept_by es (kept_of cmp present es (list_of f other)) ≡ kept_from cmp present es (list_of f other)
+        kept-by [] = refl
+        kept-by (e ∷ es) = ap (λ l. if fits present (is_present cmp (list_of f other) e.0) then e ∷ l else l) (kept-by es)
+
+        go : (o : Option ℕ) → IsLive f' o → list_of f' o ≡ kept_from cmp present (list_of f h) (list_of f other)
+            → (list_of f' o ≢ [] → sizes_of f' o ≡ sizes_by most 0 (kept_of cmp present (list_of f h) (list_of f other)) (sizes_of f h)) → IsFitAt most f' o
+        go None live list sizes = refl
+        go (Some n) live list sizes = rw (list ∙ sym (kept-by (list_of f h)), sizes live) (sifted-all most odd any tt (list_of f h) (kept_of cmp present (list_of f h) (list_of f other)) (sizes_of f h) (asked (list_of f h)) fit)
 
     removed : (p : ℕ) → p < length (list_of f h) → Becomes f h f' h' (remove (list_of f h) p) → sizes_of f' h' ≡ shrink most p (sizes_of f h) → Gives (sizes_of f h) (sizes_of f' h') f f' → Balances most f h f' h'
     removed p within b sizes g =

@@ -1,7 +1,7 @@
 //! Handles of maps.
 ghost use Rattle.bforest_nodes.specs.Entries.{IsIncreasing, place, value_for};
 ghost use Rattle.bforest.specs.Bounds.{entries_between, entry_at_least, entry_at_most};
-ghost use Rattle.bforest.specs.Calls.{Clears, Clones, Filters, GetsOrInserts, Inserts, Loads, Pops, Removes, Shifts, Unites, Updates, UpdatesOrInserts, fewest};
+ghost use Rattle.bforest.specs.Calls.{Clears, Clones, Filters, GetsOrInserts, Inserts, Intersects, Loads, Pops, Removes, Shifts, Subtracts, Unites, Updates, UpdatesOrInserts, fewest};
 ghost use Rattle.bforest.specs.Cursor.{IsCursor, comparator, forest_loan, forest_now, map_loan, map_now, spot};
 ghost use Rattle.bforest.specs.Forest.{Forest, IsFitFor, IsLive, IsSearchable, first_level, list_of, sizes_of};
 ghost use Rattle.bforest.specs.Memory.{MapsFitInMemory};
@@ -382,6 +382,46 @@ impl<K: Copy, V: Copy> Map<K, V> {
             self.new }
     {
         forest.trees.unite(&mut self.root, other.root, comp)
+    }
+
+    /// Removes each entry whose key has no equal one in `other`, and returns whether there was one. The entries that stay keep their values.
+    ///
+    /// Walks along both maps side by side, with at most one comparison for each entry of either. Each removed entry may rebalance or merge
+    /// nodes, as in [`Map::remove`]. No node and no memory is taken, so this can't be refused.
+    ///
+    /// Where both are one map, nothing changes. Where `other` is empty, this map is cleared. Neither compares a key.
+    pub fn intersect_with<C: Comparator<K>>(
+        &mut self,
+        other: &Map<K, V>,
+        forest: &mut MapForest<K, V>,
+        comp: &C,
+    ) -> bool
+        requires searchable { IsSearchable (C.order comp.now) forest.old self.old }
+        requires other { IsSearchable (C.order comp.now) forest.old other.now }
+        ensures { Intersects MAP_LEAF (C.order comp.now) forest.old self.old other.now result forest.new
+            self.new }
+    {
+        forest.trees.keep(&mut self.root, other.root, true, comp)
+    }
+
+    /// Removes each entry whose key has an equal one in `other`, and returns whether there was one. The entries that stay keep their values.
+    ///
+    /// Walks along both maps side by side, with at most one comparison for each entry of either. Each removed entry may rebalance or merge
+    /// nodes, as in [`Map::remove`]. No node and no memory is taken, so this can't be refused.
+    ///
+    /// Where both are one map, it is cleared. Where `other` is empty, nothing changes. Neither compares a key.
+    pub fn difference_with<C: Comparator<K>>(
+        &mut self,
+        other: &Map<K, V>,
+        forest: &mut MapForest<K, V>,
+        comp: &C,
+    ) -> bool
+        requires searchable { IsSearchable (C.order comp.now) forest.old self.old }
+        requires other { IsSearchable (C.order comp.now) forest.old other.now }
+        ensures { Subtracts MAP_LEAF (C.order comp.now) forest.old self.old other.now result forest.new
+            self.new }
+    {
+        forest.trees.keep(&mut self.root, other.root, false, comp)
     }
 
     /// Keeps the entries for which the predicate returns `true`, with the value as the predicate left it, and removes all others.

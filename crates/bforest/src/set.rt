@@ -1,7 +1,7 @@
 //! Handles of sets.
 ghost use Rattle.bforest_nodes.specs.Entries.{IsIncreasing, is_present, place, value_for};
 ghost use Rattle.bforest.specs.Bounds.{entries_between, entry_at_least, entry_at_most};
-ghost use Rattle.bforest.specs.Calls.{Clears, Clones, Filters, Inserts, Loads, Pops, Removes, Shifts, Unites, fewest};
+ghost use Rattle.bforest.specs.Calls.{Clears, Clones, Filters, Inserts, Intersects, Loads, Pops, Removes, Shifts, Subtracts, Unites, fewest};
 ghost use Rattle.bforest.specs.Forest.{Forest, IsFitFor, IsLive, IsSearchable, first_level, list_of, sizes_of};
 ghost use Rattle.bforest.specs.Memory.{SetsFitInMemory};
 ghost use Rattle.bforest.specs.Retain.{MayAskEach};
@@ -342,6 +342,46 @@ impl<K: Copy> Set<K> {
             self.new }
     {
         forest.trees.unite(&mut self.root, other.root, comp)
+    }
+
+    /// Removes each key that has no equal one in `other`, and returns whether there was one. The keys that stay are this set's own.
+    ///
+    /// Walks along both sets side by side, with at most one comparison for each key of either. Each removed key may rebalance or merge nodes,
+    /// as in [`Set::remove`]. No node and no memory is taken, so this can't be refused.
+    ///
+    /// Where both are one set, nothing changes. Where `other` is empty, this set is cleared. Neither compares a key.
+    pub fn intersect_with<C: Comparator<K>>(
+        &mut self,
+        other: &Set<K>,
+        forest: &mut SetForest<K>,
+        comp: &C,
+    ) -> bool
+        requires searchable { IsSearchable (C.order comp.now) forest.old self.old }
+        requires other { IsSearchable (C.order comp.now) forest.old other.now }
+        ensures { Intersects SET_LEAF (C.order comp.now) forest.old self.old other.now result forest.new
+            self.new }
+    {
+        forest.trees.keep(&mut self.root, other.root, true, comp)
+    }
+
+    /// Removes each key that has an equal one in `other`, and returns whether there was one.
+    ///
+    /// Walks along both sets side by side, with at most one comparison for each key of either. Each removed key may rebalance or merge nodes,
+    /// as in [`Set::remove`]. No node and no memory is taken, so this can't be refused.
+    ///
+    /// Where both are one set, it is cleared. Where `other` is empty, nothing changes. Neither compares a key.
+    pub fn difference_with<C: Comparator<K>>(
+        &mut self,
+        other: &Set<K>,
+        forest: &mut SetForest<K>,
+        comp: &C,
+    ) -> bool
+        requires searchable { IsSearchable (C.order comp.now) forest.old self.old }
+        requires other { IsSearchable (C.order comp.now) forest.old other.now }
+        ensures { Subtracts SET_LEAF (C.order comp.now) forest.old self.old other.now result forest.new
+            self.new }
+    {
+        forest.trees.keep(&mut self.root, other.root, false, comp)
     }
 
     /// Keeps the keys for which the predicate returns `true`, and removes all others.

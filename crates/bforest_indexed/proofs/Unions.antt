@@ -1,12 +1,14 @@
--- What a union of the trees of two indices leaves of all trees.
-use Rattle.bforest.specs.Calls.{Unites, need_of_union}
-use Rattle.bforest.specs.Forest.{Forest, list_of, room_of, sizes_of}
+-- What a call on the trees of two indices leaves of all trees.
+use Rattle.bforest.proofs.Balances.{keeps-balance}
+use Rattle.bforest.specs.Calls.{KeepsFrom, Unites, need_of_union}
+use Rattle.bforest.specs.Entries.{is_present, value_for}
+use Rattle.bforest.specs.Forest.{Forest, Gives, list_of, room_of, sizes_of}
 use Rattle.bforest.specs.Refusal.{Full, OutOfMemory}
 use Rattle.bforest.specs.Room.{Balances, node_count}
-use Rattle.bforest.specs.Union.{are_among, are_apart}
+use Rattle.bforest.specs.Union.{are_among, are_apart, fits}
 use Rattle.bforest_indexed.proofs.Kept.{changes, changes-not, here, kept-set, list-here, ok-err, read, same-list, with_tree}
-use Rattle.bforest_indexed.specs.Indexed.{AreKept, Indexed, UnitesAt, count, entries, handle, table}
-use Rattle.std.proofs.Common.{Bool, Err, None, Ok, Option, Result, ap, arith, false, get_or, inl, inr, refl, slice_set, subst, sym, true, ◌<◌, ◌∙◌, ◌≡◌, ◌≤◌, ℕ}
+use Rattle.bforest_indexed.specs.Indexed.{AreKept, Indexed, KeepsFromAt, UnitesAt, count, entries, handle, node_sizes, table}
+use Rattle.std.proofs.Common.{Bool, Err, List, None, Ok, Option, Result, ap, arith, false, get_or, if◌then◌else◌, inl, inr, length, refl, slice_set, subst, sym, true, ◌<◌, ◌∙◌, ◌≡◌, ◌≤◌, ℕ}
 use Rattle.std.proofs.lemmas.Bool.Decides.{leb_tells}
 use Rattle.std.proofs.lemmas.List.{set-get_or}
 use Rattle.std.specs.declared.cmp.Ordering.{Ordering}
@@ -85,6 +87,32 @@ module _ {K X C : Type 0} {most : ℕ} {cmp : K → K → Ordering} {m : Indexed
     united-at {h} {q} is other_within other_is {r} call =
         united-here r (subst (λ (z : Option ℕ). Unites most cmp (table m) (handle m i) z r f' h') (read a other_within other_is)
         (subst (λ (z : Option ℕ). Unites most cmp (table m) z q r f' h') (read a within is) call))
+
+    keeps-here : {present r : Bool} → KeepsFrom most cmp present (table m) (handle m i) (handle m j) r f' h'
+        → AreKept most cmp (with_tree m i f' h') × KeepsFromAt most cmp present m i j r (with_tree m i f' h')
+    keeps-here {present} {r} call = (
+      kept-set a within call.kept call.increasing (keeps-balance most a.odd (table m) f' (handle m i) h' (a.fit i) call),
+      record {
+        kept = list-here a within call.kept;
+        changed = call.changed;
+        found = λ q. subst (λ (es : List (K × X)). value_for cmp es q ≡ (if fits present (is_present cmp (entries m j) q) then value_for cmp (entries m i) q else None)) (sym list) (call.found q);
+        sizes = λ some. ap (sizes_of f') (here a within call.kept) ∙ call.sizes (λ none. some (list ∙ none));
+        beside = changes a within call.kept;
+        account = subst (λ (z : Option ℕ). Gives (node_sizes m i) (sizes_of f' z) (table m) f') (sym (here a within call.kept)) call.account;
+        fewer = λ e. subst (λ (es : List (K × X)). length es < length (entries m i)) (sym list) (call.fewer e);
+        same = λ e. unchanged (call.same_forest e) (call.same_handle e);
+      },
+    )
+      where
+        list : entries (with_tree m i f' h') i ≡ list_of f' h'
+        list = ap (list_of f') (here a within call.kept)
+
+    -- the handles of two indices were read, and the entries of one kept by the keys of the other
+    pub keeps-at : {h q : Option ℕ} → h ≡ get_or m.handles i h → j < count m → q ≡ get_or m.handles j q → {present r : Bool} → KeepsFrom most cmp present (table m) h q r f' h'
+        → AreKept most cmp (with_tree m i f' h') × KeepsFromAt most cmp present m i j r (with_tree m i f' h')
+    keeps-at {h} {q} is other_within other_is {present} {r} call =
+        keeps-here (subst (λ (z : Option ℕ). KeepsFrom most cmp present (table m) (handle m i) z r f' h') (read a other_within other_is)
+        (subst (λ (z : Option ℕ). KeepsFrom most cmp present (table m) z q r f' h') (read a within is) call))
 
   -- what two lists tell is what the handles that were read tell
   module _ {h q : Option ℕ} (is : h ≡ get_or m.handles i h) (other_within : j < count m) (other_is : q ≡ get_or m.handles j q) where

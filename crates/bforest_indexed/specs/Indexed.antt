@@ -6,9 +6,9 @@ use Rattle.bforest.specs.Forest.{ArePacked, Forest, Gives, GrowsFor, IsFitFor, I
 -- `TakesAndGives d sizes f f'`: d slots were taken, and then those of a tree of these sizes freed.
 pub use Rattle.bforest.specs.Forest.{TakesAndGives}
 use Rattle.bforest.specs.Refusal.{Full, Memory, OutOfMemory}
-use Rattle.bforest.specs.Retain.{Retains}
+use Rattle.bforest.specs.Retain.{Retains, sizes_by}
 use Rattle.bforest.specs.Room.{IsEnoughFor, IsMostFor, node_count}
-use Rattle.bforest.specs.Union.{are_among, united}
+use Rattle.bforest.specs.Union.{are_among, fits, kept_from, kept_of, keeps_all, united}
 use Rattle.std.proofs.Math.Logic.{◌⊎◌}
 use Rattle.bforest_indexed.specs.Handles.{Holds}
 use Rattle.std.specs.Cmp.{IsTotalOrder}
@@ -267,6 +267,26 @@ module _ {K X C : Type 0} where
       pub full : (result ≡ Err Full) ↔ IsTooMany (need_of_union most cmp (table m) (handle m i) (handle m j)) (table m)
       pub memory : result ≡ Err Memory → are_among cmp (entries m j) (entries m i) ≡ false
       pub refused : OnErr result (m' ≡ m)
+
+    -- The entries of i whose key is in j stay, or those whose key is not, as `present` says, with their values. The others were removed, in the
+    -- order of their keys, and whether there was one is answered; where there was none, nothing changed. No node was taken.
+    pub record KeepsFromAt (present : Bool) (m : Indexed K X C) (i j : ℕ) (result : Bool) (m' : Indexed K X C) : Type 0 where
+      pub kept : entries m' i ≡ kept_from cmp present (entries m i) (entries m j)
+      pub changed : result ≡ not (keeps_all cmp present (entries m i) (entries m j))
+      pub found : (q : K) → value_for cmp (entries m' i) q ≡ (if fits present (is_present cmp (entries m j) q) then value_for cmp (entries m i) q else None)
+      pub sizes : entries m' i ≢ [] → node_sizes m' i ≡ sizes_by most 0 (kept_of cmp present (entries m i) (entries m j)) (node_sizes m i)
+      pub beside : ChangesAt m i m'
+      pub account : Gives (node_sizes m i) (node_sizes m' i) (table m) (table m')
+      pub fewer : result ≡ true → length (entries m' i) < length (entries m i)
+      pub same : result ≡ false → m' ≡ m
+
+    -- the entries of i whose key is in j stay
+    abbrev pub IntersectsAt : Indexed K X C → ℕ → ℕ → Bool → Indexed K X C → Type 0
+    IntersectsAt m i j result m' = KeepsFromAt true m i j result m'
+
+    -- the entries of i whose key is not in j stay
+    abbrev pub SubtractsAt : Indexed K X C → ℕ → ℕ → Bool → Indexed K X C → Type 0
+    SubtractsAt m i j result m' = KeepsFromAt false m i j result m'
 
     -- the key k was removed from i, and its value is answered
     pub record RemovesAt (m : Indexed K X C) (i : ℕ) (k : K) (result : Option X) (m' : Indexed K X C) : Type 0 where

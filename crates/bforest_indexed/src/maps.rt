@@ -8,7 +8,7 @@ ghost use Rattle.bforest.specs.Retain.{Answers, MayAsk, MayAskEach};
 ghost use Rattle.bforest_indexed.specs.Edits.{EditsAt};
 ghost use Rattle.bforest_indexed.specs.Indexed.{HoldsFor, ReservesFor};
 ghost use Rattle.bforest_indexed.specs.Loads.{LoadsAt};
-ghost use Rattle.bforest_indexed.specs.Indexed.{ClearsAll, ClearsAt, CopiesAt, FiltersAt, GetsOrInsertsAt, InsertsAt, UnitesAt, UpdatesAt, UpdatesOrInsertsAt};
+ghost use Rattle.bforest_indexed.specs.Indexed.{ClearsAll, ClearsAt, CopiesAt, FiltersAt, GetsOrInsertsAt, InsertsAt, IntersectsAt, SubtractsAt, UnitesAt, UpdatesAt, UpdatesOrInsertsAt};
 ghost use Rattle.bforest_indexed.specs.Indexed.{KeepsAll, PopsAt, RemovesAt, Swaps};
 ghost use Rattle.bforest.specs.declared.map_forest.TheConstants.{MAP_LEAF};
 ghost use Rattle.bforest_indexed.specs.Indexed.{comparator, count, entries, memory, node_sizes, nodes_in_use, table};
@@ -377,6 +377,36 @@ impl<K: Copy, V: Copy, C: Comparator<K>> Maps<K, V, C> {
     {
         let theirs = self.maps[other].clone();
         self.maps[index].union_with(&theirs, &mut self.forest, &self.order)
+    }
+
+    /// Removes each entry of the map at `index` whose key has no equal one in the map at `other`, and returns whether there was one. The
+    /// entries that stay keep their values. Where both are one, nothing changes.
+    ///
+    /// As [`bforest::Map::intersect_with`]: walks along both, with at most one comparison for each entry of either. It takes no node and no
+    /// memory, so it can't be refused.
+    pub fn intersect_with(&mut self, index: usize, other: usize) -> bool
+        requires within { index < count self.old }
+        requires other { other < count self.old }
+        ensures { IntersectsAt MAP_LEAF (C.order (comparator self.old)) self.old index other result
+            self.new }
+    {
+        let theirs = self.maps[other].clone();
+        self.maps[index].intersect_with(&theirs, &mut self.forest, &self.order)
+    }
+
+    /// Removes each entry of the map at `index` whose key has an equal one in the map at `other`, and returns whether there was one. The
+    /// entries that stay keep their values. Where both are one, all entries are removed.
+    ///
+    /// As [`bforest::Map::difference_with`]: walks along both, with at most one comparison for each entry of either. It takes no node and no
+    /// memory, so it can't be refused.
+    pub fn difference_with(&mut self, index: usize, other: usize) -> bool
+        requires within { index < count self.old }
+        requires other { other < count self.old }
+        ensures { SubtractsAt MAP_LEAF (C.order (comparator self.old)) self.old index other result
+            self.new }
+    {
+        let theirs = self.maps[other].clone();
+        self.maps[index].difference_with(&theirs, &mut self.forest, &self.order)
     }
 
     /// Keeps the entries for which the predicate returns `true`, with the value as the predicate left it, and removes all others. It is

@@ -9,7 +9,7 @@ ghost use Rattle.bforest.specs.Set.{AnswersKey, MayAskKey, as_popped, as_put, as
 ghost use Rattle.bforest.specs.Union.{are_among, are_apart};
 ghost use Rattle.bforest_indexed.specs.Indexed.{HoldsFor, ReservesFor};
 ghost use Rattle.bforest_indexed.specs.Loads.{LoadsAt};
-ghost use Rattle.bforest_indexed.specs.Indexed.{ClearsAll, ClearsAt, CopiesAt, FiltersAt, InsertsAt, KeepsAll, PopsAt, RemovesAt, Swaps, UnitesAt};
+ghost use Rattle.bforest_indexed.specs.Indexed.{ClearsAll, ClearsAt, CopiesAt, FiltersAt, InsertsAt, IntersectsAt, KeepsAll, PopsAt, RemovesAt, SubtractsAt, Swaps, UnitesAt};
 ghost use Rattle.bforest.specs.declared.set_forest.TheConstants.{SET_LEAF};
 ghost use Rattle.bforest_indexed.specs.Indexed.{comparator, count, entries, keys, memory, node_sizes, nodes_in_use, table};
 ghost use Rattle.std.specs.Map.{keys_of};
@@ -354,6 +354,36 @@ impl<K: Copy, C: Comparator<K>> Sets<K, C> {
     {
         let theirs = self.sets[other].clone();
         self.sets[index].union_with(&theirs, &mut self.forest, &self.order)
+    }
+
+    /// Removes each key of the set at `index` that has no equal one in the set at `other`, and returns whether there was one. The keys that
+    /// stay are the set's own. Where both are one, nothing changes.
+    ///
+    /// As [`bforest::Set::intersect_with`]: walks along both, with at most one comparison for each key of either. It takes no node and no
+    /// memory, so it can't be refused.
+    pub fn intersect_with(&mut self, index: usize, other: usize) -> bool
+        requires within { index < count self.old }
+        requires other { other < count self.old }
+        ensures { IntersectsAt SET_LEAF (C.order (comparator self.old)) self.old index other result
+            self.new }
+    {
+        let theirs = self.sets[other].clone();
+        self.sets[index].intersect_with(&theirs, &mut self.forest, &self.order)
+    }
+
+    /// Removes each key of the set at `index` that has an equal one in the set at `other`, and returns whether there was one. Where both are
+    /// one, all keys are removed.
+    ///
+    /// As [`bforest::Set::difference_with`]: walks along both, with at most one comparison for each key of either. It takes no node and no
+    /// memory, so it can't be refused.
+    pub fn difference_with(&mut self, index: usize, other: usize) -> bool
+        requires within { index < count self.old }
+        requires other { other < count self.old }
+        ensures { SubtractsAt SET_LEAF (C.order (comparator self.old)) self.old index other result
+            self.new }
+    {
+        let theirs = self.sets[other].clone();
+        self.sets[index].difference_with(&theirs, &mut self.forest, &self.order)
     }
 
     /// Keeps the keys for which the predicate returns `true`, and removes all others. It is called once for each key, in order. No

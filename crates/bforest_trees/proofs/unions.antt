@@ -1,5 +1,8 @@
--- Lemmas on two trees read side by side, and on the union of two lists.
+-- Lemmas on two trees read side by side, on the union of two lists, and on what one keeps of the other.
 pub mod Merging
 pub mod Rising
 pub mod Fronts
 pub mod Uniting
+pub mod Choosing
+pub mod Keeping
+pub mod Restricting

@@ -5,13 +5,13 @@ use Rattle.bforest_core.specs.Packed.{ArePacked, fewest}
 use Rattle.bforest_core.specs.Sizes.{IsFitFor, shrink}
 use Rattle.bforest_core.specs.declared.pool.OutOfMemory.TheVariants.{Full, Memory}
 use Rattle.bforest_core.specs.declared.pool.OutOfMemory.{OutOfMemory}
-use Rattle.bforest_nodes.specs.Entries.{IsIncreasing, cut, put, value_for}
+use Rattle.bforest_nodes.specs.Entries.{IsIncreasing, cut, is_present, put, value_for}
 use Rattle.bforest_trees.specs.Forest.{Becomes, Forest, Gives, GrowsFor, IsLive, IsTooMany, Keeps, NeedsGrowth, Takes, TakesAndGives, free_of, list_of, memory_of, need_of, nodes_of, sizes_of, sizes_with, sizes_without, slots_of}
-use Rattle.bforest_trees.specs.Retain.{Retains}
+use Rattle.bforest_trees.specs.Retain.{Retains, sizes_by}
 use Rattle.bforest_trees.specs.Shift.{Rekeys}
-use Rattle.bforest_trees.specs.Union.{are_among, united}
+use Rattle.bforest_trees.specs.Union.{are_among, fits, kept_from, kept_of, keeps_all, united}
 use Rattle.std.specs.Fn.{FnOnceReturns, Once}
-use Rattle.std.specs.Prelude.{Bool, Err, IfOk, IfSome, IsOk, IsSome, List, None, Ok, OnErr, OnOk, Option, Result, Some, [], drop, false, if◌then◌else◌, length, nat_lt, not, remove, slice_get, take, true, unwrap_or, ◌++◌, ◌+◌, ◌-◌, ◌<◌, ◌↔◌, ◌≡◌, ◌≤◌, ℕ}
+use Rattle.std.specs.Prelude.{Bool, Err, IfOk, IfSome, IsOk, IsSome, List, None, Ok, OnErr, OnOk, Option, Result, Some, [], drop, false, if◌then◌else◌, length, nat_lt, not, remove, slice_get, take, true, unwrap_or, ◌++◌, ◌+◌, ◌-◌, ◌<◌, ◌↔◌, ◌≡◌, ◌≢◌, ◌≤◌, ℕ}
 use Rattle.std.specs.Cmp.{IsTotalOrder}
 use Rattle.std.specs.Ordering.{is_eq}
 use Rattle.std.specs.declared.cmp.Ordering.{Ordering}
@@ -214,3 +214,29 @@ module _ {K X : Type 0} (most : ℕ) (cmp : K → K → Ordering) where
     pub memory : result ≡ Err Memory → are_among cmp (list_of f other) (list_of f h) ≡ false
     pub refused_forest : OnErr result (f' ≡ f)
     pub refused_handle : OnErr result (h' ≡ h)
+
+  -- The entries of h whose key is in the list of `other` stay, or those whose key is not, as `present` says, with their values. The others were
+  -- removed, in the order of their keys, and whether there was one is returned; where there was none, nothing changed. No node was taken. The
+  -- two handles may be the same.
+  pub record KeepsFrom (present : Bool) (f : Forest K X) (h other : Option ℕ) (result : Bool) (f' : Forest K X) (h' : Option ℕ) : Type 0 where
+    pub kept : Becomes f h f' h' (kept_from cmp present (list_of f h) (list_of f other))
+    pub changed : result ≡ not (keeps_all cmp present (list_of f h) (list_of f other))
+    pub found : (q : K) → value_for cmp (list_of f' h') q ≡ (if fits present (is_present cmp (list_of f other) q) then value_for cmp (list_of f h) q else None)
+    pub sizes : list_of f' h' ≢ [] → sizes_of f' h' ≡ sizes_by most 0 (kept_of cmp present (list_of f h) (list_of f other)) (sizes_of f h)
+    pub same_levels : SameLevels f h f' h'
+    pub account : Gives (sizes_of f h) (sizes_of f' h') f f'
+    pub increasing : IsIncreasing cmp (list_of f' h')
+    pub fewer : result ≡ true → length (list_of f' h') < length (list_of f h)
+    pub same_forest : result ≡ false → f' ≡ f
+    pub same_handle : result ≡ false → h' ≡ h
+    pub other_live : other ≢ h → IsLive f' other
+    pub other_list : other ≢ h → list_of f' other ≡ list_of f other
+    pub other_sizes : other ≢ h → sizes_of f' other ≡ sizes_of f other
+
+  -- the entries of h whose key is in the list of `other` stay
+  abbrev pub Intersects : Forest K X → Option ℕ → Option ℕ → Bool → Forest K X → Option ℕ → Type 0
+  Intersects f h other result f' h' = KeepsFrom true f h other result f' h'
+
+  -- the entries of h whose key is not in the list of `other` stay
+  abbrev pub Subtracts : Forest K X → Option ℕ → Option ℕ → Bool → Forest K X → Option ℕ → Type 0
+  Subtracts f h other result f' h' = KeepsFrom false f h other result f' h'

@@ -1,6 +1,7 @@
 pub mod Bounds
 pub mod Calls
 pub mod Forest
+pub mod Keep
 pub mod Layout
 pub mod Looks
 pub mod Merge

@@ -4,6 +4,7 @@
 //! each number (`specs/Forest.antt`); docs/MODEL.md reads these definitions aloud.
 #![tactic(auto)]
 
+mod keep;
 mod look;
 mod merge;
 mod order;

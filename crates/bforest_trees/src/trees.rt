@@ -18,6 +18,7 @@ mod compare;
 mod copy;
 mod count;
 mod get_or_insert;
+mod keep;
 mod load;
 mod peek;
 mod pop;

@@ -2,7 +2,7 @@
 use Rattle.bforest_nodes.proofs.Ordered.{IsIncreasing-put, above, place-here, place-later}
 use Rattle.bforest_nodes.specs.Entries.{IsIncreasing, is_present, place, put, with_value}
 use Rattle.bforest_trees.specs.Merge.{TakesOff, agrees, front_order}
-use Rattle.bforest_trees.specs.Union.{are_among, are_apart, united}
+use Rattle.bforest_trees.specs.Union.{are_among, are_apart, fits, united}
 use Rattle.std.proofs.Common.{Bool, List, None, Some, [], ap, arith, false, if◌then◌else◌, insert, length, not, refl, slice_get, suc, sym, true, zero, append_assoc, append-nil, length-append, ◌||◌, ◌++◌, ◌<◌, ◌+◌, ◌≤◌, ◌∙◌, ◌∷◌, ◌≡◌, ◌&&◌, ℕ}
 use Rattle.std.specs.Cmp.{IsTotalOrder, tied_itself}
 use Rattle.std.specs.List.Sorted.{IsStrictlySortedBy}
@@ -19,10 +19,6 @@ module _ {K : Type 0} (cmp : K → K → Ordering) (o : IsTotalOrder cmp) where
 
   equal-back : (a b : K) → cmp a b ≡ Equal → cmp b a ≡ Equal
   equal-back a b t = o.antisymm b a ∙ ap ordering_reverse t
-
--- what a key's presence is to be
-abbrev fits : Bool → Bool → Bool
-fits present found = if present then found else not found
 
 module _ {K X : Type 0} (cmp : K → K → Ordering) where
   -- the key of e is less than each of these

@@ -1,0 +1,21 @@
+use Rattle.bforest_indexed.proofs.Kept.{ordered-read}
+use Rattle.bforest_indexed.proofs.Sizes.{first-field}
+use Rattle.bforest_indexed.proofs.Unions.{keeps-at}
+use Rattle.bforest_indexed.proofs.maps.Maps.intersect_with.Goals as goal
+
+pub intersect_with-requires : goal.intersect_with-requires
+intersect_with-requires g c = (
+  search first-field,
+  (
+    ordered-read c.self.invariant (rw (← c.self.view_is) at c.requires.within) c.index_mut.ensures.value,
+    rw c.clone-theirs.ensures.same (ordered-read c.self.invariant (rw (← c.self.view_is) at c.requires.other) c.index.ensures),
+  ),
+)
+
+pub invariant_of-self : goal.invariant_of-self
+invariant_of-self g c = (keeps-at c.args.other c.self.invariant (rw (← c.self.view_is) at c.requires.within) c.index_mut.ensures.value (rw (← c.self.view_is) at c.requires.other) c.index.ensures
+    (rw c.clone-theirs.ensures.same at c.intersect_with.ensures)).0
+
+pub returns : goal.returns
+returns g c = rw (← c.self.view_is) ((keeps-at c.args.other c.self.invariant (rw (← c.self.view_is) at c.requires.within) c.index_mut.ensures.value (rw (← c.self.view_is) at c.requires.other) c.index.ensures
+    (rw c.clone-theirs.ensures.same at c.intersect_with.ensures)).1)

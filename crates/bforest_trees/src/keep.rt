@@ -1,0 +1,87 @@
+//! Keeping the entries of a tree by whether their keys are in another tree.
+ghost use Rattle.bforest_core.specs.Paths.{StandsOn, list_under};
+ghost use Rattle.bforest_core.specs.Trees.{IsUnion, is_root};
+ghost use Rattle.bforest_nodes.specs.Entries.{IsIncreasing};
+ghost use Rattle.bforest_trees.specs.Keep.{Kept, Nears, Reaches, Steps};
+ghost use Rattle.std.specs.Prelude.{IsTrue, ◌≢◌, ℕ};
+
+use bforest_core::{Comparator, Node, NodePool, Path};
+
+/// Keeps the entries of the tree under a root whose keys are in the tree under `other`, or those whose keys are not, as `present` says.
+/// Returns the new root, or `None` where no entry stays, and whether an entry was removed. The two roots differ.
+///
+/// Two paths walk side by side, so this takes at most one comparison for each entry of both trees.
+pub(crate) fn keep<K: Copy, V: Copy, const N: usize, C: Comparator<K>>(
+    pool: &mut NodePool<K, V, N>,
+    root: Node,
+    other: Node,
+    present: bool,
+    comp: &C,
+) -> (Option<Node>, bool)
+    requires union { IsUnion N pool.old }
+    requires root { IsTrue (is_root pool.old.nodes root) }
+    requires other { IsTrue (is_root pool.old.nodes other) }
+    requires apart { root ≢ other }
+    requires increasing { IsIncreasing (C.order comp.now) (list_under pool.old root) }
+    requires other_increasing { IsIncreasing (C.order comp.now) (list_under pool.old other) }
+    ensures { Kept N pool.old pool.new root (C.order comp.now) present other result.0 result.1 }
+{
+    let mut root = root;
+    let mut changed = false;
+    let mut path = Path::default();
+    let mut beside = Path::default();
+    path.first(root, pool);
+    beside.first(other, pool);
+    while let Some(entry) = path.entry(pool) {
+        let stays = find_onwards(entry.0, &mut beside, pool, comp) == present;
+        changed |= !stays;
+        let Some(left) = keep_step(stays, &mut path, root, pool) else {
+            return (None, changed);
+        };
+        root = left;
+    }
+    (Some(root), changed)
+}
+
+// Whether a key is in the tree of a path, which stands at the key's place or in front of it, and goes there.
+fn find_onwards<K: Copy, V: Copy, const N: usize, C: Comparator<K>>(
+    key: K,
+    path: &mut Path<K, V, N>,
+    pool: &NodePool<K, V, N>,
+    comp: &C,
+) -> bool
+    requires union { IsUnion N pool.now }
+    requires nears { (root : ℕ) × Nears (C.order comp.now) pool.now root path.old key }
+    ensures reached { (root : ℕ) → Nears (C.order comp.now) pool.now root path.old key
+        → Reaches (C.order comp.now) pool.now root path.new key result }
+{
+    while let Some(entry) = path.entry(pool) {
+        let order = comp.cmp(entry.0, key);
+        if !order.is_lt() {
+            return order.is_eq();
+        }
+        path.next(pool);
+    }
+    false
+}
+
+// Goes to the next entry from the one where a path stands, or to the end, and removes the entry unless it stays.
+// Returns the new root.
+#[inline(always)]
+fn keep_step<K: Copy, V: Copy, const N: usize>(
+    stays: bool,
+    path: &mut Path<K, V, N>,
+    root: Node,
+    pool: &mut NodePool<K, V, N>,
+) -> Option<Node>
+    requires union { IsUnion N pool.old }
+    requires stands { (place : ℕ) × StandsOn pool.old root path.old place }
+    ensures { Steps N pool.old pool.new root path.old path.new stays result }
+{
+    if stays {
+        path.next(pool);
+        Some(root)
+    } else {
+        path.remove(pool)
+    }
+}
