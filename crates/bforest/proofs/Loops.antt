@@ -9,6 +9,7 @@ use Rattle.bforest.specs.Refusal.{OutOfMemory}
 use Rattle.bforest.specs.declared.map_cursor_mut.MapCursorMut.{MapCursorMut}
 use Rattle.std.proofs.Common.{Bool, Err, List, None, Ok, Option, Result, Some, [], ap, append-nil, append_assoc, arith, cond, drop, false, get_or, if◌then◌else◌, inl, inr, length, min, not, refl, remove, reverse, slice_get, subst, suc, sym, take, true, zero, ◌+◌, ◌++◌, ◌-◌, ◌<◌, ◌∙◌, ◌∷◌, ◌≡◌, ◌≢◌, ◌≤◌, ℕ, option_map}
 use Rattle.std.proofs.lemmas.List.{reverse-append}
+use Rattle.std.proofs.lemmas.Option.{slice_get_cases, slice_get_within}
 use Rattle.std.specs.List.{AllByRecursion, filter}
 use Rattle.std.specs.Option.{is_some}
 use Rattle.std.specs.declared.cmp.Ordering.{Ordering}
@@ -35,6 +36,20 @@ module _ {X : Type 0} (all : List X) where
   -- equal parts make up the list, too
   pub parts-same : (front front' left left' back back' : List X) → front' ≡ front → left' ≡ left → back' ≡ back → Parts front left back → Parts front' left' back'
   parts-same front front' left left' back back' f l b p = p ∙ sym (λ j. f j ++ l j ++ reverse (b j))
+
+module _ {X : Type 0} where
+  -- a place from which a step read an element is within the list
+  pub is-within : (o : Option X) (es : List X) (p : ℕ) → o ≡ slice_get es p → is_some o ≡ true → p < length es
+  is-within None es p is some = absurd (cc)
+  is-within (Some x) es p is some = slice_get_within es p x (sym is)
+
+  -- a place from which it read none is past the end
+  pub is-past : (o : Option X) (es : List X) (p : ℕ) → o ≡ slice_get es p → is_some o ≡ false → length es ≤ p
+  is-past (Some x) es p is none = absurd (cc)
+  is-past None es p is none = elim (slice_get_cases es p).1 [
+    | inl w ↦ absurd (let bad = is ∙ w.2 in cc)
+    | inr w ↦ w.0
+  ]
 
 module _ {A B : Type 0} (f : A → B) where
   -- a place that has an element is within the list

@@ -3,7 +3,7 @@ use Rattle.bforest_core.specs.declared.pool.OutOfMemory.{OutOfMemory}
 use Rattle.bforest_trees.specs.Forest.{Forest, list_of}
 use Rattle.std.specs.Fn.{Called, Mut, Takes}
 use Rattle.std.specs.Map.{keys_of}
-use Rattle.std.specs.Prelude.{Bool, Err, List, None, Ok, Option, Result, Some, false, true, ℕ}
+use Rattle.std.specs.Prelude.{Bool, Err, List, None, Ok, Option, Result, Some, false, if◌then◌else◌, true, ℕ}
 -- `with_unit keys`: the entries of a set with these keys, in this order.
 pub use Rattle.bforest_core.specs.Packed.{with_unit}
 
@@ -17,8 +17,7 @@ the_value = tt
 
 -- the result of a set's insertion, as that of an insertion of an entry
 abbrev pub as_put : Result Bool OutOfMemory → Result (Option (Unit {0})) OutOfMemory
-as_put (Ok true) = Ok None
-as_put (Ok false) = Ok (Some the_value)
+as_put (Ok is_new) = Ok (if is_new then None else Some the_value)
 as_put (Err refused) = Err refused
 
 -- the result of a set's removal, as that of a removal of an entry

@@ -2,11 +2,13 @@
 ghost use Rattle.bforest.specs.Calls.{RemovesAt};
 ghost use Rattle.bforest.specs.Forest.{list_of, memory_of, slots_of};
 ghost use Rattle.bforest.specs.declared.map_forest.TheConstants.{MAP_LEAF};
-ghost use Rattle.bforest_indexed.specs.Indexed.{HasRoom, StaysWithin, comparator, count, table};
-ghost use Rattle.std.specs.Prelude.{IfOk, IsOk, length, ◌-◌, ◌<◌, ◌≡◌};
+ghost use Rattle.bforest.specs.Entries.{value_for};
+ghost use Rattle.bforest_indexed.specs.Indexed.{HasRoom, StaysWithin, comparator, count, entries, table};
+ghost use Rattle.std.specs.Ordering.{is_eq};
+ghost use Rattle.std.specs.Prelude.{IfOk, IsOk, Some, false, is_some, length, true, ◌-◌, ◌<◌, ◌≡◌};
 
 use bforest::MapCursorMut;
-use bforest_indexed::{Comparator, Edit, Maps, OutOfMemory};
+use bforest_indexed::{Comparator, Edit, Maps, OutOfMemory, Sets};
 
 /// Inserts an entry where there is room for `room.0` maps of `room.1` entries each, and stays within these numbers: that never fails.
 pub fn insert_in_room<K: Copy, V: Copy, C: Comparator<K>>(
@@ -36,6 +38,106 @@ pub fn make_room_and_insert<K: Copy, V: Copy, C: Comparator<K>>(
 {
     maps.reserve_for(room.0, room.1)?;
     Ok(maps.insert(index, entry.0, entry.1))
+}
+
+/// Inserts a value and looks its key up again: the lookup finds it.
+pub fn insert_and_get<K: Copy, V: Copy, C: Comparator<K>>(
+    maps: &mut Maps<K, V, C>,
+    index: usize,
+    key: K,
+    value: V,
+) -> Result<Option<V>, OutOfMemory>
+    requires within { index < count maps.old }
+    ensures { IfOk result (λ found. found ≡ Some value) }
+{
+    maps.insert(index, key, value)?;
+    Ok(maps.get(index, key))
+}
+
+/// Inserts a value and looks another key up: its value stays.
+pub fn insert_and_get_other<K: Copy, V: Copy, C: Comparator<K>>(
+    maps: &mut Maps<K, V, C>,
+    index: usize,
+    entry: (K, V),
+    other: K,
+) -> Result<Option<V>, OutOfMemory>
+    requires within { index < count maps.old }
+    requires apart { is_eq (C.order (comparator maps.old) entry.0 other) ≡ false }
+    ensures { IfOk result (λ found. found
+        ≡ value_for (C.order (comparator maps.old)) (entries maps.old index) other) }
+{
+    maps.insert(index, entry.0, entry.1)?;
+    Ok(maps.get(index, other))
+}
+
+/// Removes a key and looks another key up: its value stays.
+pub fn remove_and_get_other<K: Copy, V: Copy, C: Comparator<K>>(
+    maps: &mut Maps<K, V, C>,
+    index: usize,
+    key: K,
+    other: K,
+) -> Option<V>
+    requires within { index < count maps.old }
+    requires apart { is_eq (C.order (comparator maps.old) key other) ≡ false }
+    ensures { result ≡ value_for (C.order (comparator maps.old)) (entries maps.old index) other }
+{
+    maps.remove(index, key);
+    maps.get(index, other)
+}
+
+/// Inserts a key into a set and looks for it: it is there.
+pub fn insert_and_test<K: Copy, C: Comparator<K>>(
+    sets: &mut Sets<K, C>,
+    index: usize,
+    key: K,
+) -> Result<bool, OutOfMemory>
+    requires within { index < count sets.old }
+    ensures { IfOk result (λ found. found ≡ true) }
+{
+    sets.insert(index, key)?;
+    Ok(sets.contains(index, key))
+}
+
+/// Inserts a key into a set and looks for another: whether it is there stays.
+pub fn insert_and_test_other<K: Copy, C: Comparator<K>>(
+    sets: &mut Sets<K, C>,
+    index: usize,
+    key: K,
+    other: K,
+) -> Result<bool, OutOfMemory>
+    requires within { index < count sets.old }
+    requires apart { is_eq (C.order (comparator sets.old) key other) ≡ false }
+    ensures { IfOk result (λ found. found
+        ≡ is_some (value_for (C.order (comparator sets.old)) (entries sets.old index) other)) }
+{
+    sets.insert(index, key)?;
+    Ok(sets.contains(index, other))
+}
+
+/// Removes a key from a set and looks for another: whether it is there stays.
+pub fn remove_and_test_other<K: Copy, C: Comparator<K>>(
+    sets: &mut Sets<K, C>,
+    index: usize,
+    key: K,
+    other: K,
+) -> bool
+    requires within { index < count sets.old }
+    requires apart { is_eq (C.order (comparator sets.old) key other) ≡ false }
+    ensures { result ≡ is_some (value_for (C.order (comparator sets.old)) (entries sets.old index) other) }
+{
+    sets.remove(index, key);
+    sets.contains(index, other)
+}
+
+/// Makes room for maps, and then the maps: where the room could be made, there are so many.
+pub fn make_in_room<K: Copy, V: Copy, C: Comparator<K>>(
+    maps: &mut Maps<K, V, C>,
+    room: (usize, usize),
+) -> Result<bool, OutOfMemory>
+    ensures { IfOk result (λ made. made ≡ true) }
+{
+    maps.reserve_for(room.0, room.1)?;
+    Ok(maps.grow_to(room.0).is_ok())
 }
 
 /// Work that removes the last entry of a map, and answers its value.

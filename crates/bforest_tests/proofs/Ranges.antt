@@ -4,17 +4,13 @@ use Rattle.bforest.specs.Cursor.{Goes, IsCursor, Moves, Writes, entries, forest_
 use Rattle.bforest.specs.Forest.{Becomes, Forest, list_of}
 use Rattle.bforest.specs.declared.map_cursor_mut.MapCursorMut.{MapCursorMut}
 use Rattle.bforest.specs.Entries.{value_at_place, with_value}
-use Rattle.bforest_tests.proofs.Changing.{Changed, becomes-list, changed-again, goes-next, moved, same-entries, unchanged}
+use Rattle.bforest.proofs.Lengths.{length-written}
+use Rattle.bforest.proofs.Loops.{Changed, changed-again, changed-moved, changed-none, changed-removed, changed-written, moved-entries, next-spot, written-entries}
 use Rattle.bforest_tests.specs.Walks.{joined, joined_from}
 use Rattle.std.proofs.Common.{List, None, Option, Some, [], ap, arith, drop, false, length, min, option_map, refl, remove, slice_get, subst, suc, sym, take, true, zero, ◌+◌, ◌++◌, ◌-◌, ◌<◌, ◌≤◌, ◌∙◌, ◌≡◌, ◌∷◌, ℕ}
 use Rattle.std.proofs.lemmas.List.Edits.{length-remove}
 use Rattle.std.specs.Ordering.{is_eq}
 use Rattle.std.specs.declared.cmp.Ordering.{Ordering}
-
-length-with : {K V : Type 0} (es : List (K × V)) (p : ℕ) (w : V) → length (with_value es p w) ≡ length es
-length-with [] p w = refl
-length-with (x ∷ es) zero w = refl
-length-with (x ∷ es) (suc p) w = ap suc (length-with es p w)
 
 module _ {K : Type 0} (rule : K → K → Ordering) where
   -- a list whose ranges are joined from place p on, where the range there is `range`
@@ -85,15 +81,15 @@ module _ {K C : Type 0} (order : C → K → K → Ordering) (rule : K → K →
     pub rest : joined_at rule (spot d) (start, end) (entries d) ≡ joined rule (entries c)
 
   pub joins-first : (c : MapCursorMut K K C) (end : K) → IsCursor order c → spot c ≡ 0 → value_at_place (entries c) 0 ≡ Some end → Joins c c end
-  joins-first c end valid first is = let b = begun rule (entries c) (spot c) end first is in record { changed = unchanged order c valid; start = b.start; here = b.here; rest = b.rest }
+  joins-first c end valid first is = let b = begun rule (entries c) (spot c) end first is in record { changed = changed-none order c valid; start = b.start; here = b.here; rest = b.rest }
 
   -- one step of the loop
   module _ (c d e : MapCursorMut K K C) (end : K) (n : K × K) (next : Moves order d e (min (spot d + 1) (length (entries d)))) (is : Some n ≡ slice_get (entries d) (spot d + 1)) (more : spot d + 1 < length (entries d)) (t : Joins c d end) where
     there : spot e ≡ suc (spot d)
-    there = goes-next order d e next more
+    there = next-spot order next more
 
     same : entries e ≡ entries d
-    same = same-entries order d e _ next
+    same = moved-entries order next
 
     pub there-within : spot e < length (entries e)
     there-within = omega (arith, there, more, ap length same)
@@ -103,7 +99,7 @@ module _ {K C : Type 0} (order : C → K → K → Ordering) (rule : K → K →
 
     pub joins-on : is_eq (rule end n.0) ≡ false → Joins c e n.1
     joins-on apart = record {
-      changed = moved order c d e _ t.changed next;
+      changed = changed-moved order t.changed next;
       start = n.0;
       here = (λ j. slice_get (same j) (there j)) ∙ there-is;
       rest = (λ j. joined_at rule (there j) n (same j)) ∙ joined-on rule (spot d) (entries d) (t.start, end) n t.here there-is apart ∙ t.rest;
@@ -115,7 +111,7 @@ module _ {K C : Type 0} (order : C → K → K → Ordering) (rule : K → K →
         let back : spot f ≡ spot d = goes.spot ∙ omega (arith, there) in
         let left : entries f ≡ with_value (remove (entries d) (suc (spot d))) (spot d) n.1 = b.list ∙ (λ j. with_value (remove (same j) (there j)) (there j - 1) n.1) ∙ ap (λ i. with_value (remove (entries d) (suc (spot d))) i n.1) (omega arith) in
         record {
-          changed = changed-again order c e f _ _ (moved order c d e _ t.changed next) goes b;
+          changed = changed-again order (changed-moved order t.changed next) goes b;
           start = t.start;
           here = (λ j. slice_get (left j) (back j)) ∙ there-both rule (spot d) (entries d) (t.start, end) n t.here within;
           rest = (λ j. joined_at rule (back j) (t.start, n.1) (left j)) ∙ joined-both rule (spot d) (entries d) (t.start, end) n t.here there-is meet ∙ t.rest;
@@ -126,24 +122,22 @@ module _ {K C : Type 0} (order : C → K → K → Ordering) (rule : K → K →
     fewer-on = omega (arith, there, more, ap length same)
 
     pub fewer-both : (f : MapCursorMut K K C) → Goes order e f (spot e - 1) → Becomes (forest_now e) (map_now e) (forest_now f) (map_now f) (with_value (remove (entries e) (spot e)) (spot e - 1) n.1) → length (entries f) - spot f < length (entries d) - spot d
-    fewer-both f goes b = omega (arith, there, more, ap length same, goes.spot, ap length b.list, length-with (remove (entries e) (spot e)) (spot e - 1) n.1, length-remove (entries e) (spot e) there-within)
+    fewer-both f goes b = omega (arith, there, more, ap length same, goes.spot, ap length b.list, length-written (remove (entries e) (spot e)) (spot e - 1) n.1, length-remove (entries e) (spot e) there-within)
 
 module _ {K C : Type 0} (order : C → K → K → Ordering) where
   -- the range at c is removed, and w is written as the end of the one before
   module _ (c d e f : MapCursorMut K K C) (w : K) (gone : RemovesAt 7 (forest_now c) (map_now c) (spot c) (forest_now d) (map_now d)) (goes : Goes order c d (spot c)) (back : Moves order d e (spot d - 1)) (valid : IsCursor order c) where
     left : entries e ≡ remove (entries c) (spot c)
-    left = same-entries order d e _ back ∙ gone.removed.list
+    left = moved-entries order back ∙ gone.removed.list
 
     before : spot e ≡ spot c - 1
     before = back.goes.spot ∙ ap (λ i. i - 1) goes.spot
 
     pub extended : Writes order e f w → Changed order c f
-    extended writes =
-        changed-again order c e f (spot e) (with_value (entries e) (spot e) w) (moved order c d e _ (changed-again order c c d (spot c) (remove (entries c) (spot c)) (unchanged order c valid) goes gone.removed) back) writes.goes
-        (subst (λ (h : Option ℕ). Becomes (forest_now e) (map_now e) (forest_now f) h (with_value (entries e) (spot e) w)) (sym writes.map) writes.becomes)
+    extended writes = changed-written order (changed-moved order (changed-removed order (changed-none order c valid) goes gone) back) writes
 
     pub extended-list : Writes order e f w → entries f ≡ with_value (remove (entries c) (spot c)) (spot c - 1) w
-    extended-list writes = ap (λ h. list_of (forest_now f) h) writes.map ∙ writes.becomes.list ∙ (λ j. with_value (left j) (before j) w)
+    extended-list writes = written-entries order writes ∙ (λ j. with_value (left j) (before j) w)
 
     pub extended-goes : Writes order e f w → Goes order c f (spot c - 1)
     extended-goes writes = record {

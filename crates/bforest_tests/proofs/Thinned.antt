@@ -3,7 +3,7 @@ use Rattle.bforest.specs.Calls.{RemovesAt}
 use Rattle.bforest.specs.Cursor.{Goes, IsCursor, Moves, entries, forest_now, map_now, spot}
 use Rattle.bforest.specs.Forest.{Becomes}
 use Rattle.bforest.specs.declared.map_cursor_mut.MapCursorMut.{MapCursorMut}
-use Rattle.bforest_tests.proofs.Changing.{Changed, becomes-list, changed-again, goes-next, moved, same-entries, unchanged}
+use Rattle.bforest.proofs.Loops.{Changed, changed-list, changed-moved, changed-none, changed-removed, moved-entries, next-spot}
 use Rattle.bforest_tests.specs.Walks.{every_other}
 use Rattle.std.proofs.Common.{List, [], ap, arith, drop, length, min, refl, remove, subst, suc, sym, take, zero, ◌+◌, ◌++◌, ◌-◌, ◌<◌, ◌≤◌, ◌∙◌, ◌≡◌, ◌∷◌, ℕ}
 use Rattle.std.proofs.lemmas.List.Edits.{length-remove}
@@ -41,7 +41,7 @@ module _ {K X C : Type 0} (order : C → K → K → Ordering) where
     pub rest : thinned_from (spot d) (entries d) ≡ every_other (entries c)
 
   pub thins-first : (c : MapCursorMut K X C) → IsCursor order c → spot c ≡ 0 → Thins c c
-  thins-first c valid first = record { changed = unchanged order c valid; rest = ap (λ p. thinned_from p (entries c)) first ∙ thinned-first (entries c) }
+  thins-first c valid first = record { changed = changed-none order c valid; rest = ap (λ p. thinned_from p (entries c)) first ∙ thinned-first (entries c) }
 
   -- one step of the loop, to the next entry, which is removed
   module _ (c d e f : MapCursorMut K X C) (next : Moves order d e (min (spot d + 1) (length (entries d)))) (more : spot d + 1 < length (entries d)) (gone : RemovesAt 7 (forest_now e) (map_now e) (spot e) (forest_now f) (map_now f)) (goes : Goes order e f (spot e)) where
@@ -49,14 +49,14 @@ module _ {K X C : Type 0} (order : C → K → K → Ordering) where
     within = omega (arith, more)
 
     there : spot f ≡ suc (spot d)
-    there = goes.spot ∙ goes-next order d e next more
+    there = goes.spot ∙ next-spot order next more
 
     left : entries f ≡ remove (entries d) (suc (spot d))
-    left = gone.removed.list ∙ (λ j. remove (same-entries order d e _ next j) (goes-next order d e next more j))
+    left = gone.removed.list ∙ (λ j. remove (moved-entries order next j) (next-spot order next more j))
 
     pub thins-next : Thins c d → Thins c f
     thins-next t = record {
-      changed = changed-again order c e f (spot e) (remove (entries e) (spot e)) (moved order c d e _ t.changed next) goes gone.removed;
+      changed = changed-removed order (changed-moved order t.changed next) goes gone;
       rest = (λ j. thinned_from (there j) (left j)) ∙ thinned-step (spot d) (entries d) within ∙ t.rest;
     }
 
@@ -65,5 +65,5 @@ module _ {K X C : Type 0} (order : C → K → K → Ordering) where
 
   -- the list after the last step of the loop
   pub thins-last : (c d e : MapCursorMut K X C) → Thins c d → Moves order d e (min (spot d + 1) (length (entries d))) → length (entries d) ≤ spot d + 1 → Becomes (forest_now c) (map_now c) (forest_now e) (map_now e) (every_other (entries c))
-  thins-last c d e t next past = becomes-list order c e (every_other (entries c)) (moved order c d e _ t.changed next)
-      (same-entries order d e _ next ∙ sym (thinned-last (spot d) (entries d) past) ∙ t.rest)
+  thins-last c d e t next past = changed-list order (changed-moved order t.changed next)
+      (moved-entries order next ∙ sym (thinned-last (spot d) (entries d) past) ∙ t.rest)

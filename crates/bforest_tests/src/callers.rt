@@ -1,8 +1,9 @@
 //! What a caller can prove of maps from their contracts alone.
 ghost use Rattle.bforest.specs.Entries.{IsIncreasing, is_present, put, value_for};
 ghost use Rattle.bforest.specs.Forest.{Becomes, IsLive, list_of};
+ghost use Rattle.std.specs.List.{filter};
 ghost use Rattle.std.specs.Ordering.{is_eq};
-ghost use Rattle.std.specs.Prelude.{IfOk, IsOk, None, OnOk, Some, false, true, ◌≡◌, ◌≢◌};
+ghost use Rattle.std.specs.Prelude.{IfOk, IsOk, None, OnOk, Some, false, nat_le, true, ◌≡◌, ◌≢◌};
 
 use bforest::{Comparator, Map, MapForest, OutOfMemory};
 
@@ -59,6 +60,31 @@ pub fn remove_and_get<K: Copy, V: Copy, C: Comparator<K>>(
 {
     let value = map.remove(key, forest, comp);
     (value, map.get(key, forest, comp))
+}
+
+/// Removes a key and looks another key up: its value stays.
+pub fn remove_and_get_other<K: Copy, V: Copy, C: Comparator<K>>(
+    map: &mut Map<K, V>,
+    key: K,
+    other: K,
+    forest: &mut MapForest<K, V>,
+    comp: &C,
+) -> Option<V>
+    requires live { IsLive forest.old map.old }
+    requires increasing { IsIncreasing (C.order comp.now) (list_of forest.old map.old) }
+    requires apart { is_eq (C.order comp.now key other) ≡ false }
+    ensures { result ≡ value_for (C.order comp.now) (list_of forest.old map.old) other }
+{
+    map.remove(key, forest, comp);
+    map.get(other, forest, comp)
+}
+
+/// Keeps the entries whose values are at most `most`, in their order.
+pub fn keep_up_to(map: &mut Map<u32, u32>, forest: &mut MapForest<u32, u32>, most: u32)
+    requires live { IsLive forest.old map.old }
+    ensures kept { list_of forest.new map.new ≡ filter (λ e. nat_le e.1 most) (list_of forest.old map.old) }
+{
+    map.retain(forest, |_key, value| *value <= most);
 }
 
 /// Replaces the value of a key that is present: that never fails.

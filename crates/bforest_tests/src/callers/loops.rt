@@ -1,12 +1,12 @@
 //! Loops over cursors and ranges: their results follow from the contracts alone.
-ghost use Rattle.bforest.specs.Cursor.{Goes, IsCursor, at_place, entries, forest_now, map_now, spot};
+ghost use Rattle.bforest.specs.Cursor.{Goes, IsCursor, at_place, comparator, entries, forest_now, map_now, spot};
 ghost use Rattle.bforest.specs.Forest.{Becomes, IsLive, list_of};
 ghost use Rattle.bforest.specs.Memory.{MapsFitInMemory};
-ghost use Rattle.bforest.specs.Entries.{IsIncreasing, value_at_place, with_value};
+ghost use Rattle.bforest.specs.Entries.{IsIncreasing, put_all, value_at_place, with_value};
 ghost use Rattle.bforest_tests.specs.Walks.{every_other, joined};
-ghost use Rattle.std.specs.Prelude.{IfOk, Some, length, remove, reverse, ◌++◌, ◌-◌, ◌<◌, ◌≡◌};
+ghost use Rattle.std.specs.Prelude.{IfOk, OnOk, Some, length, remove, reverse, ◌++◌, ◌-◌, ◌<◌, ◌≡◌};
 
-use bforest::{Comparator, Map, MapCursor, MapCursorMut, MapForest, MapRange};
+use bforest::{Comparator, Map, MapCursor, MapCursorMut, MapForest, MapRange, OutOfMemory};
 use std::alloc::{AllocError, Global};
 
 /// Removes every second entry of a map by one cursor: the first, the third and so on stay, and each other map.
@@ -37,6 +37,23 @@ fn thin_out<K: Copy, V: Copy, C: Comparator<K>>(cursor: &mut MapCursorMut<K, V, 
     while cursor.next().is_some() {
         cursor.remove();
     }
+}
+
+/// Puts entries in by one cursor, one after the other. If one is refused, those before it are in.
+pub fn put_all_by_cursor<K: Copy, V: Copy, C: Comparator<K>>(
+    cursor: &mut MapCursorMut<K, V, C>,
+    added: &[(K, V)],
+) -> Result<(), OutOfMemory>
+    requires valid { IsCursor C.order cursor.old }
+    requires fits { MapsFitInMemory K.row V.row }
+    ensures put { OnOk result (Becomes (forest_now cursor.old) (map_now cursor.old) (forest_now cursor.new)
+        (map_now cursor.new) (put_all (C.order (comparator cursor.old)) (entries cursor.old) added.now)) }
+    ensures goes { Goes C.order cursor.old cursor.new (spot cursor.new) }
+{
+    for entry in added {
+        cursor.insert(entry.0, entry.1)?;
+    }
+    Ok(())
 }
 
 /// Joins the ranges of a map, each from its start to its end, where one begins at the end of the one before. Each other map stays.

@@ -1,8 +1,9 @@
 //! What a caller can prove of sets from their contracts alone.
-ghost use Rattle.bforest.specs.Entries.{IsIncreasing, is_present};
+ghost use Rattle.bforest.specs.Entries.{IsIncreasing, is_present, value_for};
 ghost use Rattle.bforest.specs.Forest.{IsLive, limit_of, list_of, need_of};
 ghost use Rattle.bforest.specs.declared.set_forest.TheConstants.{SET_LEAF};
-ghost use Rattle.std.specs.Prelude.{IfOk, IsOk, None, false, true, ◌≡◌, ◌≤◌};
+ghost use Rattle.std.specs.Ordering.{is_eq};
+ghost use Rattle.std.specs.Prelude.{IfOk, IsOk, None, false, is_some, true, ◌≡◌, ◌≤◌};
 
 use bforest::{Comparator, OutOfMemory, Set, SetForest};
 use std::default::Default;
@@ -36,6 +37,41 @@ pub fn remove_and_test<K: Copy, C: Comparator<K>>(
 {
     let was = set.remove(key, forest, comp);
     (was, set.contains(key, forest, comp))
+}
+
+/// Inserts a key and looks for another: whether it is there stays.
+pub fn insert_and_test_other<K: Copy, C: Comparator<K>>(
+    set: &mut Set<K>,
+    key: K,
+    other: K,
+    forest: &mut SetForest<K>,
+    comp: &C,
+) -> Result<bool, OutOfMemory>
+    requires live { IsLive forest.old set.old }
+    requires increasing { IsIncreasing (C.order comp.now) (list_of forest.old set.old) }
+    requires apart { is_eq (C.order comp.now key other) ≡ false }
+    ensures { IfOk result
+        (λ found. found ≡ is_some (value_for (C.order comp.now) (list_of forest.old set.old) other)) }
+{
+    set.insert(key, forest, comp)?;
+    Ok(set.contains(other, forest, comp))
+}
+
+/// Removes a key and looks for another: whether it is there stays.
+pub fn remove_and_test_other<K: Copy, C: Comparator<K>>(
+    set: &mut Set<K>,
+    key: K,
+    other: K,
+    forest: &mut SetForest<K>,
+    comp: &C,
+) -> bool
+    requires live { IsLive forest.old set.old }
+    requires increasing { IsIncreasing (C.order comp.now) (list_of forest.old set.old) }
+    requires apart { is_eq (C.order comp.now key other) ≡ false }
+    ensures { result ≡ is_some (value_for (C.order comp.now) (list_of forest.old set.old) other) }
+{
+    set.remove(key, forest, comp);
+    set.contains(other, forest, comp)
 }
 
 /// Reserves nodes and inserts a key that needs no more: where the nodes could be had, the insertion cannot fail.

@@ -1,12 +1,12 @@
 use Rattle.bforest_tests.proofs.Ranges.{extended, extended-goes, extended-list, some-before}
-use Rattle.bforest_tests.proofs.Changing.{becomes-list}
+use Rattle.bforest.proofs.Loops.{changed-list}
 use Rattle.bforest_tests.proofs.callers.loops.extend.Goals as goal
 
 pub returns-in-Some-clause-becomes : goal.returns-in-Some-clause-becomes
 returns-in-Some-clause-becomes g c =
     let order = g.C.Comparator.order in
     let written = c.value_mut.ensures.written c.args.end in
-    becomes-list order c.args.cursor.now _ _ (extended order c.args.cursor.now c.remove.new.self c.prev.new.self _ c.args.end c.remove.ensures.removed c.remove.ensures.goes c.prev.ensures.moves c.requires.valid written)
+    changed-list order (extended order c.args.cursor.now c.remove.new.self c.prev.new.self _ c.args.end c.remove.ensures.removed c.remove.ensures.goes c.prev.ensures.moves c.requires.valid written)
     (extended-list order c.args.cursor.now c.remove.new.self c.prev.new.self _ c.args.end c.remove.ensures.removed c.remove.ensures.goes c.prev.ensures.moves c.requires.valid written)
 
 pub returns-in-Some-clause-goes : goal.returns-in-Some-clause-goes

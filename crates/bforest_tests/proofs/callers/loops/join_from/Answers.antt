@@ -1,5 +1,5 @@
 use Rattle.bforest.specs.Cursor.{entries, spot}
-use Rattle.bforest_tests.proofs.Changing.{becomes-list, is-past, moved, same-entries}
+use Rattle.bforest.proofs.Loops.{changed-list, changed-moved, is-past, moved-entries}
 use Rattle.bforest_tests.proofs.Ranges.{fewer-both, fewer-on, joined-last, joins-both, joins-first, joins-on, there-within}
 use Rattle.bforest_tests.proofs.callers.loops.join_from.Given.{Over}
 use Rattle.bforest_tests.proofs.callers.loops.join_from.Goals as goal
@@ -33,8 +33,8 @@ returns-clause-becomes g c =
     let order = g.C.Comparator.order in
     let d = c.loop-range.cursor in
     let t = c.loop-range.invariant in
-    becomes-list order c.args.cursor.now c.next.new.self _ (moved order c.args.cursor.now d c.next.new.self _ t.changed c.next.ensures.moves)
-    (same-entries order d c.next.new.self _ c.next.ensures.moves ∙ sym (joined-last (order c.args.comp.now) (spot d) (entries d) (t.start, c.loop-range.end) t.here (omega (arith, is-past c.next.result (entries d) (spot d + 1) c.next.ensures.value (ap (λ o. is_some o) c.in_default.is)))) ∙ t.rest)
+    changed-list order (changed-moved order t.changed c.next.ensures.moves)
+    (moved-entries order c.next.ensures.moves ∙ sym (joined-last (order c.args.comp.now) (spot d) (entries d) (t.start, c.loop-range.end) t.here (omega (arith, is-past c.next.result (entries d) (spot d + 1) c.next.ensures.value (ap (λ o. is_some o) c.in_default.is)))) ∙ t.rest)
 
 pub returns-clause-goes : goal.returns-clause-goes
-returns-clause-goes g c = (moved g.C.Comparator.order c.args.cursor.now c.loop-range.cursor c.next.new.self _ c.loop-range.invariant.changed c.next.ensures.moves).goes
+returns-clause-goes g c = (changed-moved g.C.Comparator.order c.loop-range.invariant.changed c.next.ensures.moves).goes

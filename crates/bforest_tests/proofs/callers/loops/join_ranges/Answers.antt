@@ -1,4 +1,4 @@
-use Rattle.bforest_tests.proofs.Changing.{loop-ended}
+use Rattle.bforest.proofs.Loops.{loop-ended}
 use Rattle.bforest_tests.proofs.callers.loops.join_ranges.Goals as goal
 use Rattle.bforest_tests.specs.Walks.{joined}
 use Rattle.std.proofs.Common.{sym, ◌∙◌}
@@ -9,6 +9,6 @@ returns g c =
     let first = c.goto_first.ensures.moves in
     let thin = c.join_all.ensures in
     record {
-      becomes = loop-ended g.C.Comparator.order c.args.forest.now c.forest-1.given.0 c.args.map.now c.map-1.given.0 (joined (g.C.Comparator.order c.args.comp.now)) c.cursor_mut-cursor.result c.goto_first.new.self c.join_all.new.cursor _ made.forest made.map first thin.becomes
+      becomes = loop-ended g.C.Comparator.order (joined (g.C.Comparator.order c.args.comp.now)) c.join_all.new.cursor made.forest made.map first thin.becomes
           (c.forest-1.given.1 (sym (thin.goes.forest_loan ∙ first.goes.forest_loan ∙ made.forest_loan))) (c.map-1.given.1 (sym (thin.goes.map_loan ∙ first.goes.map_loan ∙ made.map_loan)));
     }

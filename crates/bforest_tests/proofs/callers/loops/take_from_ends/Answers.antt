@@ -1,4 +1,4 @@
-use Rattle.bforest_tests.proofs.BothEnds.{parts-back, parts-first, parts-front, parts-same}
+use Rattle.bforest.proofs.Loops.{parts-back, parts-first, parts-front, parts-same}
 use Rattle.bforest_tests.proofs.callers.loops.take_from_ends.Goals as goal
 use Rattle.bforest_tests.proofs.callers.loops.take_from_ends.Goals.{then-is_front+in-Some+in_ok-push, then-is_front+in_default, else-is_front+in-Some-next_back+in_ok-push-2, else-is_front+in_default-next_back}
 use Rattle.std.proofs.Common.{ap, refl, sym, ◌∙◌}

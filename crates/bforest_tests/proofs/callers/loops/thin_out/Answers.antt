@@ -1,5 +1,5 @@
 use Rattle.bforest.specs.Cursor.{entries, spot}
-use Rattle.bforest_tests.proofs.Changing.{is-past, is-within, moved}
+use Rattle.bforest.proofs.Loops.{changed-moved, is-past, is-within}
 use Rattle.bforest_tests.proofs.Thinned.{thins-fewer, thins-first, thins-last, thins-next}
 use Rattle.bforest_tests.proofs.callers.loops.thin_out.Given.{Over}
 use Rattle.bforest_tests.proofs.callers.loops.thin_out.Goals as goal
@@ -25,4 +25,4 @@ returns-clause-becomes g c = thins-last g.C.Comparator.order c.args.cursor.now c
     (is-past c.next.result (entries c.loop-cursor.cursor) (spot c.loop-cursor.cursor + 1) c.next.ensures.value (sym c.is_some.ensures ∙ c.loop-cursor-test.false))
 
 pub returns-clause-goes : goal.returns-clause-goes
-returns-clause-goes g c = (moved g.C.Comparator.order c.args.cursor.now c.loop-cursor.cursor c.next.new.self _ c.loop-cursor.invariant.changed c.next.ensures.moves).goes
+returns-clause-goes g c = (changed-moved g.C.Comparator.order c.loop-cursor.invariant.changed c.next.ensures.moves).goes
