@@ -25,7 +25,13 @@ fn main(rt: HostRuntime) -> io::Result<()> {
         return println!(rt; "no memory");
     };
     for (from, to) in [(9, 10), (24, 25), (39, 40), (55, 69), (70, 71)] {
-        println!(rt; "{} {}, {} {}", from, ranges.covers(from), to, ranges.covers(to))?;
+        println!(rt;
+            "{} {}, {} {}",
+            from,
+            ranges.covers(from),
+            to,
+            ranges.covers(to)
+        )?;
     }
     Ok(())
 }

@@ -12,7 +12,10 @@ use std::alloc::Global;
 use std::io;
 
 // What a name means in an outer scope, in an inner one that defines it again, and in the outer one again.
-fn meanings(alloc: Global, name: u32) -> Result<(Option<u32>, Option<u32>, Option<u32>), OutOfMemory> {
+fn meanings(
+    alloc: Global,
+    name: u32,
+) -> Result<(Option<u32>, Option<u32>, Option<u32>), OutOfMemory> {
     let mut symbols = Symbols::new(alloc, 8, 100)?;
     if !symbols.may_enter() {
         return Ok((None, None, None));
@@ -32,7 +35,10 @@ fn main(rt: HostRuntime) -> io::Result<()> {
         let Ok((outside, inside, again)) = meanings(rt.alloc(), name) else {
             return println!(rt; "no memory");
         };
-        println!(rt; "{}: outside {:?}, inside {:?}, again {:?}", name, outside, inside, again)?;
+        println!(rt;
+            "{}: outside {:?}, inside {:?}, again {:?}",
+            name, outside, inside, again
+        )?;
     }
     Ok(())
 }

@@ -3,8 +3,13 @@ use Rattle.joining_ranges_example.proofs.ranges.Ranges.insert.Goals as goal
 use Rattle.std.proofs.Common.{rules}
 
 pub remove_between-requires : goal.remove_between-requires
-remove_between-requires c = (search rules, (record { live = c.in_ok-insert.ensures.put.live; increasing = c.insert.ensures.increasing },
-    joined-present c.args.self.now c.args.start c.args.end c.requires.some c.self.view_is c.self.invariant.apart c.first_of-first.ensures c.last_of-last.ensures c.in_ok-insert.ensures.put.list))
+remove_between-requires c = (
+  search rules,
+  (
+    record { live = c.in_ok-insert.ensures.put.live; increasing = c.insert.ensures.increasing },
+    joined-present c.args.self.now c.args.start c.args.end c.requires.some c.self.view_is c.self.invariant.apart c.first_of-first.ensures c.last_of-last.ensures c.in_ok-insert.ensures.put.list,
+  ),
+)
 
 pub invariant_of-self-2 : goal.invariant_of-self-2
 invariant_of-self-2 c = record {
