@@ -88,7 +88,7 @@ type NumbersForest = MapForest<u32, u32>;
 type MapCall = Call<Numbers, NumbersForest>;
 type SetCall = Call<Set<u32>, SetForest<u32>>;
 
-const OF_MAPS: [(&str, MapCall); 29] = [
+const OF_MAPS: [(&str, MapCall); 31] = [
     ("get", |map, forest| _ = map.get(1, forest, &())),
     ("update", |map, forest| _ = map.update(1, |value| value + 1, forest, &())),
     ("get_or_less", |map, forest| _ = map.get_or_less(1, forest, &())),
@@ -105,6 +105,8 @@ const OF_MAPS: [(&str, MapCall); 29] = [
     ("clear", |map, forest| map.clear(forest)),
     ("deep_clone", |map, forest| _ = map.deep_clone(forest)),
     ("union_with", |map, forest| _ = map.union_with(&map.clone(), forest, &())),
+    ("intersect_with", |map, forest| _ = map.intersect_with(&map.clone(), forest, &())),
+    ("difference_with", |map, forest| _ = map.difference_with(&map.clone(), forest, &())),
     ("retain", |map, forest| map.retain(forest, |key, _| key > 1)),
     ("shift", |map, forest| map.shift(1, |key| key + 1, forest, &())),
     ("len", |map, forest| _ = map.len(forest)),
@@ -120,7 +122,7 @@ const OF_MAPS: [(&str, MapCall); 29] = [
     ("debug", |map, forest| _ = format!("{:?}", map.debug(forest))),
 ];
 
-const OF_SETS: [(&str, SetCall); 25] = [
+const OF_SETS: [(&str, SetCall); 27] = [
     ("contains", |set, forest| _ = set.contains(1, forest, &())),
     ("get_or_less", |set, forest| _ = set.get_or_less(1, forest, &())),
     ("get_or_greater", |set, forest| _ = set.get_or_greater(1, forest, &())),
@@ -136,6 +138,8 @@ const OF_SETS: [(&str, SetCall); 25] = [
     ("is_subset", |set, forest| _ = set.is_subset(&set.clone(), forest, &())),
     ("is_disjoint", |set, forest| _ = set.is_disjoint(&set.clone(), forest, &())),
     ("union_with", |set, forest| _ = set.union_with(&set.clone(), forest, &())),
+    ("intersect_with", |set, forest| _ = set.intersect_with(&set.clone(), forest, &())),
+    ("difference_with", |set, forest| _ = set.difference_with(&set.clone(), forest, &())),
     ("retain", |set, forest| set.retain(forest, |key| key > 1)),
     ("shift", |set, forest| set.shift(1, |key| key + 1, forest, &())),
     ("len", |set, forest| _ = set.len(forest)),

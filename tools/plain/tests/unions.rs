@@ -1,4 +1,4 @@
-//! Questions and unions of two whole maps or sets of one forest: worked by hand, beside `BTreeMap` and `BTreeSet`, and one node short.
+//! Questions, unions, intersections and differences of two whole maps or sets of one forest: worked by hand, beside `BTreeMap` and `BTreeSet`, and one node short.
 
 use bforest::{Comparator, Map, MapForest, Maps, OutOfMemory, Set, SetForest, Sets};
 use std::cell::Cell;
@@ -251,4 +251,89 @@ fn maps_beside_btreemap() {
         other.clone().clear(&mut forest);
         assert_eq!(forest.nodes_in_use(), 0);
     }
+}
+
+#[test]
+fn intersections_and_differences_beside_btreeset() {
+    let mut random = Random(5);
+    for round in 0..600 {
+        let (most, bound) = [(4, 6), (40, 60), (200, 300), (600, 5000)][round % 4];
+        let (a, b) = (some_keys(&mut random, most, bound), some_keys(&mut random, most, bound));
+        let mut forest = SetForest::new();
+        let [mut mine, mut less, mut same, other] =
+            [&a, &a, &a, &b].map(|keys| set_of(keys.iter().copied(), &mut forest));
+        let (common, slots) = (a.intersection(&b).count(), forest.slots());
+        for (set, present, left) in [(&mut mine, true, common), (&mut less, false, a.len() - common)] {
+            let order = Counting::default();
+            let changed = match present {
+                true => set.intersect_with(&other, &mut forest, &order),
+                false => set.difference_with(&other, &mut forest, &order),
+            };
+            assert_eq!(changed, left < a.len());
+            assert!(order.0.get() as usize <= a.len() + b.len());
+        }
+        assert!(mine.iter(&forest).eq(a.intersection(&b).copied()) && less.iter(&forest).eq(a.difference(&b).copied()));
+        assert!(other.iter(&forest).eq(b.iter().copied()) && same.iter(&forest).eq(a.iter().copied()));
+        assert_eq!(forest.slots(), slots);
+        // Both are one set.
+        let one = same.clone();
+        assert!(!same.intersect_with(&one, &mut forest, &()) && same.iter(&forest).eq(a.iter().copied()));
+        assert_eq!(same.difference_with(&one, &mut forest, &()), !a.is_empty());
+        assert!(same.is_empty() && other.iter(&forest).eq(b.iter().copied()));
+        // One removal for each key that goes leaves a tree of the same nodes.
+        let mut alone = set_of(a.iter().copied(), &mut forest);
+        a.difference(&b).for_each(|&key| assert!(alone.remove(key, &mut forest, &())));
+        assert_eq!(nodes_of(&alone, &forest), nodes_of(&mine, &forest));
+        // None is left where the other one is empty.
+        let mut empty = Set::new();
+        assert!(!mine.difference_with(&empty, &mut forest, &()) && !empty.intersect_with(&mine, &mut forest, &()));
+        assert_eq!(mine.intersect_with(&empty, &mut forest, &()), common > 0);
+        assert!(mine.is_empty() && empty.is_empty());
+    }
+}
+
+#[test]
+fn maps_keep_their_values() {
+    let mut random = Random(23);
+    for round in 0..600 {
+        let (most, bound) = [(4, 6), (40, 60), (200, 300), (600, 5000)][round % 4];
+        let (a, b) = (some_keys(&mut random, most, bound), some_keys(&mut random, most, bound));
+        let mut forest = MapForest::new();
+        let [mut mine, mut less] = [1, 2].map(|value| map_of(a.iter().copied(), value, &mut forest));
+        let other = map_of(b.iter().copied(), 3, &mut forest);
+        let common = a.intersection(&b).count();
+        assert_eq!(mine.intersect_with(&other, &mut forest, &()), common < a.len());
+        assert_eq!(less.difference_with(&other, &mut forest, &()), common > 0);
+        assert!(mine.iter(&forest).eq(a.intersection(&b).map(|&key| (key, 1))));
+        assert!(less.iter(&forest).eq(a.difference(&b).map(|&key| (key, 2))));
+        assert!(other.iter(&forest).eq(b.iter().map(|&key| (key, 3))));
+        // Both can be changed as any other, and their union is the map that was.
+        assert_eq!(mine.union_with(&less, &mut forest, &()), Ok(common < a.len()));
+        assert!(mine.iter(&forest).map(|(key, _)| key).eq(a.iter().copied()));
+        [&mut mine, &mut less, &mut other.clone()].into_iter().for_each(|map| map.clear(&mut forest));
+        assert_eq!(forest.nodes_in_use(), 0);
+    }
+}
+
+#[test]
+fn intersections_and_differences_by_index() {
+    let mut sets: Sets<u32> = Sets::new(());
+    let mut maps: Maps<u32, usize> = Maps::new(());
+    sets.grow_to(3).unwrap();
+    maps.grow_to(3).unwrap();
+    for key in 0..40 {
+        for index in 0..2 {
+            if index == 0 || key % 3 == 0 {
+                sets.insert(index, key).unwrap();
+                maps.insert(index, key, index).unwrap();
+            }
+        }
+    }
+    assert!(!sets.intersect_with(0, 0) && sets.difference_with(0, 1) && !sets.difference_with(0, 1));
+    assert!(sets.iter(0).eq((0..40).filter(|key| key % 3 != 0)) && sets.iter(1).eq((0..40).step_by(3)));
+    assert!(sets.is_disjoint(0, 1) && sets.intersect_with(0, 1) && sets.iter(0).next().is_none());
+    assert!(sets.difference_with(1, 1) && !sets.difference_with(1, 1) && !sets.intersect_with(1, 2));
+    assert!(maps.intersect_with(0, 1) && maps.iter(0).eq((0..40).step_by(3).map(|key| (key, 0))));
+    assert!(maps.difference_with(1, 0) && !maps.difference_with(0, 1) && maps.intersect_with(0, 2));
+    assert_eq!((sets.slots() - sets.free_slots(), maps.slots() - maps.free_slots()), (0, 0));
 }
