@@ -53,6 +53,14 @@ impl Symbols {
         })
     }
 
+    /// How many scopes there may be, and for how many names in each there is room.
+    pub(crate) fn room(&self) -> (usize, usize)
+        ensures scopes { result.0 ≡ self.now.most_scopes }
+        ensures names { result.1 ≡ self.now.most_names }
+    {
+        (self.most_scopes, self.most_names)
+    }
+
     /// Whether there may be one more scope.
     pub(crate) fn may_enter(&self) -> bool
         ensures may { IsTrue result ↔ (length self.now.scopes < self.now.most_scopes) }

@@ -4,8 +4,8 @@ use Rattle.bforest_calls.proofs.engine.load.Goals as goal
 use Rattle.bforest_calls.specs.Machine.{MakesFor, State}
 use Rattle.std.proofs.Common.{inr, subst, sym, ◌<◌}
 
-pub returns : goal.returns
-returns g c =
+pub returns-in-Some : goal.returns-in-Some
+returns-in-Some g c =
     let t = g.T.Collection in
     let xs = c.args.handles.now in
     let f = t.trees c.args.forest.now in
@@ -13,5 +13,5 @@ returns g c =
     let old : State g.row.K.Denot g.row.V.Denot = record { forest = f; handles = t.numbers xs } in
     let new : State g.row.K.Denot g.row.V.Denot = record { forest = t.trees c.load.new.forest; handles = t.numbers c.name.new.handles } in
     let made : MakesFor c.args.h old c.name.result new (Loads t.most f c.deref.result.now) =
-    makes-for t.number c.load.result old new (Loads t.most f c.deref.result.now) c.load.ensures.made c.load.ensures.refused c.name.ensures.made c.name.ensures.refused in
-    λ orders. offered-so _ _ c.if-not-READS.ensures (inr (there, tt, tt, subst (λ es. MakesFor c.args.h old c.name.result new (Loads t.most f es)) c.deref.ensures.value made))
+    makes-for t.number c.in-Some.loaded old new (Loads t.most f c.deref.result.now) c.in-Some.ensures.made c.in-Some.ensures.refused c.name.ensures.made c.name.ensures.refused in
+    λ orders. offered-so _ _ c.in-Some.ensures.offered (inr (there, tt, tt, subst (λ es. MakesFor c.args.h old c.name.result new (Loads t.most f es)) c.deref.ensures.value made))
