@@ -2,7 +2,7 @@
 use Rattle.bforest_core.proofs.table.Lists.{drop-read, drop_remove, length_remove}
 use Rattle.bforest_core.proofs.walks.Standing.{at-on, on-at}
 use Rattle.bforest_core.specs.Levels.{flat}
-use Rattle.bforest_core.specs.Paths.{OnEntry, StandsAt, StandsOn, list_under, sizes_under}
+use Rattle.bforest_core.specs.Paths.{OnEntry, RemovesHere, Standing, StandsAt, StandsOn, list_under, sizes_under}
 use Rattle.bforest_core.specs.Place.{IsPathAt}
 use Rattle.bforest_core.specs.Table.{Table}
 use Rattle.bforest_core.specs.Trees.{IsUnion, is_root, tree_of}
@@ -11,7 +11,7 @@ use Rattle.bforest_core.proofs.walks.Backward.{at_entry}
 use Rattle.bforest_nodes.specs.Entries.{IsIncreasing, is_present, place, with_value}
 use Rattle.bforest_trees.proofs.Cutting.{changes-none, gives-none}
 use Rattle.bforest_trees.proofs.Reading.{left-at}
-use Rattle.bforest_trees.proofs.Sifted.{drop_written}
+use Rattle.bforest_trees.proofs.Sifted.{drop_written, sifted-out}
 use Rattle.bforest_trees.proofs.Sifting.{Sifting, sifting-first, sifting-last, sifting-next, sifting-none, sifting-stands}
 use Rattle.bforest_trees.proofs.unions.Choosing.{place-at, place-behind, place-end, place-grows}
 use Rattle.bforest_trees.specs.Keep.{Kept, Nears, Reaches, Steps, Tells}
@@ -32,7 +32,7 @@ use Rattle.std.specs.declared.cmp.Ordering.TheVariants.{Equal, Greater, Less}
 use Rattle.std.specs.declared.cmp.Ordering.{Ordering}
 
 -- a test that is as wanted tells what is to stay
-pub beq-fits : (found present : Bool) → beq found present ≡ fits present found
+beq-fits : (found present : Bool) → beq found present ≡ fits present found
 beq-fits true true = refl
 beq-fits true false = refl
 beq-fits false true = refl
@@ -45,7 +45,7 @@ with-same (e ∷ es) zero k v here = let same : (k, v) ≡ e = cc in λ i. (e.0,
 with-same (e ∷ es) (suc p) k v here = ap (λ l. e ∷ l) (with-same es p k v here)
 
 -- a step over an entry that stays
-pub stepped-on : {K X : Type 0} {most : ℕ} {table : Table K X} {root : ℕ} {path path' : Path K X most} {cmp : K → K → Ordering} {present : Bool} {others : List (K × X)} {place : ℕ} {k : K} {v : X}
+stepped-on : {K X : Type 0} {most : ℕ} {table : Table K X} {root : ℕ} {path path' : Path K X most} {cmp : K → K → Ordering} {present : Bool} {others : List (K × X)} {place : ℕ} {k : K} {v : X}
     → IsUnion most table → true ≡ fits present (is_present cmp others k) → StandsOn table root path place → Some (k, v) ≡ slice_get (list_under table root) place → StandsAt table root path' (suc place)
     → Stepped most (Tells cmp present others) table table root root path' tt tt (list_under table root) (sizes_under table root) place k v
 stepped-on {most = most} {table} {root} {path' = path'} {place = place} {k} {v} union told stands here at = record {
@@ -59,38 +59,44 @@ stepped-on {most = most} {table} {root} {path' = path'} {place = place} {k} {v} 
   freed_root = λ ne. absurd (ne refl);
 }
 
-module _ {K X : Type 0} {n : ℕ} {table : Table K X} {root : ℕ} where
-  -- a path that stands at the place of an entry is on it
-  abbrev pub on-there : {path : Path K X n} {spot : ℕ} {e : K × X} → StandsAt table root path spot → Some e ≡ slice_get (list_under table root) spot → OnEntry table path
-  on-there {path} {spot} {e} s here = record { root = root; place = spot; on = at-on table path s (slice_get_within (list_under table root) spot e (sym here)) }
+module _ {K X : Type 0} {most : ℕ} {old : Table K X} {root : ℕ} {path path' : Path K X most} {stays : Bool} where
+  -- a step over an entry that stays
+  pub steps-on : IsUnion most old → stays ≡ true → ((at : OnEntry old path) → StandsAt old at.root path' (suc at.place)) → Steps most old old root path path' stays (Some root)
+  steps-on union kept at = record {
+    same_pool = λ e. refl;
+    same_root = λ e. refl;
+    stepped = λ cmp present others place k v told stands here. stepped-on union (sym kept ∙ told) stands here (at (record { root = root; place = place; on = stands }));
+    ended = λ bad. absurd (cc);
+  }
 
+  -- a step that removes the entry
+  pub steps-off : {new : Table K X} {result : Option ℕ} → stays ≡ false → RemovesHere old new path path' result → Steps most old new root path path' stays result
+  steps-off {new} {result} gone r = record {
+    same_pool = λ e. absurd (let bad : true ≡ false = sym e ∙ gone in cc);
+    same_root = λ e. absurd (let bad : true ≡ false = sym e ∙ gone in cc);
+    stepped = λ cmp present others place k v told stands here.
+        let at : OnEntry old path = record { root = root; place = place; on = stands } in
+        sifted-out most (Tells cmp present others) old new root path' tt tt (list_under old root) (sizes_under old root) place k v v
+        (record { told = sym gone ∙ told; same = refl }) result (r.removed at) (r.account at) (r.stands at) (r.same_root at) (r.freed_root at);
+    ended = λ none cmp present others place k v told stands here.
+        let at : OnEntry old path = record { root = root; place = place; on = stands } in
+        record {
+          left = v;
+          stepped = record { told = sym gone ∙ told; same = refl };
+          last = (r.last at).0 none;
+          ended = r.ended none at;
+          gives = r.account at;
+          none_left = r.none_left none at;
+        };
+  }
+
+module _ {K X : Type 0} {n : ℕ} {table : Table K X} {root : ℕ} where
   -- a path that stands at a place is on an entry unless it is at the end
   pub on-when : {path : Path K X n} {spot : ℕ} → StandsAt table root path spot → path.size ≢ 0 → OnEntry table path
   on-when {path} {spot} s some = record { root = root; place = spot; on = record { root_is = s.root_is; stands = at_entry path.node path.entry (tree_of table.nodes root) spot path.size some s.at } }
 
-  module _ {cmp : K → K → Ordering} (o : IsTotalOrder cmp) {path : Path K X n} {key : K} (s : Nears cmp table root path key) where
-    -- a lesser entry is passed
-    pub nears-next : {e : K × X} {path' : Path K X n} {order : Ordering} {less : Bool} → Some e ≡ slice_get (list_under table root) s.spot → order ≡ cmp e.0 key → less ≡ is_lt order → less ≡ true → StandsAt table root path' (suc s.spot) → Nears cmp table root path' key
-    nears-next {e} here told told_less is at = record { spot = suc s.spot; at = at; low = place-behind cmp o (list_under table root) s.spot e key s.up here (is-less (cmp e.0 key) (sym (ap is_lt told) ∙ sym told_less ∙ is)); up = s.up }
-      where
-        is-less : (r : Ordering) → is_lt r ≡ true → r ≡ Less
-        is-less Less t = refl
-        is-less Equal t = absurd (cc)
-        is-less Greater t = absurd (cc)
-
-    -- at one that is not, the search ends
-    pub nears-here : {e : K × X} {order : Ordering} {less found : Bool} → Some e ≡ slice_get (list_under table root) s.spot → order ≡ cmp e.0 key → less ≡ is_lt order → less ≡ false → found ≡ is_eq order → Reaches cmp table root path key found
-    nears-here {e} here told told_less is found_is =
-        let t = place-at cmp o (list_under table root) s.spot e key s.up here s.low (sym (ap is_lt told) ∙ sym told_less ∙ is) in
-        record { at = subst (StandsAt table root path) t.0 s.at; found_is = found_is ∙ ap is_eq told ∙ t.1 }
-
-    pub nears-end : None ≡ slice_get (list_under table root) s.spot → Reaches cmp table root path key false
-    nears-end none =
-        let t = place-end cmp o (list_under table root) s.spot key none s.low in
-        record { at = subst (StandsAt table root path) t.0 s.at; found_is = t.1 }
-
   -- how many entries are left in front of a step, and after it
-  pub step-shortens : {path path' : Path K X n} {spot : ℕ} {e : K × X} → IsUnion n table → StandsAt table root path spot → Some e ≡ slice_get (list_under table root) spot → StandsAt table root path' (suc spot) → length (entries_from table path') < length (entries_from table path)
+  step-shortens : {path path' : Path K X n} {spot : ℕ} {e : K × X} → IsUnion n table → StandsAt table root path spot → Some e ≡ slice_get (list_under table root) spot → StandsAt table root path' (suc spot) → length (entries_from table path') < length (entries_from table path)
   step-shortens {path} {path'} {spot} {e} union s here s' =
       let low = slice_get_within (list_under table root) spot e (sym here) in
       omega (
@@ -101,6 +107,39 @@ module _ {K X : Type 0} {n : ℕ} {table : Table K X} {root : ℕ} where
         length-drop spot (list_under table root),
         length-drop (suc spot) (list_under table root),
       )
+
+  module _ {cmp : K → K → Ordering} {path : Path K X n} {key : K} (s : Nears cmp table root path key) {read : Option (K × X)} (value : (at : Standing table path) → read ≡ slice_get (list_under table at.root) at.place) where
+    there : {o : Option (K × X)} → read ≡ o → o ≡ slice_get (list_under table root) s.spot
+    there is = sym is ∙ value (record { root = root; place = s.spot; at = s.at })
+
+    module _ {e : K × X} (is : read ≡ Some e) where
+      -- a step goes on from the entry here
+      module _ {path' : Path K X n} (stands : (at : OnEntry table path) → StandsAt table at.root path' (suc at.place)) where
+        next_at : StandsAt table root path' (suc s.spot)
+        next_at = stands (record { root = root; place = s.spot; on = at-on table path s.at (slice_get_within (list_under table root) s.spot e (sym (there is))) })
+
+        pub nears-shorter : IsUnion n table → length (entries_from table path') < length (entries_from table path)
+        nears-shorter union = step-shortens union s.at (there is) next_at
+
+        -- a lesser entry is passed
+        pub nears-next : IsTotalOrder cmp → {order : Ordering} {less : Bool} → order ≡ cmp e.0 key → less ≡ is_lt order → less ≡ true → Nears cmp table root path' key
+        nears-next o told told_less lesser = record { spot = suc s.spot; at = next_at; low = place-behind cmp o (list_under table root) s.spot e key s.up (there is) (is-less (cmp e.0 key) (sym (ap is_lt told) ∙ sym told_less ∙ lesser)); up = s.up }
+          where
+            is-less : (r : Ordering) → is_lt r ≡ true → r ≡ Less
+            is-less Less t = refl
+            is-less Equal t = absurd (cc)
+            is-less Greater t = absurd (cc)
+
+      -- at one that is not, the search ends
+      pub nears-here : IsTotalOrder cmp → {order : Ordering} {less found : Bool} → order ≡ cmp e.0 key → less ≡ is_lt order → less ≡ false → found ≡ is_eq order → Reaches cmp table root path key found
+      nears-here o told told_less not_less found_is =
+          let t = place-at cmp o (list_under table root) s.spot e key s.up (there is) s.low (sym (ap is_lt told) ∙ sym told_less ∙ not_less) in
+          record { at = subst (StandsAt table root path) t.0 s.at; found_is = found_is ∙ ap is_eq told ∙ t.1 }
+
+    pub nears-end : IsTotalOrder cmp → read ≡ None → Reaches cmp table root path key false
+    nears-end o is =
+        let t = place-end cmp o (list_under table root) s.spot key (there is) s.low in
+        record { at = subst (StandsAt table root path) t.0 s.at; found_is = t.1 }
 
 -- the place in others is not behind that of the first key of these
 abbrev pub IsAhead : {K X : Type 0} → (K → K → Ordering) → List (K × X) → ℕ → List (K × X) → Type 0
@@ -114,6 +153,7 @@ module _ {K X : Type 0} (most : ℕ) (cmp : K → K → Ordering) (present : Boo
     pub other_root : IsTrue (is_root now.nodes other)
     pub tree_is : tree_of now.nodes other ≡ tree_of old.nodes other
     pub apart : other ≢ root
+    pub others_up : IsIncreasing cmp (list_under old other)
     pub up : IsIncreasing cmp (entries_from now path)
     pub spot : ℕ
     pub beside_at : StandsAt now other beside spot
@@ -122,12 +162,13 @@ module _ {K X : Type 0} (most : ℕ) (cmp : K → K → Ordering) (present : Boo
     pub fewer : changed ≡ true → length (list_under now root) < length (list_under old first)
 
 module _ {K X : Type 0} {most : ℕ} {cmp : K → K → Ordering} {present : Bool} {old : Table K X} {first other : ℕ} where
-  pub keeping-first : {path beside : Path K X most} → IsUnion most old → first ≢ other → IsIncreasing cmp (list_under old first) → StandsOn old first path 0 → StandsOn old other beside 0 → Keeping most cmp present old first other old first path beside false
-  keeping-first {path} {beside} union apart up on beside_on = record {
+  pub keeping-first : {path beside : Path K X most} → IsUnion most old → first ≢ other → IsIncreasing cmp (list_under old first) → IsIncreasing cmp (list_under old other) → StandsOn old first path 0 → StandsOn old other beside 0 → Keeping most cmp present old first other old first path beside false
+  keeping-first {path} {beside} union apart up others_up on beside_on = record {
     sift = sifting-first union on (record { at = λ before after f k v is t. tt });
     other_root = beside_on.root_is;
     tree_is = refl;
     apart = λ e. apart (sym e);
+    others_up = others_up;
     up = subst (IsIncreasing cmp) (sym left) up;
     spot = 0;
     beside_at = on-at old beside beside_on;
@@ -147,7 +188,11 @@ module _ {K X : Type 0} {most : ℕ} {cmp : K → K → Ordering} {present : Boo
     others_are : list_under now other ≡ list_under old other
     others_are = ap (λ t. flat t.leaves) s.tree_is
 
-    module _ {k : K} {v : X} (here : Some (k, v) ≡ slice_get (list_under now root) s.sift.place) where
+    -- the path reads an entry
+    module _ {read : Option (K × X)} {k : K} {v : X} (value : (at : Standing now path) → read ≡ slice_get (list_under now at.root) at.place) (is : read ≡ Some (k, v)) where
+      here : Some (k, v) ≡ slice_get (list_under now root) s.sift.place
+      here = sym is ∙ value (record { root = root; place = s.sift.place; at = s.sift.at })
+
       left : entries_from now path ≡ (k, v) ∷ drop (suc s.sift.place) (list_under now root)
       left = left-at now root path s.sift.place s.sift.changes.union s.sift.at ∙ drop-read (list_under now root) s.sift.place (k, v) (sym here)
 
@@ -156,18 +201,25 @@ module _ {K X : Type 0} {most : ℕ} {cmp : K → K → Ordering} {present : Boo
       keeping-stands = sifting-stands s.sift here
 
       -- the path beside stands in front of the place of the key here
-      pub keeping-nears : IsIncreasing cmp (list_under old other) → Nears cmp now other beside k
-      keeping-nears others_up = record {
+      pub keeping-nears : Nears cmp now other beside k
+      keeping-nears = record {
         spot = s.spot;
         at = s.beside_at;
         low = subst (λ l. s.spot ≤ place cmp l k) (sym others_are) (subst (IsAhead cmp (list_under old other) s.spot) left s.ahead);
-        up = subst (IsIncreasing cmp) (sym others_are) others_up;
+        up = subst (IsIncreasing cmp) (sym others_are) s.others_up;
       }
 
-      module _ {stays found : Bool} {beside' : Path K X most} (r : Reaches cmp now other beside' k found) (told : stays ≡ fits present found) where
+      -- the other path goes to the key's place
+      module _ {found : Bool} {beside' : Path K X most} (reached : (m : ℕ) → Nears cmp now m beside k → Reaches cmp now m beside' k found) where
+        abbrev stays : Bool
+        stays = beq found present
+
+        r : Reaches cmp now other beside' k found
+        r = reached other keeping-nears
+
         -- whether the entry stays, by the other list as it was
-        pub keeping-told : stays ≡ fits present (is_present cmp (list_under old other) k)
-        keeping-told = told ∙ ap (fits present) (r.found_is ∙ ap (λ l. is_present cmp l k) others_are)
+        keeping-told : stays ≡ fits present (is_present cmp (list_under old other) k)
+        keeping-told = beq-fits found present ∙ ap (fits present) (r.found_is ∙ ap (λ l. is_present cmp l k) others_are)
 
         module _ {new : Table K X} {result : Option ℕ} {path' : Path K X most} (steps : Steps most now new root path path' stays result) where
           -- the step at the entry here
@@ -253,6 +305,7 @@ module _ {K X : Type 0} {most : ℕ} {cmp : K → K → Ordering} {present : Boo
               other_root = (t.changes.others other s.apart not_root).0.1 s.other_root;
               tree_is = other_tree ∙ s.tree_is;
               apart = not_root;
+              others_up = s.others_up;
               up = subst (IsIncreasing cmp) (sym rest) up_here.1;
               spot = place cmp (list_under old other) k;
               beside_at = record {
@@ -272,10 +325,10 @@ module _ {K X : Type 0} {most : ℕ} {cmp : K → K → Ordering} {present : Boo
             pub keeping-shorter : length (entries_from new path') < length (entries_from now path)
             keeping-shorter = omega (arith, ap length rest, ap length left)
 
-    -- where no entry is left to be asked, all of them are kept or removed
-    pub keeping-last : None ≡ slice_get (list_under now root) s.sift.place → Kept most old now first cmp present other (Some root) changed
-    keeping-last none = record {
-      kept = sifting-last s.sift none;
+    -- where no entry is left, all of them are kept or removed
+    pub keeping-last : {read : Option (K × X)} → ((at : Standing now path) → read ≡ slice_get (list_under now at.root) at.place) → read ≡ None → Kept most old now first cmp present other (Some root) changed
+    keeping-last value is = record {
+      kept = sifting-last s.sift (sym is ∙ value (record { root = root; place = s.sift.place; at = s.sift.at }));
       ended = λ bad. absurd (cc);
       same_pool = λ e. (s.same e).0;
       same_root = λ e. ap Some (s.same e).1;

@@ -1,19 +1,20 @@
 -- What keeping entries by another list answers and leaves, as one record.
 use Rattle.bforest_core.specs.Levels.{sizes_of as tree_sizes}
 use Rattle.bforest_core.specs.Paths.{list_under}
-use Rattle.bforest_core.specs.Trees.{IsUnion, tree_of}
+use Rattle.bforest_core.specs.Trees.{IsUnion, tree_of, is_root}
 use Rattle.bforest_nodes.specs.Entries.{IsIncreasing, is_present, value_for}
-use Rattle.bforest_trees.proofs.Changed.{list-root}
+use Rattle.bforest_trees.proofs.Changed.{list-root, seen-as, seen-asks}
 use Rattle.bforest_trees.proofs.Cutting.{becomes-same}
 use Rattle.bforest_trees.proofs.Retaining.{IsIncreasing-kept, filters, union-kept}
-use Rattle.bforest_trees.proofs.unions.Choosing.{kept-all, kept-by, kept-few, kept-none, kept-same, passing-value, present-like, sizes-all, told-answers}
+use Rattle.bforest_trees.proofs.unions.Choosing.{kept-all, kept-by, kept-few, kept-none, kept-same, passing-value, present-like, sizes-all, told-answers, absent-all, apart-by, fits-false, fits-true, same-by}
+use Rattle.bforest_trees.proofs.unions.Merging.{among-itself}
 use Rattle.bforest_trees.proofs.unions.Uniting.{other-stays}
 use Rattle.bforest_trees.specs.Calls.{Clears, Filters, KeepsFrom, SameLevels}
 use Rattle.bforest_trees.specs.Forest.{Becomes, Forest, Gives, IsLive, list_at, list_of, sizes_at, sizes_of}
 use Rattle.bforest_trees.specs.Keep.{Kept, Tells}
 use Rattle.bforest_trees.specs.Retain.{Retained, kept_by, sizes_by}
 use Rattle.bforest_trees.specs.Union.{AreSearchable, fits, kept_from, kept_of, keeps_all}
-use Rattle.std.proofs.Common.{Bool, IfSome, List, None, Option, Some, [], ap, arith, false, if◌then◌else◌, length, not, refl, subst, sym, true, ◌<◌, ◌∙◌, ◌∷◌, ◌≡◌, ◌≢◌, ℕ}
+use Rattle.std.proofs.Common.{Bool, IfSome, List, None, Option, Some, [], ap, arith, false, if◌then◌else◌, length, not, refl, subst, sym, true, ◌<◌, ◌∙◌, ◌∷◌, ◌≡◌, ◌≢◌, ℕ, IsTrue, nat_eq}
 use Rattle.std.specs.Cmp.{IsTotalOrder}
 use Rattle.std.specs.declared.cmp.Ordering.{Ordering}
 
@@ -21,6 +22,13 @@ use Rattle.std.specs.declared.cmp.Ordering.{Ordering}
 some-long : {X : Type 0} (es : List X) → es ≢ [] → 0 < length es
 some-long [] some = absurd (some refl)
 some-long (e ∷ es) some = omega arith
+
+-- a tree stays or is freed, which is told
+pub record Frees {K X : Type 0} (f : Forest K X) (h : Option ℕ) (keeps result : Bool) (f' : Forest K X) (h' : Option ℕ) : Type 0 where
+  pub told : result ≡ not keeps
+  pub stays : keeps ≡ true → f' ≡ f
+  pub same : keeps ≡ true → h' ≡ h
+  pub cleared : keeps ≡ false → Clears f h f' h'
 
 module _ {K X : Type 0} (cmp : K → K → Ordering) (present : Bool) (others : List (K × X)) where
   -- what is kept of an increasing list increases
@@ -109,6 +117,42 @@ module _ {K X : Type 0} {most : ℕ} {cmp : K → K → Ordering} (o : IsTotalOr
       (whole.kept.kept_is ∙ ap (kept_by (list_at f r)) answers_are ∙ kept-by cmp present (list_at f m) (list_at f r))
       (λ some. whole.kept.sizes_are ∙ ap (λ z. sizes_by most 0 z (sizes_at f r)) answers_are)
       whole.same_levels whole.account (λ e. (k.same_pool e, k.same_root e)) (λ e. left-fewer left k.kept (k.fewer e))
+
+module _ {K X : Type 0} {cmp : K → K → Ordering} {f : Forest K X} {h other : Option ℕ} (a : AreSearchable cmp f h other) {root : Option ℕ} (here : root ≡ h) where
+  -- an empty handle keeps nothing
+  pub keeps-empty : {most : ℕ} → IsTotalOrder cmp → (present : Bool) → root ≡ None → KeepsFrom most cmp present f h other false f h
+  keeps-empty o present none = keeps-all o present a (rw (sym here ∙ none) refl)
+
+  module _ {r : ℕ} (is : root ≡ Some r) {theirs : Option ℕ} (there : theirs ≡ other) where
+    -- a tree whose entries all stay, or none, where the other one is empty
+    pub keeps-apart : {most : ℕ} → IsTotalOrder cmp → (present : Bool) → theirs ≡ None → {f' : Forest K X} {h' : Option ℕ} {result : Bool} → Frees f h (not present) result f' h' → KeepsFrom most cmp present f h other result f' h'
+    keeps-apart o present none freed =
+        let empty : keeps_all cmp false (list_of f h) (list_of f other) ≡ true = rw (sym there ∙ none) (absent-all cmp (list_of f h)) in
+        keeps-or-frees o present a (sym here ∙ is) false empty (not present) (fits-false present) freed.told freed.stays freed.same freed.cleared
+
+    module _ {m : ℕ} (other_is : theirs ≡ Some m) {equal : Bool} (test : equal ≡ nat_eq r m) where
+      -- the two are one
+      pub keeps-one : {most : ℕ} → IsTotalOrder cmp → (present : Bool) → equal ≡ true → {f' : Forest K X} {h' : Option ℕ} {result : Bool} → Frees f h present result f' h' → KeepsFrom most cmp present f h other result f' h'
+      keeps-one o present yes_equal freed =
+          let same : h ≡ other = sym here ∙ is ∙ ap Some (same-by r m (sym test ∙ yes_equal)) ∙ sym other_is ∙ there in
+          let own : keeps_all cmp true (list_of f h) (list_of f other) ≡ true = rw (← same) (among-itself cmp o (list_of f h) a.increasing) in
+          keeps-or-frees o present a (sym here ∙ is) true own present (fits-true present) freed.told freed.stays freed.same freed.cleared
+
+      module _ {p : Forest K X} (view : p ≡ f) where
+        -- what two paths side by side ask
+        pub walk-asks : equal ≡ false → IsTrue (is_root p.nodes r) × (IsTrue (is_root p.nodes m) × ((r ≢ m) × (IsIncreasing cmp (list_under p r) × IsIncreasing cmp (list_under p m))))
+        walk-asks differ =
+            let s = seen-asks cmp (seen-as view (sym here ∙ is) a.live) a.increasing in
+            let t = seen-asks cmp (seen-as view (sym there ∙ other_is) a.other_live) a.other_increasing in
+            (s.0, (t.0, (apart-by r m (sym test ∙ differ), (s.1, t.1))))
+
+        -- two paths walked side by side, from the handles
+        pub keeps-beside : {most : ℕ} → IsTotalOrder cmp → (present : Bool) → {f' : Forest K X} {left h' : Option ℕ} {changed : Bool} → h' ≡ left → Kept most p f' r cmp present m left changed → KeepsFrom most cmp present f h other changed f' h'
+        keeps-beside {most} o present {f'} {left} {h'} {changed} out k =
+            let asked = rw (← view, sym here ∙ is, sym there ∙ other_is) at a in
+            let s = seen-as {h = Some r} refl refl asked.live in
+            let t = seen-as {h = Some m} refl refl asked.other_live in
+            rw (out, sym here ∙ is, sym there ∙ other_is, ← view) (keeps-walked o present asked s.list s.sizes t.list k)
 
 -- the table is a union of trees, whether a root or none is answered
 pub walked-union : {K X : Type 0} {most : ℕ} {cmp : K → K → Ordering} {present : Bool} {f f' : Forest K X} {r m : ℕ} {left : Option ℕ} {changed : Bool} → Kept most f f' r cmp present m left changed → IsUnion most f'
