@@ -4,11 +4,12 @@ ghost use Rattle.bforest.specs.Forest.{list_of, memory_of, slots_of};
 ghost use Rattle.bforest.specs.declared.map_forest.TheConstants.{MAP_LEAF};
 ghost use Rattle.bforest.specs.Entries.{value_for};
 ghost use Rattle.bforest_indexed.specs.Indexed.{HasRoom, StaysWithin, comparator, count, entries, table};
-ghost use Rattle.std.specs.Ordering.{is_eq};
+ghost use Rattle.std.specs.Ordering.{is_eq, nat_cmp};
 ghost use Rattle.std.specs.Prelude.{IfOk, IsOk, Some, false, is_some, length, true, ◌-◌, ◌<◌, ◌≡◌};
 
 use bforest::MapCursorMut;
 use bforest_indexed::{Comparator, Edit, Maps, OutOfMemory, Sets};
+use std::alloc::AllocError;
 
 /// Inserts an entry where there is room for `room.0` maps of `room.1` entries each, and stays within these numbers: that never fails.
 pub fn insert_in_room<K: Copy, V: Copy, C: Comparator<K>>(
@@ -41,10 +42,10 @@ pub fn make_room_and_insert<K: Copy, V: Copy, C: Comparator<K>>(
 }
 
 /// Inserts a value and looks its key up again: the lookup finds it.
-pub fn insert_and_get<K: Copy, V: Copy, C: Comparator<K>>(
-    maps: &mut Maps<K, V, C>,
+pub fn insert_and_get<V: Copy>(
+    maps: &mut Maps<u32, V, ()>,
     index: usize,
-    key: K,
+    key: u32,
     value: V,
 ) -> Result<Option<V>, OutOfMemory>
     requires within { index < count maps.old }
@@ -55,41 +56,42 @@ pub fn insert_and_get<K: Copy, V: Copy, C: Comparator<K>>(
 }
 
 /// Inserts a value and looks another key up: its value stays.
-pub fn insert_and_get_other<K: Copy, V: Copy, C: Comparator<K>>(
-    maps: &mut Maps<K, V, C>,
+pub fn insert_and_get_other<V: Copy>(
+    maps: &mut Maps<u32, V, ()>,
     index: usize,
-    entry: (K, V),
-    other: K,
+    key: u32,
+    value: V,
+    other: u32,
 ) -> Result<Option<V>, OutOfMemory>
     requires within { index < count maps.old }
-    requires apart { is_eq (C.order (comparator maps.old) entry.0 other) ≡ false }
+    requires apart { is_eq (nat_cmp key other) ≡ false }
     ensures { IfOk result (λ found. found
-        ≡ value_for (C.order (comparator maps.old)) (entries maps.old index) other) }
+        ≡ value_for nat_cmp (entries maps.old index) other) }
 {
-    maps.insert(index, entry.0, entry.1)?;
+    maps.insert(index, key, value)?;
     Ok(maps.get(index, other))
 }
 
 /// Removes a key and looks another key up: its value stays.
-pub fn remove_and_get_other<K: Copy, V: Copy, C: Comparator<K>>(
-    maps: &mut Maps<K, V, C>,
+pub fn remove_and_get_other<V: Copy>(
+    maps: &mut Maps<u32, V, ()>,
     index: usize,
-    key: K,
-    other: K,
+    key: u32,
+    other: u32,
 ) -> Option<V>
     requires within { index < count maps.old }
-    requires apart { is_eq (C.order (comparator maps.old) key other) ≡ false }
-    ensures { result ≡ value_for (C.order (comparator maps.old)) (entries maps.old index) other }
+    requires apart { is_eq (nat_cmp key other) ≡ false }
+    ensures { result ≡ value_for nat_cmp (entries maps.old index) other }
 {
     maps.remove(index, key);
     maps.get(index, other)
 }
 
 /// Inserts a key into a set and looks for it: it is there.
-pub fn insert_and_test<K: Copy, C: Comparator<K>>(
-    sets: &mut Sets<K, C>,
+pub fn insert_and_test(
+    sets: &mut Sets<u32, ()>,
     index: usize,
-    key: K,
+    key: u32,
 ) -> Result<bool, OutOfMemory>
     requires within { index < count sets.old }
     ensures { IfOk result (λ found. found ≡ true) }
@@ -99,45 +101,40 @@ pub fn insert_and_test<K: Copy, C: Comparator<K>>(
 }
 
 /// Inserts a key into a set and looks for another: whether it is there stays.
-pub fn insert_and_test_other<K: Copy, C: Comparator<K>>(
-    sets: &mut Sets<K, C>,
+pub fn insert_and_test_other(
+    sets: &mut Sets<u32, ()>,
     index: usize,
-    key: K,
-    other: K,
+    key: u32,
+    other: u32,
 ) -> Result<bool, OutOfMemory>
     requires within { index < count sets.old }
-    requires apart { is_eq (C.order (comparator sets.old) key other) ≡ false }
+    requires apart { is_eq (nat_cmp key other) ≡ false }
     ensures { IfOk result (λ found. found
-        ≡ is_some (value_for (C.order (comparator sets.old)) (entries sets.old index) other)) }
+        ≡ is_some (value_for nat_cmp (entries sets.old index) other)) }
 {
     sets.insert(index, key)?;
     Ok(sets.contains(index, other))
 }
 
 /// Removes a key from a set and looks for another: whether it is there stays.
-pub fn remove_and_test_other<K: Copy, C: Comparator<K>>(
-    sets: &mut Sets<K, C>,
-    index: usize,
-    key: K,
-    other: K,
-) -> bool
+pub fn remove_and_test_other(sets: &mut Sets<u32, ()>, index: usize, key: u32, other: u32) -> bool
     requires within { index < count sets.old }
-    requires apart { is_eq (C.order (comparator sets.old) key other) ≡ false }
-    ensures { result ≡ is_some (value_for (C.order (comparator sets.old)) (entries sets.old index) other) }
+    requires apart { is_eq (nat_cmp key other) ≡ false }
+    ensures { result ≡ is_some (value_for nat_cmp (entries sets.old index) other) }
 {
     sets.remove(index, key);
     sets.contains(index, other)
 }
 
-/// Makes room for maps, and then the maps: where the room could be made, there are so many.
+/// Makes room for maps, and then the maps: where the room could be made, they can be.
 pub fn make_in_room<K: Copy, V: Copy, C: Comparator<K>>(
     maps: &mut Maps<K, V, C>,
     room: (usize, usize),
-) -> Result<bool, OutOfMemory>
-    ensures { IfOk result (λ made. made ≡ true) }
+) -> Result<Result<(), AllocError>, OutOfMemory>
+    ensures { IfOk result (λ made. IsOk made) }
 {
     maps.reserve_for(room.0, room.1)?;
-    Ok(maps.grow_to(room.0).is_ok())
+    Ok(maps.grow_to(room.0))
 }
 
 /// Work that removes the last entry of a map, and answers its value.
