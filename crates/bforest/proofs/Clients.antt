@@ -1,5 +1,6 @@
 -- What those prove who write above maps: comparisons of numbers, lists of entries after insertions, what a search by a bound finds in
 -- them, `retain` as a filter, and how many nodes an insertion needs.
+use Rattle.bforest.proofs.Each.{all-map, filter-all, filter-none}
 use Rattle.bforest.proofs.Entries.{IsIncreasing-put, place-here, place-later, value_for-cut_other, value_for-put_other}
 use Rattle.bforest.proofs.Lengths.{length-put}
 use Rattle.bforest.proofs.Standard.{put-entry}
@@ -7,7 +8,7 @@ use Rattle.bforest.specs.Bounds.{entry_at_least, entry_at_most}
 use Rattle.bforest.specs.Entries.{IsIncreasing, cut, entry_for, is_present, place, put, put_all, value_for}
 use Rattle.bforest.specs.Forest.{Forest, inner_gain, leaf_gain, list_of, need, need_above, need_of, sizes_of}
 use Rattle.bforest.specs.Retain.{AsksEach, Retains, kept_by}
-use Rattle.std.proofs.Common.{Bool, Err, List, None, Ok, Option, Result, Some, [], ap, append-nil, append_assoc, arith, cond, drop, false, get_or, if◌then◌else◌, inl, inr, length, min, not, refl, remove, reverse, slice_get, subst, suc, sym, take, true, zero, ◌+◌, ◌++◌, ◌-◌, ◌<◌, ◌∙◌, ◌∷◌, ◌≡◌, ◌≢◌, ◌≤◌, ℕ}
+use Rattle.std.proofs.Common.{Bool, List, None, Option, Some, [], ap, arith, cond, drop, false, get_or, if◌then◌else◌, inl, inr, length, not, refl, slice_get, subst, suc, sym, take, true, zero, ◌+◌, ◌++◌, ◌<◌, ◌∙◌, ◌∷◌, ◌≡◌, ◌≢◌, ◌≤◌, ℕ}
 use Rattle.std.proofs.lemmas.Bool.{cases_lt, cases_order}
 use Rattle.std.proofs.lemmas.List.{take_more}
 use Rattle.std.specs.BTreeMap.{insert_entry}
@@ -58,6 +59,27 @@ nat-at_most a b is = elim (cases_lt b a) [
   | inr w ↦ w
 ]
 
+pub nat-tied : (a b : ℕ) → nat_cmp a b ≡ Equal → a ≡ b
+nat-tied a b is = elim (cases_order a b) [
+  | inl same ↦ same
+  | inr other ↦ elim other [
+    | inl w ↦ absurd (let bad = nat-less a b w in cc)
+    | inr w ↦ absurd (let bad = nat-greater a b w in cc)
+  ]
+]
+
+pub nat-in_front : (a b : ℕ) → is_lt (nat_cmp a b) ≡ true → a < b
+nat-in_front a b is = elim (cases_lt a b) [
+  | inl w ↦ w
+  | inr w ↦ absurd (let bad = nat-not_less a b w in cc)
+]
+
+pub nat-at_least : (a b : ℕ) → is_lt (nat_cmp a b) ≡ false → b ≤ a
+nat-at_least a b is = elim (cases_lt a b) [
+  | inl w ↦ absurd (let bad = ap is_lt (nat-less a b w) in cc)
+  | inr w ↦ w
+]
+
 pub nat-behind : (a b : ℕ) → is_gt (nat_cmp a b) ≡ true → b < a
 nat-behind a b is = elim (cases_lt b a) [
   | inl w ↦ w
@@ -81,6 +103,20 @@ module _ {K X : Type 0} (cmp : K → K → Ordering) (o : IsTotalOrder cmp) (es 
   -- a key that compares unequal is present after a removal where it was
   pub is_present-cut_other : is_eq (cmp k q) ≡ false → IsIncreasing cmp es → is_present cmp (cut cmp es k) q ≡ is_present cmp es q
   is_present-cut_other apart up = present-value cmp (cut cmp es k) q ∙ ap is_some (value_for-cut_other cmp o k q apart es up) ∙ sym (present-value cmp es q)
+
+-- no entries increase
+pub IsIncreasing-none : (K X : Type 0) (cmp : K → K → Ordering) → IsIncreasing {K = K} {X = X} cmp []
+unfolding IsStrictlySortedBy
+IsIncreasing-none K X cmp = tt
+
+all-keys : {K X : Type 0} (P : K → Type 0) (es : List (K × X)) → AllByRecursion (λ x. P x.0) es → AllByRecursion P (keys_of es)
+all-keys P [] all = tt
+all-keys P (x ∷ es) all = (all.0, all-keys P es all.1)
+
+-- a list increases where its first key is less than each other, and the rest increases
+pub IsIncreasing-cons : {K X : Type 0} (cmp : K → K → Ordering) (e : K × X) (es : List (K × X)) → AllByRecursion (λ x. cmp e.0 x.0 ≡ Less) es → IsIncreasing cmp es → IsIncreasing cmp (e ∷ es)
+unfolding IsStrictlySortedBy
+IsIncreasing-cons cmp e es all up = (all-keys (λ k. cmp e.0 k ≡ Less) es all, up)
 
 tail : {K X : Type 0} (cmp : K → K → Ordering) (e : K × X) (es : List (K × X)) → IsIncreasing cmp (e ∷ es) → IsIncreasing cmp es
 unfolding IsStrictlySortedBy
@@ -231,6 +267,34 @@ module _ {K X : Type 0} (cmp : K → K → Ordering) (o : IsTotalOrder cmp) (k :
       go Less t (x ∷ xs) all = absurd (let bad = ap is_lt t in cc)
       go Equal t (x ∷ xs) all = (greater x.0 (sym (o.congr e.0 k x.0 t) ∙ all.0), go Equal t xs all.1)
       go Greater t (x ∷ xs) all = (greater x.0 (o.trans k e.0 x.0 (o.antisymm k e.0 ∙ ap ordering_reverse t) all.0), go Greater t xs all.1)
+
+  -- An insertion of k, where a key that compares equal is k, parts the entries: those in front, the one put in, and those behind.
+  pub put-parts : (v : X) → ((a : K) → cmp k a ≡ Equal → a ≡ k) → (es : List (K × X)) → IsIncreasing cmp es → put cmp es k v ≡ filter (λ x. is_lt (cmp x.0 k)) es ++ (k, v) ∷ filter (λ x. is_gt (cmp x.0 k)) es
+  put-parts v exact [] up = refl
+  put-parts v exact (e ∷ es) up = go (cmp k e.0) refl (put-parts v exact es (tail cmp e es up))
+    where
+      back : (r : Ordering) → cmp k e.0 ≡ r → cmp e.0 k ≡ ordering_reverse r
+      back r t = o.antisymm e.0 k ∙ ap ordering_reverse t
+
+      parts : (r : Ordering) → cmp k e.0 ≡ r → filter (λ x. is_lt (cmp x.0 k)) (e ∷ es) ++ (k, v) ∷ filter (λ x. is_gt (cmp x.0 k)) (e ∷ es)
+          ≡ (if is_lt (ordering_reverse r) then e ∷ filter (λ x. is_lt (cmp x.0 k)) es else filter (λ x. is_lt (cmp x.0 k)) es) ++ (k, v) ∷ (if is_gt (ordering_reverse r) then e ∷ filter (λ x. is_gt (cmp x.0 k)) es else filter (λ x. is_gt (cmp x.0 k)) es)
+      parts r t = λ j. (if is_lt (back r t j) then e ∷ filter (λ x. is_lt (cmp x.0 k)) es else filter (λ x. is_lt (cmp x.0 k)) es) ++ (k, v) ∷ (if is_gt (back r t j) then e ∷ filter (λ x. is_gt (cmp x.0 k)) es else filter (λ x. is_gt (cmp x.0 k)) es)
+
+      behind-all : is_lt (cmp e.0 k) ≡ false → (filter (λ x. is_lt (cmp x.0 k)) es ≡ []) × (filter (λ x. is_gt (cmp x.0 k)) es ≡ es)
+      behind-all t =
+          let all = later-greater e es up t in
+          (filter-none (λ x. is_lt (cmp x.0 k)) es (all-map (λ x g. not-less (cmp x.0 k) g) es all), filter-all (λ x. is_gt (cmp x.0 k)) es all)
+        where
+          not-less : (r : Ordering) → is_gt r ≡ true → is_lt r ≡ false
+          not-less Less g = absurd (cc)
+          not-less Equal g = refl
+          not-less Greater g = refl
+
+      go : (r : Ordering) → cmp k e.0 ≡ r → put cmp es k v ≡ filter (λ x. is_lt (cmp x.0 k)) es ++ (k, v) ∷ filter (λ x. is_gt (cmp x.0 k)) es
+          → put cmp (e ∷ es) k v ≡ filter (λ x. is_lt (cmp x.0 k)) (e ∷ es) ++ (k, v) ∷ filter (λ x. is_gt (cmp x.0 k)) (e ∷ es)
+      go Less t rest = let b = behind-all (ap is_lt (back Less t)) in put-first cmp o e es k v up t ∙ sym (parts Less t ∙ (λ j. b.0 j ++ (k, v) ∷ e ∷ b.1 j))
+      go Equal t rest = let b = behind-all (ap is_lt (back Equal t)) in put-same cmp o e es k v up t ∙ (λ j. (exact e.0 t j, v) ∷ es) ∙ sym (parts Equal t ∙ (λ j. b.0 j ++ (k, v) ∷ b.1 j))
+      go Greater t rest = put-later cmp o e es k v up t ∙ ap (λ l. e ∷ l) rest ∙ sym (parts Greater t)
 
   -- entries behind one that is behind k are behind k
   pub greater-from : (es : List (K × X)) (p : ℕ) (e : K × X) → IsIncreasing cmp es → slice_get es p ≡ Some e → is_gt (cmp e.0 k) ≡ true → AllByRecursion (λ x. is_gt (cmp x.0 k) ≡ true) (drop p es)

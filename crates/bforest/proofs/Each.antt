@@ -1,6 +1,6 @@
 -- What holds of each element of a list, and filters.
-use Rattle.std.proofs.Common.{Bool, Err, List, None, Ok, Option, Result, Some, [], ap, append-nil, append_assoc, arith, cond, drop, false, get_or, if◌then◌else◌, inl, inr, length, min, not, refl, remove, reverse, slice_get, subst, suc, sym, take, true, zero, ◌+◌, ◌++◌, ◌-◌, ◌<◌, ◌∙◌, ◌∷◌, ◌≡◌, ◌≢◌, ◌≤◌, ℕ}
-use Rattle.std.specs.List.{AllByRecursion, filter}
+use Rattle.std.proofs.Common.{Bool, List, [], ap, false, if◌then◌else◌, refl, sym, true, ◌++◌, ◌&&◌, ◌||◌, ◌∙◌, ◌∷◌, ◌≡◌}
+use Rattle.std.specs.List.{AllByRecursion, filter, list_any}
 
 module _ {A : Type 0} where
   -- what holds of each element of two lists holds of each of both in a row
@@ -39,3 +39,29 @@ module _ {A : Type 0} where
   pub filter-none : (test : A → Bool) (xs : List A) → AllByRecursion (λ x. test x ≡ false) xs → filter test xs ≡ []
   filter-none test [] all = refl
   filter-none test (x ∷ xs) all = (λ j. if all.0 j then x ∷ filter-none test xs all.1 j else filter-none test xs all.1 j)
+
+  -- a filter after a filter is one
+  pub filter-filter : (p q r : A → Bool) → ((x : A) → (q x && p x) ≡ r x) → (xs : List A) → filter p (filter q xs) ≡ filter r xs
+  filter-filter p q r both [] = refl
+  filter-filter p q r both (x ∷ xs) = go (q x) refl ∙ (λ j. if both x j then x ∷ filter-filter p q r both xs j else filter-filter p q r both xs j)
+    where
+      go : (t : Bool) → q x ≡ t → filter p (if q x then x ∷ filter q xs else filter q xs) ≡ (if q x && p x then x ∷ filter p (filter q xs) else filter p (filter q xs))
+      go true t = (λ j. filter p (if t j then x ∷ filter q xs else filter q xs)) ∙ sym (λ j. if t j && p x then x ∷ filter p (filter q xs) else filter p (filter q xs))
+      go false t = (λ j. filter p (if t j then x ∷ filter q xs else filter q xs)) ∙ sym (λ j. if t j && p x then x ∷ filter p (filter q xs) else filter p (filter q xs))
+
+  -- whether an element passes a test, where none does
+  pub any-none : (test : A → Bool) (xs : List A) → AllByRecursion (λ x. test x ≡ false) xs → list_any test xs ≡ false
+  any-none test [] all = refl
+  any-none test (x ∷ xs) all = λ j. all.0 j || any-none test xs all.1 j
+
+  -- and where a filter took out none that does, or left none
+  pub any-filter_all : (test keep : A → Bool) (xs : List A) → AllByRecursion (λ x. keep x ≡ false → test x ≡ false) xs → list_any test (filter keep xs) ≡ list_any test xs
+  any-filter_all test keep [] all = refl
+  any-filter_all test keep (x ∷ xs) all = go (keep x) refl ∙ ap (λ t. test x || t) (any-filter_all test keep xs all.1)
+    where
+      go : (t : Bool) → keep x ≡ t → list_any test (if keep x then x ∷ filter keep xs else filter keep xs) ≡ (test x || list_any test (filter keep xs))
+      go true t = λ j. list_any test (if t j then x ∷ filter keep xs else filter keep xs)
+      go false t = (λ j. list_any test (if t j then x ∷ filter keep xs else filter keep xs)) ∙ sym (ap (λ u. u || list_any test (filter keep xs)) (all.0 t))
+
+  pub any-filter_none : (test keep : A → Bool) (xs : List A) → AllByRecursion (λ x. keep x ≡ true → test x ≡ false) xs → list_any test (filter keep xs) ≡ false
+  any-filter_none test keep xs all = any-none test (filter keep xs) (all-filter (λ x. test x ≡ false) keep xs all)

@@ -1,17 +1,22 @@
 -- Loops of those who write above maps: by an iterator or a range, by a reading cursor, and by a writing one.
 use Rattle.bforest.proofs.Becoming.{becomes-both}
-use Rattle.bforest.proofs.Each.{filter-all}
+use Rattle.bforest.proofs.Clients.{around-place}
+use Rattle.bforest.proofs.Each.{all-map, filter-agree, filter-all}
+use Rattle.bforest.proofs.Entries.{place-present}
+use Rattle.bforest.specs.Bounds.{without_between}
 use Rattle.bforest.specs.Calls.{Inserts, RemovesAt}
 use Rattle.bforest.specs.Cursor.{Cursor, Goes, IsCursor, Moves, Writes, at_place, comparator, entries, forest_now, map_now, spot}
-use Rattle.bforest.specs.Entries.{with_value}
+use Rattle.bforest.specs.Entries.{IsIncreasing, is_present, place, with_value}
 use Rattle.bforest.specs.Forest.{Becomes, Forest, list_of}
 use Rattle.bforest.specs.Refusal.{OutOfMemory}
 use Rattle.bforest.specs.declared.map_cursor_mut.MapCursorMut.{MapCursorMut}
-use Rattle.std.proofs.Common.{Bool, Err, List, None, Ok, Option, Result, Some, [], ap, append-nil, append_assoc, arith, cond, drop, false, get_or, if◌then◌else◌, inl, inr, length, min, not, refl, remove, reverse, slice_get, subst, suc, sym, take, true, zero, ◌+◌, ◌++◌, ◌-◌, ◌<◌, ◌∙◌, ◌∷◌, ◌≡◌, ◌≢◌, ◌≤◌, ℕ, option_map}
+use Rattle.std.proofs.Common.{Bool, Err, List, None, Ok, Option, Result, Some, [], ap, append-nil, append_assoc, arith, drop, false, if◌then◌else◌, inl, inr, length, min, not, refl, remove, reverse, slice_get, subst, suc, sym, take, true, zero, ◌+◌, ◌++◌, ◌&&◌, ◌-◌, ◌<◌, ◌∙◌, ◌∷◌, ◌≡◌, ◌≤◌, ℕ, option_map}
 use Rattle.std.proofs.lemmas.List.{reverse-append}
 use Rattle.std.proofs.lemmas.Option.{slice_get_cases, slice_get_within}
 use Rattle.std.specs.List.{AllByRecursion, filter}
+use Rattle.std.specs.Cmp.{IsTotalOrder}
 use Rattle.std.specs.Option.{is_some}
+use Rattle.std.specs.Ordering.{is_gt}
 use Rattle.std.specs.declared.cmp.Ordering.{Ordering}
 
 module _ {X : Type 0} (all : List X) where
@@ -167,6 +172,18 @@ module _ {K X C : Type 0} (order : C → K → K → Ordering) where
   pub next-spot : {c d : MapCursorMut K X C} → Moves order c d (min (spot c + 1) (length (entries c))) → spot c + 1 < length (entries c) → spot d ≡ suc (spot c)
   next-spot m more = m.goes.spot ∙ omega (arith, more)
 
+  -- A cursor that was made on the map h of f, sent to a key that is there, and moved on by a step: it stands behind that key.
+  pub behind-key : {f : Forest K X} {h : Option ℕ} {made at next : MapCursorMut K X C} (k : K) → forest_now made ≡ f → map_now made ≡ h → Moves order made at (place (order (comparator made)) (entries made) k)
+      → Moves order at next (min (spot at + 1) (length (entries at))) → is_present (order (comparator made)) (list_of f h) k ≡ true
+      → (entries next ≡ list_of f h) × (spot next ≡ suc (place (order (comparator made)) (list_of f h) k))
+  behind-key {f} {h} {made} {at} {next} k forest map to on here = (moved-entries on ∙ at-is, on.goes.spot ∙ (λ j. min ((to.goes.spot ∙ (λ i. place (order (comparator made)) (made-is i) k)) j + 1) (length (at-is j))) ∙ omega (arith, place-present (order (comparator made)) (list_of f h) k here))
+    where
+      made-is : entries made ≡ list_of f h
+      made-is = λ j. list_of (forest j) (map j)
+
+      at-is : entries at ≡ list_of f h
+      at-is = moved-entries to ∙ made-is
+
   -- a changed cursor with the list es has changed its map to es
   pub changed-list : {c d : MapCursorMut K X C} {es : List (K × X)} → Changed c d → entries d ≡ es → Becomes (forest_now c) (map_now c) (forest_now d) (map_now d) es
   changed-list {c} {d} t e = subst (λ (l : List (K × X)). Becomes (forest_now c) (map_now c) (forest_now d) (map_now d) l) e t.becomes
@@ -251,3 +268,34 @@ module _ {K X C : Type 0} (order : C → K → K → Ordering) (keep : K × X �
       nothing zero (x ∷ es) is = absurd (cc)
       nothing (suc p) [] is = refl
       nothing (suc p) (x ∷ es) is = nothing p es is
+
+-- A sweep by a cursor that was made, sent to a key that is there, and moved on: it removes the entries behind that key, up to another.
+module _ {K X : Type 0} (cmp : K → K → Ordering) (first last : K) where
+  -- the entries in front of a place, which are not behind `first`, and those from there on that are behind `last`
+  parts : (q : ℕ) (es : List (K × X)) → AllByRecursion (λ x. is_gt (cmp x.0 first) ≡ false) (take q es) → AllByRecursion (λ x. is_gt (cmp x.0 first) ≡ true) (drop q es)
+      → take q es ++ filter (λ x. is_gt (cmp x.0 last)) (drop q es) ≡ without_between cmp first last es
+  parts zero es none all = filter-agree (λ x. is_gt (cmp x.0 last)) (λ x. not (is_gt (cmp x.0 first) && not (is_gt (cmp x.0 last)))) es
+      (all-map (λ x t. sym (ap (λ u. not (u && not (is_gt (cmp x.0 last)))) t ∙ twice (is_gt (cmp x.0 last)))) es all)
+    where
+      twice : (t : Bool) → not (not t) ≡ t
+      twice true = refl
+      twice false = refl
+  parts (suc q) [] low high = refl
+  parts (suc q) (x ∷ es) low high = ap (λ l. x ∷ l) (parts q es low.1 high) ∙ sym (ap (λ u. if not (u && not (is_gt (cmp x.0 last))) then x ∷ without_between cmp first last es else without_between cmp first last es) low.0)
+
+-- the map and the forest after a cursor went behind a key, and removed the entries up to another
+module _ {K X C : Type 0} {order : C → K → K → Ordering} {f g : Forest K X} {h i : Option ℕ} {made at next : MapCursorMut K X C} {x : C} (gone : MapCursorMut K X C) (total : IsTotalOrder (order x)) where
+  pub swept-behind : (first last : K) → IsIncreasing (order x) (list_of f h) → is_present (order x) (list_of f h) first ≡ true → forest_now made ≡ f → map_now made ≡ h → comparator made ≡ x
+      → Moves order made at (place (order (comparator made)) (entries made) first) → Moves order at next (min (spot at + 1) (length (entries at)))
+      → entries gone ≡ take (spot next) (entries next) ++ filter (λ y. is_gt (order x y.0 last)) (drop (spot next) (entries next)) → g ≡ forest_now gone → i ≡ map_now gone
+      → list_of g i ≡ without_between (order x) first last (list_of f h)
+  swept-behind first last up here forest map comp to on left forest' map' =
+      (λ j. list_of (forest' j) (map' j)) ∙ left ∙ (λ j. take (there.1 j) (there.0 j) ++ filter (λ y. is_gt (order x y.0 last)) (drop (there.1 j) (there.0 j)))
+      ∙ (λ j. take (suc (place (order (comp j)) (list_of f h) first)) (list_of f h) ++ filter (λ y. is_gt (order x y.0 last)) (drop (suc (place (order (comp j)) (list_of f h) first)) (list_of f h)))
+      ∙ parts (order x) first last (suc (place (order x) (list_of f h) first)) (list_of f h) around.0 around.1
+    where
+      there : (entries next ≡ list_of f h) × (spot next ≡ suc (place (order (comparator made)) (list_of f h) first))
+      there = behind-key order first forest map to on (subst (λ z. is_present (order z) (list_of f h) first ≡ true) (sym comp) here)
+
+      around : AllByRecursion (λ y. is_gt (order x y.0 first) ≡ false) (take (suc (place (order x) (list_of f h) first)) (list_of f h)) × AllByRecursion (λ y. is_gt (order x y.0 first) ≡ true) (drop (suc (place (order x) (list_of f h) first)) (list_of f h))
+      around = around-place (order x) total first (list_of f h) up here

@@ -2,10 +2,9 @@
 use Rattle.bforest.specs.Bounds.{entry_at_most}
 use Rattle.bforest.specs.Entries.{IsIncreasing}
 use Rattle.bforest.specs.Forest.{Forest, IsLive, list_of}
-use Rattle.std.specs.List.{AllByRecursion, filter, list_any}
-use Rattle.std.specs.Ordering.{is_gt, nat_cmp}
-use Rattle.std.specs.Prelude.{Bool, List, None, Option, Some, [], if◌then◌else◌, max, nat_le, nat_lt, not, ◌&&◌, ◌<◌, ◌∷◌, ℕ}
-use Rattle.std.specs.declared.cmp.Ordering.{Ordering}
+use Rattle.std.specs.List.{AllByRecursion, list_any}
+use Rattle.std.specs.Ordering.{nat_cmp}
+use Rattle.std.specs.Prelude.{Bool, List, None, Option, Some, [], if◌then◌else◌, max, nat_le, nat_lt, ◌&&◌, ◌<◌, ◌∷◌, ℕ}
 
 -- each range starts before it ends, and ends before any later one starts: no two overlap or touch
 abbrev pub AreApart : List (ℕ × ℕ) → Type 0
@@ -36,10 +35,6 @@ low_of rs s = start_of (entry_at_most nat_cmp rs s) s
 
 abbrev pub high_of : List (ℕ × ℕ) → ℕ → ℕ
 high_of rs e = end_of (entry_at_most nat_cmp rs e) e
-
--- the entries without those whose keys are behind `first`, up to `last`
-abbrev pub without_between : {K X : Type 0} → (K → K → Ordering) → K → K → List (K × X) → List (K × X)
-without_between cmp first last es = filter (λ x. not (is_gt (cmp x.0 first) && not (is_gt (cmp x.0 last)))) es
 
 -- the invariant of the ranges
 pub record AreKept (f : Forest ℕ ℕ) (h : Option ℕ) : Type 0 where

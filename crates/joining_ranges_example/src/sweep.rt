@@ -1,9 +1,9 @@
 //! A loop by a writing cursor.
+ghost use Rattle.bforest.specs.Bounds.{without_between};
 ghost use Rattle.bforest.specs.Cursor.{Goes, IsCursor, comparator, entries, spot};
 ghost use Rattle.bforest.specs.Entries.{IsIncreasing, is_present};
 ghost use Rattle.bforest.specs.Forest.{IsLive, IsSearchable, list_of};
 ghost use Rattle.bforest.specs.Memory.{MapsFitInMemory};
-ghost use Rattle.joining_ranges_example.specs.Ranges.{without_between};
 ghost use Rattle.std.specs.List.{filter};
 ghost use Rattle.std.specs.Ordering.{is_gt};
 ghost use Rattle.std.specs.Prelude.{drop, take, true, ◌++◌, ◌≡◌};

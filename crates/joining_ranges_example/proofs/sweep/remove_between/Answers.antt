@@ -1,4 +1,4 @@
-use Rattle.joining_ranges_example.proofs.Sweeping.{swept-behind}
+use Rattle.bforest.proofs.Loops.{swept-behind}
 use Rattle.joining_ranges_example.proofs.sweep.remove_between.Goals as goal
 use Rattle.std.proofs.Common.{sym, ◌∙◌}
 

@@ -1,6 +1,6 @@
-use Rattle.joining_ranges_example.proofs.Joined.{covers-at, parted, reaches}
+use Rattle.joining_ranges_example.proofs.Joined.{covers-at, parted}
 use Rattle.joining_ranges_example.proofs.ranges.Ranges.covers.Goals as goal
-use Rattle.std.proofs.Common.{None, Some, ap, sym, ◌∙◌}
+use Rattle.std.proofs.Common.{None, Some, sym}
 
 pub returns-in-Some-clause-covered : goal.returns-in-Some-clause-covered
 returns-in-Some-clause-covered c = rw (← c.self.view_is) (covers-at _ c.args.point (Some c.in-Some.range) (parted _ c.args.point c.self.invariant.apart (Some c.in-Some.range) (sym c.in-Some.ensures.entry)))
