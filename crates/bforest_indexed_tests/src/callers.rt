@@ -56,13 +56,13 @@ pub fn insert_and_get<V: Copy>(
 }
 
 /// Inserts a value and looks another key up: its value stays.
-pub fn insert_and_get_other<V: Copy>(
-    maps: &mut Maps<u32, V, ()>,
+pub fn insert_and_get_other(
+    maps: &mut Maps<u32, u32, ()>,
     index: usize,
     key: u32,
-    value: V,
+    value: u32,
     other: u32,
-) -> Result<Option<V>, OutOfMemory>
+) -> Result<Option<u32>, OutOfMemory>
     requires within { index < count maps.old }
     requires apart { is_eq (nat_cmp key other) ≡ false }
     ensures { IfOk result (λ found. found

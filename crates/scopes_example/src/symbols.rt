@@ -86,6 +86,7 @@ impl Symbols {
     }
 
     /// Defines a name in the innermost scope, and returns what it meant in that scope before.
+    #[tactic(auto, using(crate::proofs::Stacks::defined, crate::proofs::Stacks::meant))]
     pub(crate) fn define(&mut self, name: u32, is: u32) -> Result<Option<u32>, OutOfMemory>
         requires inside { 0 < length self.old.scopes }
         ensures before { IfOk result
@@ -113,6 +114,7 @@ impl Symbols {
     }
 
     /// Makes some definitions in the innermost scope, one after another. If one is refused, those before it are made.
+    #[tactic(auto, using(crate::proofs::Stacks::outer_same, crate::proofs::Stacks::same_depth, crate::proofs::Stacks::next))]
     pub(crate) fn define_all(&mut self, definitions: &[(u32, u32)]) -> Result<(), OutOfMemory>
         requires inside { 0 < length self.old.scopes }
         ensures defined { OnOk result (self.new ≡ record self.old
