@@ -52,7 +52,7 @@ nat-unequal a b ne = elim (cases_order a b) [
   ]
 ]
 
--- and what a comparison says of them
+-- how numbers lie, by their comparison
 pub nat-at_most : (a b : ℕ) → is_gt (nat_cmp a b) ≡ false → a ≤ b
 nat-at_most a b is = elim (cases_lt b a) [
   | inl w ↦ absurd (let bad = ap is_gt (nat-greater a b w) in cc)
@@ -150,7 +150,7 @@ module _ {K X : Type 0} (cmp : K → K → Ordering) where
       go true is = omega (arith, is)
       go false is = omega (arith, is)
 
-  -- so many insertions make the list longer by so many entries at most
+  -- insertions make the list longer by at most as many entries
   pub length-put_all : (es xs : List (K × X)) → length (put_all cmp es xs) ≤ length es + length xs
   length-put_all es [] = omega arith
   length-put_all es (x ∷ xs) = omega (arith, length-put_all (put cmp es x.0 x.1) xs, length-put-most es x.0 x.1)
@@ -202,7 +202,7 @@ module _ {K X : Type 0} (cmp : K → K → Ordering) (k : K) where
   at_most-none [] all = refl
   at_most-none (x ∷ es) all = at_most-later x es all.0 ∙ at_most-none es all.1
 
-  -- and only there
+  -- `get_or_less` finds nothing only where all entries are behind k
   pub none-at_most : (es : List (K × X)) → entry_at_most cmp es k ≡ None → AllByRecursion (λ x. is_gt (cmp x.0 k) ≡ true) es
   none-at_most [] none = tt
   none-at_most (x ∷ es) none = go (is_gt (cmp x.0 k)) refl (none-at_most es)

@@ -54,7 +54,7 @@ module _ {A : Type 0} where
   any-none test [] all = refl
   any-none test (x ∷ xs) all = λ j. all.0 j || any-none test xs all.1 j
 
-  -- and where a filter took out none that does, or left none
+  -- whether an element passes a test, after a filter that took out none that does, or that left none
   pub any-filter_all : (test keep : A → Bool) (xs : List A) → AllByRecursion (λ x. keep x ≡ false → test x ≡ false) xs → list_any test (filter keep xs) ≡ list_any test xs
   any-filter_all test keep [] all = refl
   any-filter_all test keep (x ∷ xs) all = go (keep x) refl ∙ ap (λ t. test x || t) (any-filter_all test keep xs all.1)

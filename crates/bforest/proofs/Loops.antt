@@ -255,7 +255,7 @@ module _ {K X C : Type 0} (order : C → K → K → Ordering) (keep : K × X �
         append-take_drop (suc p) [] = refl
         append-take_drop (suc p) (x ∷ es) = ap (λ l. x ∷ l) (append-take_drop p es)
 
-    -- it stands where it stood
+    -- a sweep leaves the cursor where it stood
     pub sweeps-goes : Goes order c d (spot c)
     sweeps-goes = record { map_loan = s.changed.goes.map_loan; forest_loan = s.changed.goes.forest_loan; comparator = s.changed.goes.comparator; spot = s.stays; valid = s.changed.goes.valid }
 

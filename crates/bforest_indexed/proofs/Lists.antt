@@ -74,7 +74,7 @@ module _ {K X C : Type 0} where
       no-lists [] is = refl
       no-lists (l ∷ ls) is = absurd (omega (arith, is))
 
-  -- and no node
+  -- an index past the end has no node
   pub sizes-past-end : (m : Indexed K X C) (i : ℕ) → count m ≡ 0 → node_sizes m i ≡ []
   sizes-past-end m i none = ap (sizes_of (table m)) (no-handle m.handles none)
     where

@@ -32,7 +32,7 @@ module _ (s : Symbols) {t : Symbols} (xs : List (ℕ × ℕ)) (is : t ≡ record
 
 -- the table s became t by the first i definitions
 module _ (s : Symbols) {t : Symbols} (xs : List (ℕ × ℕ)) (i : ℕ) (is : t ≡ record s { scopes = with_all s.scopes (take i xs) }) (low : i < length xs) where
-  -- and u by one more
+  -- one definition more, by which t became u
   pub next : {u : Symbols} → u ≡ record t { scopes = with_definition t.scopes (get_or xs i (0, 0)).0 (get_or xs i (0, 0)).1 } → u ≡ record s { scopes = with_all s.scopes (take (i + 1) xs) }
   next done = done ∙ ap (λ (z : Symbols). record z { scopes = with_definition z.scopes (get_or xs i (0, 0)).0 (get_or xs i (0, 0)).1 }) is
       ∙ ap (λ (ls : List Scope). record s { scopes = ls }) (sym (more s.scopes xs i low))

@@ -45,7 +45,7 @@ pub record HasRoomFor (s : Symbols) (name : ℕ) : Type 0 where
   pub each : IsWithinRoom s
   pub here : is_present nat_cmp (innermost s.scopes) name ≡ false → length (innermost s.scopes) < s.most_names
 
--- so many definitions stay within the room
+-- this number of definitions stays within the room
 pub record HasRoomForAll (s : Symbols) (definitions : ℕ) : Type 0 where
   pub each : IsWithinRoom s
   pub here : length (innermost s.scopes) + definitions ≤ s.most_names
