@@ -3,19 +3,19 @@
 use Rattle.bforest.proofs.Each.{all-map, filter-all, filter-none}
 use Rattle.bforest.proofs.Entries.{IsIncreasing-put, place-here, place-later, value_for-cut_other, value_for-put_other}
 use Rattle.bforest.proofs.Lengths.{length-put}
-use Rattle.bforest.proofs.Standard.{put-entry}
+use Rattle.bforest.proofs.Standard.{cut-entry, put-entry}
 use Rattle.bforest.specs.Bounds.{entry_at_least, entry_at_most}
 use Rattle.bforest.specs.Entries.{IsIncreasing, cut, entry_for, is_present, place, put, put_all, value_for}
 use Rattle.bforest.specs.Forest.{Forest, inner_gain, leaf_gain, list_of, need, need_above, need_of, sizes_of}
 use Rattle.bforest.specs.Retain.{AsksEach, Retains, kept_by}
-use Rattle.std.proofs.Common.{Bool, List, None, Option, Some, [], ap, arith, cond, drop, false, get_or, if◌then◌else◌, inl, inr, length, not, refl, slice_get, subst, suc, sym, take, true, zero, ◌+◌, ◌++◌, ◌<◌, ◌∙◌, ◌∷◌, ◌≡◌, ◌≢◌, ◌≤◌, ℕ}
+use Rattle.std.proofs.Common.{Bool, List, None, Option, Some, [], ap, arith, cond, drop, false, get_or, if◌then◌else◌, inl, inr, length, not, refl, slice_get, subst, suc, sym, take, true, zero, ◌+◌, ◌++◌, ◌-◌, ◌<◌, ◌∙◌, ◌∷◌, ◌≡◌, ◌≢◌, ◌≤◌, ℕ}
 use Rattle.std.proofs.lemmas.Bool.{cases_lt, cases_order}
-use Rattle.std.proofs.lemmas.List.{take_more}
-use Rattle.std.specs.BTreeMap.{insert_entry}
+use Rattle.std.proofs.lemmas.List.{length-append, take_more}
+use Rattle.std.specs.BTreeMap.{insert_entry, is_at}
 use Rattle.std.specs.Cmp.{IsTotalOrder, nat_cmp_is}
 use Rattle.std.specs.List.Sorted.{IsStrictlySortedBy}
 use Rattle.std.specs.List.{AllByRecursion, filter, last_or}
-use Rattle.std.specs.Map.{keys_of}
+use Rattle.std.specs.Map.{keys_of, remove_entry}
 use Rattle.std.specs.Option.{is_some, option_and_then, option_map, unwrap_or}
 use Rattle.std.specs.Ordering.{is_eq, is_gt, is_lt, match_ordering, nat_cmp, ordering_reverse}
 use Rattle.std.specs.declared.cmp.Ordering.TheVariants.{Equal, Greater, Less}
@@ -104,6 +104,14 @@ module _ {K X : Type 0} (cmp : K → K → Ordering) (o : IsTotalOrder cmp) (es 
   pub is_present-cut_other : is_eq (cmp k q) ≡ false → IsIncreasing cmp es → is_present cmp (cut cmp es k) q ≡ is_present cmp es q
   is_present-cut_other apart up = present-value cmp (cut cmp es k) q ∙ ap is_some (value_for-cut_other cmp o k q apart es up) ∙ sym (present-value cmp es q)
 
+-- the last entry of a list to which one was appended, as `last` reads it
+pub last-appended : {A : Type 0} (es : List A) (x : A) → slice_get (es ++ x ∷ []) (length (es ++ x ∷ []) - 1) ≡ Some x
+last-appended {A = A} es x = ap (slice_get (es ++ x ∷ [])) (let is : length (es ++ x ∷ []) - 1 ≡ length es = omega (arith, length-append es (x ∷ [])) in is) ∙ at es
+  where
+    at : (ys : List A) → slice_get (ys ++ x ∷ []) (length ys) ≡ Some x
+    at [] = refl
+    at (y ∷ ys) = at ys
+
 -- no entries increase
 pub IsIncreasing-none : (K X : Type 0) (cmp : K → K → Ordering) → IsIncreasing {K = K} {X = X} cmp []
 unfolding IsStrictlySortedBy
@@ -132,6 +140,23 @@ module _ {K X : Type 0} (cmp : K → K → Ordering) (o : IsTotalOrder cmp) wher
 
   pub put-first : (e : K × X) (es : List (K × X)) (k : K) (v : X) → IsIncreasing cmp (e ∷ es) → cmp k e.0 ≡ Less → put cmp (e ∷ es) k v ≡ (k, v) ∷ e ∷ es
   put-first e es k v up is = put-entry cmp o (e ∷ es) k v up ∙ ap (λ r. match_ordering r ((k, v) ∷ e ∷ es) ((e.0, v) ∷ es) (e ∷ insert_entry cmp es k v)) is
+
+  -- an insertion of a key behind all others
+  pub put-last : (es : List (K × X)) (k : K) (v : X) → IsIncreasing cmp es → AllByRecursion (λ e. is_lt (cmp e.0 k) ≡ true) es → put cmp es k v ≡ es ++ (k, v) ∷ []
+  put-last [] k v up all = refl
+  put-last (e ∷ es) k v up all = put-later e es k v up (behind (cmp e.0 k) refl all.0) ∙ ap (λ l. e ∷ l) (put-last es k v (tail cmp e es up) all.1)
+    where
+      behind : (r : Ordering) → cmp e.0 k ≡ r → is_lt (cmp e.0 k) ≡ true → cmp k e.0 ≡ Greater
+      behind Less t less = o.antisymm k e.0 ∙ ap ordering_reverse t
+      behind Equal t less = absurd (let bad = sym (ap is_lt t) ∙ less in cc)
+      behind Greater t less = absurd (let bad = sym (ap is_lt t) ∙ less in cc)
+
+  -- a removal, by the first entry: behind it, or of it
+  pub cut-later : (e : K × X) (es : List (K × X)) (k : K) → IsIncreasing cmp (e ∷ es) → cmp k e.0 ≡ Greater → cut cmp (e ∷ es) k ≡ e ∷ cut cmp es k
+  cut-later e es k up is = cut-entry cmp o (e ∷ es) k up ∙ ap (λ r. cond (is_eq r) es (e ∷ remove_entry (is_at (cmp k)) es)) is ∙ ap (λ l. e ∷ l) (sym (cut-entry cmp o es k (tail cmp e es up)))
+
+  pub cut-same : (e : K × X) (es : List (K × X)) (k : K) → IsIncreasing cmp (e ∷ es) → cmp k e.0 ≡ Equal → cut cmp (e ∷ es) k ≡ es
+  cut-same e es k up is = cut-entry cmp o (e ∷ es) k up ∙ ap (λ r. cond (is_eq r) es (e ∷ remove_entry (is_at (cmp k)) es)) is
 
 module _ {K X : Type 0} (cmp : K → K → Ordering) where
   put_all-snoc : (es xs : List (K × X)) (x : K × X) → put_all cmp es (xs ++ x ∷ []) ≡ put cmp (put_all cmp es xs) x.0 x.1

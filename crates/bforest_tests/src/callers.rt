@@ -1,8 +1,8 @@
 //! What a caller can prove of maps from their contracts alone.
 ghost use Rattle.bforest.specs.Entries.{IsIncreasing, is_present, put, value_for};
 ghost use Rattle.bforest.specs.Forest.{Becomes, IsLive, list_of};
-ghost use Rattle.std.specs.List.{filter};
-ghost use Rattle.std.specs.Ordering.{is_eq};
+ghost use Rattle.std.specs.List.{AllByRecursion, filter};
+ghost use Rattle.std.specs.Ordering.{is_eq, is_lt};
 ghost use Rattle.std.specs.Prelude.{IfOk, IsOk, None, OnOk, Some, false, nat_le, true, ◌≡◌, ◌≢◌};
 
 use bforest::{Comparator, Map, MapForest, OutOfMemory};
@@ -77,6 +77,23 @@ pub fn remove_and_get_other<K: Copy, V: Copy, C: Comparator<K>>(
 {
     map.remove(key, forest, comp);
     map.get(other, forest, comp)
+}
+
+/// Inserts a key behind all others: its entry is the last one then.
+pub fn insert_behind_and_last<K: Copy, V: Copy, C: Comparator<K>>(
+    map: &mut Map<K, V>,
+    key: K,
+    value: V,
+    forest: &mut MapForest<K, V>,
+    comp: &C,
+) -> Result<Option<(K, V)>, OutOfMemory>
+    requires live { IsLive forest.old map.old }
+    requires increasing { IsIncreasing (C.order comp.now) (list_of forest.old map.old) }
+    requires behind { AllByRecursion (λ e. is_lt (C.order comp.now e.0 key) ≡ true) (list_of forest.old map.old) }
+    ensures { IfOk result (λ last. last ≡ Some (key, value)) }
+{
+    map.insert(key, value, forest, comp)?;
+    Ok(map.last(forest))
 }
 
 /// Keeps the entries whose values are at most `most`, in their order.
