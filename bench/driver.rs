@@ -1,9 +1,9 @@
 //! `driver SIDE KIND NUMBER.. [REPEATS]` makes a run, and prints its checksum and the most memory that the process held; or, with REPEATS,
 //! makes it so often in a row, and prints its checksum and its average time. `bench/run` chooses runs, and makes tables of them.
 //!
-//! There are three drivers of this text, since what one kind of runs calls changes how the compiler inlines the calls of another: for whole
-//! runs (the numbers are those of a `Work`), by `--cfg calls` for single calls (a `Job`), and by `--cfg programs` for programs (the size of
-//! the input and the rounds).
+//! There are four drivers of this text, since what one kind of runs calls changes how the compiler inlines the calls of another: for whole
+//! runs (the numbers are those of a `Work`), by `--cfg calls` for single calls (a `Job`), by `--cfg whole` for calls on whole maps and sets (a
+//! `Pairing`), and by `--cfg programs` for programs (the size of the input and the rounds).
 
 #![allow(dead_code, reason = "each of the drivers makes one kind of runs")]
 
@@ -19,6 +19,7 @@ mod runs;
 mod sides;
 mod standard;
 mod uses;
+mod whole;
 
 use std::time::Duration;
 
@@ -33,7 +34,7 @@ fn most_memory() -> Option<u64> {
 type Run<'a> = Box<dyn Fn(bool) -> Option<(u64, Duration)> + 'a>;
 
 // The run of these words on a side, and the numbers behind its own.
-#[cfg(not(any(calls, programs)))]
+#[cfg(not(any(calls, whole, programs)))]
 fn named<'a>(side: &'a str, kind: &str, numbers: &'a [u32]) -> Option<(Run<'a>, &'a [u32])> {
     let [size, looks, walks, turns, repeats @ ..] = numbers else { return None };
     let work = runs::Work { kind: runs::Kind::named(kind)?, size: *size, looks: *looks, walks: *walks, turns: *turns };
@@ -45,6 +46,13 @@ fn named<'a>(side: &'a str, kind: &str, numbers: &'a [u32]) -> Option<(Run<'a>, 
     let [maps, entries, rounds, repeats @ ..] = numbers else { return None };
     let job = uses::Job { what: uses::Use::named(kind)?, maps: *maps, entries: *entries, rounds: *rounds };
     Some((Box::new(move |is_kept| sides::run_use(side, job, is_kept)), repeats))
+}
+
+#[cfg(whole)]
+fn named<'a>(side: &'a str, kind: &str, numbers: &'a [u32]) -> Option<(Run<'a>, &'a [u32])> {
+    let [pairs, entries, rounds, repeats @ ..] = numbers else { return None };
+    let work = whole::Pairing { what: whole::Call::named(kind)?, pairs: *pairs, entries: *entries, rounds: *rounds };
+    Some((Box::new(move |is_kept| sides::run_call(side, work, is_kept)), repeats))
 }
 
 #[cfg(programs)]

@@ -3,6 +3,7 @@
 use crate::runs::{added, Maps, Ranges, Sets, EDITED};
 use crate::sides::{many, Held};
 use crate::uses::{FunctionMaps, Layout, RankedMaps, Side, Uses, WideKey, WideMaps, WideValue, FUNCTION};
+use crate::whole::{two, MapPairs, SetPairs};
 use cranelift_bforest::{Comparator, Map, MapForest, Set, SetForest};
 use std::cmp::Ordering;
 
@@ -145,6 +146,87 @@ impl Uses for OriginalMaps {
         let last = copy.cursor(&self.forest, &()).prev();
         copy.clear(&mut self.forest);
         last
+    }
+}
+
+impl MapPairs for OriginalMaps {
+    #[inline(never)]
+    fn length(&self, map: u32) -> usize {
+        self.maps[map as usize].iter(&self.forest).count()
+    }
+
+    // No map can be changed while another one of its forest is read, so the new entries are gathered first.
+    #[inline(never)]
+    fn unite(&mut self, map: u32, other: u32) -> bool {
+        let (map, other) = two(&mut self.maps, map, other);
+        let mut is_there = among(map.iter(&self.forest).map(|entry| entry.0));
+        let new: Vec<(u32, u32)> = other.iter(&self.forest).filter(move |entry| !is_there(entry.0)).collect();
+        for (key, value) in &new {
+            map.insert(*key, *value, &mut self.forest, &());
+        }
+        !new.is_empty()
+    }
+}
+
+// Tells of ascending keys whether each is among these, which ascend too.
+fn among(mut keys: impl Iterator<Item = u32>) -> impl FnMut(u32) -> bool {
+    let mut at = keys.next();
+    move |key| {
+        while at.is_some_and(|it| it < key) {
+            at = keys.next();
+        }
+        at == Some(key)
+    }
+}
+
+impl OriginalSets {
+    // Removes the keys of which another set says otherwise. Its keys are gathered first.
+    fn keep(&mut self, set: u32, other: u32, is_shared: bool) -> bool {
+        let (set, other) = two(&mut self.maps, set, other);
+        let keys: Vec<u32> = other.iter(&self.forest).collect();
+        let mut is_there = among(keys.into_iter());
+        let mut is_changed = false;
+        set.retain(&mut self.forest, |key| {
+            let stays = is_there(key) == is_shared;
+            is_changed |= !stays;
+            stays
+        });
+        is_changed
+    }
+}
+
+impl SetPairs for OriginalSets {
+    #[inline(never)]
+    fn unite(&mut self, set: u32, other: u32) -> bool {
+        let (set, other) = two(&mut self.maps, set, other);
+        let mut is_there = among(set.iter(&self.forest));
+        let new: Vec<u32> = other.iter(&self.forest).filter(move |key| !is_there(*key)).collect();
+        for key in &new {
+            set.insert(*key, &mut self.forest, &());
+        }
+        !new.is_empty()
+    }
+
+    #[inline(never)]
+    fn is_subset(&self, set: u32, other: u32) -> bool {
+        let mut is_there = among(self.maps[other as usize].iter(&self.forest));
+        self.maps[set as usize].iter(&self.forest).all(|key| is_there(key))
+    }
+
+    #[inline(never)]
+    fn is_disjoint(&self, set: u32, other: u32) -> bool {
+        let mut is_there = among(self.maps[other as usize].iter(&self.forest));
+        !self.maps[set as usize].iter(&self.forest).any(|key| is_there(key))
+    }
+
+    #[inline(never)]
+    fn intersect(&mut self, set: u32, other: u32) -> bool {
+        self.keep(set, other, true)
+    }
+
+    #[inline(never)]
+    fn subtract(&mut self, set: u32, other: u32) -> bool {
+        self.keep(set, other, false)
     }
 }
 

@@ -3,6 +3,7 @@
 use crate::runs::{added, Maps, Ranges, Sets, EDITED};
 use crate::sides::{many, Held};
 use crate::uses::{FunctionMaps, Layout, RankedMaps, Side, Uses, WideKey, WideMaps, WideValue, FUNCTION};
+use crate::whole::{two, MapPairs, SetPairs};
 use bforest::{Comparator, Map, MapForest, Set, SetForest};
 use std::cmp::Ordering;
 
@@ -132,6 +133,49 @@ impl Uses for PackageMaps {
         let last = copy.last(&self.forest);
         copy.clear(&mut self.forest);
         last
+    }
+}
+
+impl MapPairs for PackageMaps {
+    #[inline(never)]
+    fn length(&self, map: u32) -> usize {
+        self.maps[map as usize].len(&self.forest)
+    }
+
+    #[inline(never)]
+    fn unite(&mut self, map: u32, other: u32) -> bool {
+        let (map, other) = two(&mut self.maps, map, other);
+        map.union_with(other, &mut self.forest, &()).expect(ROOM)
+    }
+}
+
+impl SetPairs for PackageSets {
+    #[inline(never)]
+    fn unite(&mut self, set: u32, other: u32) -> bool {
+        let (set, other) = two(&mut self.maps, set, other);
+        set.union_with(other, &mut self.forest, &()).expect(ROOM)
+    }
+
+    #[inline(never)]
+    fn is_subset(&self, set: u32, other: u32) -> bool {
+        self.maps[set as usize].is_subset(&self.maps[other as usize], &self.forest, &())
+    }
+
+    #[inline(never)]
+    fn is_disjoint(&self, set: u32, other: u32) -> bool {
+        self.maps[set as usize].is_disjoint(&self.maps[other as usize], &self.forest, &())
+    }
+
+    #[inline(never)]
+    fn intersect(&mut self, set: u32, other: u32) -> bool {
+        let (set, other) = two(&mut self.maps, set, other);
+        set.intersect_with(other, &mut self.forest, &())
+    }
+
+    #[inline(never)]
+    fn subtract(&mut self, set: u32, other: u32) -> bool {
+        let (set, other) = two(&mut self.maps, set, other);
+        set.difference_with(other, &mut self.forest, &())
     }
 }
 

@@ -11,6 +11,7 @@ use crate::programs::{liveness, marks, matching, registers, timed_rounds};
 use crate::runs::{run_on, run_small, Work};
 use crate::standard::{StdMaps, StdSets, StdSide};
 use crate::uses::{use_on, Job};
+use crate::whole::{call_on, Pairing};
 use std::hint::black_box;
 use std::time::Duration;
 
@@ -43,6 +44,19 @@ pub fn run_use(side: &str, job: Job, is_kept: bool) -> Option<(u64, Duration)> {
         "BTreeMap" => use_on::<StdSide>(black_box(job), is_kept),
         #[cfg(original)]
         "original" => use_on::<OriginalSide>(black_box(job), is_kept),
+        _ => return None,
+    })
+}
+
+/// Makes a run of calls on whole maps and sets of a side, as `run_use` does.
+#[inline(never)]
+pub fn run_call(side: &str, work: Pairing, is_kept: bool) -> Option<(u64, Duration)> {
+    Some(match side {
+        #[cfg(package)]
+        "package" => call_on::<PackageMaps, PackageSets>(black_box(work), is_kept),
+        "BTreeMap" => call_on::<StdMaps, StdSets>(black_box(work), is_kept),
+        #[cfg(original)]
+        "original" => call_on::<OriginalMaps, OriginalSets>(black_box(work), is_kept),
         _ => return None,
     })
 }

@@ -3,6 +3,7 @@
 use crate::runs::{added, Maps, Ranges, Sets, EDITED};
 use crate::sides::{many, Held};
 use crate::uses::{FunctionMaps, Layout, RankedMaps, Side, Uses, WideKey, WideMaps, WideValue, FUNCTION};
+use crate::whole::{two, MapPairs, SetPairs};
 use std::collections::{BTreeMap, BTreeSet};
 
 pub type StdMaps = Held<(), Vec<BTreeMap<u32, u32>>>;
@@ -118,6 +119,69 @@ impl Uses for StdMaps {
     fn copied(&mut self, map: u32) -> Option<(u32, u32)> {
         let copy = self.maps[map as usize].clone();
         copy.last_key_value().map(|(key, value)| (*key, *value))
+    }
+}
+
+impl MapPairs for StdMaps {
+    #[inline(never)]
+    fn length(&self, map: u32) -> usize {
+        self.maps[map as usize].len()
+    }
+
+    #[inline(never)]
+    fn unite(&mut self, map: u32, other: u32) -> bool {
+        let (map, other) = two(&mut self.maps, map, other);
+        let before = map.len();
+        for (key, value) in other {
+            map.entry(*key).or_insert(*value);
+        }
+        before < map.len()
+    }
+}
+
+// Removes the keys of which another set says otherwise: it is read beside, which takes fewer instructions than a search for each key.
+fn keep(set: &mut BTreeSet<u32>, other: &BTreeSet<u32>, is_shared: bool) -> bool {
+    let before = set.len();
+    let mut others = other.iter();
+    let mut at = others.next();
+    set.retain(|key| {
+        while at.is_some_and(|it| it < key) {
+            at = others.next();
+        }
+        (at == Some(key)) == is_shared
+    });
+    set.len() < before
+}
+
+impl SetPairs for StdSets {
+    #[inline(never)]
+    fn unite(&mut self, set: u32, other: u32) -> bool {
+        let (set, other) = two(&mut self.maps, set, other);
+        let before = set.len();
+        set.extend(other);
+        before < set.len()
+    }
+
+    #[inline(never)]
+    fn is_subset(&self, set: u32, other: u32) -> bool {
+        self.maps[set as usize].is_subset(&self.maps[other as usize])
+    }
+
+    #[inline(never)]
+    fn is_disjoint(&self, set: u32, other: u32) -> bool {
+        self.maps[set as usize].is_disjoint(&self.maps[other as usize])
+    }
+
+    #[inline(never)]
+    fn intersect(&mut self, set: u32, other: u32) -> bool {
+        let (set, other) = two(&mut self.maps, set, other);
+        keep(set, other, true)
+    }
+
+    #[inline(never)]
+    fn subtract(&mut self, set: u32, other: u32) -> bool {
+        let (set, other) = two(&mut self.maps, set, other);
+        keep(set, other, false)
     }
 }
 
