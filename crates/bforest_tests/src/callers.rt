@@ -89,7 +89,8 @@ pub fn insert_behind_and_last<K: Copy, V: Copy, C: Comparator<K>>(
 ) -> Result<Option<(K, V)>, OutOfMemory>
     requires live { IsLive forest.old map.old }
     requires increasing { IsIncreasing (C.order comp.now) (list_of forest.old map.old) }
-    requires behind { AllByRecursion (λ e. is_lt (C.order comp.now e.0 key) ≡ true) (list_of forest.old map.old) }
+    requires behind { AllByRecursion (λ e. is_lt (C.order comp.now e.0 key) ≡ true)
+        (list_of forest.old map.old) }
     ensures { IfOk result (λ last. last ≡ Some (key, value)) }
 {
     map.insert(key, value, forest, comp)?;
