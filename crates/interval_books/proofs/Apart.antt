@@ -1,29 +1,19 @@
 -- Lists of bookings that are apart: their starts increase, and they stay apart after insertions and removals.
+use Rattle.bforest.proofs.Clients.{nat-less, nat-not_less}
 use Rattle.bforest.proofs.Entries.{put-absent}
 use Rattle.bforest.proofs.Entries.{place-here, place-later}
 use Rattle.bforest.specs.Entries.{IsIncreasing, cut, is_present, place, put}
 use Rattle.interval_books.specs.Bookings.{AreApart, first_met, meets}
-use Rattle.std.proofs.Common.{Bool, List, None, Some, [], ap, arith, cond, false, if◌then◌else◌, inl, inr, insert, refl, remove, slice_get, subst, suc, sym, true, zero, ◌&&◌, ◌<◌, ◌==◌, ◌∙◌, ◌∷◌, ◌≡◌, ◌≤◌, ℕ}
+use Rattle.std.proofs.Common.{Bool, List, None, Some, [], ap, arith, cond, false, if◌then◌else◌, inl, inr, insert, refl, remove, slice_get, subst, suc, sym, true, zero, ◌&&◌, ◌<◌, ◌∙◌, ◌∷◌, ◌≡◌, ◌≤◌, ℕ}
 use Rattle.std.proofs.lemmas.Bool.{cases_lt, cases_order, le-ltb, lt-ltb}
 use Rattle.std.proofs.lemmas.Cmp.{nat_cmp_total}
 use Rattle.std.specs.List.Sorted.{IsStrictlySortedBy}
 use Rattle.std.specs.List.{AllByRecursion, find}
 use Rattle.std.specs.Map.{keys_of}
 use Rattle.std.specs.Option.{is_some, option_and_then}
-use Rattle.std.specs.Ordering.{is_eq, is_lt, nat_cmp, ordering_reverse}
+use Rattle.std.specs.Ordering.{is_eq, nat_cmp, ordering_reverse}
 use Rattle.std.specs.Prelude.{nat_lt}
-use Rattle.std.specs.declared.cmp.Ordering.TheVariants.{Equal, Greater, Less}
-
--- the comparison of numbers, by their order
-pub less : (a b : ℕ) → a < b → nat_cmp a b ≡ Less
-less a b h = ap (λ t. cond t Less (cond (a == b) Equal Greater)) (lt-ltb a b h)
-
-pub not_less : (a b : ℕ) → b ≤ a → is_lt (nat_cmp a b) ≡ false
-not_less a b h = ap (λ t. is_lt (cond t Less (cond (a == b) Equal Greater))) (le-ltb a b h) ∙ go (a == b)
-  where
-    go : (t : Bool) → is_lt (cond t Equal Greater) ≡ false
-    go true = refl
-    go false = refl
+use Rattle.std.specs.declared.cmp.Ordering.TheVariants.{Greater, Less}
 
 -- whether an interval meets another, by the two comparisons
 pub met : (s e : ℕ) (x : ℕ × ℕ) → x.0 < e → s < x.1 → meets s e x ≡ true
@@ -67,7 +57,7 @@ all-lower a b (x ∷ xs) h k = (let l = k.0 in omega (arith, l, h), all-lower a 
 -- starts at b or later are greater than a number below b
 greater_starts : (a b : ℕ) (xs : List (ℕ × ℕ)) → a < b → AllByRecursion (λ y. b ≤ y.0) xs → AllByRecursion (λ k. nat_cmp a k ≡ Less) (keys_of xs)
 greater_starts a b [] h k = tt
-greater_starts a b (x ∷ xs) h k = (less a x.0 (let l = k.0 in omega (arith, l, h)), greater_starts a b xs h k.1)
+greater_starts a b (x ∷ xs) h k = (nat-less a x.0 (let l = k.0 in omega (arith, l, h)), greater_starts a b xs h k.1)
 
 -- the starts of bookings that are apart increase
 pub increasing : (es : List (ℕ × ℕ)) → AreApart es → IsIncreasing nat_cmp es
@@ -88,13 +78,13 @@ same_start : (s e : ℕ) (x : ℕ × ℕ) → s < e → x.0 < x.1 → meets s e 
 same_start s e x l w h = elim (cases_order x.0 s) [
   | inl same ↦ let yes : meets s e x ≡ true = met s e x (let d = same in omega (arith, d, l)) (let d = same in omega (arith, d, w)) in absurd (cc)
   | inr other ↦ elim other [
-    | inl before ↦ ap is_eq (less x.0 s before)
+    | inl before ↦ ap is_eq (nat-less x.0 s before)
     | inr after ↦ ap is_eq (behind after)
   ]
 ]
   where
     behind : s < x.0 → nat_cmp x.0 s ≡ Greater
-    behind after = nat_cmp_total.antisymm x.0 s ∙ ap ordering_reverse (less s x.0 after)
+    behind after = nat_cmp_total.antisymm x.0 s ∙ ap ordering_reverse (nat-less s x.0 after)
 
 -- whether the booking at a place begins at a start; none does where no booking meets the interval
 begins : List (ℕ × ℕ) → ℕ → ℕ → Bool
@@ -113,10 +103,10 @@ absent s e es l h n = none_begins s e es (place nat_cmp es s) l h n
 
 -- the place of a start, by the first booking
 pub place-after : (x : ℕ × ℕ) (xs : List (ℕ × ℕ)) (s : ℕ) → x.0 < s → place nat_cmp (x ∷ xs) s ≡ suc (place nat_cmp xs s)
-place-after x xs s h = place-later nat_cmp nat_cmp_total x xs s (less x.0 s h)
+place-after x xs s h = place-later nat_cmp nat_cmp_total x xs s (nat-less x.0 s h)
 
 pub place-first : (x : ℕ × ℕ) (xs : List (ℕ × ℕ)) (s : ℕ) → AreApart (x ∷ xs) → s ≤ x.0 → place nat_cmp (x ∷ xs) s ≡ 0
-place-first x xs s a h = place-here nat_cmp nat_cmp_total x xs s (increasing (x ∷ xs) a) (not_less x.0 s h)
+place-first x xs s a h = place-here nat_cmp nat_cmp_total x xs s (increasing (x ∷ xs) a) (nat-not_less x.0 s h)
 
 -- bookings stay apart where an interval that meets none is inserted at its place
 insert-apart : (s e : ℕ) (es : List (ℕ × ℕ)) → s < e → AreApart es → first_met es s e ≡ None → AreApart (insert es (place nat_cmp es s) (s, e))

@@ -1,6 +1,7 @@
 -- Searches among bookings after an insertion, and after a removal and an insertion.
+use Rattle.bforest.proofs.Clients.{nat-less}
 use Rattle.bforest.specs.Entries.{cut, entry_for, is_present, place, put, value_for}
-use Rattle.interval_books.proofs.Apart.{less, met, place-after, place-first, put-insert, unmet}
+use Rattle.interval_books.proofs.Apart.{met, place-after, place-first, put-insert, unmet}
 use Rattle.interval_books.specs.Bookings.{AreApart, contains, end_of, first_met, holding, meets}
 use Rattle.interval_books.specs.Books.{Books, Cancelled, MayAnswer, Recorded, at_moment, bookings, end_at, need, objection, resource_count, table}
 use Rattle.interval_books.specs.declared.book_error.BookError.TheVariants as why
@@ -71,8 +72,8 @@ first-found s e x found = go (is_eq (nat_cmp x.0 s)) refl found
     same tied = elim (cases_order x.0 s) [
       | inl even ↦ even
       | inr other ↦ elim other [
-        | inl before ↦ let no : is_eq (nat_cmp x.0 s) ≡ false = ap is_eq (less x.0 s before) in absurd (cc)
-        | inr after ↦ let no : is_eq (nat_cmp x.0 s) ≡ false = ap is_eq (nat_cmp_total.antisymm x.0 s ∙ ap ordering_reverse (less s x.0 after)) in absurd (cc)
+        | inl before ↦ let no : is_eq (nat_cmp x.0 s) ≡ false = ap is_eq (nat-less x.0 s before) in absurd (cc)
+        | inr after ↦ let no : is_eq (nat_cmp x.0 s) ≡ false = ap is_eq (nat_cmp_total.antisymm x.0 s ∙ ap ordering_reverse (nat-less s x.0 after)) in absurd (cc)
       ]
     ]
 
