@@ -1,13 +1,13 @@
 -- A loop that joins ranges, at the place of a cursor.
 use Rattle.bforest.specs.Calls.{RemovesAt}
 use Rattle.bforest.specs.Cursor.{Goes, IsCursor, Moves, Writes, entries, forest_now, map_now, spot}
-use Rattle.bforest.specs.Forest.{Becomes, Forest, list_of}
+use Rattle.bforest.specs.Forest.{Becomes}
 use Rattle.bforest.specs.declared.map_cursor_mut.MapCursorMut.{MapCursorMut}
 use Rattle.bforest.specs.Entries.{value_at_place, with_value}
 use Rattle.bforest.proofs.Lengths.{length-written}
 use Rattle.bforest.proofs.Loops.{Changed, changed-again, changed-moved, changed-none, changed-removed, changed-written, moved-entries, next-spot, written-entries}
 use Rattle.bforest_tests.specs.Walks.{joined, joined_from}
-use Rattle.std.proofs.Common.{List, None, Option, Some, [], ap, arith, drop, false, length, min, option_map, refl, remove, slice_get, subst, suc, sym, take, true, zero, ◌+◌, ◌++◌, ◌-◌, ◌<◌, ◌≤◌, ◌∙◌, ◌≡◌, ◌∷◌, ℕ}
+use Rattle.std.proofs.Common.{List, None, Some, [], ap, arith, drop, false, length, min, refl, remove, slice_get, subst, suc, sym, take, true, zero, ◌+◌, ◌++◌, ◌-◌, ◌<◌, ◌≤◌, ◌∙◌, ◌≡◌, ◌∷◌, ℕ}
 use Rattle.std.proofs.lemmas.List.Edits.{length-remove}
 use Rattle.std.specs.Ordering.{is_eq}
 use Rattle.std.specs.declared.cmp.Ordering.{Ordering}

@@ -5,7 +5,7 @@ use Rattle.bforest.specs.Forest.{Becomes}
 use Rattle.bforest.specs.declared.map_cursor_mut.MapCursorMut.{MapCursorMut}
 use Rattle.bforest.proofs.Loops.{Changed, changed-list, changed-moved, changed-none, changed-removed, moved-entries, next-spot}
 use Rattle.bforest_tests.specs.Walks.{every_other}
-use Rattle.std.proofs.Common.{List, [], ap, arith, drop, length, min, refl, remove, subst, suc, sym, take, zero, ◌+◌, ◌++◌, ◌-◌, ◌<◌, ◌≤◌, ◌∙◌, ◌≡◌, ◌∷◌, ℕ}
+use Rattle.std.proofs.Common.{List, [], ap, arith, drop, length, min, refl, remove, suc, sym, take, zero, ◌+◌, ◌++◌, ◌-◌, ◌<◌, ◌≤◌, ◌∙◌, ◌≡◌, ◌∷◌, ℕ}
 use Rattle.std.proofs.lemmas.List.Edits.{length-remove}
 use Rattle.std.specs.declared.cmp.Ordering.{Ordering}
 

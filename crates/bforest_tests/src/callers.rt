@@ -3,7 +3,7 @@ ghost use Rattle.bforest.specs.Entries.{IsIncreasing, is_present, put, value_for
 ghost use Rattle.bforest.specs.Forest.{Becomes, IsLive, list_of};
 ghost use Rattle.std.specs.List.{AllByRecursion, filter};
 ghost use Rattle.std.specs.Ordering.{is_eq, is_lt};
-ghost use Rattle.std.specs.Prelude.{IfOk, IsOk, None, OnOk, Some, false, nat_le, true, ◌≡◌, ◌≢◌};
+ghost use Rattle.std.specs.Prelude.{IfOk, IfSome, IsOk, None, OnOk, Some, false, nat_le, true, ◌≡◌, ◌≢◌};
 
 use bforest::{Comparator, Map, MapForest, OutOfMemory};
 
@@ -95,6 +95,22 @@ pub fn insert_behind_and_last<K: Copy, V: Copy, C: Comparator<K>>(
 {
     map.insert(key, value, forest, comp)?;
     Ok(map.last(forest))
+}
+
+/// The first entry that is not in front of a key: none where each is.
+pub fn at_or_behind<K: Copy, V: Copy, C: Comparator<K>>(
+    map: &Map<K, V>,
+    key: K,
+    forest: &MapForest<K, V>,
+    comp: &C,
+) -> Option<(K, V)>
+    requires live { IsLive forest.now map.now }
+    requires increasing { IsIncreasing (C.order comp.now) (list_of forest.now map.now) }
+    ensures none { AllByRecursion (λ e. is_lt (C.order comp.now e.0 key) ≡ true)
+        (list_of forest.now map.now) → result ≡ None }
+    ensures not_in_front { IfSome result (λ e. is_lt (C.order comp.now e.0 key) ≡ false) }
+{
+    map.get_or_greater(key, forest, comp)
 }
 
 /// Keeps the entries whose values are at most `most`, in their order.

@@ -1,7 +1,6 @@
 use Rattle.bforest.specs.Cursor.{entries, spot}
 use Rattle.bforest.proofs.Loops.{changed-list, changed-moved, is-past, moved-entries}
 use Rattle.bforest_tests.proofs.Ranges.{fewer-both, fewer-on, joined-last, joins-both, joins-first, joins-on, there-within}
-use Rattle.bforest_tests.proofs.callers.loops.join_from.Given.{Over}
 use Rattle.bforest_tests.proofs.callers.loops.join_from.Goals as goal
 use Rattle.std.proofs.Common.{ap, arith, is_eq, is_some, sym, ◌+◌, ◌∙◌}
 use Rattle.std.proofs.lemmas.Option.{slice_get_within}

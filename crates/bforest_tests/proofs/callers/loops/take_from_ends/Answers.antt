@@ -1,7 +1,7 @@
 use Rattle.bforest.proofs.Loops.{parts-back, parts-first, parts-front, parts-same}
 use Rattle.bforest_tests.proofs.callers.loops.take_from_ends.Goals as goal
 use Rattle.bforest_tests.proofs.callers.loops.take_from_ends.Goals.{then-is_front+in-Some+in_ok-push, then-is_front+in_default, else-is_front+in-Some-next_back+in_ok-push-2, else-is_front+in_default-next_back}
-use Rattle.std.proofs.Common.{ap, refl, sym, ◌∙◌}
+use Rattle.std.proofs.Common.{ap, sym, ◌∙◌}
 
 pub loop-is_front-init : goal.loop-is_front-init
 loop-is_front-init g c = parts-first c.args.range.now c.new-front.result.items c.new-back.result.items c.new-front.ensures.items c.new-back.ensures.items
