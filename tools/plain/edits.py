@@ -238,17 +238,18 @@ CONSTANT = {
 # Functions that only tell something, so that a call whose result is dropped is a mistake.
 TELLING = ["is_empty", "contains", "get", "get_or_less", "get_or_greater", "first", "last", "levels", "increases"]
 MANY = ["new", "with_node_limit", "len", "slots", "free_slots", "node_limit"]
-SET_TELLING = ["is_empty", "contains", "get_or_less", "levels", "is_subset", "is_disjoint"]
+SET_TELLING = [*(it for it in TELLING if it not in ("get", "increases")), "is_subset", "is_disjoint"]
+COUNTING = ["nodes_for", "fewest_nodes_for"]
 MUST_USE = {
-    "bforest/map.rt": ["new", "clone", "cursor", "cursor_mut", "len", *(it for it in TELLING if it != "contains")],
-    "bforest/set.rt": ["new", "clone", "cursor", "len", "is_subset", "is_disjoint", *(it for it in TELLING if it != "get")],
+    "bforest/map.rt": ["new", "clone", "cursor", "cursor_mut", "len", *COUNTING, *(it for it in TELLING if it != "contains")],
+    "bforest/set.rt": ["new", "clone", "cursor", "len", "is_subset", "is_disjoint", *COUNTING, *(it for it in TELLING if it != "get")],
     "bforest/forest.rt": ["slots", "nodes_in_use", "free_slots", "node_limit"],
     "bforest/map_forest.rt": ["new", "with_node_limit", "holds"],
     "bforest/set_forest.rt": ["new", "with_node_limit", "holds"],
     "bforest_indexed/maps.rt": [*MANY, "cursor", "len_of", *(it for it in TELLING if it not in ("contains", "increases"))],
     "bforest_indexed/sets.rt": [*MANY, "len_of", *SET_TELLING],
     "bforest/map_cursor.rt": ["is_empty", "entry", "key", "value"],
-    "bforest/map_cursor_mut.rt": ["is_empty", "entry", "key", "value"],
+    "bforest/map_cursor_mut.rt": ["is_empty", "entry", "key", "value", "value_mut"],
     "bforest/set_cursor.rt": ["is_empty", "elem"],
 }
 

@@ -16,6 +16,11 @@ pub const HANDLES: usize = 6;
 pub trait Order: Comparator<u32> {
     /// Equal keys have one rank, and the less a key the less its rank.
     fn rank(&self, key: u32) -> i64;
+
+    /// A key further on, by the same way for each key. The order that goes down has none behind 0, so there each key stays.
+    fn later(&self, key: u32) -> u32 {
+        key + 10
+    }
 }
 
 /// The keys from the greatest down.
@@ -77,6 +82,10 @@ impl Order for () {
 impl Order for Down {
     fn rank(&self, key: u32) -> i64 {
         -i64::from(key)
+    }
+
+    fn later(&self, key: u32) -> u32 {
+        key
     }
 }
 
@@ -145,6 +154,10 @@ pub enum Call {
     Clear,
     /// A copy of the map or set of this handle, in place of what was there.
     Copy(usize),
+    /// These entries, in order and one for each key, in place of what was there.
+    Load(Vec<Entry>),
+    /// Each key that is not less gets the one further on.
+    Shift(u32),
     /// The forest's own `clear`, after which all handles are empty.
     Wipe,
     Reserve(u32),
@@ -159,6 +172,14 @@ pub enum Answer {
     Entry(Option<Entry>),
     Put(Result<Option<u32>, OutOfMemory>),
     Reserved(Result<(), OutOfMemory>),
+}
+
+/// The entries in order, and of equal keys the first.
+fn in_order(order: &impl Order, entries: &[Entry]) -> Vec<Entry> {
+    let mut entries = entries.to_vec();
+    entries.sort_by_key(|it| order.rank(it.0));
+    entries.dedup_by_key(|it| order.rank(it.0));
+    entries
 }
 
 /// Handles in one forest, of which each call names one.
@@ -238,6 +259,18 @@ impl Sizes {
         while self.0.last().is_some_and(|top| top.is_empty() || self.0.len() > 1 && top[..] == [1]) {
             self.0.pop();
         }
+    }
+
+    /// As few nodes as so many entries can have: all of a level are full but the last.
+    fn packed(entries: usize, leaf: usize) -> Self {
+        let (mut levels, mut count) = (Vec::new(), entries);
+        while count > 1 || levels.is_empty() && count > 0 {
+            let most = most(levels.len(), leaf);
+            let level: Vec<usize> = (0..count).step_by(most).map(|it| most.min(count - it)).collect();
+            count = level.len();
+            levels.push(level);
+        }
+        Sizes(levels)
     }
 
     /// A node loses one. Whether it goes.
@@ -354,6 +387,23 @@ impl<'a, C: Order> Model<'a, C> {
         self.clear(to);
         self.lists[to] = copy;
         Ok(())
+    }
+
+    fn load(&mut self, at: usize, entries: &[Entry]) -> Result<(), OutOfMemory> {
+        let entries: BTreeMap<_, _> = in_order(self.order, entries).into_iter().map(|it| (self.order.rank(it.0), it)).collect();
+        let sizes = Sizes::packed(entries.len(), self.leaf);
+        self.reserve(sizes.nodes())?;
+        self.free -= sizes.nodes();
+        self.clear(at);
+        self.lists[at] = Listed { ranks: entries.keys().copied().collect(), entries, sizes };
+        Ok(())
+    }
+
+    fn shift(&mut self, at: usize, from: u32) {
+        let (order, list) = (self.order, &mut self.lists[at]);
+        let later = list.entries.split_off(&order.rank(from)).into_values().map(|(key, value)| (order.later(key), value));
+        list.entries.extend(later.map(|it| (order.rank(it.0), it)));
+        list.ranks = list.entries.keys().copied().collect();
     }
 
     fn retain(&mut self, at: usize, bits: u32, put: Option<u32>) {
@@ -482,6 +532,11 @@ impl<C: Order> Subject for Model<'_, C> {
                 vec![Answer::Done]
             }
             Call::Copy(from) => vec![Answer::Reserved(self.copy(*from, at))],
+            Call::Load(entries) => vec![Answer::Reserved(self.load(at, entries))],
+            Call::Shift(from) => {
+                self.shift(at, *from);
+                vec![Answer::Done]
+            }
             Call::Wipe => {
                 self.lists.fill_with(Listed::default);
                 (self.slots, self.free) = (0, 0);
@@ -519,15 +574,29 @@ impl<'a, C: Order> Maps<'a, C> {
         Ok(())
     }
 
+    fn load(&mut self, at: usize, entries: &[Entry]) -> Result<(), OutOfMemory> {
+        let entries = in_order(self.order, entries);
+        let loaded = Map::load(&entries, &mut self.forest)?;
+        self.maps[at].clear(&mut self.forest);
+        self.maps[at] = loaded;
+        assert_eq!(self.maps[at].len(&self.forest), entries.len());
+        Ok(())
+    }
+
     fn read(&self, at: usize, steps: &[Step]) -> Vec<Answer> {
         let mut cursor = self.maps[at].cursor(&self.forest, self.order);
         let step = |step: &Step| match *step {
             Step::Next => Answer::Entry(cursor.next()),
             Step::Prev => Answer::Entry(cursor.prev()),
             Step::First => Answer::Value(cursor.goto_first()),
-            Step::Goto(key) => Answer::Value(cursor.goto(key)),
+            Step::Goto(key) => {
+                cursor.goto_end();
+                assert_eq!(cursor.entry(), None);
+                Answer::Value(cursor.goto(key))
+            }
             _ => {
                 assert_eq!(cursor.key().zip(cursor.value()), cursor.entry());
+                assert!(cursor.entry().is_none() || !cursor.is_empty());
                 Answer::Entry(cursor.entry())
             }
         };
@@ -543,9 +612,11 @@ impl<'a, C: Order> Maps<'a, C> {
             Step::Goto(key) => Answer::Value(cursor.goto(key)),
             Step::Here => {
                 assert_eq!(cursor.key().zip(cursor.value()), cursor.entry());
+                assert!(cursor.entry().is_none() || !cursor.is_empty());
                 Answer::Entry(cursor.entry())
             }
-            Step::Insert((key, value)) => Answer::Put(cursor.insert(key, value)),
+            Step::Insert((key, value)) if key % 2 == 0 => Answer::Put(cursor.insert(key, value)),
+            Step::Insert((key, value)) => Answer::Put(cursor.try_insert(key, value)),
             Step::Write(value) => Answer::Flag(cursor.value_mut().map(|it| *it = value).is_some()),
             Step::Remove => Answer::Entry(cursor.remove().map(|it| (0, it))),
         };
@@ -557,7 +628,8 @@ impl<C: Order> Subject for Maps<'_, C> {
     fn call(&mut self, at: usize, call: &Call) -> Vec<Answer> {
         let (order, forest, map) = (self.order, &mut self.forest, &mut self.maps[at]);
         match call {
-            Call::Insert((key, value)) => vec![Answer::Put(map.insert(*key, *value, forest, order))],
+            Call::Insert((key, value)) if key % 2 == 0 => vec![Answer::Put(map.insert(*key, *value, forest, order))],
+            Call::Insert((key, value)) => vec![Answer::Put(map.try_insert(*key, *value, forest, order))],
             Call::Remove(key) => vec![Answer::Value(map.remove(*key, forest, order))],
             Call::Get(key) => {
                 let value = map.get(*key, forest, order);
@@ -599,10 +671,15 @@ impl<C: Order> Subject for Maps<'_, C> {
                 vec![Answer::Done]
             }
             Call::Copy(from) => vec![Answer::Reserved(self.copy(*from, at))],
+            Call::Load(entries) => vec![Answer::Reserved(self.load(at, entries))],
+            Call::Shift(from) => {
+                map.shift(*from, |key| order.later(key), forest, order);
+                vec![Answer::Done]
+            }
             Call::Wipe => {
                 forest.clear();
                 assert_eq!(forest.holds(map), map.is_empty());
-                self.maps.fill_with(Map::new);
+                self.maps.fill_with(Map::default);
                 vec![Answer::Done]
             }
             Call::Reserve(n) => vec![Answer::Reserved(forest.reserve_nodes(*n))],
@@ -612,6 +689,7 @@ impl<C: Order> Subject for Maps<'_, C> {
     fn counts(&self, at: usize) -> [usize; 3] {
         let (slots, free) = (self.forest.slots() as usize, self.forest.free_slots() as usize);
         assert_eq!(self.forest.nodes_in_use() as usize, slots - free);
+        assert!(slots <= self.forest.node_limit() as usize);
         [slots, free, self.maps[at].levels(&self.forest)]
     }
 }
@@ -642,8 +720,12 @@ fn set_step<C: Comparator<u32>>(cursor: &mut SetCursor<'_, u32, C>, step: Step) 
         Step::Prev => as_entry(cursor.prev()),
         Step::First => as_value(cursor.goto_first().is_some()),
         Step::Goto(key) => as_value(cursor.goto(key)),
-        Step::Here => as_entry(cursor.elem()),
-        Step::Insert((key, _)) => as_put(cursor.insert(key)),
+        Step::Here => {
+            assert!(cursor.elem().is_none() || !cursor.is_empty());
+            as_entry(cursor.elem())
+        }
+        Step::Insert((key, _)) if key % 2 == 0 => as_put(cursor.insert(key)),
+        Step::Insert((key, _)) => as_put(cursor.try_insert(key)),
         Step::Write(_) => Answer::Flag(false),
         Step::Remove => as_entry(cursor.remove()),
     }
@@ -660,13 +742,23 @@ impl<'a, C: Order> Sets<'a, C> {
         self.sets[to] = copy;
         Ok(())
     }
+
+    fn load(&mut self, at: usize, entries: &[Entry]) -> Result<(), OutOfMemory> {
+        let keys: Vec<u32> = in_order(self.order, entries).into_iter().map(|it| it.0).collect();
+        let loaded = Set::load(&keys, &mut self.forest)?;
+        self.sets[at].clear(&mut self.forest);
+        self.sets[at] = loaded;
+        assert_eq!(self.sets[at].len(&self.forest), keys.len());
+        Ok(())
+    }
 }
 
 impl<C: Order> Subject for Sets<'_, C> {
     fn call(&mut self, at: usize, call: &Call) -> Vec<Answer> {
         let (order, forest, set) = (self.order, &mut self.forest, &mut self.sets[at]);
         match call {
-            Call::Insert((key, _)) => vec![as_put(set.insert(*key, forest, order))],
+            Call::Insert((key, _)) if key % 2 == 0 => vec![as_put(set.insert(*key, forest, order))],
+            Call::Insert((key, _)) => vec![as_put(set.try_insert(*key, forest, order))],
             Call::Remove(key) => vec![as_value(set.remove(*key, forest, order))],
             Call::Get(key) => vec![as_value(set.contains(*key, forest, order))],
             Call::GetOrLess(key) => vec![as_entry(set.get_or_less(*key, forest, order))],
@@ -702,10 +794,15 @@ impl<C: Order> Subject for Sets<'_, C> {
                 vec![Answer::Done]
             }
             Call::Copy(from) => vec![Answer::Reserved(self.copy(*from, at))],
+            Call::Load(entries) => vec![Answer::Reserved(self.load(at, entries))],
+            Call::Shift(from) => {
+                set.shift(*from, |key| order.later(key), forest, order);
+                vec![Answer::Done]
+            }
             Call::Wipe => {
                 forest.clear();
                 assert_eq!(forest.holds(set), set.is_empty());
-                self.sets.fill_with(Set::new);
+                self.sets.fill_with(Set::default);
                 vec![Answer::Done]
             }
             Call::Reserve(n) => vec![Answer::Reserved(forest.reserve_nodes(*n))],
@@ -715,6 +812,7 @@ impl<C: Order> Subject for Sets<'_, C> {
     fn counts(&self, at: usize) -> [usize; 3] {
         let (slots, free) = (self.forest.slots() as usize, self.forest.free_slots() as usize);
         assert_eq!(self.forest.nodes_in_use() as usize, slots - free);
+        assert!(slots <= self.forest.node_limit() as usize);
         [slots, free, self.sets[at].levels(&self.forest)]
     }
 }
@@ -806,7 +904,12 @@ impl Draw {
             16..=31 => Call::Retain(1 << random.below(8) | 1 << random.below(8), None),
             32 => Call::Reserve(self.limit),
             33..=40 => Call::Reserve(random.below(200)),
-            41..=56 => Call::Copy(random.below(HANDLES as u32) as usize),
+            41..=50 => Call::Copy(random.below(HANDLES as u32) as usize),
+            51..=56 => {
+                let count = random.below(200);
+                Call::Load((0..count).map(|_| (random.below(self.keys), self.value(random))).collect())
+            }
+            57..=60 => Call::Shift(random.below(self.keys)),
             _ => Call::Iter,
         }
     }

@@ -61,7 +61,7 @@ fn read_map(call: u32, key: u32, map: &Map<u32, u32>, forest: &MapForest<u32, u3
     match call {
         0 => drop(map.get(key, forest, &())),
         1 => drop((map.get_or_less(key, forest, &()), map.get_or_greater(key, forest, &()))),
-        2 => assert!(map.iter(forest).count() < 1 << 16),
+        2 => assert!(map.iter(forest).count() == map.iter_back(forest).count()),
         3 => assert!(map.range(key.., forest, &()).rev().count() < 1 << 16),
         4 => {
             let mut cursor = map.cursor(forest, &());
@@ -70,6 +70,7 @@ fn read_map(call: u32, key: u32, map: &Map<u32, u32>, forest: &MapForest<u32, u3
             while cursor.next().is_some() {}
             cursor.goto_end();
             cursor.goto_first();
+            assert!(cursor.is_empty() == cursor.entry().is_none() && cursor.key().is_some() == cursor.value().is_some());
         }
         5 => assert!(map.increases(forest, &()) && forest.holds(map) && map.first(forest) <= map.last(forest)),
         _ => assert!(map.levels(forest) <= 17 && map.is_empty() == (map.levels(forest) == 0) && map.len(forest) < 1 << 16),
@@ -90,7 +91,7 @@ fn change_map(call: u32, key: u32, map: &mut Map<u32, u32>, forest: &mut MapFore
         2 => drop(map.remove(key, forest, &())),
         3 => {
             let mut cursor = map.cursor_mut(forest, &());
-            let _ = cursor.insert(key, key);
+            let _ = if key % 2 == 0 { cursor.insert(key, key) } else { cursor.try_insert(key, key) };
             cursor.prev();
             if let Some(value) = cursor.value_mut() {
                 *value += 1;
@@ -98,6 +99,11 @@ fn change_map(call: u32, key: u32, map: &mut Map<u32, u32>, forest: &mut MapFore
         }
         4 => {
             let mut cursor = map.cursor_mut(forest, &());
+            if key % 8 == 0 {
+                cursor.goto_first();
+                cursor.next();
+            }
+            assert!(cursor.is_empty() || cursor.entry() == cursor.key().zip(cursor.value()));
             cursor.goto(key);
             cursor.remove();
         }
@@ -119,12 +125,17 @@ fn call_set(call: u32, key: u32, set: &mut Set<u32>, forest: &mut SetForest<u32>
         1 => drop(set.remove(key, forest, &())),
         2 => {
             let mut cursor = set.cursor(forest, &());
-            let _ = cursor.insert(key);
+            let _ = if key % 2 == 0 { cursor.insert(key) } else { cursor.try_insert(key) };
             cursor.next();
             cursor.remove();
+            cursor.prev();
+            cursor.goto(key / 2);
+            cursor.goto_first();
+            assert!(cursor.is_empty() == cursor.elem().is_none());
         }
         3 if key % 16 == 0 => set.clear(forest),
         3 if key % 16 == 1 => drop(set.deep_clone(forest).map(|mut copy| copy.clear(forest))),
+        3 if key % 16 == 2 => drop(Set::load(&[key], forest).map(|mut it| it.clear(forest))),
         3 if key % 4 == 0 => set.shift(key, |it| it + 3, forest, &()),
         3 => set.retain(forest, |it| it % 7 != key % 7),
         4 => {
@@ -133,7 +144,11 @@ fn call_set(call: u32, key: u32, set: &mut Set<u32>, forest: &mut SetForest<u32>
             assert!(there == (set.get_or_greater(key, forest, &()) == Some(key)));
             assert!(set.first(forest) <= set.last(forest));
         }
-        5 => assert!(set.iter(forest).count() == set.range(.., forest, &()).count()),
+        5 if key % 8 == 0 => drop(forest.reserve_nodes(forest.free_slots() + key % 16 / 8)),
+        5 => {
+            let count = set.range(.., forest, &()).rev().count();
+            assert!(set.iter(forest).count() == count && set.iter_back(forest).count() == count);
+        }
         _ => assert!(set.increases(forest, &()) && forest.holds(set) && set.levels(forest) <= 17 && set.len(forest) < 1 << 16),
     }
 }
@@ -179,7 +194,70 @@ fn a_new_forest_and_handles_take_nothing() {
     let calls = calls_of(|| {
         let forest: MapForest<u32, u32> = MapForest::new();
         let map = Map::new();
-        assert!(map.iter(&forest).next().is_none() && map.clone().is_empty());
+        assert!(map.iter(&forest).next().is_none() && map.clone().is_empty() && Map::<u32, u32>::default().is_empty());
+        assert_eq!((forest.node_limit(), forest.nodes_in_use()), (u32::MAX, 0));
+        let forest: SetForest<u32> = SetForest::with_node_limit(3);
+        let set = Set::new();
+        assert!(set.iter(&forest).next().is_none() && set.clone().is_empty() && Set::<u32>::default().is_empty());
+        assert_eq!((forest.node_limit(), forest.nodes_in_use()), (3, 0));
+        assert!(Map::<u32, u32>::nodes_for(9) > Map::<u32, u32>::fewest_nodes_for(9));
+        assert!(Set::<u32>::nodes_for(99) > Set::<u32>::fewest_nodes_for(99));
+    });
+    assert_eq!(calls, 0);
+}
+
+/// A union takes memory for its list, which it gives back, and for its nodes. All else that is done with two maps or sets takes none.
+#[test]
+fn of_two_maps_or_sets_only_a_union_calls_the_allocator() {
+    let (mut forest, mut set_forest) = (MapForest::new(), SetForest::new());
+    let [mut odd, mut all] = [2, 1].map(|step| {
+        let (mut map, mut set) = (Map::new(), Set::new());
+        for key in (1..ENTRIES).step_by(step) {
+            map.insert(key, key, &mut forest, &()).unwrap();
+            set.insert(key, &mut set_forest, &()).unwrap();
+        }
+        (map, set)
+    });
+    let (map, set) = &mut all;
+    assert_eq!(calls_of(|| set.is_subset(&odd.1, &set_forest, &())), 0);
+    assert_eq!(calls_of(|| set.is_disjoint(&odd.1, &set_forest, &())), 0);
+    // Where nothing is new there is no list.
+    assert_eq!(calls_of(|| map.union_with(&odd.0, &mut forest, &()).unwrap()), 0);
+    assert_eq!(calls_of(|| set.union_with(&odd.1, &mut set_forest, &()).unwrap()), 0);
+    assert_eq!(calls_of(|| map.intersect_with(&odd.0, &mut forest, &())), 0);
+    assert_eq!(calls_of(|| set.intersect_with(&odd.1, &mut set_forest, &())), 0);
+    let (map, set) = &mut odd;
+    assert_eq!(calls_of(|| map.difference_with(&all.0, &mut forest, &())), 0);
+    assert_eq!(calls_of(|| set.difference_with(&all.1, &mut set_forest, &())), 0);
+    assert!(map.is_empty() && set.is_empty());
+    // One request for the list, and one to give it back: the nodes lie free.
+    assert_eq!(calls_of(|| map.union_with(&all.0, &mut forest, &()).unwrap()), 2);
+    assert_eq!(calls_of(|| set.union_with(&all.1, &mut set_forest, &()).unwrap()), 2);
+}
+
+/// The iterator that owns its forest asks for none, and gives back the table's memory where it ends.
+#[test]
+fn a_forest_that_is_consumed_gives_its_memory_back() {
+    let (mut forest, mut map) = (MapForest::new(), Map::new());
+    (0..ENTRIES).for_each(|key| _ = map.insert(key, key, &mut forest, &()).unwrap());
+    assert_eq!(calls_of(|| assert_eq!(map.into_iter(forest).count(), ENTRIES as usize)), 1);
+}
+
+/// What is reserved by an index is held then: insertions up to there ask for none.
+#[test]
+fn room_that_is_reserved_by_an_index_takes_memory_once() {
+    let (mut maps, mut sets): (Maps<u32, u32>, Sets<u32>) = (Maps::new(()), Sets::new(()));
+    assert_eq!(calls_of(|| (maps.reserve_nodes(9).unwrap(), sets.reserve_nodes(9).unwrap())), 2);
+    assert_eq!((maps.free_slots(), sets.free_slots(), maps.node_limit(), sets.node_limit()), (9, 9, u32::MAX, u32::MAX));
+    // One growth of the table, and one of the handles' vector.
+    assert_eq!(calls_of(|| maps.reserve_for(HANDLES, 100).unwrap()), 2);
+    assert_eq!(calls_of(|| sets.reserve_for(HANDLES, 100).unwrap()), 2);
+    let calls = calls_of(|| {
+        (maps.grow_to(HANDLES).unwrap(), sets.grow_to(HANDLES).unwrap());
+        for at in 0..HANDLES * 100 {
+            maps.insert(at % HANDLES, at as u32, 0).unwrap();
+            sets.insert(at % HANDLES, at as u32).unwrap();
+        }
     });
     assert_eq!(calls, 0);
 }

@@ -44,7 +44,7 @@ fn insertions_near_a_cursor() {
     assert_eq!(cursor.insert(45, 0), Ok(None));
     assert!(counting.taken() <= 2);
     assert_eq!(cursor.key(), Some(45));
-    assert_eq!(cursor.insert(45, 1), Ok(Some(0)));
+    assert_eq!(cursor.try_insert(45, 1), Ok(Some(0)));
     assert!(counting.taken() <= 2);
     assert_eq!(cursor.key(), Some(45));
     cursor.next();
@@ -104,7 +104,7 @@ fn insertions_near_a_cursor_of_a_set() {
     for (place, key, is_new) in [(85, 85, true), (85, 85, false), (0, 5, true), (165, 165, true)] {
         cursor.goto(place);
         counting.taken();
-        assert_eq!(cursor.insert(key), Ok(is_new));
+        assert_eq!(if is_new { cursor.insert(key) } else { cursor.try_insert(key) }, Ok(is_new));
         assert!(counting.taken() <= 2, "{key}");
         assert_eq!(cursor.elem(), Some(key));
     }
@@ -153,14 +153,31 @@ fn steps_of_cursors() {
     reading.goto_end();
     assert_eq!(reading.prev(), Some((36, 36)));
     assert_eq!((reading.key(), reading.value(), reading.is_empty()), (Some(36), Some(36), false));
+    assert_eq!(reading.entry(), Some((36, 36)));
     let mut writing = map.cursor_mut(&mut forest, &counting);
     writing.goto_first();
+    assert_eq!((writing.entry(), writing.value(), writing.is_empty()), (Some((1, 1)), Some(1), false));
     while writing.next().is_some() {
         *writing.value_mut().unwrap() += 1;
         writing.remove();
     }
     assert_eq!(counting.taken(), 0);
     assert!(map.iter(&forest).map(|entry| entry.0).eq((1..=36).step_by(2)));
+}
+
+#[test]
+fn steps_of_a_cursor_of_a_set() {
+    let counting = Counting::default();
+    let mut forest = SetForest::new();
+    let mut set = even_set(36, &mut forest);
+    let mut cursor = set.cursor(&mut forest, &counting);
+    assert_eq!((cursor.goto_first(), cursor.is_empty()), (Some(2), false));
+    while cursor.next().is_some() {
+        cursor.remove();
+    }
+    assert_eq!((cursor.elem(), cursor.prev()), (None, Some(70)));
+    while cursor.prev().is_some() {}
+    assert_eq!((cursor.elem(), counting.taken()), (Some(2), 0));
 }
 
 // Calls that search once.
@@ -327,6 +344,56 @@ fn insertions_far_from_a_cursor() {
     }
 }
 
+// Two whole maps or sets.
+
+/// A call on two handles in a forest.
+type OfTwo<H, F> = fn(&mut H, &H, &mut F, &Counting);
+
+/// Each call, with how often it compares at most for each entry of either.
+const OF_TWO_MAPS: [(&str, u32, OfTwo<Map<u32, u32>, MapForest<u32, u32>>); 3] = [
+    ("union_with", 2, |map, other, forest, comp| _ = map.union_with(other, forest, comp).unwrap()),
+    ("intersect_with", 1, |map, other, forest, comp| _ = map.intersect_with(other, forest, comp)),
+    ("difference_with", 1, |map, other, forest, comp| _ = map.difference_with(other, forest, comp)),
+];
+
+const OF_TWO_SETS: [(&str, u32, OfTwo<Set<u32>, SetForest<u32>>); 5] = [
+    ("is_subset", 1, |set, other, forest, comp| _ = set.is_subset(other, forest, comp)),
+    ("is_disjoint", 1, |set, other, forest, comp| _ = set.is_disjoint(other, forest, comp)),
+    ("union_with", 2, |set, other, forest, comp| _ = set.union_with(other, forest, comp).unwrap()),
+    ("intersect_with", 1, |set, other, forest, comp| _ = set.intersect_with(other, forest, comp)),
+    ("difference_with", 1, |set, other, forest, comp| _ = set.difference_with(other, forest, comp)),
+];
+
+/// Makes each call of the table on two handles of so many entries in all, each in a forest as it was. An empty one has nothing to compare.
+fn each_of_two<H: Clone, F: Clone>(calls: &[(&str, u32, OfTwo<H, F>)], (one, two): (&H, &H), (least, all): (u32, u32), forest: &F) {
+    for (name, most, call) in calls {
+        let counting = Counting::default();
+        call(&mut one.clone(), two, &mut forest.clone(), &counting);
+        let (taken, most) = (counting.taken(), if least == 0 { 0 } else { most * all });
+        assert!(taken <= most, "{name} of {all} entries compares {taken} times, more than {most}");
+    }
+}
+
+#[test]
+fn each_entry_of_two_maps_or_sets() {
+    let (mut forest, mut set_forest) = (MapForest::new(), SetForest::new());
+    for (mine, theirs) in [(0, 9), (9, 0), (1, 1), (9, 9), (7, 36), (36, 7), (100, 71)] {
+        let counts = (mine.min(theirs), mine + theirs);
+        let [map, other] = [mine, theirs].map(|count| even_map(count, &mut forest));
+        each_of_two(&OF_TWO_MAPS, (&map, &other), counts, &forest);
+        let [set, other] = [mine, theirs].map(|count| even_set(count, &mut set_forest));
+        each_of_two(&OF_TWO_SETS, (&set, &other), counts, &set_forest);
+        // All keys of the other one are new.
+        let (mut later_map, mut later_set) = (Map::new(), Set::new());
+        for key in 1..=theirs {
+            later_map.insert(2 * key + 1, key, &mut forest, &()).unwrap();
+            later_set.insert(2 * key + 1, &mut set_forest, &()).unwrap();
+        }
+        each_of_two(&OF_TWO_MAPS, (&map, &later_map), counts, &forest);
+        each_of_two(&OF_TWO_SETS, (&set, &later_set), counts, &set_forest);
+    }
+}
+
 // Maps and sets that are named by an index.
 
 type Indexed<'a> = Maps<u32, u32, &'a Counting>;
@@ -441,10 +508,45 @@ fn calls_by_an_index_that_compare_nothing() {
     sets.swap(0, 1);
     assert_eq!((maps.cursor(0).goto_first(), sets.cursor(0).goto_first()), (Some(2), Some(4)));
     maps.push().unwrap();
+    sets.push().unwrap();
     maps.reserve_for(4, 100).unwrap();
+    sets.reserve_for(4, 100).unwrap();
+    assert_eq!((maps.copy(0, 3), sets.copy(0, 3)), (Ok(()), Ok(())));
+    assert_eq!((maps.len_of(3), sets.len_of(3), maps.len(), sets.len()), (maps.len_of(0), sets.len_of(0), 4, 4));
+    assert_eq!((maps.reserve_nodes(5), sets.reserve_nodes(5)), (Ok(()), Ok(())));
+    assert!(maps.free_slots() < maps.slots() && sets.free_slots() < sets.slots());
+    assert_eq!((maps.node_limit(), sets.node_limit()), (u32::MAX, u32::MAX));
     maps.clear(0);
+    sets.clear(0);
+    maps.clear_all();
     sets.clear_all();
+    let (maps, sets): (Indexed, IndexedSets) = (Maps::with_node_limit(&order, 9), Sets::with_node_limit(&order, 9));
+    assert!(maps.is_empty() && sets.is_empty());
     assert_eq!(order.taken(), 0);
+}
+
+/// A call by two indices compares as often as that of its name on two handles, and a load each key with the next.
+#[test]
+fn calls_on_whole_maps_and_sets_by_an_index() {
+    let order = Counting::default();
+    for count in [1, 9, 100] {
+        let (mut maps, mut sets) = (even_maps(count, &order), even_sets(count, &order));
+        let entries: Vec<(u32, u32)> = (1..=count).map(|key| (3 * key, key)).collect();
+        let keys: Vec<u32> = entries.iter().map(|it| it.0).collect();
+        let within = |most| assert!(order.taken() <= most, "{count} entries, and {most} comparisons at most");
+        order.taken();
+        (maps.load(0, &entries).unwrap(), within(count - 1));
+        (sets.load(0, &keys).unwrap(), within(count - 1));
+        (_ = sets.is_subset(1, 0), within(2 * count));
+        (_ = sets.is_disjoint(1, 0), within(2 * count));
+        (maps.copy(1, 2).unwrap(), sets.copy(1, 2).unwrap(), within(0));
+        (_ = maps.union_with(2, 0).unwrap(), within(4 * count));
+        (_ = sets.union_with(2, 0).unwrap(), within(4 * count));
+        (_ = maps.intersect_with(2, 0), within(3 * count));
+        (_ = sets.intersect_with(2, 0), within(3 * count));
+        (_ = maps.difference_with(2, 1), within(2 * count));
+        (_ = sets.difference_with(2, 1), within(2 * count));
+    }
 }
 
 // Ranges, and the test of an order.

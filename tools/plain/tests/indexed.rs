@@ -38,7 +38,7 @@ fn read(maps: &Maps<u32, u32>, model: &Model, at: usize, key: u32) {
 fn change(maps: &mut Maps<u32, u32>, model: &mut Model, call: u32, at: usize, key: u32, value: u32) {
     let map = &mut model[at];
     match call {
-        0..10 => match maps.insert(at, key, value) {
+        0..10 => match if key % 2 == 0 { maps.insert(at, key, value) } else { maps.try_insert(at, key, value) } {
             Ok(old) => assert_eq!(old, map.insert(key, value)),
             Err(refused) => assert!(refused == OutOfMemory::Full && !map.contains_key(&key)),
         },
@@ -145,7 +145,7 @@ fn sets_answer_as_a_vector_of_sets() {
             assert_eq!((sets.first(at), sets.last(at)), (model[at].first().copied(), model[at].last().copied()));
             assert!(sets.range(at, ..key).rev().eq(model[at].range(..key).rev().copied()));
             match random.below(25) {
-                0..10 => match sets.insert(at, key) {
+                0..10 => match if key % 2 == 0 { sets.insert(at, key) } else { sets.try_insert(at, key) } {
                     Ok(new) => assert_eq!(new, model[at].insert(key)),
                     Err(refused) => assert!(refused == OutOfMemory::Full && !model[at].contains(&key)),
                 },
@@ -175,13 +175,32 @@ fn sets_answer_as_a_vector_of_sets() {
                 assert_eq!(format!("{sets:?}"), format!("{model:?}"));
                 sets.clear_all();
                 model.iter_mut().for_each(BTreeSet::clear);
-                assert_eq!((sets.len(), sets.slots(), sets.levels(at)), (9, 0, 0));
+                assert_eq!((sets.len(), sets.slots(), sets.levels(at), sets.node_limit()), (9, 0, 0, limit));
             }
         }
         for (at, set) in model.iter().enumerate() {
             assert!(sets.iter(at).eq(set.iter().copied()));
         }
     }
+}
+
+/// Nodes are reserved up to the limit, and for so many maps or sets of so many entries; where the limit is less, nothing changes.
+#[test]
+fn room_is_reserved_up_to_the_limit() {
+    let mut maps: Maps<u32, u32> = Maps::with_node_limit((), 35);
+    let mut sets: Sets<u32> = Sets::with_node_limit((), 18);
+    assert!(maps.is_empty() && sets.is_empty());
+    assert_eq!((maps.reserve_nodes(36), sets.reserve_nodes(19)), (Err(OutOfMemory::Full), Err(OutOfMemory::Full)));
+    assert_eq!((maps.reserve_nodes(5), sets.reserve_nodes(5)), (Ok(()), Ok(())));
+    assert_eq!((maps.free_slots(), sets.free_slots(), maps.slots(), sets.slots()), (5, 5, 5, 5));
+    // A map of 100 entries has 35 nodes at most, and a set of 100 keys 18.
+    assert_eq!((maps.reserve_for(1, 101), sets.reserve_for(2, 100)), (Err(OutOfMemory::Full), Err(OutOfMemory::Full)));
+    assert_eq!((maps.free_slots(), sets.free_slots()), (5, 5));
+    assert_eq!((maps.reserve_for(1, 100), sets.reserve_for(1, 100)), (Ok(()), Ok(())));
+    assert_eq!((maps.free_slots(), sets.free_slots()), (35, 18));
+    assert!(maps.is_empty() && sets.is_empty());
+    assert_eq!((maps.push(), sets.push()), (Ok(0), Ok(0)));
+    assert!(!maps.is_empty() && !sets.is_empty());
 }
 
 /// The fewest nodes of so many entries, of which a leaf holds at most `leaf`: on each level above the leaves a node for each eight, up to one.
