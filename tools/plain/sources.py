@@ -25,7 +25,7 @@ class Stop(Exception):
 
 def behind(text, at):
     """The index behind the bracket that closes the one at `at`."""
-    pairs, depth = {"{": "}", "(": ")", "<": ">"}, 0
+    pairs, depth = {"{": "}", "(": ")", "<": ">", "[": "]"}, 0
     opened, closed = text[at], pairs[text[at]]
     while at < len(text):
         if text.startswith("//", at):
