@@ -253,7 +253,8 @@ fn room_that_is_reserved_by_an_index_takes_memory_once() {
     assert_eq!(calls_of(|| maps.reserve_for(HANDLES, 100).unwrap()), 2);
     assert_eq!(calls_of(|| sets.reserve_for(HANDLES, 100).unwrap()), 2);
     let calls = calls_of(|| {
-        (maps.grow_to(HANDLES).unwrap(), sets.grow_to(HANDLES).unwrap());
+        maps.grow_to(HANDLES).unwrap();
+        sets.grow_to(HANDLES).unwrap();
         for at in 0..HANDLES * 100 {
             maps.insert(at % HANDLES, at as u32, 0).unwrap();
             sets.insert(at % HANDLES, at as u32).unwrap();

@@ -346,17 +346,16 @@ fn insertions_far_from_a_cursor() {
 
 // Two whole maps or sets.
 
-/// A call on two handles in a forest.
-type OfTwo<H, F> = fn(&mut H, &H, &mut F, &Counting);
+/// A call on two handles in a forest, by its name, with how often it compares at most for each entry of either.
+type OfTwo<H, F> = (&'static str, u32, fn(&mut H, &H, &mut F, &Counting));
 
-/// Each call, with how often it compares at most for each entry of either.
-const OF_TWO_MAPS: [(&str, u32, OfTwo<Map<u32, u32>, MapForest<u32, u32>>); 3] = [
+const OF_TWO_MAPS: [OfTwo<Map<u32, u32>, MapForest<u32, u32>>; 3] = [
     ("union_with", 2, |map, other, forest, comp| _ = map.union_with(other, forest, comp).unwrap()),
     ("intersect_with", 1, |map, other, forest, comp| _ = map.intersect_with(other, forest, comp)),
     ("difference_with", 1, |map, other, forest, comp| _ = map.difference_with(other, forest, comp)),
 ];
 
-const OF_TWO_SETS: [(&str, u32, OfTwo<Set<u32>, SetForest<u32>>); 5] = [
+const OF_TWO_SETS: [OfTwo<Set<u32>, SetForest<u32>>; 5] = [
     ("is_subset", 1, |set, other, forest, comp| _ = set.is_subset(other, forest, comp)),
     ("is_disjoint", 1, |set, other, forest, comp| _ = set.is_disjoint(other, forest, comp)),
     ("union_with", 2, |set, other, forest, comp| _ = set.union_with(other, forest, comp).unwrap()),
@@ -365,7 +364,7 @@ const OF_TWO_SETS: [(&str, u32, OfTwo<Set<u32>, SetForest<u32>>); 5] = [
 ];
 
 /// Makes each call of the table on two handles of so many entries in all, each in a forest as it was. An empty one has nothing to compare.
-fn each_of_two<H: Clone, F: Clone>(calls: &[(&str, u32, OfTwo<H, F>)], (one, two): (&H, &H), (least, all): (u32, u32), forest: &F) {
+fn each_of_two<H: Clone, F: Clone>(calls: &[OfTwo<H, F>], (one, two): (&H, &H), (least, all): (u32, u32), forest: &F) {
     for (name, most, call) in calls {
         let counting = Counting::default();
         call(&mut one.clone(), two, &mut forest.clone(), &counting);
@@ -535,17 +534,25 @@ fn calls_on_whole_maps_and_sets_by_an_index() {
         let keys: Vec<u32> = entries.iter().map(|it| it.0).collect();
         let within = |most| assert!(order.taken() <= most, "{count} entries, and {most} comparisons at most");
         order.taken();
-        (maps.load(0, &entries).unwrap(), within(count - 1));
-        (sets.load(0, &keys).unwrap(), within(count - 1));
-        (_ = sets.is_subset(1, 0), within(2 * count));
-        (_ = sets.is_disjoint(1, 0), within(2 * count));
-        (maps.copy(1, 2).unwrap(), sets.copy(1, 2).unwrap(), within(0));
-        (_ = maps.union_with(2, 0).unwrap(), within(4 * count));
-        (_ = sets.union_with(2, 0).unwrap(), within(4 * count));
-        (_ = maps.intersect_with(2, 0), within(3 * count));
-        (_ = sets.intersect_with(2, 0), within(3 * count));
-        (_ = maps.difference_with(2, 1), within(2 * count));
-        (_ = sets.difference_with(2, 1), within(2 * count));
+        maps.load(0, &entries).unwrap();
+        within(count - 1);
+        sets.load(0, &keys).unwrap();
+        within(count - 1);
+        _ = sets.is_subset(1, 0);
+        within(2 * count);
+        _ = sets.is_disjoint(1, 0);
+        within(2 * count);
+        assert_eq!((maps.copy(1, 2), sets.copy(1, 2)), (Ok(()), Ok(())));
+        within(0);
+        assert_eq!((maps.union_with(2, 0), sets.union_with(2, 0)), (Ok(true), Ok(true)));
+        within(8 * count);
+        assert!(!maps.intersect_with(2, 2) && !sets.intersect_with(2, 2));
+        within(0);
+        assert!(maps.intersect_with(2, 0) && sets.intersect_with(2, 0));
+        within(6 * count);
+        // 6 is in both.
+        assert_eq!((maps.difference_with(2, 1), sets.difference_with(2, 1)), (count > 1, count > 1));
+        within(4 * count);
     }
 }
 
