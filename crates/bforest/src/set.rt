@@ -1,7 +1,7 @@
 //! Handles of sets.
 ghost use Rattle.bforest_nodes.specs.Entries.{IsIncreasing, is_present, place, value_for};
 ghost use Rattle.bforest.specs.Bounds.{entries_between, entry_at_least, entry_at_most};
-ghost use Rattle.bforest.specs.Calls.{Clears, Clones, Filters, Inserts, Intersects, Loads, Pops, Removes, Shifts, Subtracts, Unites, fewest};
+ghost use Rattle.bforest.specs.Calls.{Clears, Clones, Compacts, Filters, Inserts, Intersects, Loads, Pops, Removes, RemovesBetween, Shifts, SplitsOff, Subtracts, Unites, fewest};
 ghost use Rattle.bforest.specs.Forest.{Forest, IsFitFor, IsLive, IsSearchable, first_level, list_of, sizes_of};
 ghost use Rattle.bforest.specs.Memory.{SetsFitInMemory};
 ghost use Rattle.bforest.specs.Retain.{MayAskEach};
@@ -382,6 +382,68 @@ impl<K: Copy> Set<K> {
             self.new }
     {
         forest.trees.keep(&mut self.root, other.root, false, comp)
+    }
+
+    /// Removes the keys that are within both bounds, and returns whether there was one.
+    ///
+    /// At most one search, as in [`Set::contains`], to the first of them. Then one comparison for each of them and one more; none for an end
+    /// without a bound. They are removed one after another, in order, and each may rebalance or merge nodes, as in [`Set::remove`]. No node
+    /// and no memory is taken, so this can't be refused.
+    pub fn remove_range<C: Comparator<K>>(
+        &mut self,
+        bounds: (Bound<K>, Bound<K>),
+        forest: &mut SetForest<K>,
+        comp: &C,
+    ) -> bool
+        requires { IsSearchable (C.order comp.now) forest.old self.old }
+        ensures { RemovesBetween SET_LEAF (C.order comp.now) bounds.0 bounds.1 forest.old self.old result
+            forest.new self.new }
+    {
+        forest.trees.remove_range(&mut self.root, bounds, comp)
+    }
+
+    /// Moves the keys that are not less than `key` to a set of their own, and returns its handle. Those that are less stay.
+    ///
+    /// Reads the keys that go twice, and makes a tree of them with the fewest nodes. Then it removes them from this set, as
+    /// [`Set::remove_range`] does. Three searches in all, as in [`Set::contains`]. Until the call returns it takes memory for a list of them.
+    ///
+    /// Takes exactly the nodes of the new tree, none where no key goes. They have to be there beside those of this set.
+    ///
+    /// # Errors
+    ///
+    /// [`OutOfMemory::Full`] where the forest's limit does not allow the new tree's nodes beside the old ones. [`OutOfMemory::Memory`] where
+    /// an key goes and there was no memory for the list or for a table that had to grow. The set and the forest are unchanged then.
+    pub fn split_off<C: Comparator<K>>(
+        &mut self,
+        key: K,
+        forest: &mut SetForest<K>,
+        comp: &C,
+    ) -> Result<Self, OutOfMemory>
+        requires { IsSearchable (C.order comp.now) forest.old self.old }
+        ensures { SplitsOff SET_LEAF (C.order comp.now) forest.old self.old key result forest.new self.new }
+    {
+        let tail = forest.trees.split_off(&mut self.root, key, comp)?;
+        Ok(Set {
+            root: tail,
+            mark: PhantomData,
+        })
+    }
+
+    /// Makes the set's tree anew, with the fewest nodes that so many keys can have: all nodes of a level are full but the last. The
+    /// keys stay.
+    ///
+    /// Counts the keys, reads each once, and writes each once. No comparison. The new tree is made beside the old one, which is freed
+    /// then, and until the call returns it takes memory for a list of the keys. Other handles to this set's tree are not live then.
+    ///
+    /// # Errors
+    ///
+    /// [`OutOfMemory::Full`] where the forest's limit does not allow the new tree's nodes beside the old ones. [`OutOfMemory::Memory`] where
+    /// there was no memory for the list or for a table that had to grow. The set and the forest are unchanged then.
+    pub fn compact(&mut self, forest: &mut SetForest<K>) -> Result<(), OutOfMemory>
+        requires live { IsLive forest.old self.old }
+        ensures { Compacts SET_LEAF forest.old self.old result forest.new self.new }
+    {
+        forest.trees.compact(&mut self.root)
     }
 
     /// Keeps the keys for which the predicate returns `true`, and removes all others.

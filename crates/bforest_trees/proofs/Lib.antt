@@ -1,4 +1,5 @@
 pub mod Increasing
+pub mod Becoming
 pub mod Changed
 pub mod Putting
 pub mod Measures
@@ -35,3 +36,5 @@ pub mod Shifting
 pub mod Loading
 pub mod Unordered
 pub mod unions
+pub mod Parting
+pub mod Packing

@@ -5,3 +5,4 @@ pub mod Limits
 pub mod Ranging
 pub mod Beside
 pub mod Narrowing
+pub mod Outside

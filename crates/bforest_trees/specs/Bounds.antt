@@ -19,10 +19,18 @@ module _ {K : Type 0} (cmp : K → K → Ordering) where
   is_past_end (Excluded b) k = is_le (cmp b k)
   is_past_end Unbounded k = false
 
+  -- whether a key is within both bounds
+  abbrev pub is_between : Bound K → Bound K → K → Bool
+  is_between lo hi k = is_from_start lo k && not (is_past_end hi k)
+
 module _ {K X : Type 0} (cmp : K → K → Ordering) where
   -- the entries whose keys are within both bounds
   abbrev pub entries_between : Bound K → Bound K → List (K × X) → List (K × X)
   entries_between lo hi es = filter (λ e. is_from_start cmp lo e.0 && not (is_past_end cmp hi e.0)) es
+
+  -- the entries whose keys are not within both bounds
+  abbrev pub entries_outside : Bound K → Bound K → List (K × X) → List (K × X)
+  entries_outside lo hi es = filter (λ e. not (is_between cmp lo hi e.0)) es
 
   -- the last of the entries whose keys are not greater than k
   abbrev pub entry_at_most : List (K × X) → K → Option (K × X)

@@ -5,16 +5,23 @@ use Rattle.bforest_core.specs.Packed.{ArePacked, fewest}
 use Rattle.bforest_core.specs.Sizes.{IsFitFor, shrink}
 use Rattle.bforest_core.specs.declared.pool.OutOfMemory.TheVariants.{Full, Memory}
 use Rattle.bforest_core.specs.declared.pool.OutOfMemory.{OutOfMemory}
-use Rattle.bforest_nodes.specs.Entries.{IsIncreasing, cut, is_present, put, value_for}
-use Rattle.bforest_trees.specs.Forest.{Becomes, Forest, Gives, GrowsFor, IsLive, IsTooMany, Keeps, NeedsGrowth, Takes, TakesAndGives, free_of, list_of, memory_of, need_of, nodes_of, sizes_of, sizes_with, sizes_without, slots_of}
+use Rattle.bforest_nodes.specs.Entries.{IsIncreasing, cut, is_present, place, put, value_for}
+use Rattle.bforest_trees.specs.Bounds.{entries_between, entries_outside, is_between, start_place}
+use Rattle.bforest_trees.specs.Forest.{Becomes, Forest, Gives, GrowsFor, IsLive, IsTooMany, Keeps, NeedsGrowth, Takes, TakesAndGives, TakesThenGives, free_of, limit_of, list_at, list_of, memory_of, need_of, nodes_of, sizes_at, sizes_of, sizes_with, sizes_without, slots_of}
 use Rattle.bforest_trees.specs.Retain.{Retains, sizes_by}
 use Rattle.bforest_trees.specs.Shift.{Rekeys}
 use Rattle.bforest_trees.specs.Union.{are_among, fits, kept_from, kept_of, keeps_all, united}
 use Rattle.std.specs.Fn.{FnOnceReturns, Once}
-use Rattle.std.specs.Prelude.{Bool, Err, IfOk, IfSome, IsOk, IsSome, List, None, Ok, OnErr, OnOk, Option, Result, Some, [], drop, false, if◌then◌else◌, length, nat_lt, not, remove, slice_get, take, true, unwrap_or, ◌++◌, ◌+◌, ◌-◌, ◌<◌, ◌↔◌, ◌≡◌, ◌≢◌, ◌≤◌, ℕ}
+use Rattle.std.specs.Prelude.{Bool, Err, IfOk, IfSome, IsOk, IsSome, List, None, Ok, OnErr, OnOk, Option, Result, Some, [], drop, false, if◌then◌else◌, length, nat_lt, not, remove, slice_get, take, true, unwrap_or, zero, suc, ◌++◌, ◌+◌, ◌-◌, ◌<◌, ◌↔◌, ◌≡◌, ◌≢◌, ◌≤◌, ℕ}
 use Rattle.std.specs.Cmp.{IsTotalOrder}
 use Rattle.std.specs.Ordering.{is_eq}
 use Rattle.std.specs.declared.cmp.Ordering.{Ordering}
+use Rattle.std.specs.declared.ops.Bound.{Bound}
+
+-- the sizes of a tree after n removals at one place, where a leaf has at most `most` entries
+abbrev pub removals : ℕ → ℕ → ℕ → List (List ℕ) → List (List ℕ)
+removals most place zero sizes = sizes
+removals most place (suc n) sizes = shrink most place (removals most place n sizes)
 
 module _ {K X : Type 0} where
   -- the handle keeps its number exactly where the tree keeps its height
@@ -81,6 +88,20 @@ module _ {K X : Type 0} where
     pub memory : result ≡ Err Memory → NeedsGrowth (fewest most (length es)) f
     pub succeeds : fewest most (length es) ≤ free_of f → IsOk result
     pub refused : OnErr result (f' ≡ f)
+
+  -- the tree of h was made anew, packed, beside the old one, which was freed then; or the call was refused, and nothing changed
+  pub record Compacts (most : ℕ) (f : Forest K X) (h : Option ℕ) (result : Result (Unit {0}) OutOfMemory) (f' : Forest K X) (h' : Option ℕ) : Type 0 where
+    pub same_list : OnOk result (Becomes f h f' h' (list_of f h))
+    pub packed : OnOk result (ArePacked most (sizes_of f' h'))
+    pub nodes : OnOk result (nodes_of f' h' ≡ fewest most (length (list_of f h)))
+    pub fit : OnOk result (IsFitFor most (length (list_of f h)) (sizes_of f' h'))
+    pub account : OnOk result (TakesAndGives (fewest most (length (list_of f h))) (sizes_of f h) f f')
+    pub live : IsLive f' h'
+    pub increasing : (order : K → K → Ordering) → IsIncreasing order (list_of f h) → IsIncreasing order (list_of f' h')
+    pub full : (result ≡ Err Full) ↔ IsTooMany (fewest most (length (list_of f h))) f
+    pub memory : result ≡ Err Memory → list_of f h ≢ []
+    pub refused_forest : OnErr result (f' ≡ f)
+    pub refused_handle : OnErr result (h' ≡ h)
 
   -- the tree of h was removed
   pub record Clears (f : Forest K X) (h : Option ℕ) (f' : Forest K X) (h' : Option ℕ) : Type 0 where
@@ -240,3 +261,42 @@ module _ {K X : Type 0} (most : ℕ) (cmp : K → K → Ordering) where
   -- the entries of h whose key is not in the list of `other` stay
   abbrev pub Subtracts : Forest K X → Option ℕ → Option ℕ → Bool → Forest K X → Option ℕ → Type 0
   Subtracts f h other result f' h' = KeepsFrom false f h other result f' h'
+
+  -- The entries of h whose keys are within both bounds were removed, one after another in their order, and whether there was one is returned;
+  -- where there was none, nothing changed. No node was taken.
+  pub record RemovesBetween (lo hi : Bound K) (f : Forest K X) (h : Option ℕ) (result : Bool) (f' : Forest K X) (h' : Option ℕ) : Type 0 where
+    pub removed : Becomes f h f' h' (entries_outside cmp lo hi (list_of f h))
+    pub changed : result ≡ nat_lt 0 (length (entries_between cmp lo hi (list_of f h)))
+    pub found : (q : K) → value_for cmp (list_of f' h') q ≡ (if is_between cmp lo hi q then None else value_for cmp (list_of f h) q)
+    pub sizes : sizes_of f' h' ≡ removals most (start_place cmp lo (list_of f h)) (length (entries_between cmp lo hi (list_of f h))) (sizes_of f h)
+    pub same_levels : length (sizes_of f' h') ≡ length (sizes_of f h) → h' ≡ h
+    pub account : Gives (sizes_of f h) (sizes_of f' h') f f'
+    pub increasing : IsIncreasing cmp (list_of f' h')
+    pub same_forest : result ≡ false → f' ≡ f
+    pub same_handle : result ≡ false → h' ≡ h
+
+  -- the number of nodes that a split takes: those of a packed tree of the entries whose keys are not less than k
+  abbrev pub need_of_split : Forest K X → Option ℕ → K → ℕ
+  need_of_split f h k = fewest most (length (drop (place cmp (list_of f h) k) (list_of f h)))
+
+  -- The entries of h whose keys are not less than k went to a packed tree of their own, whose handle is returned. It was made first, and then
+  -- they were removed from h. Or the call was refused, and nothing changed.
+  pub record SplitsOff (f : Forest K X) (h : Option ℕ) (k : K) (result : Result (Option ℕ) OutOfMemory) (f' : Forest K X) (h' : Option ℕ) : Type 0 where
+    pub front : OnOk result (list_of f' h' ≡ take (place cmp (list_of f h) k) (list_of f h))
+    pub tail : IfOk result (λ t. list_of f' t ≡ drop (place cmp (list_of f h) k) (list_of f h))
+    pub live : IsLive f' h'
+    pub tail_live : IfOk result (λ t. IsLive f' t)
+    pub apart : IfOk result (λ t. t ≡ h' → t ≡ None)
+    pub others : IfOk result (λ t. (n : ℕ) → Some n ≢ h → Some n ≢ h' → Some n ≢ t → list_at f' n ≡ list_at f n)
+    pub others_sizes : IfOk result (λ t. (n : ℕ) → Some n ≢ h → Some n ≢ h' → Some n ≢ t → sizes_at f' n ≡ sizes_at f n)
+    pub limit : limit_of f' ≡ limit_of f
+    pub sizes : OnOk result (sizes_of f' h' ≡ removals most (place cmp (list_of f h) k) (length (list_of f h) - place cmp (list_of f h) k) (sizes_of f h))
+    pub packed : IfOk result (λ t. ArePacked most (sizes_of f' t))
+    pub nodes : IfOk result (λ t. nodes_of f' t ≡ need_of_split f h k)
+    pub account : OnOk result (TakesThenGives (need_of_split f h k) (sizes_of f h) (sizes_of f' h') f f')
+    pub increasing : IsIncreasing cmp (list_of f' h')
+    pub tail_increasing : IfOk result (λ t. IsIncreasing cmp (list_of f' t))
+    pub full : (result ≡ Err Full) ↔ IsTooMany (need_of_split f h k) f
+    pub memory : result ≡ Err Memory → drop (place cmp (list_of f h) k) (list_of f h) ≢ []
+    pub refused_forest : OnErr result (f' ≡ f)
+    pub refused_handle : OnErr result (h' ≡ h)

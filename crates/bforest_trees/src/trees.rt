@@ -20,6 +20,8 @@ mod count;
 mod get_or_insert;
 mod keep;
 mod load;
+mod pack;
+mod part;
 mod peek;
 mod pop;
 mod put;

@@ -76,12 +76,12 @@ module _ {K : Type 0} (cmp : K → K → Ordering) (o : IsTotalOrder cmp) where
         all [] on = tt
         all (e ∷ es) on = (on, all es on)
 
-    start-rises : (lo : Bound K) (es : List (K × X)) → IsIncreasing cmp es → Rises (λ e. is_from_start cmp lo e.0) es
+    pub start-rises : (lo : Bound K) (es : List (K × X)) → IsIncreasing cmp es → Rises (λ e. is_from_start cmp lo e.0) es
     start-rises (Included a) es h = bound-rises is_le le-behind a es h
     start-rises (Excluded a) es h = bound-rises is_lt lt-behind a es h
     start-rises Unbounded es h = always-rises true es
 
-    end-rises : (hi : Bound K) (es : List (K × X)) → IsIncreasing cmp es → Rises (λ e. is_past_end cmp hi e.0) es
+    pub end-rises : (hi : Bound K) (es : List (K × X)) → IsIncreasing cmp es → Rises (λ e. is_past_end cmp hi e.0) es
     end-rises (Included a) es h = bound-rises is_lt lt-behind a es h
     end-rises (Excluded a) es h = bound-rises is_le le-behind a es h
     end-rises Unbounded es h = always-rises false es

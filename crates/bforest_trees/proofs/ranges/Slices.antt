@@ -22,7 +22,7 @@ module _ {A : Type 0} where
   count-same s t h [] = refl
   count-same s t h (e ∷ es) = count-cons s e es (t e) (h e) ∙ ap (λ n. cond (t e) 1 0 + n) (count-same s t h es) ∙ sym (count-cons t e es (t e) refl)
 
-  count-none : (s : A → Bool) (es : List A) → AllByRecursion (λ y. s y ≡ true) es → count_by (λ y. not (s y)) es ≡ 0
+  pub count-none : (s : A → Bool) (es : List A) → AllByRecursion (λ y. s y ≡ true) es → count_by (λ y. not (s y)) es ≡ 0
   count-none s [] h = refl
   count-none s (e ∷ es) h = count-cons (λ y. not (s y)) e es false (ap not h.0) ∙ (let n = count-none s es h.1 in omega arith)
 

@@ -66,7 +66,7 @@ module _ {K X : Type 0} {f : Forest K X} where
 
   module _ (h : Option ℕ) (live : IsLive f h) {f1 : Forest K X} {h1 : Option ℕ} {es : List (K × X)} (b : Becomes f None f1 h1 es) where
     -- the tree of a handle stays while another one is made
-    made-beside : IsLive f1 h × (list_of f1 h ≡ list_of f h) × (sizes_of f1 h ≡ sizes_of f h)
+    pub made-beside : IsLive f1 h × (list_of f1 h ≡ list_of f h) × (sizes_of f1 h ≡ sizes_of f h)
     made-beside = go h live
       where
         go : (h : Option ℕ) → IsLive f h → IsLive f1 h × (list_of f1 h ≡ list_of f h) × (sizes_of f1 h ≡ sizes_of f h)
@@ -82,7 +82,7 @@ module _ {K X : Type 0} {f : Forest K X} where
 
     module _ {f2 : Forest K X} (c : Becomes f1 h f2 None []) where
       -- the tree that was made stays while the old one ends
-      made-stays : IsLive f2 h1 × (list_of f2 h1 ≡ list_of f1 h1) × (sizes_of f2 h1 ≡ sizes_of f1 h1)
+      pub made-stays : IsLive f2 h1 × (list_of f2 h1 ≡ list_of f1 h1) × (sizes_of f2 h1 ≡ sizes_of f1 h1)
       made-stays = go h1 refl
         where
           go : (r : Option ℕ) → h1 ≡ r → IsLive f2 r × (list_of f2 r ≡ list_of f1 r) × (sizes_of f2 r ≡ sizes_of f1 r)

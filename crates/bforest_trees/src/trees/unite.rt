@@ -48,7 +48,7 @@ impl<K: Copy, V: Copy, const N: usize> Trees<K, V, N> {
     }
 
     // The number of slots that can be taken.
-    fn room(&self) -> usize
+    pub(super) fn room(&self) -> usize
         ensures room { result ≡ room_of self.now }
         ensures capacity { IsLeafCapacity N }
         ensures few { (n : ℕ) → length (list_at self.now n) ≤ 2 ^ 40 }
@@ -131,7 +131,7 @@ impl<K: Copy, V: Copy, const N: usize> Trees<K, V, N> {
 }
 
 // The number of nodes of a packed tree of so many entries, whose leaves have at most `capacity`.
-fn fewest_nodes(entries: usize, capacity: usize) -> usize
+pub(super) fn fewest_nodes(entries: usize, capacity: usize) -> usize
     requires capacity { 0 < capacity }
     requires few { entries < 2 ^ 62 }
     ensures fewest { result ≡ fewest capacity entries }

@@ -1,0 +1,191 @@
+-- What the loop of `remove_range` has done, and what it answers and leaves, as one record.
+use Rattle.bforest_core.proofs.table.Lists.{length_remove}
+use Rattle.bforest_core.specs.Sizes.{shrink}
+use Rattle.bforest_core.specs.declared.path.Path.{Path}
+use Rattle.bforest_nodes.specs.Entries.{IsIncreasing, value_for}
+use Rattle.bforest_trees.proofs.Becoming.{becomes-both}
+use Rattle.bforest_trees.proofs.Cutting.{becomes-same}
+use Rattle.bforest_trees.proofs.Retaining.{IsIncreasing-kept}
+use Rattle.bforest_trees.proofs.Sifted.{shrink-fewer}
+use Rattle.bforest_trees.proofs.ranges.Between.{end-rises, start-rises}
+use Rattle.bforest_trees.proofs.ranges.Outside.{Parts, get-behind, none-out, outside-is, past-behind, remove-behind}
+use Rattle.bforest_trees.proofs.unions.Choosing.{passing-value}
+use Rattle.bforest_trees.specs.Bounds.{entries_between, entries_outside, is_between, is_from_start, is_past_end, start_place}
+use Rattle.bforest_trees.specs.Calls.{RemovesBetween, SameLevels, removals}
+use Rattle.bforest_trees.specs.Forest.{Becomes, Forest, Gives, IsLive, list_of, sizes_of}
+use Rattle.bforest_trees.specs.Place.{AtSpot, IsSpot, OnSpot}
+use Rattle.bforest_trees.specs.Retain.{kept_by}
+use Rattle.std.proofs.Common.{Bool, List, None, Option, Some, [], ap, arith, drop, false, filter, if◌then◌else◌, inl, inr, length, map, nat_lt, not, refl, remove, slice_get, subst, suc, sym, take, true, ◌&&◌, ◌+◌, ◌++◌, ◌<◌, ◌∙◌, ◌∷◌, ◌≡◌, ◌≤◌, ℕ}
+use Rattle.std.proofs.lemmas.Bool.{cases_lt, lt-ltb, ltb-false}
+use Rattle.std.proofs.lemmas.Cmp.{alike_right}
+use Rattle.std.proofs.lemmas.List.Sums.{count_by-le-length}
+use Rattle.std.proofs.lemmas.Option.{slice_get_within}
+use Rattle.std.specs.Cmp.{IsTotalOrder}
+use Rattle.std.specs.List.{AllByRecursion}
+use Rattle.std.specs.Ordering.{is_le, is_lt}
+use Rattle.std.specs.declared.cmp.Ordering.TheVariants.{Equal}
+use Rattle.std.specs.declared.cmp.Ordering.{Ordering}
+use Rattle.std.specs.declared.ops.Bound.TheVariants.{Excluded, Included, Unbounded}
+use Rattle.std.specs.declared.ops.Bound.{Bound}
+
+zero-by : (n : ℕ) → nat_lt 0 n ≡ false → n ≡ 0
+zero-by n t = omega (arith, ltb-false 0 n t)
+
+-- keys that compare equal are on the same side of each bound
+module _ {K : Type 0} (cmp : K → K → Ordering) (total : IsTotalOrder cmp) where
+  start-alike : (lo : Bound K) (k q : K) → cmp k q ≡ Equal → is_from_start cmp lo k ≡ is_from_start cmp lo q
+  start-alike (Included a) k q t = ap is_le (alike_right total k q a t)
+  start-alike (Excluded a) k q t = ap is_lt (alike_right total k q a t)
+  start-alike Unbounded k q t = refl
+
+  end-alike : (hi : Bound K) (k q : K) → cmp k q ≡ Equal → is_past_end cmp hi k ≡ is_past_end cmp hi q
+  end-alike (Included a) k q t = ap is_lt (alike_right total k q a t)
+  end-alike (Excluded a) k q t = ap is_le (alike_right total k q a t)
+  end-alike Unbounded k q t = refl
+
+module _ {K X : Type 0} (cmp : K → K → Ordering) where
+  -- the entries that pass a test of their keys increase as they did
+  pub tested-up : (test : K → Bool) (es : List (K × X)) → IsIncreasing cmp es → IsIncreasing cmp (filter (λ e. test e.0) es)
+  tested-up test es up = subst (IsIncreasing cmp) (go es) (IsIncreasing-kept cmp es (map (λ e. (test e.0, e.1)) es) up)
+    where
+      go : (es : List (K × X)) → kept_by es (map (λ e. (test e.0, e.1)) es) ≡ filter (λ e. test e.0) es
+      go [] = refl
+      go (e ∷ es) = ap (λ l. if test e.0 then e ∷ l else l) (go es)
+
+  module _ (lo hi : Bound K) where
+    outside-up : (es : List (K × X)) → IsIncreasing cmp es → IsIncreasing cmp (entries_outside cmp lo hi es)
+    outside-up es up = tested-up (λ k. not (is_between cmp lo hi k)) es up
+
+    -- a key's value among the entries outside
+    outside-value : IsTotalOrder cmp → (es : List (K × X)) (q : K) → IsIncreasing cmp es → value_for cmp (entries_outside cmp lo hi es) q ≡ (if is_between cmp lo hi q then None else value_for cmp es q)
+    outside-value total es q up =
+        passing-value cmp total (λ k. not (is_between cmp lo hi k)) (λ k r t i. not (start-alike cmp total lo k r t i && not (end-alike cmp total hi k r t i))) outside-up es q up ∙ turned (is_between cmp lo hi q)
+      where
+        turned : (b : Bool) → (if not b then value_for cmp es q else None) ≡ (if b then None else value_for cmp es q)
+        turned true = refl
+        turned false = refl
+
+  -- the place where the bounds begin is in the list
+  start-low : (lo : Bound K) (es : List (K × X)) → start_place cmp lo es ≤ length es
+  start-low lo es = count_by-le-length (λ (e : K × X). not (is_from_start cmp lo e.0)) es
+
+module _ {K X : Type 0} (most : ℕ) (cmp : K → K → Ordering) (lo hi : Bound K) (f₀ : Forest K X) (h₀ : Option ℕ) where
+  -- the entries from the start on up to some place were removed, which are all in front of the end, and the path stands at the next
+  pub record Parting (f : Forest K X) (h : Option ℕ) (path : Path K X most) (changed : Bool) : Type 0 where
+    pub count : ℕ
+    pub to : ℕ
+    pub to_is : start_place cmp lo (list_of f₀ h₀) + count ≡ to
+    pub within : to ≤ length (list_of f₀ h₀)
+    pub becomes : Becomes f₀ h₀ f h (take (start_place cmp lo (list_of f₀ h₀)) (list_of f₀ h₀) ++ drop to (list_of f₀ h₀))
+    pub sizes : sizes_of f h ≡ removals most (start_place cmp lo (list_of f₀ h₀)) count (sizes_of f₀ h₀)
+    pub gives : Gives (sizes_of f₀ h₀) (sizes_of f h) f₀ f
+    pub fewer : length (sizes_of f h) ≤ length (sizes_of f₀ h₀)
+    pub same_levels : length (sizes_of f h) ≡ length (sizes_of f₀ h₀) → h ≡ h₀
+    pub spot : IsSpot f h path (start_place cmp lo (list_of f₀ h₀))
+    pub tested : (i : ℕ) (e : K × X) → start_place cmp lo (list_of f₀ h₀) ≤ i → i < to → slice_get (list_of f₀ h₀) i ≡ Some e → is_past_end cmp hi e.0 ≡ false
+    pub changed_is : changed ≡ nat_lt 0 count
+    pub same : count ≡ 0 → (f ≡ f₀) × (h ≡ h₀)
+
+module _ {K X : Type 0} {most : ℕ} {cmp : K → K → Ordering} {lo hi : Bound K} {f₀ : Forest K X} {h₀ : Option ℕ} where
+  -- before the first step
+  pub parting-first : {path : Path K X most} → IsLive f₀ h₀ → IsSpot f₀ h₀ path (start_place cmp lo (list_of f₀ h₀)) → Parting most cmp lo hi f₀ h₀ f₀ h₀ path false
+  parting-first live spot = record {
+    count = 0;
+    to = start_place cmp lo (list_of f₀ h₀);
+    to_is = omega arith;
+    within = start-low cmp lo (list_of f₀ h₀);
+    becomes = subst (Becomes f₀ h₀ f₀ h₀) (none-out (start_place cmp lo (list_of f₀ h₀)) (list_of f₀ h₀)) (becomes-same f₀ h₀ live);
+    sizes = refl;
+    gives = record { slots = refl; free = refl; memory = refl };
+    fewer = omega arith;
+    same_levels = λ e. refl;
+    spot = spot;
+    tested = λ i e over less. absurd (omega (arith, over, less));
+    changed_is = refl;
+    same = λ e. (refl, refl);
+  }
+
+  module _ {f : Forest K X} {h : Option ℕ} {path : Path K X most} {changed : Bool} (s : Parting most cmp lo hi f₀ h₀ f h path changed) where
+    -- where the path stands
+    abbrev pub parting-at : AtSpot f h path
+    parting-at = record { place = start_place cmp lo (list_of f₀ h₀); spot = s.spot }
+
+    pub parting-live : IsLive f h
+    parting-live = s.becomes.live
+
+    from-low : start_place cmp lo (list_of f₀ h₀) ≤ s.to
+    from-low = omega (arith, s.to_is)
+
+    -- the entry there is one of the list as it was
+    here-is : slice_get (list_of f h) (start_place cmp lo (list_of f₀ h₀)) ≡ slice_get (list_of f₀ h₀) s.to
+    here-is = ap (λ l. slice_get l (start_place cmp lo (list_of f₀ h₀))) s.becomes.list ∙ get-behind (start_place cmp lo (list_of f₀ h₀)) s.to (list_of f₀ h₀) from-low (start-low cmp lo (list_of f₀ h₀))
+
+    -- the path stands on an entry in front of the end
+    module _ (on : (at : AtSpot f h path) → (e : K × X) × (slice_get (list_of f h) at.place ≡ Some e) × (is_past_end cmp hi e.0 ≡ false)) where
+      pub low : start_place cmp lo (list_of f₀ h₀) < length (list_of f h)
+      low = let e = on parting-at in slice_get_within (list_of f h) (start_place cmp lo (list_of f₀ h₀)) e.0 e.1
+
+      abbrev pub parting-on : OnSpot f h path
+      parting-on = record { place = start_place cmp lo (list_of f₀ h₀); spot = s.spot; within = low }
+
+      -- it is removed
+      module _ {f' : Forest K X} {h' : Option ℕ} (removed : (at : OnSpot f h path) → Becomes f h f' h' (remove (list_of f h) at.place)) where
+        pub parting-shorter : length (list_of f' h') < length (list_of f h)
+        parting-shorter = omega (arith, low, ap length ((removed parting-on).list), length_remove (list_of f h) (start_place cmp lo (list_of f₀ h₀)) low)
+
+        pub parting-next : {path' : Path K X most} → ((at : OnSpot f h path) → sizes_of f' h' ≡ shrink most at.place (sizes_of f h)) → SameLevels f h f' h' → Gives (sizes_of f h) (sizes_of f' h') f f'
+            → ((at : OnSpot f h path) → IsSpot f' h' path' at.place) → Parting most cmp lo hi f₀ h₀ f' h' path' true
+        parting-next sizes levels account spot =
+            let p = start_place cmp lo (list_of f₀ h₀) in
+            let e = on parting-at in
+            let few : length (sizes_of f' h') ≤ length (sizes_of f h) = omega (arith, shrink-fewer most p (sizes_of f h), ap length (sizes parting-on)) in
+            record {
+              count = suc s.count;
+              to = suc s.to;
+              to_is = omega (arith, s.to_is);
+              within = omega (arith, slice_get_within (list_of f₀ h₀) s.to e.0 (sym here-is ∙ e.1));
+              becomes = becomes-both f₀ f f' h₀ h h' _ _ s.becomes (subst (Becomes f h f' h') (ap (λ l. remove l p) s.becomes.list ∙ remove-behind p s.to (list_of f₀ h₀) from-low (start-low cmp lo (list_of f₀ h₀))) (removed parting-on));
+              sizes = sizes parting-on ∙ ap (shrink most p) s.sizes;
+              gives = record {
+                slots = account.slots ∙ s.gives.slots;
+                free = omega (arith, account.free, s.gives.free);
+                memory = account.memory ∙ s.gives.memory;
+              };
+              fewer = omega (arith, few, s.fewer);
+              same_levels = λ same. let here : length (sizes_of f h) ≡ length (sizes_of f₀ h₀) = omega (arith, same, few, s.fewer) in levels.1 (omega (arith, same, here)) ∙ s.same_levels here;
+              spot = spot parting-on;
+              tested = λ i x over less get. elim (cases_lt i s.to) [
+                | inl before ↦ s.tested i x over before get
+                | inr behind ↦ (
+                    let last : i ≡ s.to = omega (arith, less, behind) in
+                    let same : Some x ≡ Some e.0 = sym get ∙ ap (slice_get (list_of f₀ h₀)) last ∙ sym here-is ∙ e.1 in
+                    let one : x ≡ e.0 = cc in
+                    ap (λ y. is_past_end cmp hi y.0) one ∙ e.2
+                    )
+              ];
+              changed_is = sym (lt-ltb 0 (suc s.count) (omega arith));
+              same = λ bad. absurd (omega (arith, bad));
+            }
+
+    -- the loop ends in front of an entry that is past the end, or behind all
+    pub parting-end : IsTotalOrder cmp → IsIncreasing cmp (list_of f₀ h₀) → ((at : AtSpot f h path) (e : K × X) → slice_get (list_of f h) at.place ≡ Some e → is_past_end cmp hi e.0 ≡ true) → RemovesBetween most cmp lo hi f₀ h₀ changed f h
+    parting-end total up past = record {
+      removed = subst (Becomes f₀ h₀ f h) (sym parts.outside_is) s.becomes;
+      changed = s.changed_is ∙ ap (nat_lt 0) (sym count);
+      found = λ q. ap (λ l. value_for cmp l q) (s.becomes.list ∙ sym parts.outside_is) ∙ outside-value cmp lo hi total (list_of f₀ h₀) q up;
+      sizes = s.sizes ∙ ap (λ n. removals most (start_place cmp lo (list_of f₀ h₀)) n (sizes_of f₀ h₀)) (sym count);
+      same_levels = s.same_levels;
+      account = s.gives;
+      increasing = subst (IsIncreasing cmp) (sym (s.becomes.list ∙ sym parts.outside_is)) (outside-up cmp lo hi (list_of f₀ h₀) up);
+      same_forest = λ none. (s.same (zero-by s.count (sym s.changed_is ∙ none))).0;
+      same_handle = λ none. (s.same (zero-by s.count (sym s.changed_is ∙ none))).1;
+    }
+      where
+        behind : AllByRecursion (λ (y : K × X). is_past_end cmp hi y.0 ≡ true) (drop s.to (list_of f₀ h₀))
+        behind = past-behind (λ (x : K × X). is_from_start cmp lo x.0) (λ (x : K × X). is_past_end cmp hi x.0) (list_of f₀ h₀) s.to (end-rises cmp total hi (list_of f₀ h₀) up) (λ e get. past parting-at e (here-is ∙ get))
+
+        parts : Parts (λ (e : K × X). is_from_start cmp lo e.0) (λ (e : K × X). is_past_end cmp hi e.0) (start_place cmp lo (list_of f₀ h₀)) s.to (list_of f₀ h₀)
+        parts = outside-is (λ (e : K × X). is_from_start cmp lo e.0) (λ (e : K × X). is_past_end cmp hi e.0) (list_of f₀ h₀) (start-rises cmp total lo (list_of f₀ h₀) up) (start_place cmp lo (list_of f₀ h₀)) s.to refl from-low s.tested behind
+
+        count : length (entries_between cmp lo hi (list_of f₀ h₀)) ≡ s.count
+        count = omega (arith, parts.count s.within, s.to_is)

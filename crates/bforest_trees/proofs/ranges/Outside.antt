@@ -1,0 +1,94 @@
+-- What a list loses where the elements from one place on are taken out, as long as they are within bounds.
+use Rattle.bforest_trees.proofs.ranges.Slices.{Rises, count-cons, count-none}
+use Rattle.std.proofs.Common.{Bool, List, Some, [], ap, arith, cond, count_by, drop, false, filter, length, not, refl, remove, slice_get, subst, suc, sym, take, true, zero, ◌&&◌, ◌+◌, ◌++◌, ◌<◌, ◌∙◌, ◌∷◌, ◌≡◌, ◌≤◌, ℕ}
+use Rattle.std.specs.List.{AllByRecursion}
+
+module _ {A : Type 0} where
+  get-drop : (n : ℕ) (es : List A) → slice_get (drop n es) 0 ≡ slice_get es n
+  get-drop zero es = refl
+  get-drop (suc n) [] = refl
+  get-drop (suc n) (e ∷ es) = get-drop n es
+
+  remove-drop : (n : ℕ) (es : List A) → remove (drop n es) 0 ≡ drop (suc n) es
+  remove-drop zero [] = refl
+  remove-drop zero (e ∷ es) = refl
+  remove-drop (suc n) [] = refl
+  remove-drop (suc n) (e ∷ es) = remove-drop n es
+
+  -- the element at a place behind which those up to m were taken out
+  pub get-behind : (p m : ℕ) (es : List A) → p ≤ m → p ≤ length es → slice_get (take p es ++ drop m es) p ≡ slice_get es m
+  get-behind zero m es low within = get-drop m es
+  get-behind (suc p) zero es low within = absurd (omega (arith, low))
+  get-behind (suc p) (suc m) [] low within = absurd (omega (arith, within))
+  get-behind (suc p) (suc m) (e ∷ es) low within = get-behind p m es (omega (arith, low)) (omega (arith, within))
+
+  -- one more is taken out there
+  pub remove-behind : (p m : ℕ) (es : List A) → p ≤ m → p ≤ length es → remove (take p es ++ drop m es) p ≡ take p es ++ drop (suc m) es
+  remove-behind zero m es low within = remove-drop m es
+  remove-behind (suc p) zero es low within = absurd (omega (arith, low))
+  remove-behind (suc p) (suc m) [] low within = absurd (omega (arith, within))
+  remove-behind (suc p) (suc m) (e ∷ es) low within = ap (λ l. e ∷ l) (remove-behind p m es (omega (arith, low)) (omega (arith, within)))
+
+  pub none-out : (p : ℕ) (es : List A) → es ≡ take p es ++ drop p es
+  none-out zero es = refl
+  none-out (suc p) [] = refl
+  none-out (suc p) (e ∷ es) = ap (λ l. e ∷ l) (none-out p es)
+
+  module _ (s t : A → Bool) where
+    -- where t holds of an element, or there is none, it holds of all from there on
+    pub past-behind : (es : List A) (i : ℕ) → Rises t es → ((e : A) → slice_get es i ≡ Some e → t e ≡ true) → AllByRecursion (λ y. t y ≡ true) (drop i es)
+    past-behind [] zero up on = tt
+    past-behind [] (suc i) up on = tt
+    past-behind (x ∷ es) zero up on = let here = on x refl in (here, up.0 here)
+    past-behind (x ∷ es) (suc i) up on = past-behind es i up.1 on
+
+    abbrev within : A → Bool
+    within y = s y && not (t y)
+
+    abbrev outside : List A → List A
+    outside es = filter (λ y. not (within y)) es
+
+    abbrev inside : List A → List A
+    inside es = filter within es
+
+    by : {e : A} {a b : Bool} → s e ≡ a → t e ≡ b → within e ≡ (a && not b)
+    by h k = λ i. h i && not (k i)
+
+    -- where those from p up to m are within bounds, and those behind are past the end
+    pub record Parts (p m : ℕ) (es : List A) : Type 0 where
+      pub outside_is : outside es ≡ take p es ++ drop m es
+      pub count : m ≤ length es → p + length (inside es) ≡ m
+
+    -- all elements are from the start on
+    tail-is : (es : List A) (m : ℕ) → AllByRecursion (λ y. s y ≡ true) es → ((i : ℕ) (e : A) → i < m → slice_get es i ≡ Some e → t e ≡ false) → AllByRecursion (λ y. t y ≡ true) (drop m es) → Parts 0 m es
+    tail-is [] zero on front past = record { outside_is = refl; count = λ low. omega arith }
+    tail-is [] (suc m) on front past = record { outside_is = refl; count = λ low. absurd (omega (arith, low)) }
+    tail-is (e ∷ es) zero on front past =
+        let rest = tail-is es zero on.1 (λ i x low. absurd (omega (arith, low))) past.1 in record {
+          outside_is = ap (λ b. cond (not b) (e ∷ outside es) (outside es)) (by on.0 past.0) ∙ ap (λ l. e ∷ l) rest.outside_is;
+          count = λ low. omega (arith, rest.count (omega arith), ap length (ap (λ b. cond b (e ∷ inside es) (inside es)) (by on.0 past.0)));
+        }
+    tail-is (e ∷ es) (suc m) on front past =
+        let rest = tail-is es m on.1 (λ i x low is. front (suc i) x (omega (arith, low)) is) past in
+        let here = front 0 e (omega arith) refl in record {
+          outside_is = ap (λ b. cond (not b) (e ∷ outside es) (outside es)) (by on.0 here) ∙ rest.outside_is;
+          count = λ low. omega (arith, rest.count (omega (arith, low)), ap length (ap (λ b. cond b (e ∷ inside es) (inside es)) (by on.0 here)));
+        }
+
+    -- those from the first on of which s holds, up to m, are taken out
+    pub outside-is : (es : List A) → Rises s es → (p m : ℕ) → p ≡ count_by (λ y. not (s y)) es → p ≤ m → ((i : ℕ) (e : A) → p ≤ i → i < m → slice_get es i ≡ Some e → t e ≡ false) → AllByRecursion (λ y. t y ≡ true) (drop m es) → Parts p m es
+    outside-is [] up p m is low front past = let none : p ≡ 0 = is in rw none (tail-is [] m tt (λ i e less get. absurd (cc)) past)
+    outside-is (e ∷ es) up p m is low front past = go (s e) refl p m is low front past (outside-is es up.1)
+      where
+        go : (b : Bool) → s e ≡ b → (p m : ℕ) → p ≡ count_by (λ y. not (s y)) (e ∷ es) → p ≤ m → ((i : ℕ) (x : A) → p ≤ i → i < m → slice_get (e ∷ es) i ≡ Some x → t x ≡ false) → AllByRecursion (λ y. t y ≡ true) (drop m (e ∷ es))
+            → ((p m : ℕ) → p ≡ count_by (λ y. not (s y)) es → p ≤ m → ((i : ℕ) (x : A) → p ≤ i → i < m → slice_get es i ≡ Some x → t x ≡ false) → AllByRecursion (λ y. t y ≡ true) (drop m es) → Parts p m es) → Parts p m (e ∷ es)
+        go true h p m is low front past ih =
+            let none : p ≡ 0 = is ∙ count-none s (e ∷ es) (h, up.0 h) in
+            subst (λ q. Parts q m (e ∷ es)) (sym none) (tail-is (e ∷ es) m (h, up.0 h) (λ i x less get. front i x (omega (arith, none)) less get) past)
+        go false h zero m is low front past ih = absurd (omega (arith, is, count-cons (λ y. not (s y)) e es true (ap not h)))
+        go false h (suc p) zero is low front past ih = absurd (omega (arith, low))
+        go false h (suc p) (suc m) is low front past ih =
+            let rest = ih p m (omega (arith, is, count-cons (λ y. not (s y)) e es true (ap not h))) (omega (arith, low)) (λ i x over less get. front (suc i) x (omega (arith, over)) (omega (arith, less)) get) past in record {
+              outside_is = ap (λ b. cond (not b) (e ∷ outside es) (outside es)) (by h refl) ∙ ap (λ l. e ∷ l) rest.outside_is;
+              count = λ within. omega (arith, rest.count (omega (arith, within)), ap length (ap (λ b. cond b (e ∷ inside es) (inside es)) (by h refl)));
+            }

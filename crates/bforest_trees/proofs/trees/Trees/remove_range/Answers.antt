@@ -1,0 +1,27 @@
+use Rattle.bforest_trees.proofs.Parting.{parting-at, parting-end, parting-first, parting-live, parting-next, parting-on, parting-shorter}
+use Rattle.bforest_trees.proofs.Spots.{spot-end}
+use Rattle.bforest_trees.proofs.trees.Trees.remove_range.Goals as goal
+use Rattle.std.proofs.Common.{rules}
+
+pub loop-changed-init : goal.loop-changed-init
+loop-changed-init g c = parting-first c.requires.live c.goto_start.ensures.spot
+
+pub goto_start-requires : goal.goto_start-requires
+goto_start-requires g c = (search rules, (search rules, (c.requires.live, (c.requires.increasing, spot-end c.args.self.now c.default-path.result c.args.handle.now c.requires.live c.default-path.ensures))))
+
+pub is_within-requires : goal.is_within-requires
+is_within-requires g c = (search rules, (search rules, (parting-live c.loop-changed.invariant, parting-at c.loop-changed.invariant)))
+
+pub remove_at-requires : goal.remove_at-requires
+remove_at-requires g c = (search rules, (search rules, parting-on c.loop-changed.invariant (c.is_within.ensures.yes c.loop-changed-test.true)))
+
+pub loop-changed-smaller : goal.loop-changed-smaller
+loop-changed-smaller g c = parting-shorter c.loop-changed.invariant (c.is_within.ensures.yes c.loop-changed-test.true) c.remove_at.ensures.removed
+
+pub loop-changed-preserved : goal.loop-changed-preserved
+loop-changed-preserved g c =
+    let e = c.remove_at.ensures in
+    parting-next c.loop-changed.invariant (c.is_within.ensures.yes c.loop-changed-test.true) e.removed e.sizes e.same_levels e.account e.spot
+
+pub returns : goal.returns
+returns g c = parting-end c.loop-changed.invariant (g.met.C.Comparator.total c.args.comp.now) c.requires.increasing (c.is_within.ensures.no c.loop-changed-test.false)

@@ -1,0 +1,101 @@
+//! Removing the entries within bounds.
+ghost use Rattle.bforest_trees.specs.Bounds.{is_past_end, start_place};
+ghost use Rattle.bforest_trees.specs.Calls.{RemovesBetween};
+ghost use Rattle.bforest_trees.specs.Forest.{IsLive, list_of};
+ghost use Rattle.bforest_trees.specs.Place.{AtSpot, IsSpot};
+ghost use Rattle.bforest_nodes.specs.Entries.{IsIncreasing};
+ghost use Rattle.std.specs.Prelude.{Some, false, slice_get, true, ◌≡◌};
+
+use crate::trees::Trees;
+use bforest_core::{Comparator, PackedNode, Path};
+use std::ops::Bound;
+
+impl<K: Copy, V: Copy, const N: usize> Trees<K, V, N> {
+    /// Removes the entries whose keys are within bounds, in their order, and returns whether there was one. At most one search, and then one
+    /// comparison for each of them and one more.
+    pub fn remove_range<C: Comparator<K>>(
+        &mut self,
+        handle: &mut PackedNode,
+        bounds: (Bound<K>, Bound<K>),
+        comp: &C,
+    ) -> bool
+        requires live { IsLive self.old handle.old }
+        requires increasing { IsIncreasing (C.order comp.now) (list_of self.old handle.old) }
+        ensures { RemovesBetween N (C.order comp.now) bounds.0 bounds.1 self.old handle.old result
+            self.new handle.new }
+    {
+        let mut path = Path::default();
+        self.goto_start(*handle, &mut path, bounds.0, comp);
+        let mut changed = false;
+        while self.is_within(*handle, &path, bounds.1, comp) {
+            self.remove_at(handle, &mut path);
+            changed = true;
+        }
+        changed
+    }
+
+    // Whether a path stands on an entry whose key is in front of an end bound.
+    #[inline(always)]
+    fn is_within<C: Comparator<K>>(
+        &self,
+        handle: PackedNode,
+        path: &Path<K, V, N>,
+        end: Bound<K>,
+        comp: &C,
+    ) -> bool
+        requires live { IsLive self.now handle }
+        requires stands { AtSpot self.now handle path.now }
+        ensures yes { result ≡ true → (at : AtSpot self.now handle path.now) → (e : K × V)
+            × (slice_get (list_of self.now handle) at.place ≡ Some e)
+            × (is_past_end (C.order comp.now) end e.0 ≡ false) }
+        ensures no { result ≡ false → (at : AtSpot self.now handle path.now) (e : K × V)
+            → slice_get (list_of self.now handle) at.place ≡ Some e
+            → is_past_end (C.order comp.now) end e.0 ≡ true }
+    {
+        match self.entry(handle, path) {
+            Some(entry) => !is_past(end, entry.0, comp),
+            None => false,
+        }
+    }
+
+    // Goes to the first entry inside a start bound, or to the end.
+    fn goto_start<C: Comparator<K>>(
+        &self,
+        handle: PackedNode,
+        path: &mut Path<K, V, N>,
+        start: Bound<K>,
+        comp: &C,
+    )
+        requires live { IsLive self.now handle }
+        requires increasing { IsIncreasing (C.order comp.now) (list_of self.now handle) }
+        requires stands { AtSpot self.now handle path.old }
+        ensures spot { IsSpot self.now handle path.new
+            (start_place (C.order comp.now) start (list_of self.now handle)) }
+    {
+        match start {
+            Bound::Included(key) => {
+                let _value = self.goto(handle, path, key, comp);
+            }
+            Bound::Excluded(key) => {
+                if self.goto(handle, path, key, comp).is_some() {
+                    self.next(handle, path);
+                }
+            }
+            Bound::Unbounded => {
+                let _entry = self.first(handle, path);
+            }
+        }
+    }
+}
+
+// Whether a key is outside an end bound.
+#[inline(always)]
+fn is_past<K: Copy, C: Comparator<K>>(end: Bound<K>, key: K, comp: &C) -> bool
+    ensures { result ≡ is_past_end (C.order comp.now) end key }
+{
+    match end {
+        Bound::Included(last) => comp.cmp(last, key).is_lt(),
+        Bound::Excluded(behind) => comp.cmp(behind, key).is_le(),
+        Bound::Unbounded => false,
+    }
+}
