@@ -1,5 +1,5 @@
 //! Copies of handles in debug builds: a call on one that is not live panics at once, and a call on one that is live is answered. Which
-//! is which, `holds` says, that looks at each slot.
+//! is which, `holds` says, that looks at each slot. All slots are asked after a tenth of `BFOREST_CALLS` random calls.
 #![cfg(debug_assertions)]
 
 mod met;
@@ -130,7 +130,7 @@ impl Handle for Set<u32> {
         ("remove", |set, forest| _ = set.remove(LEAST, forest, &())),
         ("iter", |set, forest| _ = set.iter(forest).count()),
     ];
-    const LIMIT: u32 = 20;
+    const LIMIT: u32 = 16;
 
     fn forest(limit: u32) -> SetForest<u32> {
         SetForest::with_node_limit(limit)
@@ -347,6 +347,15 @@ fn handles_of_slots<H: Handle>() -> Vec<H> {
     (0..H::LIMIT).map(one).collect()
 }
 
+/// How many random calls are made at least, of which some are refused memory.
+const FEWEST: usize = 5000;
+
+/// A tenth of the calls that `BFOREST_CALLS` names, since a panic for most slots follows each.
+fn tenth() -> usize {
+    let all: usize = std::env::var("BFOREST_CALLS").map_or(100_000, |it| it.parse().expect("BFOREST_CALLS is a number"));
+    FEWEST.max(all / 10)
+}
+
 /// After each of many random calls a handle of each slot is told exactly where `holds` says that it is not live.
 fn each_slot<H: Handle>(calls: usize) {
     let (mut changing, handles): (Changing<H>, _) = (Changing::new(0x2545_f491_4f6c_dd1d), handles_of_slots::<H>());
@@ -364,10 +373,10 @@ fn each_slot<H: Handle>(calls: usize) {
 
 #[test]
 fn marks_of_maps_agree_with_holds() {
-    each_slot::<Numbers>(40_000);
+    each_slot::<Numbers>(tenth());
 }
 
 #[test]
 fn marks_of_sets_agree_with_holds() {
-    each_slot::<Set<u32>>(60_000);
+    each_slot::<Set<u32>>(tenth());
 }
