@@ -216,19 +216,19 @@ fn keep<H: Handle>(copies: &mut Vec<H>, handle: &H) {
     }
 }
 
-/// Makes each call on a copy. Where the copy is live, its tree is that of the handle. Returns whether it is.
-fn try_copy<H: Handle>(copy: &H, handle: &H, forest: &H::Forest) -> bool {
-    let is_live = copy.is_live(forest);
-    for (name, call) in H::CALLS {
+/// Makes each call on a copy, and returns whether it is live. Then its tree is that of the handle, and the calls are made in another forest
+/// of the same trees, one after the other. Else each call is told, before it changes anything.
+fn try_copy<H: Handle>(copy: &H, handle: &H, forest: &mut H::Forest) -> bool {
+    if copy.is_live(forest) {
+        assert_eq!(copy.keys(forest), handle.keys(forest));
         let (mut copy, mut forest) = (copy.clone(), forest.clone());
-        if is_live {
-            call(&mut copy, &mut forest);
-        } else {
-            refused(name, NOT_LIVE, "slot ", || call(&mut copy, &mut forest));
-        }
+        H::CALLS.iter().for_each(|(_, call)| call(&mut copy, &mut forest));
+        return true;
     }
-    assert!(!is_live || copy.keys(forest) == handle.keys(forest));
-    is_live
+    for (name, call) in H::CALLS {
+        refused(name, NOT_LIVE, "slot ", || call(&mut copy.clone(), forest));
+    }
+    false
 }
 
 /// Puts the keys in and takes them out again, in the same order, and tries each copy of the handle after each call.
@@ -241,10 +241,11 @@ fn each_size<H: Handle>(keys: &[u32]) {
             let before = format!("{handle:?}");
             call(&mut handle, key, &mut forest);
             changes += usize::from(format!("{handle:?}") != before);
-            told += copies.iter().filter(|it| !try_copy(*it, &handle, &forest)).count();
+            told += copies.iter().filter(|it| !try_copy(*it, &handle, &mut forest)).count();
         }
     }
     assert!(changes >= LEAST_CHANGES && told > keys.len(), "{changes} changes, {told} copies were told");
+    assert!(handle.keys(&forest).is_empty());
 }
 
 /// The keys from 1 to `MOST` from the least up, from the greatest down, and scattered.
