@@ -84,6 +84,21 @@ RANGE = [
     (r"bounds: \(Bound<K>, Bound<K>\),", "bounds: R,", 1),
     (r"(trees\.range\(root, )bounds", r"\1(bounds.start_bound().cloned(), bounds.end_bound().cloned())", 1),
 ]
+# The mark of roots that debug builds keep in each slot (`guards.rs`). A slot that is made, copied or freed is no root.
+MARKED = [
+    (r"^(?=use crate::entries::)", "use crate::guards::{RootMark, place_of};\n", 1),
+    (r"^(    state: State<K, V, N>,\n)(?=\})", r"\1    pub(crate) root_mark: RootMark,\n", 1),
+    (r"\bNodeData \{(?=\s*state\b)", "NodeData { root_mark: RootMark::NONE,", 3),
+    (r"^( *)self\.state = State::Vacant\(next\);\n", r"\g<0>\1self.root_mark = RootMark::NONE;\n", 1),
+]
+# A new tree, whose root is marked.
+NEW_TREE = (r"\bOk\(PackedNode::some\((\w+)\)\)", r"Ok(self.named(\1))", 1)
+# The place of a key that the call looked up in a leaf: debug builds compare the keys beside it.
+LOOKED_UP = (
+    r"^( *)let \((\w+), stored\) = self\.pool\.look_up_in_leaf\((leaf|way\.leaf\(\)), key, comp\);\n",
+    r"\g<0>\1self.expect_order(\3, \2, stored.is_some(), key, comp);\n",
+    2,
+)
 # What is met where a call was made on a handle that was not live.
 MISUSED = 'panic!("this call or an earlier one was made on a handle that was not live: the trees of this forest share nodes")'
 
@@ -142,6 +157,9 @@ EDITS = {
         # what only a caller of the prover reads
         (r"(?:\n    //[^\n]*)+\n    pub rhs_entries: usize,", "", 1),
         (r"\n *rhs_entries: len - \w+,", "", 2),
+        *MARKED,
+        # in `put` and `take`, and not in `look_up`
+        (r"\bcomp\.search_prefix\(key, &keys\.items, (\w+)\)(?= \{\n *Ok\(index\) => \{)", r"place_of(key, &keys.items, \1, comp)", 2),
     ],
     "bforest_core/lib.rt": [
         BEHIND_FIRST,
@@ -183,7 +201,16 @@ EDITS = {
         USE_GLOBAL,
         (r"pub fn with_limit\(alloc: Global, limit: u32\)", "pub fn with_limit(limit: u32)", 1),
         (r"NodePool::with_limit\(alloc, limit\)", "NodePool::with_limit(limit)", 1),
+        (
+            r"^( *)if let Some\(old\) = (path\.find_here\(key, root, &self\.pool, comp\)) \{",
+            r"\1let found = \2;\n\1if let Some((leaf, index)) = path.leaf_pos() {\n"
+            r"\1    self.expect_order(leaf, index, found.is_some(), key, comp);\n\1}\n\1if let Some(old) = found {",
+            1,
+        ),
     ],
+    "bforest_trees/trees/copy.rt": [NEW_TREE],
+    "bforest_trees/trees/load.rt": [NEW_TREE],
+    "bforest_trees/trees/get_or_insert.rt": [LOOKED_UP],
     "bforest_trees/trees/unite.rt": [
         (r"^use crate::trees::Trees;\n", "use crate::trees::Trees;\nuse alloc::vec::Vec;\n", 1),
         (r"Vec::new\(self\.pool\.allocator\(\)\)", "Vec::new()", 1),
@@ -233,6 +260,19 @@ CONSTANT = {
     "bforest/set.rt": ["new"],
     "bforest/map_forest.rt": ["new", "with_node_limit"],
     "bforest/set_forest.rt": ["new", "with_node_limit"],
+}
+
+# Functions between a call and the test of the order beside a key's place: a panic there names the caller's place.
+CALLED_FROM = {
+    "bforest_nodes/node.rt": ["put", "take"],
+    "bforest_core/access.rt": ["put", "take"],
+    "bforest_core/leaf.rt": ["put_in_leaf", "take_from_leaf"],
+    "bforest_trees/trees.rt": ["insert", "insert_under", "remove"],
+    "bforest_trees/trees/put.rt": ["put", "put_under", "put_below", "put_alone"],
+    "bforest_trees/trees/remove.rt": ["remove_under", "remove_below", "remove_alone"],
+    "bforest_trees/trees/get_or_insert.rt": ["get_or_insert", "get_or_insert_under", "update_or_insert", "update_or_insert_under"],
+    "bforest/map_cursor_mut.rt": ["insert", "try_insert"],
+    "bforest/set_cursor.rt": ["insert", "try_insert"],
 }
 
 # Functions that only tell something, so that a call whose result is dropped is a mistake.

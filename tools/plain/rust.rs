@@ -1,7 +1,6 @@
 //! What Rust's users expect beside the calls of the forest. Nothing in this file is proved.
 
-use crate::bforest_core::{Node, PackedNode};
-use crate::bforest_trees::Trees;
+use crate::bforest_core::Node;
 use crate::{
     Comparator, LoadError, Map, MapCursor, MapCursorMut, MapForest, MapIntoIter, MapIter, MapIterBack, MapRange, Maps, OutOfMemory,
     Set, SetCursor, SetForest, SetIter, SetIterBack, SetRange, Sets,
@@ -231,31 +230,6 @@ impl<K: Copy, C: Comparator<K>> Comparator<K> for Reverse<C> {
     }
 }
 
-impl<K: Copy, V: Copy, const N: usize> Trees<K, V, N> {
-    /// Panics in debug builds where one look at the root of a handle shows that the handle is not live.
-    #[inline]
-    #[cfg_attr(debug_assertions, track_caller)]
-    pub(crate) fn expect_live(&self, handle: PackedNode) {
-        if !cfg!(debug_assertions) {
-            return;
-        }
-        let Some(root) = handle.expand() else {
-            return;
-        };
-        let (slot, slots) = (root.number(), self.slots());
-        assert!(
-            slot < slots,
-            "the handle is not live in this forest, which the call requires and `holds` tests: its root was in slot {slot}, and the \
-             number of slots is {slots} (the forest was cleared, or the handle belongs to another one)"
-        );
-        assert!(
-            !self.pool.node(root).is_free(),
-            "the handle is not live in this forest, which the call requires and `holds` tests: its tree has ended, since the slot {slot} \
-             of its root is free (a copy of the handle was cleared or changed)"
-        );
-    }
-}
-
 // Each iterator returns `None` again once it has returned it.
 impl<K: Copy, V: Copy> FusedIterator for MapIter<'_, K, V> {}
 impl<K: Copy, V: Copy> FusedIterator for MapIterBack<'_, K, V> {}
@@ -296,7 +270,7 @@ impl<K: Copy, V: Copy> Map<K, V> {
     ///
     /// # Panics
     ///
-    /// In debug builds, where the root of the handle is a free slot, or past the table, as [`Map::iter`].
+    /// In debug builds, where the handle is not live, as [`Map::iter`].
     #[cfg_attr(debug_assertions, track_caller)]
     #[must_use]
     pub fn debug<'a>(&self, forest: &'a MapForest<K, V>) -> impl Debug + use<'a, K, V>
@@ -313,7 +287,7 @@ impl<K: Copy> Set<K> {
     ///
     /// # Panics
     ///
-    /// In debug builds, where the root of the handle is a free slot, or past the table, as [`Set::iter`].
+    /// In debug builds, where the handle is not live, as [`Set::iter`].
     #[cfg_attr(debug_assertions, track_caller)]
     #[must_use]
     pub fn debug<'a>(&self, forest: &'a SetForest<K>) -> impl Debug + use<'a, K>

@@ -2,7 +2,7 @@
 import re
 import textwrap
 
-from edits import ALIASES, CLONED, CONSTANT, EDITS, FALLIBLE, IMPORT, MUST_USE, OPENED, PROGRAM, UNUSED
+from edits import ALIASES, CALLED_FROM, CLONED, CONSTANT, EDITS, FALLIBLE, IMPORT, MUST_USE, OPENED, PROGRAM, UNUSED
 
 # comments and blank lines in front of what goes, which are about it
 LEAD = r"(?:^[ \t]*(?://[^\n]*)?\n)*"
@@ -15,8 +15,11 @@ LEFT = re.compile(r"[^\x00-\x7f]|\b(?:ghost|requires|ensures|decreases|invariant
 # What a public function of the forest requires of its handle, and of its handle's keys.
 LIVE, SEARCHABLE = r"requires (?:live |searchable )?\{ (?:IsLive|IsSearchable) ", r"requires (?:searchable )?\{ IsSearchable "
 IS_LIVE, IS_ORDERED = "The call requires that the handle is live", " and that its keys increase under the comparator"
+ARE_LIVE, ARE_ORDERED = "The call requires that both handles are live", " and that their keys increase under the comparator"
 PANICS = "Else it may panic; debug builds often do so at once: [what a call requires](crate#what-a-call-requires)."
-GUARD = "forest.trees.expect_live(self.root);"
+LIVE_TOO = r"requires other \{ IsSearchable "
+GUARD, GUARD_TOO = "forest.trees.expect_live(self.root);", "forest.trees.expect_live(other.root);"
+TRACKED = "cfg_attr(debug_assertions, track_caller)"
 
 
 class Stop(Exception):
@@ -110,8 +113,17 @@ def guard(contract):
     """Where a handle has to be live: debug builds test it."""
     if not re.search(LIVE, contract):
         return None
+    if re.search(LIVE_TOO, contract):
+        return f"{ARE_LIVE}{ARE_ORDERED}. {PANICS}", TRACKED, f"\n        {GUARD}\n        {GUARD_TOO}"
     asked = IS_LIVE + (IS_ORDERED if re.search(SEARCHABLE, contract) else "")
-    return f"{asked}. {PANICS}", "cfg_attr(debug_assertions, track_caller)", f"\n        {GUARD}"
+    return f"{asked}. {PANICS}", TRACKED, f"\n        {GUARD}"
+
+
+def with_marks(text):
+    """The text of the trees in which each handle gets its root by `rename`, with which debug builds keep the marks of roots."""
+    text = re.sub(r"^( *)\*handle = ((?:PackedNode::some|packed)\(\w+\)|\w+);", r"\1self.rename(handle, \2);", text, flags=re.M)
+    # what changes the table comes before
+    return re.sub(r"^( *)\*handle = packed\(([^;]*)\);", r"\1let left = \2;\n\1self.rename(handle, packed(left));", text, flags=re.M)
 
 
 def bounded(contract):
@@ -133,6 +145,8 @@ def with_attributes(text, name):
         text = text[:start] + re.sub(r"^    (?=\w+: )", "    pub(crate) ", text[start:end], flags=re.M) + text[end:]
     for it in CONSTANT.get(name, []):
         text = replaced(text, rf"^( *pub(?:\(crate\))? )(?=fn {it}\()", r"\1const ", 1, name)
+    for it in CALLED_FROM.get(name, []):
+        text = replaced(text, rf"^(?=( *)(?:pub(?:\(\w+\))? )?fn {it}\b)", rf"\1#[{TRACKED}]\n", 1, name)
     for it in MUST_USE.get(name, []):
         text = replaced(text, rf"^(?=( *)pub (?:const )?fn {it}\b)", r"\1#[must_use]\n", 1, name)
     for it, aliases in ALIASES.get(name, {}).items():
@@ -190,6 +204,8 @@ def library_source(source, name, examples):
     text = marked_unused(without_unused(edited(plain(source), name), UNUSED.get(name, [])))
     if name.startswith("bforest/"):
         text = with_panics(text, source, guard)
+    if name.startswith("bforest_trees/"):
+        text = with_marks(text)
     if name.startswith("bforest_indexed/"):
         text = with_panics(text, source, bounded)
     # the package has no std

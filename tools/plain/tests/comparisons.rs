@@ -1,4 +1,4 @@
-//! How often calls compare, told by a comparator that counts.
+//! How often calls compare, told by a comparator that counts. In debug builds those that insert or remove by a key compare a few times more.
 
 use bforest::{Comparator, Map, MapForest, Maps, Set, SetForest, Sets};
 use std::cell::Cell;
@@ -23,6 +23,9 @@ impl Comparator<u32> for Counting {
     }
 }
 
+/// How often a debug build compares a key with itself and with the keys beside its place, where it inserts or removes.
+const BESIDE: u32 = if cfg!(debug_assertions) { 3 } else { 0 };
+
 /// Two leaves, of 10 to 40 and of 50 to 80.
 fn two_leaves(forest: &mut MapForest<u32, u32>) -> Map<u32, u32> {
     let mut map = Map::new();
@@ -42,22 +45,22 @@ fn insertions_near_a_cursor() {
     cursor.goto(45);
     counting.taken();
     assert_eq!(cursor.insert(45, 0), Ok(None));
-    assert!(counting.taken() <= 2);
+    assert!(counting.taken() <= 2 + BESIDE);
     assert_eq!(cursor.key(), Some(45));
     assert_eq!(cursor.try_insert(45, 1), Ok(Some(0)));
-    assert!(counting.taken() <= 2);
+    assert!(counting.taken() <= 2 + BESIDE);
     assert_eq!(cursor.key(), Some(45));
     cursor.next();
     cursor.prev();
     cursor.goto_first();
     assert_eq!(counting.taken(), 0);
     assert_eq!(cursor.insert(5, 5), Ok(None));
-    assert!(counting.taken() <= 2);
+    assert!(counting.taken() <= 2 + BESIDE);
     assert_eq!(cursor.key(), Some(5));
     cursor.goto(85);
     counting.taken();
     assert_eq!(cursor.insert(90, 9), Ok(None));
-    assert!(counting.taken() <= 2);
+    assert!(counting.taken() <= 2 + BESIDE);
     assert_eq!(cursor.key(), Some(90));
     cursor.goto_first();
     assert_eq!(cursor.insert(85, 8), Ok(None));
@@ -69,7 +72,7 @@ fn insertions_near_a_cursor() {
 #[test]
 fn insertions_further_on_in_the_leaf() {
     /// Two, and a search among at most 7 keys.
-    const IN_LEAF: u32 = 2 + 4;
+    const IN_LEAF: u32 = 2 + 4 + BESIDE;
     let counting = Counting::default();
     let mut forest = MapForest::new();
     let mut map = Map::new();
@@ -105,7 +108,7 @@ fn insertions_near_a_cursor_of_a_set() {
         cursor.goto(place);
         counting.taken();
         assert_eq!(if is_new { cursor.insert(key) } else { cursor.try_insert(key) }, Ok(is_new));
-        assert!(counting.taken() <= 2, "{key}");
+        assert!(counting.taken() <= 2 + BESIDE, "{key}");
         assert_eq!(cursor.elem(), Some(key));
     }
 }
@@ -230,12 +233,20 @@ const OF_SETS: [(&str, SetSearch); 9] = [
     }),
 ];
 
-/// Makes each call of the table with the key, each in a forest as it was, and none compares more often than this.
-fn each_search<H: Clone, F: Clone>(calls: &[(&str, Search<H, F>)], handle: &H, key: u32, forest: &F, most: u32) {
+/// The calls that insert or remove by a key.
+const CHANGING: [&str; 5] = ["get_or_insert", "update_or_insert", "insert", "try_insert", "remove"];
+
+/// How often a call compares at most, where one search compares so often.
+fn most_of(name: &str, search: u32) -> u32 {
+    search + if CHANGING.contains(&name) { BESIDE } else { 0 }
+}
+
+/// Makes each call of the table with the key, each in a forest as it was, and none compares more often than one search.
+fn each_search<H: Clone, F: Clone>(calls: &[(&str, Search<H, F>)], handle: &H, key: u32, forest: &F, search: u32) {
     for (name, call) in calls {
         let counting = Counting::default();
         call(&mut handle.clone(), key, &mut forest.clone(), &counting);
-        let taken = counting.taken();
+        let (taken, most) = (counting.taken(), most_of(name, search));
         assert!(taken <= most, "{name} of {key} compares {taken} times, more than {most}");
     }
 }
@@ -335,12 +346,12 @@ fn insertions_far_from_a_cursor() {
         cursor.goto(place);
         counting.taken();
         assert_eq!(cursor.insert(key, key / 2), Ok(Some(key / 2)));
-        assert!(counting.taken() <= 2 + of_search_in_35(key), "{key} from {place}");
+        assert!(counting.taken() <= 2 + BESIDE + of_search_in_35(key), "{key} from {place}");
         let mut cursor = set.cursor(&mut set_forest, &counting);
         cursor.goto(place);
         counting.taken();
         assert_eq!(cursor.insert(key), Ok(false));
-        assert!(counting.taken() <= 2 + of_search_in_71(key), "{key} from {place}");
+        assert!(counting.taken() <= 2 + BESIDE + of_search_in_71(key), "{key} from {place}");
     }
 }
 
@@ -467,7 +478,7 @@ fn each_indexed<T: Clone>(calls: &[(&str, IndexedCall<T>)], all: &T, last: u32, 
             let mut all = all.clone();
             order.taken();
             call(&mut all, key);
-            let (taken, most) = (order.taken(), search(key));
+            let (taken, most) = (order.taken(), most_of(name, search(key)));
             assert!(taken <= most, "{name} of {key} compares {taken} times, more than {most}");
         }
     }

@@ -1,82 +1,14 @@
 //! What a mistake of the caller meets: a handle that is not live, and an order that does not fit. Debug builds panic at once on a handle
-//! whose tree has ended, and name the mistake, what was asked, and the caller's place. All builds go on: a call returns, or panics in
-//! plain words.
+//! that names no root, and on keys out of order beside a place that was searched; they name the mistake, what was asked, and the caller's
+//! place. All builds go on: a call returns, or panics in plain words.
+
+mod met;
 
 use bforest::{Comparator, Map, MapForest, Set, SetForest};
-use std::cell::{Cell, RefCell};
+use met::{NOT_LIVE, refused, survived};
+use std::cell::Cell;
 use std::cmp::{Ordering, Reverse};
 use std::iter;
-use std::panic::{AssertUnwindSafe, PanicHookInfo, catch_unwind, set_hook, take_hook};
-use std::sync::Once;
-
-// What a call met.
-
-/// What a panic said, and the file that it named.
-struct Said {
-    text: String,
-    file: String,
-}
-
-thread_local! {
-    static IS_CAUGHT: Cell<bool> = const { Cell::new(false) };
-    static SAID: RefCell<Option<Said>> = const { RefCell::new(None) };
-}
-
-fn said(info: &PanicHookInfo<'_>) -> Said {
-    let payload = info.payload();
-    let text = payload.downcast_ref::<String>().cloned();
-    let text = text.or_else(|| payload.downcast_ref::<&str>().map(|&it| it.into()));
-    let file = info.location().map_or("", |it| it.file());
-    Said { text: text.expect("a panic has a text"), file: file.into() }
-}
-
-/// From here on a panic in a call of `met` is kept, and nothing is printed for it.
-fn keep_panics() {
-    static ONCE: Once = Once::new();
-    ONCE.call_once(|| {
-        let printing = take_hook();
-        set_hook(Box::new(move |info| {
-            if IS_CAUGHT.get() {
-                SAID.set(Some(said(info)));
-            } else {
-                printing(info);
-            }
-        }));
-    });
-}
-
-/// What a call answered, or what its panic said.
-fn met<T>(call: impl FnOnce() -> T) -> Result<T, Said> {
-    keep_panics();
-    IS_CAUGHT.set(true);
-    let answer = catch_unwind(AssertUnwindSafe(call));
-    IS_CAUGHT.set(false);
-    answer.map_err(|_| SAID.take().expect("the hook kept it"))
-}
-
-/// A call that returns, or panics in plain words: what it answered.
-fn survived<T>(what: &str, call: impl FnOnce() -> T) -> Option<T> {
-    match met(call) {
-        Ok(answer) => Some(answer),
-        Err(said) => {
-            assert!(!said.text.is_empty() && !said.text.contains("internal error"), "{what}: {}", said.text);
-            None
-        }
-    }
-}
-
-/// A call on a handle whose tree has ended: debug builds panic at once, and name the mistake and the place of the call.
-fn refused(what: &str, mistake: &str, call: impl FnOnce()) {
-    if !cfg!(debug_assertions) {
-        survived(what, call);
-        return;
-    }
-    let said = met(call).err().unwrap_or_else(|| panic!("{what} returned, where {mistake}"));
-    let asked = "the handle is not live in this forest, which the call requires and `holds` tests: ";
-    assert!(said.text.starts_with(asked) && said.text.contains(mistake), "{what}: {}", said.text);
-    assert!(!said.text.contains("internal error"), "{what}: {}", said.text);
-    assert_eq!(said.file, file!(), "{what}: {}", said.text);
-}
 
 // The calls.
 
@@ -174,23 +106,33 @@ fn no_call_is_missing() {
 
 const ENDED: &str = "its tree has ended, since the slot ";
 const PAST: &str = " (the forest was cleared, or the handle belongs to another one)";
+const WITHIN: &str = " is a node within a tree (the handle is a copy from before its map got a new root or lost one, ";
 
-/// A map of one node, whose keys are 1 to 5.
-fn filled_map(forest: &mut NumbersForest) -> Numbers {
+/// A map whose keys are 1 to `last`.
+fn map_up_to(last: u32, forest: &mut NumbersForest) -> Numbers {
     let mut map = Map::new();
-    for key in 1..=5 {
+    for key in 1..=last {
         map.insert(key, 10 * key, forest, &()).unwrap();
     }
     map
 }
 
-/// A set of one node, whose keys are 1 to 5.
-fn filled_set(forest: &mut SetForest<u32>) -> Set<u32> {
+fn set_up_to(last: u32, forest: &mut SetForest<u32>) -> Set<u32> {
     let mut set = Set::new();
-    for key in 1..=5 {
+    for key in 1..=last {
         set.insert(key, forest, &()).unwrap();
     }
     set
+}
+
+/// A map of one node, whose keys are 1 to 5.
+fn filled_map(forest: &mut NumbersForest) -> Numbers {
+    map_up_to(5, forest)
+}
+
+/// A set of one node, whose keys are 1 to 5.
+fn filled_set(forest: &mut SetForest<u32>) -> Set<u32> {
+    set_up_to(5, forest)
 }
 
 /// Makes each call of the table on the handle, each in a forest as it was, in which other calls then answer as they should.
@@ -202,7 +144,7 @@ fn each_refused<H: Clone, F: Clone>(
 ) {
     for (name, call) in calls {
         let (mut handle, mut forest) = (handle.clone(), forest.clone());
-        refused(name, mistake, || call(&mut handle, &mut forest));
+        refused(name, NOT_LIVE, mistake, || call(&mut handle, &mut forest));
         assert!(is_in_use(&mut forest), "after {name} in a forest where {mistake}");
     }
 }
@@ -334,8 +276,149 @@ fn copies_of_a_slot_that_is_used_again() {
     assert!(forest.holds(&copy) && copy.iter(&forest).eq([7]));
 }
 
+/// The most entries of one node of a map, and of a set. One entry more makes a new root above two of them.
+const FULL_MAP: u32 = 7;
+const FULL_SET: u32 = 15;
+
+/// The copy's slot is the first leaf below the new root.
+#[test]
+fn copies_from_before_a_new_root() {
+    let mut maps = MapForest::new();
+    let mut map = map_up_to(FULL_MAP, &mut maps);
+    let copy = map.clone();
+    map.insert(FULL_MAP + 1, 0, &mut maps, &()).unwrap();
+    each_of_a_map(&copy, &maps, WITHIN);
+    let mut sets = SetForest::new();
+    let mut set = set_up_to(FULL_SET, &mut sets);
+    let copy = set.clone();
+    set.insert(FULL_SET + 1, &mut sets, &()).unwrap();
+    each_of_a_set(&copy, &sets, WITHIN);
+}
+
+/// The copy's slot was the root above two leaves, of which one has all entries now.
+#[test]
+fn copies_from_before_a_root_was_lost() {
+    let mut maps = MapForest::new();
+    let mut map = map_up_to(FULL_MAP + 1, &mut maps);
+    let copy = map.clone();
+    map.remove(1, &mut maps, &());
+    assert_eq!(map.levels(&maps), 1);
+    each_of_a_map(&copy, &maps, ENDED);
+    let mut sets = SetForest::new();
+    let mut set = set_up_to(FULL_SET + 1, &mut sets);
+    let copy = set.clone();
+    set.remove(1, &mut sets, &());
+    assert_eq!(set.levels(&sets), 1);
+    each_of_a_set(&copy, &sets, ENDED);
+}
+
+/// A union makes a new tree, beside the one that the copy names, and frees that.
+#[test]
+fn copies_from_before_a_union() {
+    let mut maps = MapForest::new();
+    let (mut map, other) = (filled_map(&mut maps), map_up_to(FULL_MAP, &mut maps));
+    let copy = map.clone();
+    assert_eq!(map.union_with(&other, &mut maps, &()), Ok(true));
+    each_of_a_map(&copy, &maps, ENDED);
+    let mut sets = SetForest::new();
+    let (mut set, other) = (filled_set(&mut sets), set_up_to(FULL_SET, &mut sets));
+    let copy = set.clone();
+    assert_eq!(set.union_with(&other, &mut sets, &()), Ok(true));
+    each_of_a_set(&copy, &sets, ENDED);
+}
+
+/// The copy's slot was freed, and is the second leaf of another tree now: the slot that is freed last is taken first.
+#[test]
+fn copies_of_a_slot_that_is_within_another_tree() {
+    let mut maps = MapForest::new();
+    let (mut other, mut map) = (map_up_to(FULL_MAP, &mut maps), filled_map(&mut maps));
+    maps.reserve_nodes(2).unwrap();
+    let copy = map.clone();
+    map.clear(&mut maps);
+    other.insert(FULL_MAP + 1, 0, &mut maps, &()).unwrap();
+    each_of_a_map(&copy, &maps, WITHIN);
+    let mut sets = SetForest::new();
+    let (mut other, mut set) = (set_up_to(FULL_SET, &mut sets), filled_set(&mut sets));
+    sets.reserve_nodes(2).unwrap();
+    let copy = set.clone();
+    set.clear(&mut sets);
+    other.insert(FULL_SET + 1, &mut sets, &()).unwrap();
+    each_of_a_set(&copy, &sets, WITHIN);
+}
+
+/// A handle of a forest in whose place this one has a node within a tree.
+#[test]
+fn handles_of_another_forest_that_name_a_node_within() {
+    let (mut maps, mut others) = (MapForest::new(), MapForest::new());
+    map_up_to(FULL_MAP + 1, &mut maps);
+    each_of_a_map(&filled_map(&mut others), &maps, WITHIN);
+    let (mut sets, mut others) = (SetForest::new(), SetForest::new());
+    set_up_to(FULL_SET + 1, &mut sets);
+    each_of_a_set(&filled_set(&mut others), &sets, WITHIN);
+}
+
+/// A map that was cleared is cleared once more, through a copy.
+#[test]
+fn a_second_clear_through_a_copy() {
+    for last in 1..=100 {
+        let mut maps = MapForest::new();
+        let mut map = map_up_to(last, &mut maps);
+        let mut copy = map.clone();
+        map.clear(&mut maps);
+        refused("a second clear", NOT_LIVE, ENDED, || copy.clear(&mut maps));
+        let mut sets = SetForest::new();
+        let mut set = set_up_to(last, &mut sets);
+        let mut copy = set.clone();
+        set.clear(&mut sets);
+        refused("a second clear", NOT_LIVE, ENDED, || copy.clear(&mut sets));
+    }
+}
+
+/// A call on a handle and another one in a forest.
+type CallOfTwo<H, F> = (&'static str, fn(&mut H, &H, &mut F));
+
+const OF_TWO_MAPS: [CallOfTwo<Numbers, NumbersForest>; 3] = [
+    ("union_with", |map, other, forest| _ = map.union_with(other, forest, &())),
+    ("intersect_with", |map, other, forest| _ = map.intersect_with(other, forest, &())),
+    ("difference_with", |map, other, forest| _ = map.difference_with(other, forest, &())),
+];
+
+const OF_TWO_SETS: [CallOfTwo<Set<u32>, SetForest<u32>>; 5] = [
+    ("is_subset", |set, other, forest| _ = set.is_subset(other, forest, &())),
+    ("is_disjoint", |set, other, forest| _ = set.is_disjoint(other, forest, &())),
+    ("union_with", |set, other, forest| _ = set.union_with(other, forest, &())),
+    ("intersect_with", |set, other, forest| _ = set.intersect_with(other, forest, &())),
+    ("difference_with", |set, other, forest| _ = set.difference_with(other, forest, &())),
+];
+
+/// The handle that is lent is tested as the one on which the call is made.
+#[test]
+fn calls_whose_other_handle_is_not_live() {
+    let mut maps = MapForest::new();
+    let (map, mut other) = (filled_map(&mut maps), map_up_to(FULL_MAP, &mut maps));
+    let copy = other.clone();
+    other.insert(FULL_MAP + 1, 0, &mut maps, &()).unwrap();
+    for (name, call) in OF_TWO_MAPS {
+        let (mut map, mut maps) = (map.clone(), maps.clone());
+        refused(name, NOT_LIVE, WITHIN, || call(&mut map, &copy, &mut maps));
+        assert!(is_map_forest_in_use(&mut maps), "after {name}");
+    }
+    let mut sets = SetForest::new();
+    let (set, mut other) = (filled_set(&mut sets), set_up_to(FULL_SET, &mut sets));
+    let copy = other.clone();
+    other.insert(FULL_SET + 1, &mut sets, &()).unwrap();
+    for (name, call) in OF_TWO_SETS {
+        let (mut set, mut sets) = (set.clone(), sets.clone());
+        refused(name, NOT_LIVE, WITHIN, || call(&mut set, &copy, &mut sets));
+        assert!(is_set_forest_in_use(&mut sets), "after {name}");
+    }
+}
+
+// What release builds do not notice.
+
 /// A copy that names a leaf of a tree which has grown a level can end that leaf. What finds the hole later says what was done before.
 #[test]
+#[cfg(not(debug_assertions))]
 fn trees_that_a_copy_made_a_hole_in() {
     let mut forest = MapForest::new();
     let mut map = filled_map(&mut forest);
@@ -345,7 +428,7 @@ fn trees_that_a_copy_made_a_hole_in() {
     }
     assert!(forest.holds(&map) && !forest.holds(&copy));
     copy.clear(&mut forest);
-    let said = met(|| map.get(1, &forest, &())).expect_err("there is no leaf");
+    let said = met::met(|| map.get(1, &forest, &())).expect_err("there is no leaf");
     assert!(said.text.starts_with("this call or an earlier one was made on a handle that was not live"), "{}", said.text);
     for (name, call) in OF_MAPS {
         let (mut map, mut forest) = (map.clone(), forest.clone());
@@ -354,17 +437,13 @@ fn trees_that_a_copy_made_a_hole_in() {
     }
 }
 
-// Mistakes that no build notices.
-
 /// The eighth entry halves the only leaf into 4 entries and 4, below a new root. The copy names the first half. An insertion through the
 /// copy puts a key there that belongs into the other half, where it is looked for.
 #[test]
+#[cfg(not(debug_assertions))]
 fn a_copy_after_the_eighth_insertion_has_half_the_map() {
     let mut forest = MapForest::new();
-    let mut map = Map::new();
-    for key in 1..=7 {
-        map.insert(key, 10 * key, &mut forest, &()).unwrap();
-    }
+    let mut map = map_up_to(FULL_MAP, &mut forest);
     let mut copy = map.clone();
     map.insert(8, 80, &mut forest, &()).unwrap();
     assert!(forest.holds(&map) && !forest.holds(&copy));
@@ -378,12 +457,10 @@ fn a_copy_after_the_eighth_insertion_has_half_the_map() {
 
 /// The sixteenth key of a set halves its only leaf into 8 keys and 8.
 #[test]
+#[cfg(not(debug_assertions))]
 fn a_copy_after_the_sixteenth_insertion_has_half_the_set() {
     let mut forest = SetForest::new();
-    let mut set = Set::new();
-    for key in 1..=15 {
-        set.insert(key, &mut forest, &()).unwrap();
-    }
+    let mut set = set_up_to(FULL_SET, &mut forest);
     let mut copy = set.clone();
     set.insert(16, &mut forest, &()).unwrap();
     assert!(forest.holds(&set) && !forest.holds(&copy));
@@ -392,6 +469,18 @@ fn a_copy_after_the_sixteenth_insertion_has_half_the_set() {
     assert_eq!(copy.insert(17, &mut forest, &()), Ok(true));
     assert!(!set.increases(&forest, &()) && !set.contains(17, &forest, &()));
     assert!(is_set_forest_in_use(&mut forest));
+}
+
+// Mistakes that no build notices.
+
+/// A handle that is dropped frees no node.
+#[test]
+fn a_handle_that_is_dropped_keeps_its_nodes() {
+    let mut forest = MapForest::new();
+    _ = map_up_to(FULL_MAP + 1, &mut forest);
+    assert_eq!((forest.nodes_in_use(), forest.free_slots()), (3, 0));
+    forest.clear();
+    assert_eq!((forest.nodes_in_use(), forest.slots()), (0, 0));
 }
 
 /// A new cursor stands at the end, so nothing comes behind it.
@@ -439,6 +528,9 @@ fn looking_before_each_step_gives_all_entries() {
 }
 
 // Orders that do not fit.
+
+/// How the message of a debug build begins where it finds keys out of order.
+const OUT_OF_ORDER: &str = "the comparator is not that of the map, which the call requires and `increases` tests: ";
 
 /// Numbers without an order, by a shift register.
 struct Random(Cell<u64>);
@@ -612,6 +704,101 @@ fn a_set_under_changing_orders() {
         }
     }
     assert!(is_set_forest_in_use(&mut forest));
+}
+
+/// A call that compares keys on its way to an insertion or a removal.
+type Ordered<H, F, C> = (&'static str, fn(&mut H, u32, &mut F, &C));
+
+/// The calls on a map that are told where the keys beside a key's place are out of order.
+fn ordered_calls_of_maps<C: Comparator<u32>>() -> [Ordered<Numbers, NumbersForest, C>; 6] {
+    [
+        ("insert", |map, key, forest, order| _ = map.insert(key, 0, forest, order)),
+        ("try_insert", |map, key, forest, order| _ = map.try_insert(key, 0, forest, order)),
+        ("get_or_insert", |map, key, forest, order| _ = map.get_or_insert(key, 0, forest, order)),
+        ("update_or_insert", |map, key, forest, order| _ = map.update_or_insert(key, 0, |it| it, forest, order)),
+        ("remove", |map, key, forest, order| _ = map.remove(key, forest, order)),
+        ("insert of a cursor", |map, key, forest, order| _ = map.cursor_mut(forest, order).insert(key, 0)),
+    ]
+}
+
+fn ordered_calls_of_sets<C: Comparator<u32>>() -> [Ordered<Set<u32>, SetForest<u32>, C>; 4] {
+    [
+        ("insert", |set, key, forest, order| _ = set.insert(key, forest, order)),
+        ("try_insert", |set, key, forest, order| _ = set.try_insert(key, forest, order)),
+        ("remove", |set, key, forest, order| _ = set.remove(key, forest, order)),
+        ("insert of a cursor", |set, key, forest, order| _ = set.cursor(forest, order).insert(key)),
+    ]
+}
+
+/// Makes each of these calls with the key, on a map and a set of 1 to 100. In debug builds nothing has changed then.
+fn each_out_of_order<C: Comparator<u32>>(key: u32, order: &C, mistake: &str) {
+    let (mut maps, mut sets) = (MapForest::new(), SetForest::new());
+    let (map, set) = (hundred(&mut maps), hundred_of_a_set(&mut sets));
+    for (name, call) in ordered_calls_of_maps() {
+        let (mut copy, mut forest) = (map.clone(), maps.clone());
+        refused(name, OUT_OF_ORDER, mistake, || call(&mut copy, key, &mut forest, order));
+        assert!(!cfg!(debug_assertions) || map.iter(&forest).eq(map.iter(&maps)), "{name}");
+    }
+    for (name, call) in ordered_calls_of_sets() {
+        let (mut copy, mut forest) = (set.clone(), sets.clone());
+        refused(name, OUT_OF_ORDER, mistake, || call(&mut copy, key, &mut forest, order));
+        assert!(!cfg!(debug_assertions) || set.iter(&forest).eq(set.iter(&sets)), "{name}");
+    }
+}
+
+/// Under the reversed order a search ends at the end of a leaf, and there two keys decrease.
+#[test]
+fn calls_under_the_reversed_order() {
+    for key in 0..=101 {
+        each_out_of_order(key, &Reverse(()), "two keys next to each other do not increase under it");
+    }
+}
+
+/// The key that stands for one that is not a number.
+const NAN: u32 = 1000;
+
+/// The order of the keys, but for that one, of which it says the same beside each key.
+struct WithNan(Ordering);
+
+impl Comparator<u32> for WithNan {
+    fn cmp(&self, a: u32, b: u32) -> Ordering {
+        if a == NAN || b == NAN { self.0 } else { a.cmp(&b) }
+    }
+}
+
+#[test]
+fn calls_with_a_key_that_is_not_a_number() {
+    for told in [Ordering::Less, Ordering::Greater, Ordering::Equal] {
+        each_out_of_order(NAN, &WithNan(told), "it is no order, as with a NaN");
+    }
+}
+
+/// The order of the keys until a key is compared with itself, which no search asks, and then the reversed one.
+struct Turning(Cell<bool>);
+
+impl Comparator<u32> for Turning {
+    fn cmp(&self, a: u32, b: u32) -> Ordering {
+        self.0.set(self.0.get() || a == b);
+        if self.0.get() { b.cmp(&a) } else { a.cmp(&b) }
+    }
+}
+
+/// A call that finds its place between two keys, and is then answered otherwise for one of them.
+#[test]
+fn an_order_that_answers_otherwise_the_second_time() {
+    let mut forest = MapForest::new();
+    let mut map = Map::new();
+    for key in [2, 4, 6, 8, 10] {
+        map.insert(key, key, &mut forest, &()).unwrap();
+    }
+    for (name, call) in ordered_calls_of_maps() {
+        for key in [1, 3, 5, 7, 9, 11] {
+            let (mut copy, mut forest) = (map.clone(), forest.clone());
+            let turning = Turning(Cell::new(false));
+            let mistake = "it answers otherwise for the same two keys than in the search before";
+            refused(name, OUT_OF_ORDER, mistake, || call(&mut copy, key, &mut forest, &turning));
+        }
+    }
 }
 
 /// A comparator whose search answers places that no node has: each call is made on entries that are in order.
