@@ -3,7 +3,8 @@
 use Rattle.bforest.proofs.Growing.{growth-fits}
 use Rattle.bforest.proofs.Shrinking.{shrink-fits}
 pub use Rattle.bforest.proofs.Lengths.{length-written}
-use Rattle.bforest.specs.Calls.{Clears, Filters, GetsOrInserts, Inserts, KeepsFrom, Pops, Removes, RemovesAt, Updates}
+use Rattle.bforest.specs.Bounds.{entries_between, is_between, is_from_start, is_past_end, start_place}
+use Rattle.bforest.specs.Calls.{Clears, Compacts, Filters, GetsOrInserts, Inserts, KeepsFrom, Pops, Removes, RemovesAt, RemovesBetween, Updates, fewest, removals}
 use Rattle.bforest.specs.Entries.{is_present, place, value_for}
 use Rattle.bforest.specs.Forest.{Becomes, Forest, Gives, IsFitFor, IsLive, Takes, growth, limit_of, list_of, need, need_of, room_of, shrink, sizes_of}
 use Rattle.bforest.specs.Refusal.{OutOfMemory}
@@ -12,14 +13,16 @@ use Rattle.bforest.specs.Union.{fits, kept_from, kept_of}
 use Rattle.bforest.specs.Room.{Balances, IsFitAt, node_count}
 use Rattle.bforest_nodes.proofs.Found.{place-present, put-absent, put-present}
 use Rattle.bforest_trees.proofs.Putting.{present-some}
+use Rattle.bforest_trees.proofs.ranges.Outside.{filter-behind, filter-halves}
 use Rattle.bforest_trees.specs.Calls.{as_inserted}
 use Rattle.std.specs.Fn.{Once}
-use Rattle.std.proofs.Common.{Bool, Err, List, None, Ok, Option, Result, Some, [], ap, arith, false, if◌then◌else◌, inl, inr, length, refl, remove, subst, suc, sym, true, ◌%◌, ◌+◌, ◌-◌, ◌<◌, ◌∙◌, ◌∷◌, ◌≡◌, ◌≢◌, ◌≤◌, ℕ}
+use Rattle.std.proofs.Common.{Bool, Err, List, None, Ok, Option, Result, Some, [], ap, arith, false, if◌then◌else◌, inl, inr, length, not, refl, remove, subst, suc, sym, true, zero, ◌%◌, ◌+◌, ◌-◌, ◌<◌, ◌∙◌, ◌∷◌, ◌≡◌, ◌≢◌, ◌≤◌, ℕ}
 use Rattle.std.proofs.lemmas.Bool.Decides.{leb_tells}
 use Rattle.std.proofs.lemmas.List.Edits.{length-insert, length-remove}
 use Rattle.std.proofs.lemmas.List.Sums.{count_by-le-length}
 use Rattle.std.specs.Ordering.{is_lt}
 use Rattle.std.specs.declared.cmp.Ordering.{Ordering}
+use Rattle.std.specs.declared.ops.Bound.{Bound}
 -- a table that holds as much memory as before has not grown
 pub use Rattle.bforest_core.proofs.table.Allocating.{grows-not}
 
@@ -103,6 +106,33 @@ module _ {K V : Type 0} where
             → (list_of f' o ≢ [] → sizes_of f' o ≡ sizes_by most 0 (kept_of cmp present (list_of f h) (list_of f other)) (sizes_of f h)) → IsFitAt most f' o
         go None live list sizes = refl
         go (Some n) live list sizes = rw (list ∙ sym (kept-by (list_of f h)), sizes live) (sifted-all most odd any tt (list_of f h) (kept_of cmp present (list_of f h) (list_of f other)) (sizes_of f h) (asked (list_of f h)) fit)
+
+    -- n removals at one place
+    removals-fit : (p n len : ℕ) (sizes : List (List ℕ)) → IsFitFor most len sizes → p + n ≤ len → IsFitFor most (len - n) (removals most p n sizes)
+    removals-fit p zero len sizes fit low = subst (λ k. IsFitFor most k sizes) (let is : len ≡ len - 0 = omega arith in is) fit
+    removals-fit p (suc n) len sizes fit low =
+        subst (λ k. IsFitFor most k (shrink most p (removals most p n sizes))) (let is : (len - n) - 1 ≡ len - suc n = omega arith in is)
+        (shrink-fits most odd p (len - n) (removals most p n sizes) (removals-fit p n len sizes fit (omega (arith, low))) (omega (arith, low)))
+
+    pub between-balance : {cmp : K → K → Ordering} {lo hi : Bound K} {result : Bool} → RemovesBetween most cmp lo hi f h result f' h' → Balances most f h f' h'
+    between-balance {cmp} {lo} {hi} r =
+        let es = list_of f h in
+        let n = length (entries_between cmp lo hi es) in
+        let left : length (list_of f' h') ≡ length es - n = omega (arith, ap length r.removed.list, filter-halves (λ e. is_between cmp lo hi e.0) es) in
+        given-balance most f f' h h'
+        (rw (left, r.sizes) (removals-fit (start_place cmp lo es) n (length es) (sizes_of f h) fit (filter-behind (λ e. is_from_start cmp lo e.0) (λ e. not (is_past_end cmp hi e.0)) es)))
+        r.removed.limit r.account
+
+    -- a packed tree took the place of the old one, within the limit
+    pub compacts-balance : Compacts most f h (Ok tt) f' h' → Balances most f h f' h'
+    compacts-balance c =
+        let low : fewest most (length (list_of f h)) ≤ room_of f = not-less (room_of f) (fewest most (length (list_of f h))) (λ few. let full = c.full.1 few in cc) in
+        record {
+          fit = subst (λ es. IsFitFor most (length es) (sizes_of f' h')) (sym c.same_list.list) c.fit;
+          nodes = omega (arith, c.account.slots, c.account.free, c.nodes);
+          slots = omega (arith, c.account.slots);
+          within = λ few. omega (arith, c.account.slots, c.same_list.limit, low, few);
+        }
 
     removed : (p : ℕ) → p < length (list_of f h) → Becomes f h f' h' (remove (list_of f h) p) → sizes_of f' h' ≡ shrink most p (sizes_of f h) → Gives (sizes_of f h) (sizes_of f' h') f f' → Balances most f h f' h'
     removed p within b sizes g =

@@ -1,8 +1,9 @@
--- The tests of a call, and a call that compares keys, or is at an end of a list, from what its handle and its comparator tell.
-use Rattle.bforest.specs.Calls.{Inserts, Removes}
+-- The tests of a call, and a call from what its handles and its comparator tell.
+use Rattle.bforest.specs.Calls.{Compacts, Inserts, Intersects, Removes, RemovesBetween, Subtracts, Unites}
+use Rattle.bforest_calls.specs.Beside.{IsBeside, MakesBeside}
 use Rattle.bforest_calls.specs.Compared.{IsComparing, IsListed, IsOfMaps, Makes}
-use Rattle.bforest_calls.specs.Ends.{IsAtEnd, MakesAtEnd}
-use Rattle.bforest_calls.specs.Machine.{AsksRoom, Compares, Lacks, Names, On, Orders, Passes, Refuses, State, Step, Tests, order_at}
+use Rattle.bforest_calls.specs.Alone.{IsAlone, MakesAlone}
+use Rattle.bforest_calls.specs.Machine.{AsksRoom, Compares, ComparesBoth, Lacks, Names, On, Orders, Passes, Refuses, State, Step, Tests, number_at, order_at}
 use Rattle.bforest_calls.specs.State.{Edits, FirstPopped, GotOrInserted, Held, LastPopped, Shifted, Updated, UpdatedOrInserted}
 use Rattle.bforest_calls.specs.declared.call.Answer.TheVariants as answer
 use Rattle.bforest_calls.specs.declared.call.Answer.{Answer}
@@ -89,6 +90,9 @@ module _ {K V : Type 0} (most : ℕ) (reads : Bool) (orders : Orders K) (h c : �
       (then given (changes (λ sights held after. Edits most (order_at orders c) steps.items sights.items held after) h old new) t) a b is.0 is.1
   step-of (call.Range a b lo hi ends) is t = at (λ m n. Step most reads orders old (call.Range m n lo hi ends) given new)
       (then given (looks h old new) t) a b is.0 is.1
+  step-of (call.RemoveRange a b lo hi) is t = at (λ m n. Step most reads orders old (call.RemoveRange m n lo hi) given new)
+      (then given (changes (λ changed held after. RemovesBetween most (order_at orders c) lo hi held.forest held.number changed after.forest after.number) h old new) t)
+      a b is.0 is.1
   step-of other is t = absurd is
 
   -- a call that is not offered, from the tests of its indices
@@ -101,11 +105,23 @@ module _ {K V : Type 0} (most : ℕ) (reads : Bool) (orders : Orders K) (h c : �
   step-lacking other is l = absurd is
 
 module _ {K V : Type 0} (most : ℕ) (reads : Bool) (orders : Orders K) (h : ℕ) (old : State K V) (given : Answer K V) (new : State K V) where
-  -- a call at an end of a list, from what is made on its handle
-  pub step-at-end : (made : Call K V) → IsAtEnd h made → Names h old given new (On h old new (λ held after. MakesAtEnd most made held given after))
+  -- a call that compares no key, from what is made on its handle
+  pub step-alone : (made : Call K V) → IsAlone h made → Names h old given new (On h old new (λ held after. MakesAlone most made held given after))
       → Step most reads orders old made given new
-  step-at-end (call.First a) is t = rw is (then given (looks h old new) t)
-  step-at-end (call.Last a) is t = rw is (then given (looks h old new) t)
-  step-at-end (call.PopFirst a) is t = rw is (then given (changes (FirstPopped most) h old new) t)
-  step-at-end (call.PopLast a) is t = rw is (then given (changes (LastPopped most) h old new) t)
-  step-at-end other is t = absurd is
+  step-alone (call.First a) is t = rw is (then given (looks h old new) t)
+  step-alone (call.Last a) is t = rw is (then given (looks h old new) t)
+  step-alone (call.PopFirst a) is t = rw is (then given (changes (FirstPopped most) h old new) t)
+  step-alone (call.PopLast a) is t = rw is (then given (changes (LastPopped most) h old new) t)
+  step-alone (call.Len a) is t = rw is (then given (looks h old new) t)
+  step-alone (call.Compact a) is t = rw is (then given (changes (λ result held after. Compacts most held.forest held.number result after.forest after.number) h old new) t)
+  step-alone other is t = absurd is
+
+module _ {K V : Type 0} (most : ℕ) (reads : Bool) (orders : Orders K) (h o c : ℕ) (old : State K V) (given : Answer K V) (new : State K V) where
+  -- a call that compares the keys of two lists, from what is made on the first one's handle
+  pub step-beside : (made : Call K V) → IsBeside h o c made
+      → ComparesBoth orders h o c old given new (On h old new (λ held after. MakesBeside most (order_at orders c) (number_at old o) made held given after))
+      → Step most reads orders old made given new
+  step-beside (call.Unite a b d) is t = rw (is.0, is.1, is.2) (then given (changes (λ result held after. Unites most (order_at orders c) held.forest held.number (number_at old o) result after.forest after.number) h old new) t)
+  step-beside (call.Intersect a b d) is t = rw (is.0, is.1, is.2) (then given (changes (λ changed held after. Intersects most (order_at orders c) held.forest held.number (number_at old o) changed after.forest after.number) h old new) t)
+  step-beside (call.Subtract a b d) is t = rw (is.0, is.1, is.2) (then given (changes (λ changed held after. Subtracts most (order_at orders c) held.forest held.number (number_at old o) changed after.forest after.number) h old new) t)
+  step-beside other is t = absurd is

@@ -1,6 +1,7 @@
--- A call that compares keys, and one at an end of a list, is one of those that the engine makes so.
+-- A call is one of those that the engine makes as it does.
+use Rattle.bforest_calls.specs.Beside.{IsBeside}
 use Rattle.bforest_calls.specs.Compared.{IsComparing}
-use Rattle.bforest_calls.specs.Ends.{IsAtEnd}
+use Rattle.bforest_calls.specs.Alone.{IsAlone}
 use Rattle.bforest_calls.specs.declared.call.Act.{Act}
 use Rattle.bforest_calls.specs.declared.call.Call.TheVariants as call
 use Rattle.bforest_calls.specs.declared.call.Call.{Call}
@@ -11,13 +12,16 @@ use Rattle.std.specs.Global.{Global}
 use Rattle.std.specs.declared.ops.Bound.{Bound}
 
 module _ {K V : Type 0} where
-  pub at-end-alone : (made : Call K V) → (h : ℕ) × IsAtEnd h made → ((h : ℕ) → made ≡ call.First h → ⊥) → ((h : ℕ) → made ≡ call.Last h → ⊥)
-      → ((h : ℕ) → made ≡ call.PopFirst h → ⊥) → ((h : ℕ) → made ≡ call.PopLast h → ⊥) → ⊥
-  at-end-alone (call.First h) w first last pop_first pop_last = first h refl
-  at-end-alone (call.Last h) w first last pop_first pop_last = last h refl
-  at-end-alone (call.PopFirst h) w first last pop_first pop_last = pop_first h refl
-  at-end-alone (call.PopLast h) w first last pop_first pop_last = pop_last h refl
-  at-end-alone other w first last pop_first pop_last = absurd w.1
+  pub no-other-alone : (made : Call K V) → (h : ℕ) × IsAlone h made → ((h : ℕ) → made ≡ call.First h → ⊥) → ((h : ℕ) → made ≡ call.Last h → ⊥)
+      → ((h : ℕ) → made ≡ call.PopFirst h → ⊥) → ((h : ℕ) → made ≡ call.PopLast h → ⊥)
+      → ((h : ℕ) → made ≡ call.Len h → ⊥) → ((h : ℕ) → made ≡ call.Compact h → ⊥) → ⊥
+  no-other-alone (call.First h) w first last pop_first pop_last len compact = first h refl
+  no-other-alone (call.Last h) w first last pop_first pop_last len compact = last h refl
+  no-other-alone (call.PopFirst h) w first last pop_first pop_last len compact = pop_first h refl
+  no-other-alone (call.PopLast h) w first last pop_first pop_last len compact = pop_last h refl
+  no-other-alone (call.Len h) w first last pop_first pop_last len compact = len h refl
+  no-other-alone (call.Compact h) w first last pop_first pop_last len compact = compact h refl
+  no-other-alone other w first last pop_first pop_last len compact = absurd w.1
 
   pub comparing-alone : (reads : Bool) (made : Call K V) → (h : ℕ) × (c : ℕ) × IsComparing reads h c made
       → ((h c : ℕ) (k : K) → made ≡ call.Get h c k → ⊥) → ((h c : ℕ) (k : K) → made ≡ call.GetOrLess h c k → ⊥)
@@ -29,17 +33,26 @@ module _ {K V : Type 0} where
       → ((h c : ℕ) (k : K) → made ≡ call.Remove h c k → ⊥)
       → (reads ≡ true → (h c : ℕ) (steps : Vec (Look K) Global) → made ≡ call.Read h c steps → ⊥)
       → ((h c : ℕ) (steps : Vec (Act K V) Global) → made ≡ call.Edit h c steps → ⊥)
-      → ((h c : ℕ) (lo hi : Bound K) (ends : Vec Side Global) → made ≡ call.Range h c lo hi ends → ⊥) → ⊥
-  comparing-alone reads (call.Get h c k) w get less greater insert got update put shift remove read edit range = get h c k refl
-  comparing-alone reads (call.GetOrLess h c k) w get less greater insert got update put shift remove read edit range = less h c k refl
-  comparing-alone reads (call.GetOrGreater h c k) w get less greater insert got update put shift remove read edit range = greater h c k refl
-  comparing-alone reads (call.Insert h c k v) w get less greater insert got update put shift remove read edit range = insert h c k v refl
-  comparing-alone reads (call.GetOrInsert h c k v) w get less greater insert got update put shift remove read edit range = got w.2.2 h c k v refl
-  comparing-alone reads (call.Update h c k v) w get less greater insert got update put shift remove read edit range = update w.2.2 h c k v refl
-  comparing-alone reads (call.UpdateOrInsert h c k v x) w get less greater insert got update put shift remove read edit range = put w.2.2 h c k v x refl
-  comparing-alone reads (call.Shift h c from keys) w get less greater insert got update put shift remove read edit range = shift h c from keys refl
-  comparing-alone reads (call.Remove h c k) w get less greater insert got update put shift remove read edit range = remove h c k refl
-  comparing-alone reads (call.Read h c steps) w get less greater insert got update put shift remove read edit range = read w.2.2 h c steps refl
-  comparing-alone reads (call.Edit h c steps) w get less greater insert got update put shift remove read edit range = edit h c steps refl
-  comparing-alone reads (call.Range h c lo hi ends) w get less greater insert got update put shift remove read edit range = range h c lo hi ends refl
-  comparing-alone reads other w get less greater insert got update put shift remove read edit range = absurd w.2
+      → ((h c : ℕ) (lo hi : Bound K) (ends : Vec Side Global) → made ≡ call.Range h c lo hi ends → ⊥)
+      → ((h c : ℕ) (lo hi : Bound K) → made ≡ call.RemoveRange h c lo hi → ⊥) → ⊥
+  comparing-alone reads (call.Get h c k) w get less greater insert got update put shift remove read edit range out = get h c k refl
+  comparing-alone reads (call.GetOrLess h c k) w get less greater insert got update put shift remove read edit range out = less h c k refl
+  comparing-alone reads (call.GetOrGreater h c k) w get less greater insert got update put shift remove read edit range out = greater h c k refl
+  comparing-alone reads (call.Insert h c k v) w get less greater insert got update put shift remove read edit range out = insert h c k v refl
+  comparing-alone reads (call.GetOrInsert h c k v) w get less greater insert got update put shift remove read edit range out = got w.2.2 h c k v refl
+  comparing-alone reads (call.Update h c k v) w get less greater insert got update put shift remove read edit range out = update w.2.2 h c k v refl
+  comparing-alone reads (call.UpdateOrInsert h c k v x) w get less greater insert got update put shift remove read edit range out = put w.2.2 h c k v x refl
+  comparing-alone reads (call.Shift h c from keys) w get less greater insert got update put shift remove read edit range out = shift h c from keys refl
+  comparing-alone reads (call.Remove h c k) w get less greater insert got update put shift remove read edit range out = remove h c k refl
+  comparing-alone reads (call.Read h c steps) w get less greater insert got update put shift remove read edit range out = read w.2.2 h c steps refl
+  comparing-alone reads (call.Edit h c steps) w get less greater insert got update put shift remove read edit range out = edit h c steps refl
+  comparing-alone reads (call.Range h c lo hi ends) w get less greater insert got update put shift remove read edit range out = range h c lo hi ends refl
+  comparing-alone reads (call.RemoveRange h c lo hi) w get less greater insert got update put shift remove read edit range out = out h c lo hi refl
+  comparing-alone reads other w get less greater insert got update put shift remove read edit range out = absurd w.2
+
+  pub beside-alone : (made : Call K V) → (h : ℕ) × (o : ℕ) × (c : ℕ) × IsBeside h o c made → ((h o c : ℕ) → made ≡ call.Unite h o c → ⊥)
+      → ((h o c : ℕ) → made ≡ call.Intersect h o c → ⊥) → ((h o c : ℕ) → made ≡ call.Subtract h o c → ⊥) → ⊥
+  beside-alone (call.Unite h o c) w unite intersect subtract = unite h o c refl
+  beside-alone (call.Intersect h o c) w unite intersect subtract = intersect h o c refl
+  beside-alone (call.Subtract h o c) w unite intersect subtract = subtract h o c refl
+  beside-alone other w unite intersect subtract = absurd w.3

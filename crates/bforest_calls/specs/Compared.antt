@@ -1,6 +1,6 @@
 -- A call that compares keys: on one handle, by one comparator, where both are there and all tests are passed.
 use Rattle.bforest.specs.Bounds.{entries_between, entry_at_least, entry_at_most}
-use Rattle.bforest.specs.Calls.{Inserts, Removes}
+use Rattle.bforest.specs.Calls.{Inserts, Removes, RemovesBetween}
 use Rattle.bforest_calls.specs.Looks.{all_taken, sights_of}
 use Rattle.bforest_calls.specs.Machine.{Shows}
 use Rattle.bforest_calls.specs.State.{Edits, GotOrInserted, Held, Shifted, Updated, UpdatedOrInserted, as_had, entries}
@@ -30,6 +30,7 @@ module _ {K V : Type 0} where
   IsComparing reads h c (call.Read a b steps) = (a ≡ h) × (b ≡ c) × (reads ≡ true)
   IsComparing reads h c (call.Edit a b steps) = (a ≡ h) × (b ≡ c)
   IsComparing reads h c (call.Range a b lo hi ends) = (a ≡ h) × (b ≡ c)
+  IsComparing reads h c (call.RemoveRange a b lo hi) = (a ≡ h) × (b ≡ c)
   IsComparing reads h c other = ⊥
 
   -- the call is such a call, and only maps offer it
@@ -64,4 +65,6 @@ module _ {K V : Type 0} where
     Makes (call.Read h c steps) old given new = Shows (sights_of order (entries old) (length (entries old)) steps.items) given × (new ≡ old)
     Makes (call.Edit h c steps) old given new = (sights : Vec (Seen K V) Global) × (given ≡ answer.Script sights) × Edits most order steps.items sights.items old new
     Makes (call.Range h c lo hi ends) old given new = Shows (all_taken (entries_between order lo hi (entries old)) ends.items) given × (new ≡ old)
+    Makes (call.RemoveRange h c lo hi) old given new =
+        (changed : Bool) × (given ≡ answer.Changed changed) × RemovesBetween most order lo hi old.forest old.number changed new.forest new.number
     Makes other old given new = ⊥

@@ -1,5 +1,6 @@
+pub mod Alone
+pub mod Beside
 pub mod Compared
-pub mod Ends
 pub mod Looks
 pub mod Machine
 pub mod State

@@ -1,6 +1,6 @@
 -- The machine that a list of calls runs: what each call may answer, and what it leaves.
 use Rattle.bforest.specs.Bounds.{entries_between, entry_at_least, entry_at_most}
-use Rattle.bforest.specs.Calls.{Clears, Clones, Inserts, Loads, Removes}
+use Rattle.bforest.specs.Calls.{Clears, Clones, Compacts, Inserts, Intersects, Loads, Removes, RemovesBetween, Subtracts, Unites}
 use Rattle.bforest.specs.Forest.{Forest, IsLive, emptied, list_of}
 use Rattle.bforest_calls.specs.Looks.{all_taken, sights_of}
 use Rattle.bforest_calls.specs.State.{Edits, FirstPopped, GotOrInserted, Held, LastPopped, Retained, Shifted, StillAddsUp, Updated, UpdatedOrInserted, as_had}
@@ -84,6 +84,11 @@ module _ {K V : Type 0} where
   abbrev pub Compares : Orders K → ℕ → ℕ → State K V → Answer K V → State K V → Type 0 → Type 0
   Compares orders h c old = Tests ((h < length old.handles) × (c < length orders)) (Live old h) (Ordered orders old h c) old
 
+  -- and of one that compares the keys of both by c
+  abbrev pub ComparesBoth : Orders K → ℕ → ℕ → ℕ → State K V → Answer K V → State K V → Type 0 → Type 0
+  ComparesBoth orders h o c old =
+      Tests ((h < length old.handles) × (o < length old.handles) × (c < length orders)) (Live old h × Live old o) (Ordered orders old h c × Ordered orders old o c) old
+
   -- a call that is not offered: only its indices are tested
   abbrev pub Lacks : (there : Type 0) → State K V → Answer K V → State K V → Type 0
   Lacks there old answer.NoIndex new = (there → ⊥) × (new ≡ old)
@@ -159,6 +164,22 @@ module _ {K V : Type 0} where
         ((entry : Option (K × V)) × (given ≡ answer.Pair entry) × On h old new (FirstPopped most entry))
     Step orders old (call.PopLast h) given new = Names h old given new
         ((entry : Option (K × V)) × (given ≡ answer.Pair entry) × On h old new (LastPopped most entry))
+    Step orders old (call.Len h) given new = Names h old given new ((given ≡ answer.Count (length (list_in old h))) × (new ≡ old))
+    Step orders old (call.Compact h) given new = Names h old given new
+        ((result : Result (Unit {0}) OutOfMemory) × (given ≡ answer.Made result)
+        × On h old new (λ held after. Compacts most held.forest held.number result after.forest after.number))
+    Step orders old (call.RemoveRange h c lo hi) given new = Compares orders h c old given new
+        ((changed : Bool) × (given ≡ answer.Changed changed)
+        × On h old new (λ held after. RemovesBetween most (order_at orders c) lo hi held.forest held.number changed after.forest after.number))
+    Step orders old (call.Unite h other c) given new = ComparesBoth orders h other c old given new
+        ((result : Result Bool OutOfMemory) × (given ≡ answer.United result)
+        × On h old new (λ held after. Unites most (order_at orders c) held.forest held.number (number_at old other) result after.forest after.number))
+    Step orders old (call.Intersect h other c) given new = ComparesBoth orders h other c old given new
+        ((changed : Bool) × (given ≡ answer.Changed changed)
+        × On h old new (λ held after. Intersects most (order_at orders c) held.forest held.number (number_at old other) changed after.forest after.number))
+    Step orders old (call.Subtract h other c) given new = ComparesBoth orders h other c old given new
+        ((changed : Bool) × (given ≡ answer.Changed changed)
+        × On h old new (λ held after. Subtracts most (order_at orders c) held.forest held.number (number_at old other) changed after.forest after.number))
     Step orders old (call.Clear h) given new = Names h old given new
         ((given ≡ answer.Done) × On h old new (λ held after. Clears held.forest held.number after.forest after.number))
     Step orders old (call.Iter h) given new = Names h old given new

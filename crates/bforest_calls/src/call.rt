@@ -84,6 +84,39 @@ pub enum Call<K: Copy, V: Copy> {
     PopLast {
         h: usize,
     },
+    /// `len`. Answers [`Answer::Count`].
+    Len {
+        h: usize,
+    },
+    /// `compact`. Answers [`Answer::Made`].
+    Compact {
+        h: usize,
+    },
+    /// `remove_range`: whether an entry was removed. Answers [`Answer::Changed`].
+    RemoveRange {
+        h: usize,
+        c: usize,
+        lo: Bound<K>,
+        hi: Bound<K>,
+    },
+    /// `union_with` of the list of handle `other`, which may be `h`. Answers [`Answer::United`].
+    Unite {
+        h: usize,
+        other: usize,
+        c: usize,
+    },
+    /// `intersect_with` of the list of handle `other`, which may be `h`: whether an entry was removed. Answers [`Answer::Changed`].
+    Intersect {
+        h: usize,
+        other: usize,
+        c: usize,
+    },
+    /// `difference_with` of the list of handle `other`, which may be `h`: whether an entry was removed. Answers [`Answer::Changed`].
+    Subtract {
+        h: usize,
+        other: usize,
+        c: usize,
+    },
     /// `clear` of the map or set. Answers [`Answer::Done`].
     Clear {
         h: usize,
@@ -155,6 +188,12 @@ pub enum Answer<K: Copy, V: Copy> {
     Script(Vec<Seen<K, V>>),
     /// A tree was made, or nodes for it were refused.
     Made(Result<(), OutOfMemory>),
+    /// How many entries there are.
+    Count(usize),
+    /// Whether the list changed.
+    Changed(bool),
+    /// Whether an entry of the other list was new, or nodes for it were refused.
+    United(Result<bool, OutOfMemory>),
     Done,
     /// An index is past the end of its slice.
     NoIndex,

@@ -1,8 +1,9 @@
 //! What the engine requires of a map or of a set.
 ghost use Rattle.bforest.specs.Calls.{Clears, Clones, Loads};
 ghost use Rattle.bforest.specs.Forest.{Forest, IsLive, emptied, list_of};
+ghost use Rattle.bforest_calls.specs.Beside.{IsBeside, MakesBeside};
 ghost use Rattle.bforest_calls.specs.Compared.{IsComparing, IsListed, Makes};
-ghost use Rattle.bforest_calls.specs.Ends.{IsAtEnd, MakesAtEnd};
+ghost use Rattle.bforest_calls.specs.Alone.{IsAlone, MakesAlone};
 ghost use Rattle.bforest_calls.specs.State.{Retained};
 ghost use Rattle.bforest_nodes.specs.Entries.{IsIncreasing};
 ghost use Rattle.std.specs.Prelude.{Bool, Err, IfErr, IfOk, IfSome, IsTrue, List, None, Ok, OnErr, Option, get_or, is_some, length, reverse, slice_set, ◌%◌, ◌<◌, ◌↔◌, ◌≡◌, ℕ};
@@ -61,12 +62,12 @@ pub trait Collection<K: Copy, V: Copy>: Drop {
         ensures entries { IfOk result (λ entries.
             entries.items ≡ reverse (list_of (trees forest.now) (number self.now))) };
 
-    /// Makes a call at an end of the list.
-    fn answer_at_end(&mut self, call: &Call<K, V>, forest: &mut Self::Forest) -> Answer<K, V>
+    /// Makes a call that compares no key.
+    fn answer_alone(&mut self, call: &Call<K, V>, forest: &mut Self::Forest) -> Answer<K, V>
         requires fits { fits }
-        requires at_end { (h : ℕ) × IsAtEnd h call.now }
+        requires alone { (h : ℕ) × IsAlone h call.now }
         requires live { IsLive (trees forest.old) (number self.old) }
-        ensures makes { MakesAtEnd most call.now
+        ensures makes { MakesAlone most call.now
             (record { forest = trees forest.old; number = number self.old }) result
             (record { forest = trees forest.new; number = number self.new }) };
 
@@ -88,6 +89,25 @@ pub trait Collection<K: Copy, V: Copy>: Drop {
         ensures room { OnErr result (IsListed call.now) }
         ensures err_forest { OnErr result (forest.new ≡ forest.old) }
         ensures err_self { OnErr result (self.new ≡ self.old) };
+
+    /// Makes a call that compares keys with those of another list. The two may be one.
+    fn answer_beside<C: Comparator<K>>(
+        &mut self,
+        call: &Call<K, V>,
+        other: &Self,
+        forest: &mut Self::Forest,
+        comp: &C,
+    ) -> Answer<K, V>
+        requires fits { fits }
+        requires beside { (h : ℕ) × (o : ℕ) × (c : ℕ) × IsBeside h o c call.now }
+        requires live { IsLive (trees forest.old) (number self.old) }
+        requires increasing { IsIncreasing (C.order comp.now) (list_of (trees forest.old) (number self.old)) }
+        requires other_live { IsLive (trees forest.old) (number other.now) }
+        requires other_increasing { IsIncreasing (C.order comp.now)
+            (list_of (trees forest.old) (number other.now)) }
+        ensures makes { MakesBeside most (C.order comp.now) (number other.now) call.now
+            (record { forest = trees forest.old; number = number self.old }) result
+            (record { forest = trees forest.new; number = number self.new }) };
 
     /// Keeps the entries whose keys are listed, with the value of `put` if there is one.
     fn retain<C: Comparator<K>>(

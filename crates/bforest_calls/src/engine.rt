@@ -1,6 +1,7 @@
 //! One call, and the tests before it.
+ghost use Rattle.bforest_calls.specs.Beside.{IsBeside};
 ghost use Rattle.bforest_calls.specs.Compared.{IsComparing, IsOfMaps};
-ghost use Rattle.bforest_calls.specs.Ends.{IsAtEnd};
+ghost use Rattle.bforest_calls.specs.Alone.{IsAlone};
 ghost use Rattle.bforest_calls.specs.Machine.{AsksRoom, Lacks, Live, Refuses, Step};
 ghost use Rattle.bforest_calls.specs.declared.call.Answer.TheVariants as answer;
 ghost use Rattle.bforest_calls.specs.declared.call.Call.TheVariants as call;
@@ -41,7 +42,8 @@ pub fn make<K: Copy, V: Copy, C: Comparator<K>, T: Collection<K, V>>(
         | Call::Remove { h, c, .. }
         | Call::Shift { h, c, .. }
         | Call::Edit { h, c, .. }
-        | Call::Range { h, c, .. } => compare(alloc, call, *h, *c, comps, handles, forest),
+        | Call::Range { h, c, .. }
+        | Call::RemoveRange { h, c, .. } => compare(alloc, call, *h, *c, comps, handles, forest),
         Call::GetOrInsert { h, c, .. }
         | Call::Update { h, c, .. }
         | Call::UpdateOrInsert { h, c, .. }
@@ -52,9 +54,17 @@ pub fn make<K: Copy, V: Copy, C: Comparator<K>, T: Collection<K, V>>(
                 Ok(not_offered(call, *h, *c, comps, handles))
             }
         }
-        Call::First { h } | Call::Last { h } | Call::PopFirst { h } | Call::PopLast { h } => {
-            Ok(at_end(call, *h, handles, forest))
+        Call::Unite { h, other, c }
+        | Call::Intersect { h, other, c }
+        | Call::Subtract { h, other, c } => {
+            Ok(beside(call, *h, *other, *c, comps, handles, forest))
         }
+        Call::First { h }
+        | Call::Last { h }
+        | Call::PopFirst { h }
+        | Call::PopLast { h }
+        | Call::Len { h }
+        | Call::Compact { h } => Ok(alone(call, *h, handles, forest)),
         Call::Retain { h, c, keys, put } => Ok(retain(*h, *c, keys, *put, comps, handles, forest)),
         Call::Clear { h } => Ok(clear(*h, handles, forest)),
         Call::Iter { h } => iter(alloc, *h, handles, forest),
@@ -123,15 +133,45 @@ fn compare<K: Copy, V: Copy, C: Comparator<K>, T: Collection<K, V>>(
     Ok(given)
 }
 
-/// Makes a call at an end of the list of handle `h`.
-fn at_end<K: Copy, V: Copy, T: Collection<K, V>>(
+/// Makes a call on handle `h` that compares its keys with those of handle `o`, by comparator `c`.
+fn beside<K: Copy, V: Copy, C: Comparator<K>, T: Collection<K, V>>(
+    call: &Call<K, V>,
+    h: usize,
+    o: usize,
+    c: usize,
+    comps: &[C],
+    handles: &mut [T],
+    forest: &mut T::Forest,
+) -> Answer<K, V>
+    requires fits { T.fits }
+    requires beside { IsBeside h o c call.now }
+    ensures { Step T.most T.READS (map C.order comps.now)
+        (record { forest = T.trees forest.old; handles = T.numbers handles.old }) call.now result
+        (record { forest = T.trees forest.new; handles = T.numbers handles.new }) }
+{
+    if h >= handles.len() || o >= handles.len() || c >= comps.len() {
+        return Answer::NoIndex;
+    }
+    if !handles[h].is_live(forest) || !handles[o].is_live(forest) {
+        return Answer::Dead;
+    }
+    let comp = &comps[c];
+    if !handles[h].increases(forest, comp) || !handles[o].increases(forest, comp) {
+        return Answer::Unordered;
+    }
+    let other = handles[o].alias();
+    handles[h].answer_beside(call, &other, forest, comp)
+}
+
+/// Makes a call on handle `h` that compares no key.
+fn alone<K: Copy, V: Copy, T: Collection<K, V>>(
     call: &Call<K, V>,
     h: usize,
     handles: &mut [T],
     forest: &mut T::Forest,
 ) -> Answer<K, V>
     requires fits { T.fits }
-    requires at_end { IsAtEnd h call.now }
+    requires alone { IsAlone h call.now }
     ensures { (orders : _) → Step T.most T.READS orders
         (record { forest = T.trees forest.old; handles = T.numbers handles.old }) call.now result
         (record { forest = T.trees forest.new; handles = T.numbers handles.new }) }
@@ -139,7 +179,7 @@ fn at_end<K: Copy, V: Copy, T: Collection<K, V>>(
     if let Some(given) = unnamed(h, handles, forest) {
         return given;
     }
-    handles[h].answer_at_end(call, forest)
+    handles[h].answer_alone(call, forest)
 }
 
 /// The answer to a call that only maps offer.

@@ -83,12 +83,14 @@ impl<K: Copy, V: Copy> Collection<K, V> for Map<K, V> {
         self.iter_back(forest).collect(alloc)
     }
 
-    fn answer_at_end(&mut self, call: &Call<K, V>, forest: &mut MapForest<K, V>) -> Answer<K, V> {
+    fn answer_alone(&mut self, call: &Call<K, V>, forest: &mut MapForest<K, V>) -> Answer<K, V> {
         match call {
             Call::First { .. } => Answer::Pair(self.first(forest)),
             Call::Last { .. } => Answer::Pair(self.last(forest)),
             Call::PopFirst { .. } => Answer::Pair(self.pop_first(forest)),
             Call::PopLast { .. } => Answer::Pair(self.pop_last(forest)),
+            Call::Len { .. } => Answer::Count(self.len(forest)),
+            Call::Compact { .. } => Answer::Made(self.compact(forest)),
             _ => unreachable!(),
         }
     }
@@ -129,6 +131,26 @@ impl<K: Copy, V: Copy> Collection<K, V> for Map<K, V> {
                 let mut range = self.range((*lo, *hi), forest, comp);
                 each(alloc, ends, &mut range)
             }
+            Call::RemoveRange { lo, hi, .. } => Ok(Answer::Changed(self.remove_range(
+                (*lo, *hi),
+                forest,
+                comp,
+            ))),
+            _ => unreachable!(),
+        }
+    }
+
+    fn answer_beside<C: Comparator<K>>(
+        &mut self,
+        call: &Call<K, V>,
+        other: &Map<K, V>,
+        forest: &mut MapForest<K, V>,
+        comp: &C,
+    ) -> Answer<K, V> {
+        match call {
+            Call::Unite { .. } => Answer::United(self.union_with(other, forest, comp)),
+            Call::Intersect { .. } => Answer::Changed(self.intersect_with(other, forest, comp)),
+            Call::Subtract { .. } => Answer::Changed(self.difference_with(other, forest, comp)),
             _ => unreachable!(),
         }
     }

@@ -95,12 +95,14 @@ impl<K: Copy> Collection<K, ()> for Set<K> {
         Ok(entries)
     }
 
-    fn answer_at_end(&mut self, call: &Call<K, ()>, forest: &mut SetForest<K>) -> Answer<K, ()> {
+    fn answer_alone(&mut self, call: &Call<K, ()>, forest: &mut SetForest<K>) -> Answer<K, ()> {
         match call {
             Call::First { .. } => Answer::Pair(with_unit(self.first(forest))),
             Call::Last { .. } => Answer::Pair(with_unit(self.last(forest))),
             Call::PopFirst { .. } => Answer::Pair(with_unit(self.pop_first(forest))),
             Call::PopLast { .. } => Answer::Pair(with_unit(self.pop_last(forest))),
+            Call::Len { .. } => Answer::Count(self.len(forest)),
+            Call::Compact { .. } => Answer::Made(self.compact(forest)),
             _ => unreachable!(),
         }
     }
@@ -134,6 +136,26 @@ impl<K: Copy> Collection<K, ()> for Set<K> {
                 let mut range = self.range((*lo, *hi), forest, comp);
                 each(alloc, ends, &mut range)
             }
+            Call::RemoveRange { lo, hi, .. } => Ok(Answer::Changed(self.remove_range(
+                (*lo, *hi),
+                forest,
+                comp,
+            ))),
+            _ => unreachable!(),
+        }
+    }
+
+    fn answer_beside<C: Comparator<K>>(
+        &mut self,
+        call: &Call<K, ()>,
+        other: &Set<K>,
+        forest: &mut SetForest<K>,
+        comp: &C,
+    ) -> Answer<K, ()> {
+        match call {
+            Call::Unite { .. } => Answer::United(self.union_with(other, forest, comp)),
+            Call::Intersect { .. } => Answer::Changed(self.intersect_with(other, forest, comp)),
+            Call::Subtract { .. } => Answer::Changed(self.difference_with(other, forest, comp)),
             _ => unreachable!(),
         }
     }

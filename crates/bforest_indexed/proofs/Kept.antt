@@ -129,7 +129,7 @@ module _ {K X C : Type 0} where
   with_tree m i f' h' = record m { forest = f'; handles = slice_set m.handles i h' }
 
   -- a handle that is written back changes nothing
-  unchanged : (m : Indexed K X C) (i : ℕ) (f' : Forest K X) (h' : Option ℕ) → f' ≡ table m → h' ≡ handle m i → with_tree m i f' h' ≡ m
+  pub unchanged : (m : Indexed K X C) (i : ℕ) (f' : Forest K X) (h' : Option ℕ) → f' ≡ table m → h' ≡ handle m i → with_tree m i f' h' ≡ m
   unchanged m i f' h' same_forest same_handle =
       λ j. record m { forest = same_forest j; handles = (ap (slice_set m.handles i) same_handle ∙ set-get_or m.handles i None) j }
 

@@ -1,6 +1,7 @@
 -- What contracts see of maps and of sets that are named by an index: a forest, an order, and a handle for each index. A set's values are
 -- all the unit.
-use Rattle.bforest.specs.Calls.{need_of_union}
+use Rattle.bforest.specs.Bounds.{entries_between, entries_outside, is_between, start_place}
+use Rattle.bforest.specs.Calls.{fewest, need_of_union, removals}
 use Rattle.bforest.specs.Entries.{IsIncreasing, cut, is_present, put, value_for}
 use Rattle.bforest.specs.Forest.{ArePacked, Forest, Gives, GrowsFor, IsFitFor, IsLive, IsTooMany, NeedsGrowth, Takes, emptied, free_of, limit_of, list_of, need_of, shrink, sizes_of, sizes_with, sizes_without, slots_of}
 -- `TakesAndGives d sizes f f'`: d slots were taken, and then those of a tree of these sizes freed.
@@ -18,6 +19,7 @@ use Rattle.std.specs.Map.{keys_of}
 use Rattle.std.specs.Prelude.{Bool, Err, IfOk, IfSome, IsOk, IsSome, List, None, Ok, OnErr, OnOk, Option, Result, Some, [], false, get_or, if◌then◌else◌, length, map, max, nat_eq, nat_lt, not, remove, slice_get, suc, true, unwrap_or, zero, ℕ, ◌%◌, ◌*◌, ◌+◌, ◌-◌, ◌<◌, ◌↔◌, ◌∷◌, ◌≡◌, ◌≢◌, ◌≤◌}
 use Rattle.std.specs.Ordering.{is_eq}
 use Rattle.std.specs.declared.cmp.Ordering.{Ordering}
+use Rattle.std.specs.declared.ops.Bound.{Bound}
 
 -- the answer of an insertion of an absent key, from that of a call that answers the value
 abbrev pub as_inserted : {X : Type 0} → Result X OutOfMemory → Result (Option X) OutOfMemory
@@ -157,6 +159,18 @@ module _ {K X C : Type 0} where
     pub fewer : count m < lists
     pub each : (j : ℕ) → length (entries m j) ≤ most_entries
 
+  -- the tree of i was made anew, packed, beside the old one, which was freed then; or the call was refused, and nothing changed. A leaf has at
+  -- most `most` entries
+  pub record CompactsAt (most : ℕ) (m : Indexed K X C) (i : ℕ) (result : Result (Unit {0}) OutOfMemory) (m' : Indexed K X C) : Type 0 where
+    pub same_list : entries m' i ≡ entries m i
+    pub packed : OnOk result (ArePacked most (node_sizes m' i))
+    pub nodes : OnOk result (node_count (node_sizes m' i) ≡ fewest most (length (entries m i)))
+    pub beside : ChangesAt m i m'
+    pub account : OnOk result (TakesAndGives (fewest most (length (entries m i))) (node_sizes m i) (table m) (table m'))
+    pub full : (result ≡ Err Full) ↔ IsTooMany (fewest most (length (entries m i))) (table m)
+    pub memory : result ≡ Err Memory → entries m i ≢ []
+    pub refused : OnErr result (m' ≡ m)
+
   -- the list of i was copied to j, and that of j ended; or the call was refused, and nothing changed. A leaf has at most `most` entries
   pub record CopiesAt (most : ℕ) (m : Indexed K X C) (i j : ℕ) (result : Result (Unit {0}) OutOfMemory) (m' : Indexed K X C) : Type 0 where
     pub copied : OnOk result (entries m' j ≡ entries m i)
@@ -287,6 +301,17 @@ module _ {K X C : Type 0} where
     -- the entries of i whose key is not in j stay
     abbrev pub SubtractsAt : Indexed K X C → ℕ → ℕ → Bool → Indexed K X C → Type 0
     SubtractsAt m i j result m' = KeepsFromAt false m i j result m'
+
+    -- The entries of i whose keys are within both bounds were removed, one after another in their order, and whether there was one is
+    -- answered; where there was none, nothing changed. No node was taken.
+    pub record RemovesBetweenAt (lo hi : Bound K) (m : Indexed K X C) (i : ℕ) (result : Bool) (m' : Indexed K X C) : Type 0 where
+      pub removed : entries m' i ≡ entries_outside cmp lo hi (entries m i)
+      pub changed : result ≡ nat_lt 0 (length (entries_between cmp lo hi (entries m i)))
+      pub found : (q : K) → value_for cmp (entries m' i) q ≡ (if is_between cmp lo hi q then None else value_for cmp (entries m i) q)
+      pub sizes : node_sizes m' i ≡ removals most (start_place cmp lo (entries m i)) (length (entries_between cmp lo hi (entries m i))) (node_sizes m i)
+      pub beside : ChangesAt m i m'
+      pub account : Gives (node_sizes m i) (node_sizes m' i) (table m) (table m')
+      pub same : result ≡ false → m' ≡ m
 
     -- the key k was removed from i, and its value is answered
     pub record RemovesAt (m : Indexed K X C) (i : ℕ) (k : K) (result : Option X) (m' : Indexed K X C) : Type 0 where

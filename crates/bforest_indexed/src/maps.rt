@@ -6,7 +6,7 @@ ghost use Rattle.bforest.specs.Forest.{IsFitFor, empty, first_level, free_of, li
 ghost use Rattle.bforest.specs.Memory.{MapsFitInMemory};
 ghost use Rattle.bforest.specs.Retain.{Answers, MayAsk, MayAskEach};
 ghost use Rattle.bforest_indexed.specs.Edits.{EditsAt};
-ghost use Rattle.bforest_indexed.specs.Indexed.{HoldsFor, ReservesFor};
+ghost use Rattle.bforest_indexed.specs.Indexed.{CompactsAt, HoldsFor, RemovesBetweenAt, ReservesFor};
 ghost use Rattle.bforest_indexed.specs.Loads.{LoadsAt};
 ghost use Rattle.bforest_indexed.specs.Indexed.{ClearsAll, ClearsAt, CopiesAt, FiltersAt, GetsOrInsertsAt, InsertsAt, IntersectsAt, SubtractsAt, UnitesAt, UpdatesAt, UpdatesOrInsertsAt};
 ghost use Rattle.bforest_indexed.specs.Indexed.{KeepsAll, PopsAt, RemovesAt, Swaps};
@@ -407,6 +407,33 @@ impl<K: Copy, V: Copy, C: Comparator<K>> Maps<K, V, C> {
     {
         let theirs = self.maps[other].clone();
         self.maps[index].difference_with(&theirs, &mut self.forest, &self.order)
+    }
+
+    /// Removes the entries of a map whose keys are within both bounds, and returns whether there was one.
+    ///
+    /// As [`bforest::Map::remove_range`]: at most one search, one comparison for each entry that goes, and one more. It takes no node and no
+    /// memory, so it can't be refused.
+    pub fn remove_range(&mut self, index: usize, bounds: (Bound<K>, Bound<K>)) -> bool
+        requires within { index < count self.old }
+        ensures { RemovesBetweenAt MAP_LEAF (C.order (comparator self.old)) bounds.0 bounds.1 self.old index
+            result self.new }
+    {
+        self.maps[index].remove_range(bounds, &mut self.forest, &self.order)
+    }
+
+    /// Makes the tree of a map anew, with the fewest nodes that so many entries can have. The entries stay.
+    ///
+    /// As [`bforest::Map::compact`]: the new tree is made beside the old one, which is freed then. No comparison.
+    ///
+    /// # Errors
+    ///
+    /// [`OutOfMemory`] where too few nodes are available beside the old ones, or there is no memory for a list of the entries; nothing has
+    /// changed then.
+    pub fn compact(&mut self, index: usize) -> Result<(), OutOfMemory>
+        requires within { index < count self.old }
+        ensures { CompactsAt MAP_LEAF self.old index result self.new }
+    {
+        self.maps[index].compact(&mut self.forest)
     }
 
     /// Keeps the entries for which the predicate returns `true`, with the value as the predicate left it, and removes all others. It is

@@ -7,7 +7,7 @@ ghost use Rattle.bforest.specs.Memory.{SetsFitInMemory};
 ghost use Rattle.bforest.specs.Retain.{MayAskEach};
 ghost use Rattle.bforest.specs.Set.{AnswersKey, MayAskKey, as_popped, as_put, as_removed, the_value, with_unit};
 ghost use Rattle.bforest.specs.Union.{are_among, are_apart};
-ghost use Rattle.bforest_indexed.specs.Indexed.{HoldsFor, ReservesFor};
+ghost use Rattle.bforest_indexed.specs.Indexed.{CompactsAt, HoldsFor, RemovesBetweenAt, ReservesFor};
 ghost use Rattle.bforest_indexed.specs.Loads.{LoadsAt};
 ghost use Rattle.bforest_indexed.specs.Indexed.{ClearsAll, ClearsAt, CopiesAt, FiltersAt, InsertsAt, IntersectsAt, KeepsAll, PopsAt, RemovesAt, SubtractsAt, Swaps, UnitesAt};
 ghost use Rattle.bforest.specs.declared.set_forest.TheConstants.{SET_LEAF};
@@ -384,6 +384,33 @@ impl<K: Copy, C: Comparator<K>> Sets<K, C> {
     {
         let theirs = self.sets[other].clone();
         self.sets[index].difference_with(&theirs, &mut self.forest, &self.order)
+    }
+
+    /// Removes the keys of a set that are within both bounds, and returns whether there was one.
+    ///
+    /// As [`bforest::Set::remove_range`]: at most one search, one comparison for each key that goes, and one more. It takes no node and no
+    /// memory, so it can't be refused.
+    pub fn remove_range(&mut self, index: usize, bounds: (Bound<K>, Bound<K>)) -> bool
+        requires within { index < count self.old }
+        ensures { RemovesBetweenAt SET_LEAF (C.order (comparator self.old)) bounds.0 bounds.1 self.old index
+            result self.new }
+    {
+        self.sets[index].remove_range(bounds, &mut self.forest, &self.order)
+    }
+
+    /// Makes the tree of a set anew, with the fewest nodes that so many keys can have. The keys stay.
+    ///
+    /// As [`bforest::Set::compact`]: the new tree is made beside the old one, which is freed then. No comparison.
+    ///
+    /// # Errors
+    ///
+    /// [`OutOfMemory`] where too few nodes are available beside the old ones, or there is no memory for a list of the keys; nothing has
+    /// changed then.
+    pub fn compact(&mut self, index: usize) -> Result<(), OutOfMemory>
+        requires within { index < count self.old }
+        ensures { CompactsAt SET_LEAF self.old index result self.new }
+    {
+        self.sets[index].compact(&mut self.forest)
     }
 
     /// Keeps the keys for which the predicate returns `true`, and removes all others. It is called once for each key, in order. No

@@ -1,6 +1,6 @@
 -- What a tree that is made anew answers and leaves, and a part that goes to a tree of its own.
 use Rattle.bforest_core.proofs.table.Allocating.{grows-not}
-use Rattle.bforest_core.proofs.union.Needs.{fewest-none}
+use Rattle.bforest_core.proofs.union.Needs.{fewest-least, fewest-none}
 use Rattle.bforest_core.specs.Change.{node_count}
 use Rattle.bforest_core.specs.Packed.{ArePacked, fewest}
 use Rattle.bforest_core.specs.Sizes.{IsFitFor}
@@ -13,10 +13,11 @@ use Rattle.bforest_trees.proofs.ranges.Between.{end-unbounded, slice-between, st
 use Rattle.bforest_trees.proofs.ranges.Outside.{outside-is}
 use Rattle.bforest_trees.proofs.unions.Uniting.{becomes-made, made-beside, made-stays, other-stays}
 use Rattle.bforest_trees.specs.Bounds.{entries_between, entries_outside, is_between, is_from_start, start_place}
-use Rattle.bforest_trees.specs.Calls.{Clears, Compacts, RemovesBetween, SplitsOff, need_of_split, removals}
+use Rattle.bforest_trees.specs.Calls.{Clears, Compacts, Loads, RemovesBetween, SplitsOff, need_of_split, removals}
 use Rattle.bforest_trees.specs.Forest.{Becomes, Forest, GrowsFor, IsLive, IsTooMany, list_of, sizes_of}
 use Rattle.bforest_trees.specs.Merge.{LoadsUnion}
-use Rattle.std.proofs.Common.{Bool, Err, List, None, Ok, Option, Some, [], ap, slice_range, append-nil, arith, drop, false, length, not, refl, subst, sym, take, true, ◌++◌, ◌-◌, ◌∙◌, ◌∷◌, ◌↔◌, ◌≡◌, ◌≢◌, ◌≤◌, ℕ}
+use Rattle.std.proofs.Common.{Bool, Err, List, None, Ok, Option, Some, [], ap, slice_range, append-nil, arith, drop, false, length, nat_lt, not, refl, subst, sym, take, true, ◌++◌, ◌-◌, ◌∙◌, ◌∷◌, ◌↔◌, ◌≡◌, ◌≢◌, ◌≤◌, ℕ, ◌<◌, Result, suc, zero}
+use Rattle.std.proofs.lemmas.Bool.{lt-ltb}
 use Rattle.std.proofs.lemmas.List.Sums.{count_by-le-length}
 use Rattle.std.proofs.lemmas.List.{drop_all, length-drop, take_all}
 use Rattle.std.specs.Cmp.{IsTotalOrder}
@@ -27,6 +28,10 @@ use Rattle.std.specs.declared.ops.Bound.TheVariants.{Included, Unbounded}
 no-entry : {A : Type 0} (es : List A) → length es ≡ 0 → es ≡ []
 no-entry [] none = refl
 no-entry (e ∷ es) none = absurd (omega (arith, none))
+
+above-none : (n : ℕ) → n ≢ 0 → 0 < n
+above-none zero ne = absurd (ne refl)
+above-none (suc n) ne = omega arith
 
 one-entry : {A : Type 0} (es : List A) → length es ≢ 0 → es ≢ []
 one-entry es some e = some (ap length e)
@@ -40,6 +45,22 @@ module _ {K X : Type 0} {d : ℕ} {f g k : Forest K X} where
     suffices = λ enough. same ∙ t.suffices enough;
     bounded = omega (arith, t.bounded, same);
   }
+
+-- a tree that was made of a list
+loads-so : {K X : Type 0} {most : ℕ} {f f' : Forest K X} {es : List (K × X)} {t : Option ℕ} → 0 < most → ¬ IsTooMany (fewest most (length es)) f → LoadsUnion most f es (Ok t) f' → Loads most f es (Ok t) f'
+loads-so {most = most} {f} {f'} {es} {t} one low l = record {
+  loaded = l.loaded;
+  packed = l.packed;
+  fit = l.fit;
+  nodes = l.nodes;
+  least = fewest-least most (length es) one;
+  increasing = λ order up. subst (IsIncreasing order) (sym l.loaded.list) up;
+  account = l.account;
+  full = (λ bad. absurd (cc), λ short. absurd (low short));
+  memory = λ bad. absurd (cc);
+  succeeds = λ enough. refl;
+  refused = tt;
+}
 
 module _ {K X : Type 0} (most : ℕ) (f : Forest K X) (h : Option ℕ) (live : IsLive f h) where
   -- a live handle of no entry is empty
@@ -160,6 +181,9 @@ module _ {K X : Type 0} (most : ℕ) (cmp : K → K → Ordering) (total : IsTot
         tail_increasing = subst (IsIncreasing cmp) ((parts cmp total k (list_of f h) up).1 ∙ nothing) (tested-up cmp (λ q. is_between cmp (Included k) Unbounded q) (list_of f h) up);
         full = (λ bad. absurd (cc), λ low. absurd (omega (arith, low, need)));
         memory = λ bad. absurd (cc);
+        steps = λ bad. absurd (cc);
+        none_forest = λ e. refl;
+        none_handle = λ e. refl;
         refused_forest = tt;
         refused_handle = tt;
       }
@@ -184,6 +208,9 @@ module _ {K X : Type 0} (most : ℕ) (cmp : K → K → Ordering) (total : IsTot
     tail_increasing = tt;
     full = (λ e. subst (λ d. IsTooMany d f) need-is (told.0 (cc)), λ low. ap Err (told.1 (subst (λ d. IsTooMany d f) (sym need-is) low)));
     memory = λ e none. some (ap length (parts cmp total k (list_of f h) up).1 ∙ ap length none);
+    steps = tt;
+    none_forest = λ bad. absurd (cc);
+    none_handle = λ bad. absurd (cc);
     refused_forest = refl;
     refused_handle = refl;
   }
@@ -203,8 +230,14 @@ module _ {K X : Type 0} (most : ℕ) (cmp : K → K → Ordering) (total : IsTot
     stays : IsLive f2 t × (list_of f2 t ≡ list_of f1 t) × (sizes_of f2 t ≡ sizes_of f1 t)
     stays = other-stays r.removed t l.loaded.live apart-was
 
-    pub splits-ok : SplitsOff most cmp f h k (Ok t) f2 h2
-    splits-ok = record {
+    changed-is : changed ≡ true
+    changed-is = r.changed ∙ ap (λ z. nat_lt 0 (length (entries_between cmp (Included k) Unbounded z))) beside.1 ∙ lt-ltb 0 (length (entries_between cmp (Included k) Unbounded (list_of f h))) (above-none _ some)
+
+    none-made : ◌≡◌ {A = Result (Option ℕ) OutOfMemory} (Ok t) (Ok None) → ⊥
+    none-made e = full-tail (let same : t ≡ None = cc in ap (list_of f1) same)
+
+    pub splits-ok : 0 < most → SplitsOff most cmp f h k (Ok t) f2 h2
+    splits-ok one = record {
       front = r.removed.list ∙ ap (λ z. entries_outside cmp (Included k) Unbounded z) beside.1 ∙ (parts cmp total k (list_of f h) up).0;
       tail = stays.1 ∙ l.loaded.list ∙ (parts cmp total k (list_of f h) up).1;
       live = r.removed.live;
@@ -225,6 +258,9 @@ module _ {K X : Type 0} (most : ℕ) (cmp : K → K → Ordering) (total : IsTot
       tail_increasing = subst (IsIncreasing cmp) (sym (stays.1 ∙ l.loaded.list)) (tested-up cmp (λ q. is_between cmp (Included k) Unbounded q) (list_of f h) up);
       full = (λ bad. absurd (cc), λ short. absurd (low (subst (λ d. IsTooMany d f) (sym need-is) short)));
       memory = λ bad. absurd (cc);
+      steps = λ made. (f1, subst (λ es. Loads most f es (Ok t) f1) (parts cmp total k (list_of f h) up).1 (loads-so one low l), subst (λ b. RemovesBetween most cmp (Included k) Unbounded f1 h b f2 h2) changed-is r);
+      none_forest = λ e. absurd (none-made e);
+      none_handle = λ e. absurd (none-made e);
       refused_forest = tt;
       refused_handle = tt;
     }

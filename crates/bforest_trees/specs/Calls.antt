@@ -16,6 +16,7 @@ use Rattle.std.specs.Prelude.{Bool, Err, IfOk, IfSome, IsOk, IsSome, List, None,
 use Rattle.std.specs.Cmp.{IsTotalOrder}
 use Rattle.std.specs.Ordering.{is_eq}
 use Rattle.std.specs.declared.cmp.Ordering.{Ordering}
+use Rattle.std.specs.declared.ops.Bound.TheVariants.{Included, Unbounded}
 use Rattle.std.specs.declared.ops.Bound.{Bound}
 
 -- the sizes of a tree after n removals at one place, where a leaf has at most `most` entries
@@ -298,5 +299,8 @@ module _ {K X : Type 0} (most : ℕ) (cmp : K → K → Ordering) where
     pub tail_increasing : IfOk result (λ t. IsIncreasing cmp (list_of f' t))
     pub full : (result ≡ Err Full) ↔ IsTooMany (need_of_split f h k) f
     pub memory : result ≡ Err Memory → drop (place cmp (list_of f h) k) (list_of f h) ≢ []
+    pub steps : IfOk result (λ t. IsSome t → (g : Forest K X) × Loads most f (drop (place cmp (list_of f h) k) (list_of f h)) (Ok t) g × RemovesBetween (Included k) Unbounded g h true f' h')
+    pub none_forest : result ≡ Ok None → f' ≡ f
+    pub none_handle : result ≡ Ok None → h' ≡ h
     pub refused_forest : OnErr result (f' ≡ f)
     pub refused_handle : OnErr result (h' ≡ h)

@@ -34,6 +34,34 @@ module _ {A : Type 0} where
   none-out (suc p) [] = refl
   none-out (suc p) (e ∷ es) = ap (λ l. e ∷ l) (none-out p es)
 
+  -- the elements that pass a test, and those that do not
+  pub filter-halves : (t : A → Bool) (es : List A) → length (filter (λ e. not (t e)) es) + length (filter t es) ≡ length es
+  filter-halves t [] = omega arith
+  filter-halves t (e ∷ es) = go (t e) (filter-halves t es)
+    where
+      go : (b : Bool) → length (filter (λ e. not (t e)) es) + length (filter t es) ≡ length es
+          → length (cond (not b) (e ∷ filter (λ e. not (t e)) es) (filter (λ e. not (t e)) es)) + length (cond b (e ∷ filter t es) (filter t es)) ≡ suc (length es)
+      go true rest = omega (arith, rest)
+      go false rest = omega (arith, rest)
+
+  at-most-one : (b : Bool) (e : A) (es : List A) → length (cond b (e ∷ es) es) ≤ suc (length es)
+  at-most-one true e es = omega arith
+  at-most-one false e es = omega arith
+
+  -- those of which s does not hold, and some of those of which it does
+  pub filter-behind : (s t : A → Bool) (es : List A) → count_by (λ e. not (s e)) es + length (filter (λ e. s e && t e) es) ≤ length es
+  filter-behind s t [] = omega arith
+  filter-behind s t (e ∷ es) = go (s e) refl (t e) (filter-behind s t es)
+    where
+      go : (b : Bool) → s e ≡ b → (c : Bool) → count_by (λ e. not (s e)) es + length (filter (λ e. s e && t e) es) ≤ length es
+          → count_by (λ e. not (s e)) (e ∷ es) + length (cond (s e && t e) (e ∷ filter (λ e. s e && t e) es) (filter (λ e. s e && t e) es)) ≤ suc (length es)
+      go b is c rest = let counted = count-cons (λ e. not (s e)) e es (not b) (ap not is) in by b is counted rest
+        where
+          by : (b : Bool) → s e ≡ b → count_by (λ e. not (s e)) (e ∷ es) ≡ cond (not b) 1 0 + count_by (λ e. not (s e)) es → count_by (λ e. not (s e)) es + length (filter (λ e. s e && t e) es) ≤ length es
+              → count_by (λ e. not (s e)) (e ∷ es) + length (cond (s e && t e) (e ∷ filter (λ e. s e && t e) es) (filter (λ e. s e && t e) es)) ≤ suc (length es)
+          by true is counted rest = omega (arith, counted, rest, at-most-one (s e && t e) e (filter (λ e. s e && t e) es))
+          by false is counted rest = omega (arith, counted, rest, ap (λ z. length (cond (z && t e) (e ∷ filter (λ e. s e && t e) es) (filter (λ e. s e && t e) es))) is)
+
   module _ (s t : A → Bool) where
     -- where t holds of an element, or there is none, it holds of all from there on
     pub past-behind : (es : List A) (i : ℕ) → Rises t es → ((e : A) → slice_get es i ≡ Some e → t e ≡ true) → AllByRecursion (λ y. t y ≡ true) (drop i es)

@@ -61,4 +61,4 @@ returns g c =
     let cmp = g.C.Comparator.order c.args.comp.now in let total = g.met.C.Comparator.total c.args.comp.now in
     let made = loads-made g.row.N c.self.view_is (c.as_slice.ensures.value ∙ c.in_ok-list.ensures.list) c.in_ok-root.ensures.planted in
     rw c.some.ensures.node (splits-ok g.row.N cmp total c.args.self.now c.args.handle.now c.args.key c.requires.live c.requires.increasing (λ none. c.if-entries-eq0.false (c.count_from-entries.ensures.count ∙ none))
-    (λ low. absurd (omega (arith, low, c.if-room-fewest_nodes.false, c.room-room.ensures.room, c.fewest_nodes.ensures.fewest, ap (fewest g.row.N) c.count_from-entries.ensures.count))) made c.remove_range-changed.ensures)
+    (λ low. absurd (omega (arith, low, c.if-room-fewest_nodes.false, c.room-room.ensures.room, c.fewest_nodes.ensures.fewest, ap (fewest g.row.N) c.count_from-entries.ensures.count))) made c.remove_range-changed.ensures (omega (arith, c.room-room.ensures.capacity.least)))

@@ -1,13 +1,13 @@
 use Rattle.bforest.specs.Calls.{Pops}
 use Rattle.bforest.specs.Forest.{list_of}
-use Rattle.bforest_calls.proofs.Offers.{at-end-alone}
+use Rattle.bforest_calls.proofs.Offers.{no-other-alone}
 use Rattle.bforest_calls.proofs.Units.{count-keys, entry-read, popped-entry}
-use Rattle.bforest_calls.proofs.sets.SetCollectionUnit.answer_at_end.Goals as goal
+use Rattle.bforest_calls.proofs.sets.SetCollectionUnit.answer_alone.Goals as goal
 use Rattle.bforest_calls.specs.declared.call.Answer.TheVariants as answer
 use Rattle.std.proofs.Common.{ap, length, refl, slice_get, subst, sym, ◌-◌, ◌∙◌}
 
 pub unreachable-requires : goal.unreachable-requires
-unreachable-requires g c = let d = c.in_default in at-end-alone c.args.call.now c.requires.at_end d.not-First d.not-Last d.not-PopFirst d.not-PopLast
+unreachable-requires g c = let d = c.in_default in no-other-alone c.args.call.now c.requires.alone d.not-First d.not-Last d.not-PopFirst d.not-PopLast
 
 pub returns-in-First : goal.returns-in-First
 returns-in-First g c = record {

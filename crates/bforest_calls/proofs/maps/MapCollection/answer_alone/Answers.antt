@@ -1,9 +1,9 @@
-use Rattle.bforest_calls.proofs.Offers.{at-end-alone}
-use Rattle.bforest_calls.proofs.maps.MapCollection.answer_at_end.Goals as goal
+use Rattle.bforest_calls.proofs.Offers.{no-other-alone}
+use Rattle.bforest_calls.proofs.maps.MapCollection.answer_alone.Goals as goal
 use Rattle.std.proofs.Common.{refl}
 
 pub unreachable-requires : goal.unreachable-requires
-unreachable-requires g c = let d = c.in_default in at-end-alone c.args.call.now c.requires.at_end d.not-First d.not-Last d.not-PopFirst d.not-PopLast
+unreachable-requires g c = let d = c.in_default in no-other-alone c.args.call.now c.requires.alone d.not-First d.not-Last d.not-PopFirst d.not-PopLast
 
 pub returns-in-PopFirst : goal.returns-in-PopFirst
 returns-in-PopFirst g c = record { makes = rw c.in-PopFirst.is (c.pop_first.result, refl, c.pop_first.ensures) }
