@@ -4,7 +4,7 @@ use Rattle.bforest.proofs.Growing.{growth-fits}
 use Rattle.bforest.proofs.Shrinking.{shrink-fits}
 pub use Rattle.bforest.proofs.Lengths.{length-written}
 use Rattle.bforest.specs.Bounds.{entries_between, is_between, is_from_start, is_past_end, start_place}
-use Rattle.bforest.specs.Calls.{Clears, Compacts, Filters, GetsOrInserts, Inserts, KeepsFrom, Pops, Removes, RemovesAt, RemovesBetween, Updates, fewest, removals}
+use Rattle.bforest.specs.Calls.{Clears, Compacts, Filters, GetsOrInserts, Inserts, KeepsFrom, Pops, Removes, RemovesAt, RemovesBetween, Unites, Updates, fewest, need_of_union, removals}
 use Rattle.bforest.specs.Entries.{is_present, place, value_for}
 use Rattle.bforest.specs.Forest.{Becomes, Forest, Gives, IsFitFor, IsLive, Takes, growth, limit_of, list_of, need, need_of, room_of, shrink, sizes_of}
 use Rattle.bforest.specs.Refusal.{OutOfMemory}
@@ -132,6 +132,18 @@ module _ {K V : Type 0} where
           nodes = omega (arith, c.account.slots, c.account.free, c.nodes);
           slots = omega (arith, c.account.slots);
           within = λ few. omega (arith, c.account.slots, c.same_list.limit, low, few);
+        }
+
+    -- so did one of a union
+    pub unites-balance : {cmp : K → K → Ordering} {other : Option ℕ} → Unites most cmp f h other (Ok true) f' h' → Balances most f h f' h'
+    unites-balance {cmp} {other} c =
+        let account = c.account refl in
+        let low : need_of_union most cmp f h other ≤ room_of f = not-less (room_of f) (need_of_union most cmp f h other) (λ few. let full = c.full.1 few in cc) in
+        record {
+          fit = c.fit refl;
+          nodes = omega (arith, account.slots, account.free, c.nodes refl);
+          slots = omega (arith, account.slots);
+          within = λ few. omega (arith, account.slots, c.united.limit, low, few);
         }
 
     removed : (p : ℕ) → p < length (list_of f h) → Becomes f h f' h' (remove (list_of f h) p) → sizes_of f' h' ≡ shrink most p (sizes_of f h) → Gives (sizes_of f h) (sizes_of f' h') f f' → Balances most f h f' h'

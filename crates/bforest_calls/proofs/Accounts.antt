@@ -1,8 +1,10 @@
 -- A call on a forest that adds up leaves one that does.
-use Rattle.bforest.proofs.Balances.{clears-balance, filters-balance, inserts-balance, length-written, removes-at-balance, removes-balance, sizes-stay, updates-balance}
-use Rattle.bforest.specs.Calls.{Clears, Clones, Filters, GetsOrInserts, Inserts, Loads, Pops, Removes, RemovesAt, Shifts, Updates, UpdatesOrInserts}
+use Rattle.bforest.proofs.Balances.{between-balance, clears-balance, compacts-balance, filters-balance, inserts-balance, keeps-balance, length-written, removes-at-balance, removes-balance, sizes-stay, unites-balance, updates-balance}
+use Rattle.bforest.specs.Bounds.{entries_outside}
+use Rattle.bforest.specs.Calls.{Clears, Clones, Compacts, Filters, GetsOrInserts, Inserts, KeepsFrom, Loads, Pops, Removes, RemovesAt, RemovesBetween, Shifts, SplitsOff, Unites, Updates, UpdatesOrInserts}
 use Rattle.bforest.specs.Forest.{Becomes, Forest, IsFitFor, IsTooMany, Takes, emptied, fewest, free_of, list_of, nodes_at, nodes_of, room_of, sizes_of, slots_of}
 use Rattle.bforest.specs.Room.{Balances}
+use Rattle.bforest.specs.Union.{kept_from, united}
 use Rattle.bforest_calls.proofs.Packing.{loaded-fits}
 use Rattle.bforest_calls.proofs.Updating.{got-or-inserted, shifted-length, updated-or-inserted}
 use Rattle.bforest_calls.proofs.Sums.{upto, upto-more, upto-one, upto-two}
@@ -12,14 +14,15 @@ use Rattle.bforest_core.specs.Change.{node_count}
 use Rattle.bforest_core.specs.Levels.{flat, sizes_of as tree_sizes}
 use Rattle.bforest_core.specs.Trees.{is_root, tree_of}
 use Rattle.bforest_core.specs.declared.pool.OutOfMemory.{OutOfMemory}
-use Rattle.bforest_nodes.specs.Entries.{cut, put, with_value}
+use Rattle.bforest_nodes.specs.Entries.{cut, place, put, with_value}
 use Rattle.bforest_trees.specs.Calls.{as_inserted}
 use Rattle.bforest_trees.specs.Forest.{list_at, sizes_at}
-use Rattle.std.proofs.Common.{Bool, Err, List, None, Ok, Option, Result, Some, [], ap, arith, false, if◌then◌else◌, inl, inr, length, refl, remove, subst, sym, take, true, ◌%◌, ◌+◌, ◌++◌, ◌∙◌, ◌≡◌, ◌≢◌, ◌≤◌, ◌⊎◌, ℕ}
+use Rattle.std.proofs.Common.{Bool, Err, List, None, Ok, Option, Result, Some, [], ap, arith, false, if◌then◌else◌, inl, inr, length, refl, remove, subst, sym, take, true, ◌%◌, ◌+◌, ◌++◌, ◌∙◌, ◌≡◌, ◌≢◌, ◌≤◌, ◌⊎◌, ℕ, drop}
 use Rattle.std.proofs.lemmas.Bool.{and_parts}
 use Rattle.std.proofs.lemmas.Bool.Decides.{eqb_tells, leb_tells}
 use Rattle.std.specs.Fn.{Once}
 use Rattle.std.specs.declared.cmp.Ordering.{Ordering}
+use Rattle.std.specs.declared.ops.Bound.{Bound}
 
 -- whether a handle has a number
 is-number : (n : ℕ) (h : Option ℕ) → (Some n ≡ h) ⊎ (Some n ≢ h)
@@ -127,6 +130,21 @@ module _ {K V : Type 0} where
     pub removes-at-add : (p : ℕ) → RemovesAt most f h p f' h' → AddsUp most f'
     removes-at-add p r = changed most f f' h h' (remove (list_of f h) p) a r.removed (removes-at-balance most odd f f' h h' (fit-of most f a h) p r)
 
+    pub between-add : {cmp : K → K → Ordering} {lo hi : Bound K} {result : Bool} → RemovesBetween most cmp lo hi f h result f' h' → AddsUp most f'
+    between-add {cmp} {lo} {hi} r = changed most f f' h h' (entries_outside cmp lo hi (list_of f h)) a r.removed (between-balance most odd f f' h h' (fit-of most f a h) r)
+
+    pub compacts-add : (result : Result (Unit {0}) OutOfMemory) → Compacts most f h result f' h' → AddsUp most f'
+    compacts-add (Err e) c = still most f f' c.refused_forest a
+    compacts-add (Ok done) c = changed most f f' h h' (list_of f h) a c.same_list (compacts-balance most odd f f' h h' (fit-of most f a h) c)
+
+    pub keeps-add : {cmp : K → K → Ordering} {present : Bool} {other : Option ℕ} {result : Bool} → KeepsFrom most cmp present f h other result f' h' → AddsUp most f'
+    keeps-add {cmp} {present} {other} r = changed most f f' h h' (kept_from cmp present (list_of f h) (list_of f other)) a r.kept (keeps-balance most odd f f' h h' (fit-of most f a h) r)
+
+    pub unites-add : {cmp : K → K → Ordering} {other : Option ℕ} (result : Result Bool OutOfMemory) → Unites most cmp f h other result f' h' → AddsUp most f'
+    unites-add (Err e) u = still most f f' u.refused_forest a
+    unites-add (Ok false) u = still most f f' (u.same_forest refl) a
+    unites-add {cmp} {other} (Ok true) u = changed most f f' h h' (united cmp (list_of f h) (list_of f other)) a u.united (unites-balance most odd f f' h h' (fit-of most f a h) u)
+
     pub pops-add : (p : ℕ) (entry : Option (K × V)) → Pops most f h p entry f' h' → AddsUp most f'
     pops-add p entry r = removes-at-add p r.removed
 
@@ -174,3 +192,12 @@ module _ {K V : Type 0} where
     loads-add es (Err e) l = still most f f' l.refused a
     loads-add es (Ok n) l =
         made-add (fewest most (length es)) es l.loaded (rw (l.loaded.list) (loaded-fits most odd f f' es n l)) l.account (λ few. let full = l.full.1 few in absurd (cc)) l.nodes
+
+  -- a tree of some entries was made, and then they were removed from theirs
+  pub splits-add : (most : ℕ) → most % 2 ≡ 1 → (f f' : Forest K V) (h h' : Option ℕ) → AddsUp most f → {cmp : K → K → Ordering} {k : K} (result : Result (Option ℕ) OutOfMemory)
+      → SplitsOff most cmp f h k result f' h' → AddsUp most f'
+  splits-add most odd f f' h h' a (Err e) s = still most f f' s.refused_forest a
+  splits-add most odd f f' h h' a (Ok None) s = still most f f' (s.none_forest refl) a
+  splits-add most odd f f' h h' a {cmp} {k} (Ok (Some t)) s =
+      let steps = s.steps refl in
+      between-add most odd steps.0 f' h h' (loads-add most odd f steps.0 None a (drop (place cmp (list_of f h) k) (list_of f h)) (Ok (Some t)) steps.1) steps.2

@@ -1,12 +1,12 @@
 -- What a call on the trees of two indices leaves of all trees.
-use Rattle.bforest.proofs.Balances.{keeps-balance}
+use Rattle.bforest.proofs.Balances.{keeps-balance, unites-balance}
 use Rattle.bforest.specs.Calls.{KeepsFrom, Unites, need_of_union}
 use Rattle.bforest.specs.Entries.{is_present, value_for}
 use Rattle.bforest.specs.Forest.{Forest, Gives, list_of, room_of, sizes_of}
 use Rattle.bforest.specs.Refusal.{Full, OutOfMemory}
 use Rattle.bforest.specs.Room.{Balances, node_count}
 use Rattle.bforest.specs.Union.{are_among, are_apart, fits}
-use Rattle.bforest_indexed.proofs.Kept.{changes, changes-not, here, kept-set, list-here, ok-err, read, same-list, with_tree}
+use Rattle.bforest_indexed.proofs.Kept.{changes, changes-not, here, kept-set, list-here, ok-err, read, same-list, unchanged, with_tree}
 use Rattle.bforest_indexed.specs.Indexed.{AreKept, Indexed, KeepsFromAt, UnitesAt, count, entries, handle, node_sizes, table}
 use Rattle.std.proofs.Common.{Bool, Err, List, None, Ok, Option, Result, ap, arith, false, get_or, if◌then◌else◌, inl, inr, length, refl, slice_set, subst, sym, true, ◌<◌, ◌∙◌, ◌≡◌, ◌≤◌, ℕ}
 use Rattle.std.proofs.lemmas.Bool.Decides.{leb_tells}
@@ -15,34 +15,15 @@ use Rattle.std.specs.declared.cmp.Ordering.{Ordering}
 
 module _ {K X C : Type 0} {most : ℕ} {cmp : K → K → Ordering} {m : Indexed K X C} {i : ℕ} (j : ℕ) (a : AreKept most cmp m) (within : i < count m) where
   module _ {f' : Forest K X} {h' : Option ℕ} where
-    -- a packed tree took the place of the old one, within the limit
-    united-balance : Unites most cmp (table m) (handle m i) (handle m j) (Ok true) f' h' → Balances most (table m) (handle m i) f' h'
-    united-balance c =
-        let account = c.account refl in
-        let low : need_of_union most cmp (table m) (handle m i) (handle m j) ≤ room_of (table m) = elim (leb_tells (need_of_union most cmp (table m) (handle m i) (handle m j)) (room_of (table m))) [
-          | inl w ↦ w.1
-          | inr w ↦ absurd (ok-err true Full (c.full.1 w.1))
-        ] in record {
-          fit = c.fit refl;
-          nodes = omega (arith, account.slots, account.free, c.nodes refl);
-          slots = omega (arith, account.slots);
-          within = λ few. omega (arith, account.slots, c.united.limit, low, few);
-        }
-
-    -- a handle that is written back changes nothing
-    unchanged : f' ≡ table m → h' ≡ handle m i → with_tree m i f' h' ≡ m
-    unchanged same_forest same_handle =
-        λ n. record m { forest = same_forest n; handles = (ap (slice_set m.handles i) same_handle ∙ set-get_or m.handles i None) n }
-
     -- nothing changed
     united-same : {r : Result Bool OutOfMemory} → f' ≡ table m → h' ≡ handle m i → (with_tree m i f' h' ≡ m → UnitesAt most cmp m i j r (with_tree m i f' h'))
         → AreKept most cmp (with_tree m i f' h') × UnitesAt most cmp m i j r (with_tree m i f' h')
-    united-same same_forest same_handle told = let same = unchanged same_forest same_handle in (subst (AreKept most cmp) (sym same) a, told same)
+    united-same same_forest same_handle told = let same = unchanged m i f' h' same_forest same_handle in (subst (AreKept most cmp) (sym same) a, told same)
 
     united-here : (r : Result Bool OutOfMemory) → Unites most cmp (table m) (handle m i) (handle m j) r f' h'
         → AreKept most cmp (with_tree m i f' h') × UnitesAt most cmp m i j r (with_tree m i f' h')
     united-here (Ok true) call = (
-      kept-set a within call.united call.increasing (united-balance call),
+      kept-set a within call.united call.increasing (unites-balance most a.odd (table m) f' (handle m i) h' (a.fit i) call),
       record {
         united = list-here a within call.united;
         changed = call.changed;
@@ -100,7 +81,7 @@ module _ {K X C : Type 0} {most : ℕ} {cmp : K → K → Ordering} {m : Indexed
         beside = changes a within call.kept;
         account = subst (λ (z : Option ℕ). Gives (node_sizes m i) (sizes_of f' z) (table m) f') (sym (here a within call.kept)) call.account;
         fewer = λ e. subst (λ (es : List (K × X)). length es < length (entries m i)) (sym list) (call.fewer e);
-        same = λ e. unchanged (call.same_forest e) (call.same_handle e);
+        same = λ e. unchanged m i f' h' (call.same_forest e) (call.same_handle e);
       },
     )
       where

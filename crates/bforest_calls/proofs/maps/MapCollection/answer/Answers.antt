@@ -48,7 +48,7 @@ returns-in-Range g c =
 pub unreachable-requires : goal.unreachable-requires
 unreachable-requires g c = let d = c.in_default in
     comparing-alone true c.args.call.now c.requires.compares d.not-Get d.not-GetOrLess d.not-GetOrGreater d.not-Insert (λ offered. d.not-GetOrInsert) (λ offered. d.not-Update)
-    (λ offered. d.not-UpdateOrInsert) d.not-Shift d.not-Remove (λ offered. d.not-Read) d.not-Edit d.not-Range
+    (λ offered. d.not-UpdateOrInsert) d.not-Shift d.not-Remove (λ offered. d.not-Read) d.not-Edit d.not-Range d.not-RemoveRange
 
 pub returns-in-GetOrInsert-clause-makes : goal.returns-in-GetOrInsert-clause-makes
 returns-in-GetOrInsert-clause-makes g c = rw c.in-GetOrInsert.is (c.get_or_insert.result, ap answer.Put c.some.ensures, c.get_or_insert.ensures)

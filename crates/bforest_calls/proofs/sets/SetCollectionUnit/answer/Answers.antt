@@ -56,7 +56,7 @@ returns-in-Range g c =
 pub unreachable-requires : goal.unreachable-requires
 unreachable-requires g c = let d = c.in_default in
     comparing-alone false c.args.call.now c.requires.compares d.not-Get d.not-GetOrLess d.not-GetOrGreater d.not-Insert (λ offered. absurd (cc)) (λ offered. absurd (cc))
-    (λ offered. absurd (cc)) d.not-Shift d.not-Remove (λ offered. absurd (cc)) d.not-Edit d.not-Range
+    (λ offered. absurd (cc)) d.not-Shift d.not-Remove (λ offered. absurd (cc)) d.not-Edit d.not-Range d.not-RemoveRange
 
 pub returns-in-Shift-clause-makes : goal.returns-in-Shift-clause-makes
 returns-in-Shift-clause-makes g c =

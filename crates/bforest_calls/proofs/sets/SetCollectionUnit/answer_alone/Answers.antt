@@ -7,7 +7,7 @@ use Rattle.bforest_calls.specs.declared.call.Answer.TheVariants as answer
 use Rattle.std.proofs.Common.{ap, length, refl, slice_get, subst, sym, ◌-◌, ◌∙◌}
 
 pub unreachable-requires : goal.unreachable-requires
-unreachable-requires g c = let d = c.in_default in no-other-alone c.args.call.now c.requires.alone d.not-First d.not-Last d.not-PopFirst d.not-PopLast
+unreachable-requires g c = let d = c.in_default in no-other-alone c.args.call.now c.requires.alone d.not-First d.not-Last d.not-PopFirst d.not-PopLast d.not-Len d.not-Compact
 
 pub returns-in-First : goal.returns-in-First
 returns-in-First g c = record {
@@ -42,3 +42,6 @@ returns-in-PopLast g c =
         subst (λ e. Pops 15 c.args.forest.now c.args.self.now last e c.pop_last.new.forest c.pop_last.new.self) popped c.pop_last.ensures,
       );
     }
+
+pub returns-in-Compact : goal.returns-in-Compact
+returns-in-Compact g c = record { makes = rw c.in-Compact.is (c.compact.result, refl, c.compact.ensures) }
