@@ -6,6 +6,8 @@ mod callers;
 mod each;
 #[cfg(test)]
 mod lists;
+#[cfg(test)]
+mod whole;
 
 pub use callers::beside::{run_beside, run_beside_sets};
 pub use callers::counted::{run_counted, run_counted_sets};

@@ -3,6 +3,8 @@
 
 pub(crate) mod maps;
 pub(crate) mod sets;
+mod whole_maps;
+mod whole_sets;
 
 /// The last key that is inserted.
 const LAST: u32 = 30;

@@ -65,6 +65,10 @@ module _ {V : Type 0} (value_text : Option V → List ℕ) (entry_text : ℕ × 
   answer_text (answer.Script sights) = texts seen_text sights.items
   answer_text (answer.Made (Ok it)) = codes "ok"
   answer_text (answer.Made (Err why)) = refusal_text why
+  answer_text (answer.Count n) = decimal n
+  answer_text (answer.Changed so) = truth_text so
+  answer_text (answer.United (Ok so)) = truth_text so
+  answer_text (answer.United (Err why)) = refusal_text why
   answer_text answer.Done = codes "ok"
   answer_text answer.NoIndex = codes "no index"
   answer_text answer.Dead = codes "dead"

@@ -116,7 +116,11 @@ impl<V: Shows> fmt::Display for Told<V> {
             Told::Answer(Answer::Pairs(pairs)) => write!(f, "[{}]", Entries(pairs)),
             Told::Answer(Answer::Script(sights)) => write!(f, "{}", Sights(sights)),
             Told::Answer(Answer::Made(Ok(())) | Answer::Done) => write!(f, "ok"),
-            Told::Answer(Answer::Made(Err(why))) => write!(f, "{}", Refusal(*why)),
+            Told::Answer(Answer::Made(Err(why)) | Answer::United(Err(why))) => {
+                write!(f, "{}", Refusal(*why))
+            }
+            Told::Answer(Answer::Count(n)) => write!(f, "{n}"),
+            Told::Answer(Answer::Changed(so) | Answer::United(Ok(so))) => write!(f, "{so}"),
             Told::Answer(Answer::NoIndex) => write!(f, "no index"),
             Told::Answer(Answer::Dead) => write!(f, "dead"),
             Told::Answer(Answer::Unordered) => write!(f, "unordered"),

@@ -2,7 +2,7 @@
 ghost use Rattle.bforest.specs.Forest.{IsLive, list_of};
 ghost use Rattle.bforest.specs.Entries.{IsIncreasing};
 
-use super::{LAST, MIDDLE};
+use super::{LAST, MIDDLE, whole_maps};
 use crate::Seen;
 use bforest::{Comparator, Map, MapForest, OutOfMemory};
 use std::ops::Bound;
@@ -14,9 +14,17 @@ pub(crate) fn all(mut forest: MapForest<u32, u32>, seen: &mut Seen) {
     let mut map = Map::default();
     seen.note(fill(&mut map, &mut forest));
     seen.note(read(&map, &forest));
+    seen.note(whole_maps::ends(&map, &forest));
+    seen.note(whole_maps::values(&mut map, &mut forest));
+    seen.note(whole_maps::pops(&mut map, &mut forest));
+    seen.note(whole_maps::copies(&map, &mut forest));
+    seen.note(whole_maps::loads(&mut forest));
     seen.note(change(&mut map, &mut forest));
     seen.note(empty(&mut map, &mut forest));
     seen.note(map.is_empty() && forest.free_slots() == free);
+    forest.clear();
+    map = Map::default();
+    seen.note(forest.slots() == 0 && forest.reserve_nodes(free) == Ok(()));
     seen.note(fill(&mut map, &mut forest));
     seen.note(forest.holds(&map) && map.into_iter(forest).next() == Some((1, 1)));
 }

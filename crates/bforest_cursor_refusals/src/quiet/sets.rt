@@ -2,7 +2,7 @@
 ghost use Rattle.bforest.specs.Forest.{IsLive, list_of};
 ghost use Rattle.bforest.specs.Entries.{IsIncreasing};
 
-use super::{LAST, MIDDLE};
+use super::{LAST, MIDDLE, whole_sets};
 use crate::Seen;
 use bforest::{Comparator, OutOfMemory, Set, SetForest};
 use std::ops::Bound;
@@ -14,6 +14,10 @@ pub(crate) fn all(forest: &mut SetForest<u32>, seen: &mut Seen) {
     let mut set = Set::default();
     seen.note(fill(&mut set, forest));
     seen.note(read(&set, forest));
+    seen.note(whole_sets::ends(&set, forest));
+    seen.note(whole_sets::pops(&mut set, forest));
+    seen.note(whole_sets::copies(&set, forest));
+    seen.note(whole_sets::loads(forest));
     seen.note(change(&mut set, forest));
     seen.note(empty(&mut set, forest));
     seen.note(set.is_empty() && forest.free_slots() == free);
