@@ -1,7 +1,7 @@
 -- A call on a forest that adds up leaves one that does.
 use Rattle.bforest.proofs.Balances.{between-balance, clears-balance, compacts-balance, filters-balance, inserts-balance, keeps-balance, length-written, removes-at-balance, removes-balance, sizes-stay, unites-balance, updates-balance}
 use Rattle.bforest.specs.Bounds.{entries_outside}
-use Rattle.bforest.specs.Calls.{Clears, Clones, Compacts, Filters, GetsOrInserts, Inserts, KeepsFrom, Loads, Pops, Removes, RemovesAt, RemovesBetween, Shifts, SplitsOff, Unites, Updates, UpdatesOrInserts}
+use Rattle.bforest.specs.Calls.{Clears, Clones, Compacts, Filters, GetsOrInserts, Inserts, KeepsFrom, Loads, Pops, Removes, RemovesAt, RemovesBetween, Shifts, Unites, Updates, UpdatesOrInserts}
 use Rattle.bforest.specs.Forest.{Becomes, Forest, IsFitFor, IsTooMany, Takes, emptied, fewest, free_of, list_of, nodes_at, nodes_of, room_of, sizes_of, slots_of}
 use Rattle.bforest.specs.Room.{Balances}
 use Rattle.bforest.specs.Union.{kept_from, united}
@@ -14,10 +14,10 @@ use Rattle.bforest_core.specs.Change.{node_count}
 use Rattle.bforest_core.specs.Levels.{flat, sizes_of as tree_sizes}
 use Rattle.bforest_core.specs.Trees.{is_root, tree_of}
 use Rattle.bforest_core.specs.declared.pool.OutOfMemory.{OutOfMemory}
-use Rattle.bforest_nodes.specs.Entries.{cut, place, put, with_value}
+use Rattle.bforest_nodes.specs.Entries.{cut, put, with_value}
 use Rattle.bforest_trees.specs.Calls.{as_inserted}
 use Rattle.bforest_trees.specs.Forest.{list_at, sizes_at}
-use Rattle.std.proofs.Common.{Bool, Err, List, None, Ok, Option, Result, Some, [], ap, arith, false, if◌then◌else◌, inl, inr, length, refl, remove, subst, sym, take, true, ◌%◌, ◌+◌, ◌++◌, ◌∙◌, ◌≡◌, ◌≢◌, ◌≤◌, ◌⊎◌, ℕ, drop}
+use Rattle.std.proofs.Common.{Bool, Err, List, None, Ok, Option, Result, Some, [], ap, arith, false, if◌then◌else◌, inl, inr, length, refl, remove, subst, sym, take, true, ◌%◌, ◌+◌, ◌++◌, ◌∙◌, ◌≡◌, ◌≢◌, ◌≤◌, ◌⊎◌, ℕ}
 use Rattle.std.proofs.lemmas.Bool.{and_parts}
 use Rattle.std.proofs.lemmas.Bool.Decides.{eqb_tells, leb_tells}
 use Rattle.std.specs.Fn.{Once}
@@ -192,12 +192,3 @@ module _ {K V : Type 0} where
     loads-add es (Err e) l = still most f f' l.refused a
     loads-add es (Ok n) l =
         made-add (fewest most (length es)) es l.loaded (rw (l.loaded.list) (loaded-fits most odd f f' es n l)) l.account (λ few. let full = l.full.1 few in absurd (cc)) l.nodes
-
-  -- a tree of some entries was made, and then they were removed from theirs
-  pub splits-add : (most : ℕ) → most % 2 ≡ 1 → (f f' : Forest K V) (h h' : Option ℕ) → AddsUp most f → {cmp : K → K → Ordering} {k : K} (result : Result (Option ℕ) OutOfMemory)
-      → SplitsOff most cmp f h k result f' h' → AddsUp most f'
-  splits-add most odd f f' h h' a (Err e) s = still most f f' s.refused_forest a
-  splits-add most odd f f' h h' a (Ok None) s = still most f f' (s.none_forest refl) a
-  splits-add most odd f f' h h' a {cmp} {k} (Ok (Some t)) s =
-      let steps = s.steps refl in
-      between-add most odd steps.0 f' h h' (loads-add most odd f steps.0 None a (drop (place cmp (list_of f h) k) (list_of f h)) (Ok (Some t)) steps.1) steps.2

@@ -22,13 +22,6 @@ module _ {K V : Type 0} where
   refuses-more there more live ordered answer.Unordered m r = absurd (r.2 tt)
   refuses-more there more live ordered given m r = absurd r
 
-  pub refuses-two : (there more and_more live ordered : Type 0) (given : Answer K V) → more × and_more → Refuses there live (Unit {0}) given
-      → Refuses (there × more × and_more) live ordered given
-  refuses-two there more and_more live ordered answer.NoIndex m r = λ w. r w.0
-  refuses-two there more and_more live ordered answer.Dead m r = ((r.0, m.0, m.1), r.1)
-  refuses-two there more and_more live ordered answer.Unordered m r = absurd (r.2 tt)
-  refuses-two there more and_more live ordered given m r = absurd r
-
   -- what is made is told otherwise
   then : {there live ordered M N : Type 0} {old new : State K V} (given : Answer K V) → (M → N) → Tests there live ordered old given new M
       → Tests there live ordered old given new N

@@ -1,6 +1,6 @@
 -- The machine that a list of calls runs: what each call may answer, and what it leaves.
 use Rattle.bforest.specs.Bounds.{entries_between, entry_at_least, entry_at_most}
-use Rattle.bforest.specs.Calls.{Clears, Clones, Compacts, Inserts, Intersects, Loads, Removes, RemovesBetween, SplitsOff, Subtracts, Unites}
+use Rattle.bforest.specs.Calls.{Clears, Clones, Compacts, Inserts, Intersects, Loads, Removes, RemovesBetween, Subtracts, Unites}
 use Rattle.bforest.specs.Forest.{Forest, IsLive, emptied, list_of}
 use Rattle.bforest_calls.specs.Looks.{all_taken, sights_of}
 use Rattle.bforest_calls.specs.State.{Edits, FirstPopped, GotOrInserted, Held, LastPopped, Retained, Shifted, StillAddsUp, Updated, UpdatedOrInserted, as_had}
@@ -198,11 +198,6 @@ module _ {K V : Type 0} where
         ((given ≡ answer.Done) × (new ≡ record old { handles = slice_set old.handles to (number_at old from) }))
     Step orders old (call.DeepClone from to) given new = Tests ((from < length old.handles) × (to < length old.handles)) (Live old from) (Unit {0}) old given new
         (MakesFor to old given new (Clones old.forest (number_at old from)))
-    Step orders old (call.SplitOff h c k to) given new =
-        Tests ((h < length old.handles) × (to < length old.handles) × (c < length orders)) (Live old h) (Ordered orders old h c) old given new
-        ((result : Result (Option ℕ) OutOfMemory) × (number : Option ℕ) × (given ≡ answer.Made (as_made result))
-        × (new.handles ≡ with_made to result (slice_set old.handles h number))
-        × SplitsOff most (order_at orders c) old.forest (number_at old h) k result new.forest number)
     Step orders old (call.Load h entries) given new = Offered reads
         (Tests (h < length old.handles) (Unit {0}) (Unit {0}) old given new (MakesFor h old given new (Loads most old.forest entries.items)))
         (Lacks (h < length old.handles) old given new)

@@ -168,14 +168,6 @@ pub enum Call<K: Copy, V: Copy> {
         from: usize,
         to: usize,
     },
-    /// `split_off`: handle `to` names the tree of the entries that went, where one is made; the tree that `to` named before stays. Answers
-    /// [`Answer::Made`].
-    SplitOff {
-        h: usize,
-        c: usize,
-        k: K,
-        to: usize,
-    },
     /// Handle `h` becomes a `load` of the entries, where one is made; the tree that it named before stays. Whether they increase is not
     /// tested, as after a shift. Answers [`Answer::Made`], for sets [`Answer::NotOffered`].
     Load {

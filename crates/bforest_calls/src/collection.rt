@@ -1,5 +1,5 @@
 //! What the engine requires of a map or of a set.
-ghost use Rattle.bforest.specs.Calls.{Clears, Clones, Loads, SplitsOff};
+ghost use Rattle.bforest.specs.Calls.{Clears, Clones, Loads};
 ghost use Rattle.bforest.specs.Forest.{Forest, IsLive, emptied, list_of};
 ghost use Rattle.bforest_calls.specs.Beside.{IsBeside, MakesBeside};
 ghost use Rattle.bforest_calls.specs.Compared.{IsComparing, IsListed, Makes};
@@ -137,21 +137,6 @@ pub trait Collection<K: Copy, V: Copy>: Drop {
             Clones (trees forest.old) (number self.now) (Ok (number copy)) (trees forest.new)) }
         ensures refused { IfErr result (λ why.
             Clones (trees forest.old) (number self.now) (Err why) (trees forest.new)) };
-
-    /// A handle to a tree of the entries whose keys are not less than `key`, which go from this one.
-    fn split_off<C: Comparator<K>>(
-        &mut self,
-        key: K,
-        forest: &mut Self::Forest,
-        comp: &C,
-    ) -> Result<Self, OutOfMemory>
-        requires fits { fits }
-        requires live { IsLive (trees forest.old) (number self.old) }
-        requires increasing { IsIncreasing (C.order comp.now) (list_of (trees forest.old) (number self.old)) }
-        ensures made { IfOk result (λ tail. SplitsOff most (C.order comp.now) (trees forest.old)
-            (number self.old) key (Ok (number tail)) (trees forest.new) (number self.new)) }
-        ensures refused { IfErr result (λ why. SplitsOff most (C.order comp.now) (trees forest.old)
-            (number self.old) key (Err why) (trees forest.new) (number self.new)) };
 
     /// A handle to a tree of these entries; `None` where a load is not offered.
     fn load(entries: &[(K, V)], forest: &mut Self::Forest) -> Option<Result<Self, OutOfMemory>>

@@ -71,9 +71,6 @@ pub fn make<K: Copy, V: Copy, C: Comparator<K>, T: Collection<K, V>>(
         Call::IterBack { h } => iter_back(alloc, *h, handles, forest),
         Call::Alias { from, to } => Ok(alias(*from, *to, handles)),
         Call::DeepClone { from, to } => Ok(deep_clone(*from, *to, handles, forest)),
-        Call::SplitOff { h, c, k, to } => {
-            Ok(split_off(*h, *c, *k, *to, comps, handles, forest))
-        }
         Call::Load { h, entries } => Ok(load(*h, entries, handles, forest)),
         Call::ForestClear => {
             T::clear_all(forest);
@@ -334,34 +331,6 @@ fn deep_clone<K: Copy, V: Copy, T: Collection<K, V>>(
         return given;
     }
     name(handles[from].deep_clone(forest), to, handles)
-}
-
-fn split_off<K: Copy, V: Copy, C: Comparator<K>, T: Collection<K, V>>(
-    h: usize,
-    c: usize,
-    k: K,
-    to: usize,
-    comps: &[C],
-    handles: &mut [T],
-    forest: &mut T::Forest,
-) -> Answer<K, V>
-    requires fits { T.fits }
-    ensures { Step T.most T.READS (map C.order comps.now)
-        (record { forest = T.trees forest.old; handles = T.numbers handles.old }) (call.SplitOff h c k to)
-        result (record { forest = T.trees forest.new; handles = T.numbers handles.new }) }
-{
-    if to >= handles.len() || c >= comps.len() {
-        return Answer::NoIndex;
-    }
-    if let Some(given) = unnamed(h, handles, forest) {
-        return given;
-    }
-    let comp = &comps[c];
-    if !handles[h].increases(forest, comp) {
-        return Answer::Unordered;
-    }
-    let tail = handles[h].split_off(k, forest, comp);
-    name(tail, to, handles)
 }
 
 fn load<K: Copy, V: Copy, T: Collection<K, V>>(

@@ -179,15 +179,6 @@ impl<K: Copy, V: Copy> Collection<K, V> for Map<K, V> {
         self.deep_clone(forest)
     }
 
-    fn split_off<C: Comparator<K>>(
-        &mut self,
-        key: K,
-        forest: &mut MapForest<K, V>,
-        comp: &C,
-    ) -> Result<Map<K, V>, OutOfMemory> {
-        self.split_off(key, forest, comp)
-    }
-
     fn load(
         entries: &[(K, V)],
         forest: &mut MapForest<K, V>,

@@ -184,15 +184,6 @@ impl<K: Copy> Collection<K, ()> for Set<K> {
         self.deep_clone(forest)
     }
 
-    fn split_off<C: Comparator<K>>(
-        &mut self,
-        key: K,
-        forest: &mut SetForest<K>,
-        comp: &C,
-    ) -> Result<Set<K>, OutOfMemory> {
-        self.split_off(key, forest, comp)
-    }
-
     fn load(
         _entries: &[(K, ())],
         _forest: &mut SetForest<K>,

@@ -1,10 +1,10 @@
-//! Calls on whole lists: counted, cut, split, packed, and put together with another list.
+//! Calls on whole lists: counted, cut, packed, and put together with another list.
 use bforest::{Map, MapForest, Set, SetForest};
 use bforest_calls::{Answer, Call, run_map, run_set};
 use std::alloc::{AllocError, Global};
 use std::ops::Bound;
 
-/// The handle that is filled first, the one of its copy, and the one of what is split off.
+/// The handle that is filled first, the one of its copy, and the one of a part.
 const FILLED: usize = 0;
 
 const COPY: usize = 1;
@@ -53,14 +53,17 @@ fn calls<V: Copy>(first: V, second: V, third: V) -> [Call<u32, V>; 17] {
         subtract(FILLED, COPY),
         unite(FILLED, COPY),
         unite(FILLED, COPY),
-        // 20 and 30 go.
-        Call::SplitOff {
-            h: FILLED,
-            c: ORDER,
-            k: 20,
+        // 20 and 30 are in the third.
+        Call::DeepClone {
+            from: FILLED,
             to: TAIL,
         },
-        Call::Len { h: FILLED },
+        Call::RemoveRange {
+            h: TAIL,
+            c: ORDER,
+            lo: Bound::Unbounded,
+            hi: Bound::Excluded(20),
+        },
         // 30 is left.
         intersect(COPY, TAIL),
         Call::Compact { h: COPY },
@@ -71,7 +74,7 @@ fn calls<V: Copy>(first: V, second: V, third: V) -> [Call<u32, V>; 17] {
     ]
 }
 
-/// Their answers, where the entries that were split off are `tail`.
+/// Their answers, where the entries of the third one are `tail`.
 fn wanted<V: Copy>(tail: Vec<(u32, V)>) -> [Answer<u32, V>; 17] {
     [
         Answer::Put(Ok(None)),
@@ -84,7 +87,7 @@ fn wanted<V: Copy>(tail: Vec<(u32, V)>) -> [Answer<u32, V>; 17] {
         Answer::United(Ok(true)),
         Answer::United(Ok(false)),
         Answer::Made(Ok(())),
-        Answer::Count(1),
+        Answer::Changed(true),
         Answer::Changed(true),
         Answer::Made(Ok(())),
         Answer::Changed(false),

@@ -35,6 +35,3 @@ returns-in-DeepClone-clause-step g c = rw c.in-DeepClone.is (c.deep_clone.ensure
 
 pub returns-in-Load-clause-step : goal.returns-in-Load-clause-step
 returns-in-Load-clause-step g c = rw c.in-Load.is (c.load.ensures (map g.C.Comparator.order c.args.comps.now))
-
-pub returns-in-SplitOff-clause-step : goal.returns-in-SplitOff-clause-step
-returns-in-SplitOff-clause-step g c = rw c.in-SplitOff.is c.split_off.ensures
