@@ -699,7 +699,7 @@ fn removals_of_ranges() {
 #[test]
 fn splits() {
     let counting = Counting::default();
-    let of_split = |search: u32| 3 * search + 2 + 2 * beside_bound(search);
+    let of_split = |search: u32| 3 * search + 2 * beside_bound(search);
     let (mut maps, mut sets) = (MapForest::new(), SetForest::new());
     let (map, set) = (even_map(35, &mut maps), even_set(71, &mut sets));
     for key in 0..=143 {

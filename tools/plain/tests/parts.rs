@@ -247,8 +247,11 @@ fn with_limits<H: Handle>(keys: &BTreeSet<u32>, need: u32, call: impl Fn(&mut H,
         }
         let mut forest = H::forest(slots + need - free - short);
         let mut handle: H = made(keys.iter().copied(), &mut forest);
-        assert_eq!(call(&mut handle, &mut forest), if short == 0 { Ok(()) } else { Err(OutOfMemory::Full) });
-        if short == 1 {
+        if short == 0 {
+            assert_eq!(call(&mut handle, &mut forest), Ok(()));
+        } else {
+            // before memory is asked for
+            assert_eq!(granted(0, || call(&mut handle, &mut forest)), Err(OutOfMemory::Full));
             assert!(handle.keys(&forest).iter().eq(keys));
             assert_eq!(H::slots(&forest), (slots, free));
         }
