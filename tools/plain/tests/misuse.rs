@@ -754,7 +754,7 @@ fn a_set_under_changing_orders() {
     assert!(is_set_forest_in_use(&mut forest));
 }
 
-/// A call that compares keys on its way to an insertion or a removal.
+/// A call that compares keys on its way to an insertion, or to what it takes out.
 type Ordered<H, F, C> = (&'static str, fn(&mut H, u32, &mut F, &C));
 
 /// The calls on a map that are told where the keys beside a key's place are out of order.

@@ -155,3 +155,24 @@ fn a_predicate_that_panics_leaves_a_forest_that_can_be_cleared() {
         assert!(map.iter(&forest).eq([(1, 1)]));
     }
 }
+
+/// A difference removes one entry after the other, as `retain` does, and compares twice for each but the first: with the key before in the
+/// other map, and with the equal one.
+#[test]
+fn a_comparator_that_panics_in_a_difference_leaves_a_forest_that_can_be_cleared() {
+    set_hook(Box::new(|_| {}));
+    let mut not_live = 0;
+    for asked in 0..199 {
+        let (mut map, mut forest) = filled();
+        let other = map.deep_clone(&mut forest).unwrap();
+        let order = Failing(Cell::new(asked));
+        assert!(catch_unwind(AssertUnwindSafe(|| map.difference_with(&other, &mut forest, &order))).is_err());
+        assert!(other.iter(&forest).eq((0..200).step_by(2).map(|it| (it, it))));
+        not_live += usize::from(!forest.holds(&map));
+        forest.clear();
+        map = Map::new();
+        map.insert(1, 1, &mut forest, &()).unwrap();
+        assert!(map.iter(&forest).eq([(1, 1)]));
+    }
+    assert!(not_live > 0);
+}
