@@ -323,9 +323,10 @@ MUST_USE = {
 # Names under which Rust's users look for a call, which its docs are found by.
 IN_ORDER = {"get_or_less": ["floor"], "get_or_greater": ["ceiling", "lower_bound"], "levels": ["height"]}
 ENDS = {"first": ["first_key_value"], "last": ["last_key_value"]}
+WHOLE = {"union_with": ["append"], "remove_range": ["truncate"]}
 ALIASES = {
-    "bforest/map.rt": {**IN_ORDER, **ENDS, "increases": ["is_sorted"]},
-    "bforest/set.rt": {**IN_ORDER, "contains": ["contains_key"], "increases": ["is_sorted"]},
+    "bforest/map.rt": {**IN_ORDER, **ENDS, **WHOLE, "increases": ["is_sorted"]},
+    "bforest/set.rt": {**IN_ORDER, **WHOLE, "contains": ["contains_key"], "increases": ["is_sorted"]},
     "bforest_indexed/maps.rt": {**IN_ORDER, **ENDS},
     "bforest_indexed/sets.rt": {**IN_ORDER, "contains": ["contains_key"]},
     "bforest/map_cursor.rt": {"goto": ["lower_bound"]},
