@@ -1,4 +1,5 @@
-//! How often calls compare, told by a comparator that counts. In debug builds those that insert or remove by a key compare a few times more.
+//! How often calls compare, told by a comparator that counts. In debug builds those that insert or remove by a key compare a few times more, and
+//! those that are handed bounds, or a key to split at, search for each once more.
 
 use bforest::{Comparator, Map, MapForest, Maps, Set, SetForest, Sets};
 use std::cell::Cell;
