@@ -166,6 +166,44 @@ impl MapPairs for OriginalMaps {
         }
         !new.is_empty()
     }
+
+    #[inline(never)]
+    fn drop_from(&mut self, map: u32, key: u32) {
+        let mut cursor = self.maps[map as usize].cursor_mut(&mut self.forest, &());
+        cursor.goto(key);
+        while cursor.remove().is_some() {}
+    }
+
+    #[inline(never)]
+    fn remove_between(&mut self, map: u32, start: u32, end: u32) {
+        let mut cursor = self.maps[map as usize].cursor_mut(&mut self.forest, &());
+        cursor.goto(start);
+        while cursor.key().is_some_and(|key| key < end) {
+            cursor.remove();
+        }
+    }
+
+    // No map can be filled while another one of its forest is read, so the entries that go are gathered first.
+    #[inline(never)]
+    fn split_to(&mut self, map: u32, key: u32, other: u32) {
+        let gone: Vec<(u32, u32)> = self.maps[map as usize].range(key.., &self.forest, &()).collect();
+        self.drop_from(map, key);
+        let other = &mut self.maps[other as usize];
+        other.clear(&mut self.forest);
+        for (key, value) in gone {
+            other.insert(key, value, &mut self.forest, &());
+        }
+    }
+
+    #[inline(never)]
+    fn compact(&mut self, map: u32) {
+        let map = &mut self.maps[map as usize];
+        let entries: Vec<(u32, u32)> = map.iter(&self.forest).collect();
+        map.clear(&mut self.forest);
+        for (key, value) in entries {
+            map.insert(key, value, &mut self.forest, &());
+        }
+    }
 }
 
 // Tells of ascending keys whether each is among these, which ascend too.

@@ -3,7 +3,7 @@
 use crate::runs::{added, Maps, Ranges, Sets, EDITED};
 use crate::sides::{many, Held};
 use crate::uses::{FunctionMaps, Layout, RankedMaps, Side, Uses, WideKey, WideMaps, WideValue, FUNCTION};
-use crate::whole::{two, MapPairs, SetPairs};
+use crate::whole::{both, two, MapPairs, SetPairs};
 use bforest::{Comparator, Map, MapForest, Set, SetForest};
 use std::cmp::Ordering;
 
@@ -146,6 +146,28 @@ impl MapPairs for PackageMaps {
     fn unite(&mut self, map: u32, other: u32) -> bool {
         let (map, other) = two(&mut self.maps, map, other);
         map.union_with(other, &mut self.forest, &()).expect(ROOM)
+    }
+
+    #[inline(never)]
+    fn drop_from(&mut self, map: u32, key: u32) {
+        self.maps[map as usize].remove_range(key.., &mut self.forest, &());
+    }
+
+    #[inline(never)]
+    fn remove_between(&mut self, map: u32, start: u32, end: u32) {
+        self.maps[map as usize].remove_range(start..end, &mut self.forest, &());
+    }
+
+    #[inline(never)]
+    fn split_to(&mut self, map: u32, key: u32, other: u32) {
+        let (map, other) = both(&mut self.maps, map, other);
+        other.clear(&mut self.forest);
+        *other = map.split_off(key, &mut self.forest, &()).expect(ROOM);
+    }
+
+    #[inline(never)]
+    fn compact(&mut self, map: u32) {
+        self.maps[map as usize].compact(&mut self.forest).expect(ROOM);
     }
 }
 

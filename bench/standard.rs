@@ -3,7 +3,7 @@
 use crate::runs::{added, Maps, Ranges, Sets, EDITED};
 use crate::sides::{many, Held};
 use crate::uses::{FunctionMaps, Layout, RankedMaps, Side, Uses, WideKey, WideMaps, WideValue, FUNCTION};
-use crate::whole::{two, MapPairs, SetPairs};
+use crate::whole::{both, two, MapPairs, SetPairs};
 use std::collections::{BTreeMap, BTreeSet};
 
 pub type StdMaps = Held<(), Vec<BTreeMap<u32, u32>>>;
@@ -136,6 +136,28 @@ impl MapPairs for StdMaps {
             map.entry(*key).or_insert(*value);
         }
         before < map.len()
+    }
+
+    #[inline(never)]
+    fn drop_from(&mut self, map: u32, key: u32) {
+        drop(self.maps[map as usize].split_off(&key));
+    }
+
+    #[inline(never)]
+    fn remove_between(&mut self, map: u32, start: u32, end: u32) {
+        self.maps[map as usize].retain(|key, _| !(start..end).contains(key));
+    }
+
+    #[inline(never)]
+    fn split_to(&mut self, map: u32, key: u32, other: u32) {
+        let (map, other) = both(&mut self.maps, map, other);
+        *other = map.split_off(&key);
+    }
+
+    #[inline(never)]
+    fn compact(&mut self, map: u32) {
+        let map = &mut self.maps[map as usize];
+        *map = map.iter().map(|(key, value)| (*key, *value)).collect();
     }
 }
 

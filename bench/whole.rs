@@ -1,4 +1,4 @@
-//! Runs of calls on whole maps and sets: how many entries one has, and what is asked or made of two of them. As in the runs of single calls,
+//! Runs of calls on whole maps and sets: how many entries one has, what is asked or made of two of them, and what takes a part of one out. As in the runs of single calls,
 //! what a side does in these traits is not inlined into the loop.
 
 use crate::runs::{added, key_at, timed, Many, Value};
@@ -11,6 +11,10 @@ pub enum Call {
     MapsNone,  // the first map takes up the entries of the second, of which none is new
     MapsOne,   // the same where one is new
     MapsHalf,  // the same where half of them are
+    Upper,     // the first map loses the upper half of its entries
+    Middle,    // it loses the half of them in its middle
+    Split,     // the upper half of them becomes a map of its own, which takes the place of the second map
+    Compacted, // the first map has its entries in as few nodes as it can
     SetsNone,  // the first set takes up the keys of the second, of which none is new
     SetsOne,   // the same where one is new
     SetsHalf,  // the same where half of them are
@@ -25,7 +29,7 @@ use Call::*;
 impl Call {
     /// The call of this name.
     pub fn named(name: &str) -> Option<Call> {
-        let of_maps = [Length, MapsNone, MapsOne, MapsHalf];
+        let of_maps = [Length, MapsNone, MapsOne, MapsHalf, Upper, Middle, Split, Compacted];
         let of_sets = [SetsNone, SetsOne, SetsHalf, Subset, Disjoint, Intersect, Subtract];
         of_maps.into_iter().chain(of_sets).find(|it| format!("{it:?}") == name)
     }
@@ -40,10 +44,18 @@ pub struct Pairing {
     pub rounds: u32,
 }
 
+// A quarter of the numbers that keys are drawn from, which are mixed: about a quarter of the entries are below it.
+const QUARTER: u32 = 1 << 30;
+
 impl Pairing {
     // The key of an entry of a pair. The first map has the indices below `entries`, the second as many from `new_keys` on.
     fn key(self, pair: u32, index: u32) -> u32 {
         key_at(2 * self.entries * pair + index, true)
+    }
+
+    // Whether the second map has entries: it has none where a part of the first is taken out.
+    fn has_second(self) -> bool {
+        !matches!(self.what, Upper | Middle | Split | Compacted)
     }
 
     // How many keys of the second map the first one does not have.
@@ -63,6 +75,14 @@ pub trait MapPairs: Many<u32> {
     fn length(&self, map: u32) -> usize;
     /// Inserts the entries of the other map whose keys are absent, and tells whether there was one.
     fn unite(&mut self, map: u32, other: u32) -> bool;
+    /// Removes the entries from a key on.
+    fn drop_from(&mut self, map: u32, key: u32);
+    /// Removes the entries whose keys are between two keys, the first included.
+    fn remove_between(&mut self, map: u32, start: u32, end: u32);
+    /// Moves the entries from a key on to the other map, which loses its own.
+    fn split_to(&mut self, map: u32, key: u32, other: u32);
+    /// Puts the entries into as few nodes as can be.
+    fn compact(&mut self, map: u32);
 }
 
 /// Sets with the calls on two of them. `other` is another set, behind the one that is asked or changed.
@@ -79,6 +99,12 @@ pub trait SetPairs: Many<()> {
     fn subtract(&mut self, set: u32, other: u32) -> bool;
 }
 
+/// Two maps that are changed, of which one is behind the other.
+pub fn both<M>(maps: &mut [M], map: u32, other: u32) -> (&mut M, &mut M) {
+    let (before, behind) = maps.split_at_mut(other as usize);
+    (&mut before[map as usize], &mut behind[0])
+}
+
 /// A map or set that is changed, and one behind it that is read.
 pub fn two<M>(maps: &mut [M], map: u32, other: u32) -> (&mut M, &M) {
     let (before, behind) = maps.split_at_mut(other as usize);
@@ -90,7 +116,9 @@ fn fill<V: Value, M: Many<V>>(maps: &mut M, work: Pairing) {
     for pair in 0..work.pairs {
         for index in 0..work.entries {
             maps.insert(pair, work.key(pair, index), V::new(index));
-            maps.insert(work.pairs + pair, work.key(pair, index + work.new_keys()), V::new(work.entries + index));
+            if work.has_second() {
+                maps.insert(work.pairs + pair, work.key(pair, index + work.new_keys()), V::new(work.entries + index));
+            }
         }
     }
 }
@@ -123,6 +151,14 @@ fn paired<V: Value, M: Many<V>>(
     timed(|| M::new(2 * work.pairs), run, is_kept)
 }
 
+// Makes a run of a call that answers nothing.
+fn parted<V: Value, M: Many<V>>(work: Pairing, is_kept: bool, call: impl Fn(&mut M, u32, u32)) -> (u64, Duration) {
+    paired(work, is_kept, |maps: &mut M, map, other| {
+        call(maps, map, other);
+        0
+    })
+}
+
 /// Makes a run on maps or sets of one side.
 pub fn call_on<M: MapPairs, S: SetPairs>(work: Pairing, is_kept: bool) -> (u64, Duration) {
     match work.what {
@@ -130,6 +166,10 @@ pub fn call_on<M: MapPairs, S: SetPairs>(work: Pairing, is_kept: bool) -> (u64, 
         MapsNone | MapsOne | MapsHalf => {
             paired(work, is_kept, |maps: &mut M, map, other| maps.unite(map, other).into())
         }
+        Upper => parted(work, is_kept, |maps: &mut M, map, _| maps.drop_from(map, 2 * QUARTER)),
+        Middle => parted(work, is_kept, |maps: &mut M, map, _| maps.remove_between(map, QUARTER, 3 * QUARTER)),
+        Split => parted(work, is_kept, |maps: &mut M, map, other| maps.split_to(map, 2 * QUARTER, other)),
+        Compacted => parted(work, is_kept, |maps: &mut M, map, _| maps.compact(map)),
         SetsNone | SetsOne | SetsHalf => {
             paired(work, is_kept, |sets: &mut S, set, other| sets.unite(set, other).into())
         }

@@ -54,7 +54,7 @@ FOREST = [
 FRONT = r"\A(?://![^\n]*\n)*"
 BEHIND_FIRST = (r"^//!\n(?://![^\n]*\n)+", "", 1)
 
-# What the docs of `range` say of its bounds.
+# What the docs of `range` and `remove_range` say of their bounds.
 BOUNDS = (
     "    ///\n    /// Any bounds serve: `3..9`, `..=9`, `..` for all, or a pair of `Bound`s. A pair of two `Unbounded` does not say\n"
     "    /// of which type its bounds are, so write `..` for it.\n"
@@ -68,21 +68,27 @@ INDEXED = [
     (r"Vec::new\(alloc\)", "Vec::new()", 1),
     (r"\bAllocError\b", "TryReserveError", 4),
     (r"^use std::ops::Bound;", "use std::ops::RangeBounds;", 1),
+    # `range`, and `remove_range` where it is there
     (
-        r"pub fn range\(&self, index: usize, bounds: \(Bound<K>, Bound<K>\)\)",
-        "pub fn range<R: RangeBounds<K>>(&self, index: usize, bounds: R)",
-        1,
+        r"pub fn (range|remove_range)\((&(?:mut )?self, index: usize), bounds: \(Bound<K>, Bound<K>\)\)",
+        r"pub fn \1<R: RangeBounds<K>>(\2, bounds: R)",
+        None,
     ),
-    (r"^(?=    pub fn range<)", BOUNDS, 1),
+    (r"^(?=    pub fn (?:range|remove_range)<)", BOUNDS, None),
 ]
 
 # A range is named by any bounds, as in the standard library.
 RANGE = [
-    (r"^(?=    pub fn range<)", BOUNDS, 1),
+    (r"^(?=    pub fn (?:range|remove_range)<)", BOUNDS, 2),
     (r"^use std::ops::Bound;", "use std::ops::RangeBounds;", 1),
     (r"pub fn range<'a, C: Comparator<K>>\(", "pub fn range<'a, R: RangeBounds<K>, C: Comparator<K>>(", 1),
-    (r"bounds: \(Bound<K>, Bound<K>\),", "bounds: R,", 1),
-    (r"(trees\.range\(root, )bounds", r"\1(bounds.start_bound().cloned(), bounds.end_bound().cloned())", 1),
+    (r"pub fn remove_range<C: Comparator<K>>\(", "pub fn remove_range<R: RangeBounds<K>, C: Comparator<K>>(", 1),
+    (r"bounds: \(Bound<K>, Bound<K>\),", "bounds: R,", 2),
+    (
+        r"(trees\.(?:range\(root|remove_range\(&mut self\.root), )bounds",
+        r"\1(bounds.start_bound().cloned(), bounds.end_bound().cloned())",
+        2,
+    ),
 ]
 # The mark of roots that debug builds keep in each slot (`guards.rs`). A slot that is made, copied or freed is no root.
 MARKED = [
@@ -210,6 +216,25 @@ EDITS = {
     ],
     "bforest_trees/trees/copy.rt": [NEW_TREE],
     "bforest_trees/trees/load.rt": [NEW_TREE],
+    "bforest_trees/trees/pack.rt": [
+        NEW_TREE,
+        (r"^use crate::trees::unite::fewest_nodes;\n", r"\g<0>use alloc::vec::Vec;\n", 1),
+        (r"Vec::new\(self\.pool\.allocator\(\)\)", "Vec::new()", 2),
+        (r"list\.reserve_exact\(", "list.try_reserve_exact(", 2),
+        (r"list\.push_reserved\(", "list.push(", 2),
+        (
+            r"^(?= *let room = self\.room\(\);\n *let entries = self\.count_from\()",
+            "        self.expect_order_at(*handle, Bound::Included(key), comp);\n",
+            1,
+        ),
+    ],
+    "bforest_trees/trees/part.rt": [
+        (
+            r"^(?= *let mut path = Path::default\(\);\n *self\.goto_start\()",
+            "        self.expect_order_at(*handle, bounds.0, comp);\n        self.expect_order_at(*handle, bounds.1, comp);\n",
+            1,
+        ),
+    ],
     "bforest_trees/trees/get_or_insert.rt": [LOOKED_UP],
     "bforest_trees/trees/unite.rt": [
         (r"^use crate::trees::Trees;\n", "use crate::trees::Trees;\nuse alloc::vec::Vec;\n", 1),
@@ -270,6 +295,8 @@ CALLED_FROM = {
     "bforest_trees/trees.rt": ["insert", "insert_under", "remove"],
     "bforest_trees/trees/put.rt": ["put", "put_under", "put_below", "put_alone"],
     "bforest_trees/trees/remove.rt": ["remove_under", "remove_below", "remove_alone"],
+    "bforest_trees/trees/part.rt": ["remove_range"],
+    "bforest_trees/trees/pack.rt": ["split_off"],
     "bforest_trees/trees/get_or_insert.rt": ["get_or_insert", "get_or_insert_under", "update_or_insert", "update_or_insert_under"],
     "bforest/map_cursor_mut.rt": ["insert", "try_insert"],
     "bforest/set_cursor.rt": ["insert", "try_insert"],
@@ -296,9 +323,10 @@ MUST_USE = {
 # Names under which Rust's users look for a call, which its docs are found by.
 IN_ORDER = {"get_or_less": ["floor"], "get_or_greater": ["ceiling", "lower_bound"], "levels": ["height"]}
 ENDS = {"first": ["first_key_value"], "last": ["last_key_value"]}
+WHOLE = {"union_with": ["append"], "remove_range": ["truncate"]}
 ALIASES = {
-    "bforest/map.rt": {**IN_ORDER, **ENDS, "increases": ["is_sorted"]},
-    "bforest/set.rt": {**IN_ORDER, "contains": ["contains_key"], "increases": ["is_sorted"]},
+    "bforest/map.rt": {**IN_ORDER, **ENDS, **WHOLE, "increases": ["is_sorted"]},
+    "bforest/set.rt": {**IN_ORDER, **WHOLE, "contains": ["contains_key"], "increases": ["is_sorted"]},
     "bforest_indexed/maps.rt": {**IN_ORDER, **ENDS},
     "bforest_indexed/sets.rt": {**IN_ORDER, "contains": ["contains_key"]},
     "bforest/map_cursor.rt": {"goto": ["lower_bound"]},

@@ -1,10 +1,13 @@
 //! What debug builds keep and test beside the proved code: which slots are roots, whether a handle names one, and the order of the keys
 //! beside a place that was searched. Nothing in this file is proved, and release builds have nothing of it.
 
+#[cfg(debug_assertions)]
+use crate::bforest_core::Path;
 use crate::bforest_core::{Comparator, Node, PackedNode};
 use crate::bforest_trees::Trees;
 #[cfg(debug_assertions)]
 use core::fmt::Arguments;
+use core::ops::Bound;
 
 /// Whether a slot is the root of a tree. Debug builds keep it in the slot itself, so that it takes no memory that could be refused; in
 /// release builds it is nothing.
@@ -93,6 +96,19 @@ impl<K: Copy, V: Copy, const N: usize> Trees<K, V, N> {
     pub(crate) fn expect_order<C: Comparator<K>>(&self, leaf: Node, index: usize, is_there: bool, key: K, comp: &C) {
         order::expect(key, self.pool.node(leaf).unwrap_leaf().0, index, is_there, comp);
     }
+
+    /// Searches for the key of a bound, if it has one, and panics where the keys of the leaf beside its place are out of order.
+    #[track_caller]
+    pub(crate) fn expect_order_at<C: Comparator<K>>(&self, handle: PackedNode, bound: Bound<K>, comp: &C) {
+        let (Some(root), Bound::Included(key) | Bound::Excluded(key)) = (handle.expand(), bound) else {
+            return;
+        };
+        let mut path = Path::default();
+        let is_there = path.find(key, root, &self.pool, comp).is_some();
+        if let Some((leaf, index)) = path.leaf_pos() {
+            self.expect_order(leaf, index, is_there, key, comp);
+        }
+    }
 }
 
 #[cfg(debug_assertions)]
@@ -112,6 +128,9 @@ impl<K: Copy, V: Copy, const N: usize> Trees<K, V, N> {
 
     #[inline(always)]
     pub(crate) fn expect_order<C: Comparator<K>>(&self, _leaf: Node, _index: usize, _is_there: bool, _key: K, _comp: &C) {}
+
+    #[inline(always)]
+    pub(crate) fn expect_order_at<C: Comparator<K>>(&self, _handle: PackedNode, _bound: Bound<K>, _comp: &C) {}
 }
 
 /// The order of the keys beside a place that was searched.

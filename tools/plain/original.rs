@@ -1,8 +1,8 @@
 //! The random calls of the package's test on the Rust original, beside the same definitions. The argument is how many.
 //!
 //! Left out is what the original answers otherwise on purpose, or has not: counts, limits, ranges from behind, ranges and look-up from below of
-//! sets, look-up from above, calls at the first entry and the last, `get_or_insert`, `update`, `update_or_insert`, copies, loads and shifts; a
-//! look-up from below answers the key that was asked where it is present.
+//! sets, look-up from above, calls at the first entry and the last, `get_or_insert`, `update`, `update_or_insert`, copies, loads, shifts,
+//! ranges that are removed, splits and compactions; a look-up from below answers the key that was asked where it is present.
 
 #[path = "bforest/tests/against_std.rs"]
 mod against_std;
@@ -98,6 +98,7 @@ impl<C: Comparator<u32>> Subject for Maps<'_, C> {
             Call::Reserve(_) => vec![Answer::Done],
             Call::GetOrGreater(_) | Call::Ends | Call::PopFirst | Call::PopLast | Call::GetOrInsert(_) => vec![Answer::Done],
             Call::Update(_) | Call::UpdateOrInsert(_) | Call::Copy(_) | Call::Load(_) | Call::Shift(_) => vec![Answer::Done],
+            Call::RemoveRange(..) | Call::SplitOff(..) | Call::Compact => vec![Answer::Done],
         }
     }
 
@@ -162,6 +163,7 @@ impl<C: Comparator<u32>> Subject for Sets<'_, C> {
             Call::GetOrLess(_) | Call::Range(..) | Call::Reserve(_) => vec![Answer::Done],
             Call::GetOrGreater(_) | Call::Ends | Call::PopFirst | Call::PopLast | Call::GetOrInsert(_) => vec![Answer::Done],
             Call::Update(_) | Call::UpdateOrInsert(_) | Call::Copy(_) | Call::Load(_) | Call::Shift(_) => vec![Answer::Done],
+            Call::RemoveRange(..) | Call::SplitOff(..) | Call::Compact => vec![Answer::Done],
         }
     }
 
@@ -179,6 +181,7 @@ impl<C: Order> Subject for Uncounted<'_, C> {
             Call::Range(low, high, ends) => self.0.call(at, &Call::Range(*low, *high, vec![false; ends.len()])),
             Call::GetOrGreater(_) | Call::Ends | Call::PopFirst | Call::PopLast | Call::GetOrInsert(_) => vec![Answer::Done],
             Call::Update(_) | Call::UpdateOrInsert(_) | Call::Copy(_) | Call::Load(_) | Call::Shift(_) => vec![Answer::Done],
+            Call::RemoveRange(..) | Call::SplitOff(..) | Call::Compact => vec![Answer::Done],
             call => self.0.call(at, call),
         }
     }

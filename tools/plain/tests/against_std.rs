@@ -7,7 +7,7 @@ use bforest::{Comparator, Map, MapForest, OutOfMemory, Set, SetCursor, SetForest
 use random::Random;
 use std::cmp::{Ordering, Reverse};
 use std::collections::BTreeMap;
-use std::ops::Bound;
+use std::ops::{Bound, RangeBounds};
 
 /// How many maps or sets a forest has.
 pub const HANDLES: usize = 6;
@@ -149,6 +149,11 @@ pub enum Call {
     Read(Vec<Step>),
     /// A cursor that writes.
     Edit(Vec<Step>),
+    /// Takes the entries within bounds out.
+    RemoveRange(Bound<u32>, Bound<u32>),
+    /// The entries from a key on go to the map or set of this handle, in place of what was there.
+    SplitOff(u32, usize),
+    Compact,
     /// Keeps the entries whose key has none of these bits; the value that they get, if they get one.
     Retain(u32, Option<u32>),
     Clear,
@@ -390,12 +395,10 @@ impl<'a, C: Order> Model<'a, C> {
     }
 
     fn load(&mut self, at: usize, entries: &[Entry]) -> Result<(), OutOfMemory> {
-        let entries: BTreeMap<_, _> = in_order(self.order, entries).into_iter().map(|it| (self.order.rank(it.0), it)).collect();
-        let sizes = Sizes::packed(entries.len(), self.leaf);
-        self.reserve(sizes.nodes())?;
-        self.free -= sizes.nodes();
+        let entries = in_order(self.order, entries).into_iter().map(|it| (self.order.rank(it.0), it)).collect();
+        let loaded = self.packed(entries)?;
         self.clear(at);
-        self.lists[at] = Listed { ranks: entries.keys().copied().collect(), entries, sizes };
+        self.lists[at] = loaded;
         Ok(())
     }
 
@@ -417,21 +420,45 @@ impl<'a, C: Order> Model<'a, C> {
         }
     }
 
-    fn range(&self, at: usize, low: Bound<u32>, high: Bound<u32>, ends: &[bool]) -> Vec<Answer> {
+    /// The ranks within bounds, which may be crossed.
+    fn within(&self, at: usize, low: Bound<u32>, high: Bound<u32>) -> Vec<i64> {
         let ranked = |bound: Bound<u32>| bound.map(|it| self.order.rank(it));
-        let is_within = |rank: i64| {
-            (match ranked(low) {
-                Bound::Included(it) => it <= rank,
-                Bound::Excluded(it) => it < rank,
-                Bound::Unbounded => true,
-            }) && match ranked(high) {
-                Bound::Included(it) => rank <= it,
-                Bound::Excluded(it) => rank < it,
-                Bound::Unbounded => true,
-            }
-        };
-        let within = self.lists[at].entries.iter().filter(|it| is_within(*it.0)).map(|it| *it.1);
-        let within: Vec<Entry> = within.collect();
+        let bounds = (ranked(low), ranked(high));
+        self.lists[at].ranks.iter().copied().filter(|rank| bounds.contains(rank)).collect()
+    }
+
+    fn remove_range(&mut self, at: usize, low: Bound<u32>, high: Bound<u32>) -> bool {
+        let within = self.within(at, low, high);
+        within.iter().for_each(|rank| _ = self.remove(at, *rank));
+        !within.is_empty()
+    }
+
+    /// The tree of these entries, packed, for which its nodes are taken.
+    fn packed(&mut self, entries: BTreeMap<i64, Entry>) -> Result<Listed, OutOfMemory> {
+        let sizes = Sizes::packed(entries.len(), self.leaf);
+        self.reserve(sizes.nodes())?;
+        self.free -= sizes.nodes();
+        Ok(Listed { ranks: entries.keys().copied().collect(), entries, sizes })
+    }
+
+    fn split_off(&mut self, at: usize, key: u32, to: usize) -> Result<(), OutOfMemory> {
+        let rank = self.order.rank(key);
+        let tail = self.packed(self.lists[at].entries.range(rank..).map(|(rank, entry)| (*rank, *entry)).collect())?;
+        tail.ranks.iter().for_each(|rank| _ = self.remove(at, *rank));
+        self.clear(to);
+        self.lists[to] = tail;
+        Ok(())
+    }
+
+    fn compact(&mut self, at: usize) -> Result<(), OutOfMemory> {
+        let packed = self.packed(self.lists[at].entries.clone())?;
+        self.clear(at);
+        self.lists[at] = packed;
+        Ok(())
+    }
+
+    fn range(&self, at: usize, low: Bound<u32>, high: Bound<u32>, ends: &[bool]) -> Vec<Answer> {
+        let within: Vec<Entry> = self.within(at, low, high).iter().map(|rank| self.lists[at].entries[rank]).collect();
         let mut left = within.iter().copied();
         ends.iter().map(|&back| Answer::Entry(if back { left.next_back() } else { left.next() })).collect()
     }
@@ -523,6 +550,9 @@ impl<C: Order> Subject for Model<'_, C> {
                 let mut place = self.lists[at].ranks.len();
                 steps.iter().map(|step| self.step(at, &mut place, *step)).collect()
             }
+            Call::RemoveRange(low, high) => vec![Answer::Flag(self.remove_range(at, *low, *high))],
+            Call::SplitOff(key, to) => vec![Answer::Reserved(self.split_off(at, *key, *to))],
+            Call::Compact => vec![Answer::Reserved(self.compact(at))],
             Call::Retain(bits, put) => {
                 self.retain(at, *bits, put.filter(|_| self.is_map));
                 vec![Answer::Done]
@@ -580,6 +610,13 @@ impl<'a, C: Order> Maps<'a, C> {
         self.maps[at].clear(&mut self.forest);
         self.maps[at] = loaded;
         assert_eq!(self.maps[at].len(&self.forest), entries.len());
+        Ok(())
+    }
+
+    fn split_off(&mut self, at: usize, key: u32, to: usize) -> Result<(), OutOfMemory> {
+        let tail = self.maps[at].split_off(key, &mut self.forest, self.order)?;
+        self.maps[to].clear(&mut self.forest);
+        self.maps[to] = tail;
         Ok(())
     }
 
@@ -659,6 +696,9 @@ impl<C: Order> Subject for Maps<'_, C> {
             }
             Call::Read(steps) => self.read(at, steps),
             Call::Edit(steps) => self.edit(at, steps),
+            Call::RemoveRange(low, high) => vec![Answer::Flag(map.remove_range((*low, *high), forest, order))],
+            Call::SplitOff(key, to) => vec![Answer::Reserved(self.split_off(at, *key, *to))],
+            Call::Compact => vec![Answer::Reserved(map.compact(forest))],
             Call::Retain(bits, put) => {
                 map.retain(forest, |key, value| {
                     *value = put.unwrap_or(*value);
@@ -751,6 +791,13 @@ impl<'a, C: Order> Sets<'a, C> {
         assert_eq!(self.sets[at].len(&self.forest), keys.len());
         Ok(())
     }
+
+    fn split_off(&mut self, at: usize, key: u32, to: usize) -> Result<(), OutOfMemory> {
+        let tail = self.sets[at].split_off(key, &mut self.forest, self.order)?;
+        self.sets[to].clear(&mut self.forest);
+        self.sets[to] = tail;
+        Ok(())
+    }
 }
 
 impl<C: Order> Subject for Sets<'_, C> {
@@ -785,6 +832,9 @@ impl<C: Order> Subject for Sets<'_, C> {
                 let mut cursor = set.cursor(forest, order);
                 steps.iter().map(|step| set_step(&mut cursor, *step)).collect()
             }
+            Call::RemoveRange(low, high) => vec![Answer::Flag(set.remove_range((*low, *high), forest, order))],
+            Call::SplitOff(key, to) => vec![Answer::Reserved(self.split_off(at, *key, *to))],
+            Call::Compact => vec![Answer::Reserved(set.compact(forest))],
             Call::Retain(bits, _) => {
                 set.retain(forest, |key| key & bits == 0);
                 vec![Answer::Done]
@@ -888,10 +938,25 @@ impl Draw {
                 let count = random.below(12);
                 Call::Range(low, high, (0..count).map(|_| random.below(2) == 1).collect())
             }
-            50..=53 => Call::Read(self.steps(random, 6)),
+            50..=52 => Call::Read(self.steps(random, 6)),
+            53 => self.part(random),
             54..=60 => Call::Edit(self.steps(random, 12)),
             61 => Call::Iter,
             _ => self.rare(random),
+        }
+    }
+
+    /// A call that takes a part of a map or set out, or packs all of it. Most ranges are short.
+    fn part(&self, random: &mut Random) -> Call {
+        let (from, to) = (random.below(self.keys), random.below(HANDLES as u32) as usize);
+        let length = random.below(1 + self.keys / 8);
+        match random.below(16) {
+            0 => Call::RemoveRange(self.bound(random), self.bound(random)),
+            1..=3 => Call::RemoveRange(Bound::Included(from), Bound::Excluded(from.saturating_add(length))),
+            4..=6 => Call::RemoveRange(Bound::Excluded(from), Bound::Included(from.saturating_add(length))),
+            7..=8 => Call::RemoveRange(Bound::Excluded(from.saturating_add(length)), Bound::Excluded(from)),
+            9..=12 => Call::SplitOff(from, to),
+            _ => Call::Compact,
         }
     }
 

@@ -110,6 +110,7 @@ fn change_map(call: u32, key: u32, map: &mut Map<u32, u32>, forest: &mut MapFore
         5 if key % 16 == 0 => map.clear(forest),
         5 if key % 16 == 1 => drop(map.deep_clone(forest).map(|mut copy| copy.clear(forest))),
         5 if key % 16 == 2 => drop(Map::load(&[(key, 0)], forest).map(|mut it| it.clear(forest))),
+        5 if key % 16 == 3 => drop(map.remove_range(key..key + 9, forest, &())),
         5 if key % 4 == 0 => map.shift(key, |it| it + 3, forest, &()),
         5 => map.retain(forest, |it, _| it % 7 != key % 7),
         _ => drop(forest.reserve_nodes(forest.free_slots() + key % 8 / 7)),
@@ -136,6 +137,7 @@ fn call_set(call: u32, key: u32, set: &mut Set<u32>, forest: &mut SetForest<u32>
         3 if key % 16 == 0 => set.clear(forest),
         3 if key % 16 == 1 => drop(set.deep_clone(forest).map(|mut copy| copy.clear(forest))),
         3 if key % 16 == 2 => drop(Set::load(&[key], forest).map(|mut it| it.clear(forest))),
+        3 if key % 16 == 3 => drop(set.remove_range(key..key + 9, forest, &())),
         3 if key % 4 == 0 => set.shift(key, |it| it + 3, forest, &()),
         3 => set.retain(forest, |it| it % 7 != key % 7),
         4 => {
@@ -233,6 +235,33 @@ fn of_two_maps_or_sets_only_a_union_calls_the_allocator() {
     // One request for the list, and one to give it back: the nodes lie free.
     assert_eq!(calls_of(|| map.union_with(&all.0, &mut forest, &()).unwrap()), 2);
     assert_eq!(calls_of(|| set.union_with(&all.1, &mut set_forest, &()).unwrap()), 2);
+}
+
+/// A split and a compaction take memory for a list, which they give back, and for their nodes. A removal takes none, and where no entry goes
+/// there is no list.
+#[test]
+fn of_parts_only_a_split_and_a_compaction_call_the_allocator() {
+    let (mut forest, mut set_forest) = (MapForest::new(), SetForest::new());
+    let (mut map, mut set) = (Map::new(), Set::new());
+    for key in 0..ENTRIES {
+        map.insert(key, key, &mut forest, &()).unwrap();
+        set.insert(key, &mut set_forest, &()).unwrap();
+    }
+    let (half, none) = (ENTRIES / 2, ENTRIES);
+    assert_eq!(calls_of(|| map.split_off(none, &mut forest, &()).unwrap()), 0);
+    assert_eq!(calls_of(|| set.split_off(none, &mut set_forest, &()).unwrap()), 0);
+    // The list, its end, and a growth of the table.
+    assert_eq!(calls_of(|| map.split_off(half, &mut forest, &()).unwrap().clear(&mut forest)), 3);
+    assert_eq!(calls_of(|| set.split_off(half, &mut set_forest, &()).unwrap().clear(&mut set_forest)), 3);
+    assert_eq!(calls_of(|| map.remove_range(..10, &mut forest, &())), 0);
+    assert_eq!(calls_of(|| set.remove_range(..10, &mut set_forest, &())), 0);
+    // The nodes lie free.
+    assert_eq!(calls_of(|| map.compact(&mut forest).unwrap()), 2);
+    assert_eq!(calls_of(|| set.compact(&mut set_forest).unwrap()), 2);
+    assert_eq!(calls_of(|| map.remove_range(.., &mut forest, &())), 0);
+    assert_eq!(calls_of(|| set.remove_range(.., &mut set_forest, &())), 0);
+    assert_eq!(calls_of(|| map.compact(&mut forest).unwrap()), 0);
+    assert_eq!(calls_of(|| set.compact(&mut set_forest).unwrap()), 0);
 }
 
 /// The iterator that owns its forest asks for none, and gives back the table's memory where it ends.

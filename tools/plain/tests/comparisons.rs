@@ -1,9 +1,11 @@
-//! How often calls compare, told by a comparator that counts. In debug builds those that insert or remove by a key compare a few times more.
+//! How often calls compare, told by a comparator that counts. In debug builds those that insert or remove by a key compare a few times more, and
+//! those that are handed bounds, or a key to split at, search for each once more.
 
 use bforest::{Comparator, Map, MapForest, Maps, Set, SetForest, Sets};
 use std::cell::Cell;
 use std::cmp::{Ordering, Reverse};
 use std::ops::Bound::{self, Excluded, Included, Unbounded};
+use std::ops::RangeBounds;
 
 /// The order of the keys, which counts how often it is asked.
 #[derive(Default)]
@@ -25,6 +27,11 @@ impl Comparator<u32> for Counting {
 
 /// How often a debug build compares a key with itself and with the keys beside its place, where it inserts or removes.
 const BESIDE: u32 = if cfg!(debug_assertions) { 3 } else { 0 };
+
+/// How often a debug build compares for a bound's key, where one search compares so often: it searches once more, and then as above.
+fn beside_bound(search: u32) -> u32 {
+    if cfg!(debug_assertions) { search + BESIDE } else { 0 }
+}
 
 /// Two leaves, of 10 to 40 and of 50 to 80.
 fn two_leaves(forest: &mut MapForest<u32, u32>) -> Map<u32, u32> {
@@ -634,6 +641,77 @@ fn ranges_below_a_full_root() {
         _ = set.range(bounds, &forest, &counting);
         counting.taken()
     });
+}
+
+/// How many even keys from 2 on, up to `last`, are within bounds.
+fn evens_within(bounds: Bounds, last: u32) -> u32 {
+    (2..=last).step_by(2).filter(|key| bounds.contains(key)).count() as u32
+}
+
+/// Removes ranges whose bounds are keys up to `last`; `taken` removes one, and returns how often it compared: in one search, if there is a
+/// start, and once for each entry that goes and once more, if there is an end. Debug builds compare beside each bound too.
+fn each_removal(last: u32, search: impl Fn(u32) -> u32, taken: impl Fn(Bounds) -> u32) {
+    assert_eq!(taken((Unbounded, Unbounded)), 0);
+    let of = |bound: Bound<u32>, cost: &dyn Fn(u32) -> u32| match bound {
+        Included(key) | Excluded(key) => cost(key),
+        Unbounded => 0,
+    };
+    let within = |bounds: Bounds| {
+        let steps = if bounds.1 == Unbounded { 0 } else { evens_within(bounds, last) + 1 };
+        let beside = |key| beside_bound(search(key));
+        of(bounds.0, &search) + steps + of(bounds.0, &beside) + of(bounds.1, &beside)
+    };
+    for start in 0..=last {
+        for bounds in with_one_bound(start) {
+            assert!(taken(bounds) <= within(bounds), "{bounds:?}");
+        }
+        for end in 0..=last {
+            for bounds in with_two_bounds(start, end) {
+                assert!(taken(bounds) <= within(bounds), "{bounds:?}");
+            }
+        }
+    }
+}
+
+#[test]
+fn removals_of_ranges() {
+    let counting = Counting::default();
+    let mut forest = MapForest::new();
+    for count in [0, 1, 7, 35] {
+        let map = even_map(count, &mut forest);
+        let search = |key| if count == 35 { of_search_in_35(key) } else { of_search(&[count]) };
+        each_removal(2 * count + 1, search, |bounds| {
+            map.clone().remove_range(bounds, &mut forest.clone(), &counting);
+            counting.taken()
+        });
+    }
+    let mut forest = SetForest::new();
+    for count in [0, 1, 15] {
+        let set = even_set(count, &mut forest);
+        each_removal(2 * count + 1, |_| of_search(&[count]), |bounds| {
+            set.clone().remove_range(bounds, &mut forest.clone(), &counting);
+            counting.taken()
+        });
+    }
+}
+
+/// A split searches three times, and compares once more in each range that it reads. Debug builds search twice more: for the split's own
+/// key, and for the start of what is removed.
+#[test]
+fn splits() {
+    let counting = Counting::default();
+    let of_split = |search: u32| 3 * search + 2 * beside_bound(search);
+    let (mut maps, mut sets) = (MapForest::new(), SetForest::new());
+    let (map, set) = (even_map(35, &mut maps), even_set(71, &mut sets));
+    for key in 0..=143 {
+        _ = map.clone().split_off(key, &mut maps.clone(), &counting).unwrap();
+        assert!(counting.taken() <= of_split(of_search_in_35(key)), "{key}");
+        _ = set.clone().split_off(key, &mut sets.clone(), &counting).unwrap();
+        assert!(counting.taken() <= of_split(of_search_in_71(key)), "{key}");
+    }
+    _ = Map::new().split_off(0, &mut maps, &counting).unwrap();
+    _ = Set::new().split_off(0, &mut sets, &counting).unwrap();
+    assert_eq!(counting.taken(), 0);
 }
 
 /// A range by an index makes as many searches as one of a handle.

@@ -86,7 +86,7 @@ impl Handle for Numbers {
 
     fn change(&mut self, other: &mut Self, forest: &mut NumbersForest, random: &mut Random) {
         let key = 1 + random.below(KEYS);
-        match random.below(32) {
+        match random.below(35) {
             0..=7 => _ = self.insert(key, key, forest, &()),
             8..=9 => _ = self.get_or_insert(key, key, forest, &()),
             10..=11 => _ = self.update_or_insert(key, key, |it| it, forest, &()),
@@ -99,7 +99,8 @@ impl Handle for Numbers {
                 while cursor.remove().is_some() {}
             }
             24 => self.retain(forest, |it, _| it % 3 != key % 3),
-            25 => self.clear(forest),
+            25 if key % 4 == 0 => self.clear(forest),
+            25 => _ = self.remove_range(key..key + 20, forest, &()),
             26 => _ = self.union_with(other, forest, &()),
             27 => _ = self.intersect_with(other, forest, &()),
             28 => _ = self.difference_with(other, forest, &()),
@@ -111,6 +112,11 @@ impl Handle for Numbers {
                 let list: Vec<(u32, u32)> = (1..=key).map(|it| (it, it)).collect();
                 self.clear(forest);
                 *self = Map::load(&list, forest).unwrap_or_default();
+            }
+            31..=32 => _ = self.compact(forest),
+            33 => {
+                other.clear(forest);
+                *other = self.split_off(key, forest, &()).unwrap_or_default();
             }
             _ => *forest = forest.clone(),
         }
@@ -162,7 +168,7 @@ impl Handle for Set<u32> {
 
     fn change(&mut self, other: &mut Self, forest: &mut SetForest<u32>, random: &mut Random) {
         let key = 1 + random.below(KEYS);
-        match random.below(32) {
+        match random.below(35) {
             0..=11 => _ = self.insert(key, forest, &()),
             12..=17 => _ = self.remove(key, forest, &()),
             18..=19 => _ = (self.pop_first(forest), self.pop_last(forest)),
@@ -173,7 +179,8 @@ impl Handle for Set<u32> {
                 while cursor.remove().is_some() {}
             }
             24 => self.retain(forest, |it| it % 3 != key % 3),
-            25 => self.clear(forest),
+            25 if key % 4 == 0 => self.clear(forest),
+            25 => _ = self.remove_range(key..key + 20, forest, &()),
             26 => _ = self.union_with(other, forest, &()),
             27 => _ = self.intersect_with(other, forest, &()),
             28 => _ = self.difference_with(other, forest, &()),
@@ -185,6 +192,11 @@ impl Handle for Set<u32> {
                 let list: Vec<u32> = (1..=key).collect();
                 self.clear(forest);
                 *self = Set::load(&list, forest).unwrap_or_default();
+            }
+            31..=32 => _ = self.compact(forest),
+            33 => {
+                other.clear(forest);
+                *other = self.split_off(key, forest, &()).unwrap_or_default();
             }
             _ => *forest = forest.clone(),
         }

@@ -20,7 +20,7 @@ type NumbersForest = MapForest<u32, u32>;
 type MapCall = Call<Numbers, NumbersForest>;
 type SetCall = Call<Set<u32>, SetForest<u32>>;
 
-const OF_MAPS: [(&str, MapCall); 31] = [
+const OF_MAPS: [(&str, MapCall); 34] = [
     ("get", |map, forest| _ = map.get(1, forest, &())),
     ("update", |map, forest| _ = map.update(1, |value| value + 1, forest, &())),
     ("get_or_less", |map, forest| _ = map.get_or_less(1, forest, &())),
@@ -39,6 +39,9 @@ const OF_MAPS: [(&str, MapCall); 31] = [
     ("union_with", |map, forest| _ = map.union_with(&map.clone(), forest, &())),
     ("intersect_with", |map, forest| _ = map.intersect_with(&map.clone(), forest, &())),
     ("difference_with", |map, forest| _ = map.difference_with(&map.clone(), forest, &())),
+    ("remove_range", |map, forest| _ = map.remove_range(..=1, forest, &())),
+    ("split_off", |map, forest| _ = map.split_off(1, forest, &())),
+    ("compact", |map, forest| _ = map.compact(forest)),
     ("retain", |map, forest| map.retain(forest, |key, _| key > 1)),
     ("shift", |map, forest| map.shift(1, |key| key + 1, forest, &())),
     ("len", |map, forest| _ = map.len(forest)),
@@ -54,7 +57,7 @@ const OF_MAPS: [(&str, MapCall); 31] = [
     ("debug", |map, forest| _ = format!("{:?}", map.debug(forest))),
 ];
 
-const OF_SETS: [(&str, SetCall); 27] = [
+const OF_SETS: [(&str, SetCall); 30] = [
     ("contains", |set, forest| _ = set.contains(1, forest, &())),
     ("get_or_less", |set, forest| _ = set.get_or_less(1, forest, &())),
     ("get_or_greater", |set, forest| _ = set.get_or_greater(1, forest, &())),
@@ -72,6 +75,9 @@ const OF_SETS: [(&str, SetCall); 27] = [
     ("union_with", |set, forest| _ = set.union_with(&set.clone(), forest, &())),
     ("intersect_with", |set, forest| _ = set.intersect_with(&set.clone(), forest, &())),
     ("difference_with", |set, forest| _ = set.difference_with(&set.clone(), forest, &())),
+    ("remove_range", |set, forest| _ = set.remove_range(..=1, forest, &())),
+    ("split_off", |set, forest| _ = set.split_off(1, forest, &())),
+    ("compact", |set, forest| _ = set.compact(forest)),
     ("retain", |set, forest| set.retain(forest, |key| key > 1)),
     ("shift", |set, forest| set.shift(1, |key| key + 1, forest, &())),
     ("len", |set, forest| _ = set.len(forest)),
@@ -176,8 +182,10 @@ fn each_of_a_set(set: &Set<u32>, forest: &SetForest<u32>, mistake: &str) {
 /// The ways in which a map's tree ends through a copy of its handle.
 #[test]
 fn maps_that_ended_through_a_copy() {
-    let ends: [MapCall; 4] = [
+    let ends: [MapCall; 6] = [
         |copy, forest| copy.clear(forest),
+        |copy, forest| _ = copy.remove_range(.., forest, &()),
+        |copy, forest| _ = copy.split_off(1, forest, &()),
         |copy, forest| copy.retain(forest, |_, _| false),
         |copy, forest| (1..=5).for_each(|key| _ = copy.remove(key, forest, &())),
         |copy, forest| {
@@ -197,8 +205,10 @@ fn maps_that_ended_through_a_copy() {
 
 #[test]
 fn sets_that_ended_through_a_copy() {
-    let ends: [SetCall; 4] = [
+    let ends: [SetCall; 6] = [
         |copy, forest| copy.clear(forest),
+        |copy, forest| _ = copy.remove_range(.., forest, &()),
+        |copy, forest| _ = copy.split_off(1, forest, &()),
         |copy, forest| copy.retain(forest, |_| false),
         |copy, forest| (1..=5).for_each(|key| _ = copy.remove(key, forest, &())),
         |copy, forest| {
@@ -324,6 +334,38 @@ fn copies_from_before_a_union() {
     let (mut set, other) = (filled_set(&mut sets), set_up_to(FULL_SET, &mut sets));
     let copy = set.clone();
     assert_eq!(set.union_with(&other, &mut sets, &()), Ok(true));
+    each_of_a_set(&copy, &sets, ENDED);
+}
+
+/// A compaction makes a new tree, as a union does.
+#[test]
+fn copies_from_before_a_compaction() {
+    let mut maps = MapForest::new();
+    let mut map = filled_map(&mut maps);
+    let copy = map.clone();
+    assert_eq!(map.compact(&mut maps), Ok(()));
+    each_of_a_map(&copy, &maps, ENDED);
+    let mut sets = SetForest::new();
+    let mut set = filled_set(&mut sets);
+    let copy = set.clone();
+    assert_eq!(set.compact(&mut sets), Ok(()));
+    each_of_a_set(&copy, &sets, ENDED);
+}
+
+/// A split leaves 4 entries in the leaf of the front, and the root above it ends. A copy from before names neither part, and is told.
+#[test]
+fn copies_from_before_a_split() {
+    let mut maps = MapForest::new();
+    let mut map = map_up_to(FULL_MAP + 1, &mut maps);
+    let copy = map.clone();
+    let tail = map.split_off(5, &mut maps, &()).unwrap();
+    assert!(map.iter(&maps).map(|it| it.0).eq(1..=4) && tail.iter(&maps).map(|it| it.0).eq(5..=8));
+    each_of_a_map(&copy, &maps, ENDED);
+    let mut sets = SetForest::new();
+    let mut set = set_up_to(FULL_SET + 1, &mut sets);
+    let copy = set.clone();
+    let tail = set.split_off(9, &mut sets, &()).unwrap();
+    assert!(set.iter(&sets).eq(1..=8) && tail.iter(&sets).eq(9..=16));
     each_of_a_set(&copy, &sets, ENDED);
 }
 
@@ -596,7 +638,7 @@ fn hundred_of_a_set(forest: &mut SetForest<u32>) -> Set<u32> {
 /// A drawn call on a map under an order.
 fn call_map(map: &mut Numbers, forest: &mut NumbersForest, random: &Random, order: Order) {
     let (key, other) = (random.below(150), random.below(150));
-    match random.below(10) {
+    match random.below(13) {
         0..=2 => _ = map.insert(key, other, forest, &order),
         3..=4 => _ = map.remove(key, forest, &order),
         5 => _ = (map.get(key, forest, &order), map.get_or_less(other, forest, &order), map.get_or_greater(key, forest, &order)),
@@ -606,6 +648,9 @@ fn call_map(map: &mut Numbers, forest: &mut NumbersForest, random: &Random, orde
             let mut cursor = map.cursor(forest, &order);
             _ = (cursor.goto(key), cursor.prev(), cursor.entry(), cursor.next());
         }
+        9 => _ = map.remove_range(key..=key + other % 3, forest, &order),
+        10 => _ = map.split_off(key, forest, &order).map(|tail| if key < 75 { *map = tail }),
+        11 => _ = map.compact(forest),
         _ => {
             let mut cursor = map.cursor_mut(forest, &order);
             _ = (cursor.goto(key), cursor.insert(other, key), cursor.prev(), cursor.remove(), cursor.next());
@@ -616,7 +661,7 @@ fn call_map(map: &mut Numbers, forest: &mut NumbersForest, random: &Random, orde
 /// A drawn call on a set under an order.
 fn call_set(set: &mut Set<u32>, forest: &mut SetForest<u32>, random: &Random, order: Order) {
     let (key, other) = (random.below(150), random.below(150));
-    match random.below(10) {
+    match random.below(13) {
         0..=2 => _ = set.insert(key, forest, &order),
         3..=4 => _ = set.remove(key, forest, &order),
         5 => _ = (set.contains(key, forest, &order), set.get_or_less(other, forest, &order), set.get_or_greater(key, forest, &order)),
@@ -626,6 +671,9 @@ fn call_set(set: &mut Set<u32>, forest: &mut SetForest<u32>, random: &Random, or
             let mut cursor = set.cursor(forest, &order);
             _ = (cursor.goto(key), cursor.prev(), cursor.elem(), cursor.next());
         }
+        9 => _ = set.remove_range(key..=key + other % 3, forest, &order),
+        10 => _ = set.split_off(key, forest, &order).map(|tail| if key < 75 { *set = tail }),
+        11 => _ = set.compact(forest),
         _ => {
             let mut cursor = set.cursor(forest, &order);
             _ = (cursor.goto(key), cursor.insert(other), cursor.prev(), cursor.remove(), cursor.next());
@@ -706,11 +754,11 @@ fn a_set_under_changing_orders() {
     assert!(is_set_forest_in_use(&mut forest));
 }
 
-/// A call that compares keys on its way to an insertion or a removal.
+/// A call that compares keys on its way to an insertion, or to what it takes out.
 type Ordered<H, F, C> = (&'static str, fn(&mut H, u32, &mut F, &C));
 
 /// The calls on a map that are told where the keys beside a key's place are out of order.
-fn ordered_calls_of_maps<C: Comparator<u32>>() -> [Ordered<Numbers, NumbersForest, C>; 6] {
+fn ordered_calls_of_maps<C: Comparator<u32>>() -> [Ordered<Numbers, NumbersForest, C>; 9] {
     [
         ("insert", |map, key, forest, order| _ = map.insert(key, 0, forest, order)),
         ("try_insert", |map, key, forest, order| _ = map.try_insert(key, 0, forest, order)),
@@ -718,15 +766,21 @@ fn ordered_calls_of_maps<C: Comparator<u32>>() -> [Ordered<Numbers, NumbersFores
         ("update_or_insert", |map, key, forest, order| _ = map.update_or_insert(key, 0, |it| it, forest, order)),
         ("remove", |map, key, forest, order| _ = map.remove(key, forest, order)),
         ("insert of a cursor", |map, key, forest, order| _ = map.cursor_mut(forest, order).insert(key, 0)),
+        ("remove_range from a key on", |map, key, forest, order| _ = map.remove_range(key.., forest, order)),
+        ("remove_range up to a key", |map, key, forest, order| _ = map.remove_range(..key, forest, order)),
+        ("split_off", |map, key, forest, order| _ = map.split_off(key, forest, order)),
     ]
 }
 
-fn ordered_calls_of_sets<C: Comparator<u32>>() -> [Ordered<Set<u32>, SetForest<u32>, C>; 4] {
+fn ordered_calls_of_sets<C: Comparator<u32>>() -> [Ordered<Set<u32>, SetForest<u32>, C>; 7] {
     [
         ("insert", |set, key, forest, order| _ = set.insert(key, forest, order)),
         ("try_insert", |set, key, forest, order| _ = set.try_insert(key, forest, order)),
         ("remove", |set, key, forest, order| _ = set.remove(key, forest, order)),
         ("insert of a cursor", |set, key, forest, order| _ = set.cursor(forest, order).insert(key)),
+        ("remove_range from a key on", |set, key, forest, order| _ = set.remove_range(key.., forest, order)),
+        ("remove_range up to a key", |set, key, forest, order| _ = set.remove_range(..key, forest, order)),
+        ("split_off", |set, key, forest, order| _ = set.split_off(key, forest, order)),
     ]
 }
 

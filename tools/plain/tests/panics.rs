@@ -1,8 +1,9 @@
 //! What a panic of the caller's own code leaves, where it is caught.
 
-use bforest::{Comparator, Map, MapForest};
+use bforest::{Comparator, Map, MapForest, Set, SetForest};
 use std::cell::Cell;
 use std::cmp::Ordering;
+use std::ops::Bound::{Excluded, Included};
 use std::panic::{AssertUnwindSafe, catch_unwind, set_hook};
 
 /// The order of the keys, which panics once it was asked as often as it says.
@@ -47,6 +48,55 @@ fn a_comparator_that_panics_changes_nothing() {
         }
     }
     assert!(caught > 1000, "{caught} panics");
+}
+
+/// A removal of a range takes out one entry after the other, and compares the key of each before: those in front of the key at which the
+/// comparator panicked are gone, and all others are there. The handle is live.
+#[test]
+fn a_comparator_that_panics_in_a_removal_of_a_range() {
+    set_hook(Box::new(|_| {}));
+    let mut met = [false; 40];
+    for asked in 0..100 {
+        let (mut map, mut forest) = filled();
+        let order = Failing(Cell::new(asked));
+        let made = catch_unwind(AssertUnwindSafe(|| map.remove_range((Included(40), Excluded(100)), &mut forest, &order)));
+        let left = map.len(&forest);
+        let gone = 100 - left as u32;
+        assert!(map.iter(&forest).eq((0..200).step_by(2).filter(|key| !(40..40 + 2 * gone).contains(key)).map(|it| (it, it))));
+        assert!(forest.holds(&map) && map.increases(&forest, &()));
+        assert!(made.is_err() || gone == 30);
+        met[gone as usize] = true;
+        map.insert(41, 41, &mut forest, &()).unwrap();
+        map.clear(&mut forest);
+        assert_eq!(forest.nodes_in_use(), 0);
+    }
+    assert!(met[..=30].iter().all(|it| *it) && met[31..].iter().all(|it| !it));
+}
+
+/// A split compares before it changes its map. In the last of its searches the nodes of the tail are taken already: they stay in use, without
+/// a handle.
+#[test]
+fn a_comparator_that_panics_in_a_split() {
+    set_hook(Box::new(|_| {}));
+    let (mut maps, mut sets) = (MapForest::new(), SetForest::new());
+    let (map, set) = (Map::load(&[(1, 1), (3, 3), (5, 5)], &mut maps).unwrap(), Set::load(&[1, 3, 5], &mut sets).unwrap());
+    let (mut caught, mut kept) = (0, [0; 2]);
+    for asked in 0..30 {
+        let (mut map, mut maps, mut set, mut sets) = (map.clone(), maps.clone(), set.clone(), sets.clone());
+        let (order, other) = (Failing(Cell::new(asked)), Failing(Cell::new(asked)));
+        let made = catch_unwind(AssertUnwindSafe(|| map.split_off(3, &mut maps, &order))).is_err();
+        assert_eq!(made, catch_unwind(AssertUnwindSafe(|| set.split_off(3, &mut sets, &other))).is_err());
+        if made {
+            caught += 1;
+            assert!(map.iter(&maps).eq([1, 3, 5].map(|it| (it, it))) && set.iter(&sets).eq([1, 3, 5]));
+            assert!(maps.holds(&map) && sets.holds(&set));
+            kept[maps.nodes_in_use() as usize - 1] += 1;
+            assert_eq!(maps.nodes_in_use(), sets.nodes_in_use());
+        } else {
+            assert!(map.iter(&maps).eq([(1, 1)]) && set.iter(&sets).eq([1]));
+        }
+    }
+    assert!(caught > 3 && kept[0] > 0 && kept[1] > 0, "{caught} panics, {kept:?}");
 }
 
 #[test]
@@ -104,4 +154,25 @@ fn a_predicate_that_panics_leaves_a_forest_that_can_be_cleared() {
         map.insert(1, 1, &mut forest, &()).unwrap();
         assert!(map.iter(&forest).eq([(1, 1)]));
     }
+}
+
+/// A difference removes one entry after the other, as `retain` does, and compares twice for each but the first: with the key before in the
+/// other map, and with the equal one.
+#[test]
+fn a_comparator_that_panics_in_a_difference_leaves_a_forest_that_can_be_cleared() {
+    set_hook(Box::new(|_| {}));
+    let mut not_live = 0;
+    for asked in 0..199 {
+        let (mut map, mut forest) = filled();
+        let other = map.deep_clone(&mut forest).unwrap();
+        let order = Failing(Cell::new(asked));
+        assert!(catch_unwind(AssertUnwindSafe(|| map.difference_with(&other, &mut forest, &order))).is_err());
+        assert!(other.iter(&forest).eq((0..200).step_by(2).map(|it| (it, it))));
+        not_live += usize::from(!forest.holds(&map));
+        forest.clear();
+        map = Map::new();
+        map.insert(1, 1, &mut forest, &()).unwrap();
+        assert!(map.iter(&forest).eq([(1, 1)]));
+    }
+    assert!(not_live > 0);
 }

@@ -142,6 +142,15 @@ with_both_searches!(
     a_loaded_map_has_the_fewest_nodes,
     a_loaded_set_has_the_fewest_nodes,
     a_map_loaded_one_node_short_changes_nothing,
+    a_range_that_goes_merges_the_leaves_beside_it,
+    ranges_with_bounds_of_each_kind,
+    a_range_of_equal_keys_goes_whole,
+    a_map_is_split_at_a_key_and_between_keys,
+    a_split_at_an_end_moves_all_or_nothing,
+    a_split_makes_a_packed_tail,
+    a_split_one_node_short_changes_nothing,
+    a_compacted_map_has_the_fewest_nodes,
+    a_compaction_one_node_short_changes_nothing,
     retain_changes_values_and_merges_leaves,
     the_sixteenth_key_halves_a_leaf_of_a_set,
     the_greatest_and_the_least_key,
@@ -686,6 +695,133 @@ fn a_map_loaded_one_node_short_changes_nothing<C: Comparator<u32>>(comp: &C) {
         assert_eq!(Numbers::load(&tenfold(1..=15), &mut forest).map(|_| 5), taken.ok_or(OutOfMemory::Full));
         assert_eq!(sizes(&map, &forest), Sizes { levels: 1, slots: taken.unwrap_or(1), free: 0 });
         assert_eq!(entries(&map, &forest), tenfold([3]));
+    }
+}
+
+// Ranges that are removed, splits and compactions.
+
+// Nine leaves of 4 lie below two inner nodes, of 4 children and of 5. Without 9 the third leaf has 3 entries, and joins the fourth: 10 to 16.
+// The first parent is left with 3 children, and joins the other: 8 children. The root has a single child then, and ends. Without 10 to 12 the
+// third leaf has 4. Without 13 it has 3, and joins the next: 14 to 20, of which 17 to 20 are left in the end.
+fn a_range_that_goes_merges_the_leaves_beside_it<C: Comparator<u32>>(comp: &C) {
+    let mut forest = Forest::new();
+    let mut map = filled(1..=36, &mut forest, comp);
+    assert_eq!(sizes(&map, &forest), Sizes { levels: 3, slots: 12, free: 0 });
+    assert!(map.remove_range(9..=12, &mut forest, comp));
+    assert_eq!(sizes(&map, &forest), Sizes { levels: 2, slots: 12, free: 3 });
+    assert!(map.remove_range(13..17, &mut forest, comp));
+    assert_eq!(sizes(&map, &forest), Sizes { levels: 2, slots: 12, free: 4 });
+    assert_eq!(entries(&map, &forest), tenfold((1..=8).chain(17..=36)));
+    assert!(!map.remove_range(9..17, &mut forest, comp));
+    assert!(map.remove_range(.., &mut forest, comp));
+    assert!(map.is_empty() && !map.remove_range(.., &mut forest, comp));
+    assert_eq!(sizes(&map, &forest), Sizes { levels: 0, slots: 12, free: 12 });
+}
+
+fn ranges_with_bounds_of_each_kind<C: Comparator<u32>>(comp: &C) {
+    let keys = [Unbounded, Included(3), Excluded(3), Included(4), Excluded(4)];
+    let starts = [(keys[0], 0), (keys[1], 3), (keys[2], 4), (keys[3], 4), (keys[4], 5)];
+    let ends = [Unbounded, Included(6), Excluded(6), Included(2), Excluded(2)].into_iter().zip([9, 7, 6, 3, 2]);
+    for ((start, from), (end, to)) in starts.into_iter().flat_map(|start| ends.clone().map(move |end| (start, end))) {
+        let mut forest = Forest::new();
+        let mut map = filled(0..9, &mut forest, comp);
+        assert_eq!(map.remove_range((start, end), &mut forest, comp), from < to);
+        assert_eq!(entries(&map, &forest), tenfold((0..9).filter(|key| !(from..to).contains(key))), "{start:?} {end:?}");
+    }
+}
+
+// A bound stands for all keys that compare equal to its own.
+fn a_range_of_equal_keys_goes_whole<C: Comparator<u32>>(_: &C) {
+    for (start, end, left) in [
+        (Included(25), Included(31), vec![13, 47]),
+        (Excluded(25), Excluded(47), vec![13, 21, 47]),
+        (Excluded(13), Unbounded, vec![13]),
+        (Unbounded, Included(39), vec![47]),
+    ] {
+        let mut forest = Forest::new();
+        let mut map = filled([13, 21, 38, 47], &mut forest, &Tens);
+        assert!(map.remove_range((start, end), &mut forest, &Tens));
+        assert_eq!(entries(&map, &forest), tenfold(left));
+    }
+}
+
+fn a_map_is_split_at_a_key_and_between_keys<C: Comparator<u32>>(comp: &C) {
+    let mut forest = Forest::new();
+    for at in [50, 45, 41] {
+        let mut map = filled((1..=8).map(|it| 10 * it), &mut forest, comp);
+        let tail = map.split_off(at, &mut forest, comp).unwrap();
+        assert_eq!(entries(&map, &forest), tenfold([10, 20, 30, 40]));
+        assert_eq!(entries(&tail, &forest), tenfold([50, 60, 70, 80]));
+    }
+    let mut map = filled([13, 21, 38, 47], &mut forest, &Tens);
+    let tail = map.split_off(39, &mut forest, &Tens).unwrap();
+    assert_eq!((entries(&map, &forest), entries(&tail, &forest)), (tenfold([13, 21]), tenfold([38, 47])));
+}
+
+fn a_split_at_an_end_moves_all_or_nothing<C: Comparator<u32>>(comp: &C) {
+    let mut forest = Forest::new();
+    let mut map = filled(1..=8, &mut forest, comp);
+    assert!(map.split_off(9, &mut forest, comp).unwrap().is_empty());
+    assert_eq!(sizes(&map, &forest), Sizes { levels: 2, slots: 3, free: 0 });
+    let mut tail = map.split_off(1, &mut forest, comp).unwrap();
+    assert!(map.is_empty() && map.split_off(0, &mut forest, comp).unwrap().is_empty());
+    assert_eq!(entries(&tail, &forest), tenfold(1..=8));
+    assert_eq!(sizes(&tail, &forest), Sizes { levels: 2, slots: 6, free: 3 });
+    tail.clear(&mut forest);
+    assert_eq!(forest.nodes_in_use(), 0);
+}
+
+// 15 keys in order lie in leaves of 4, 4 and 7 below a root. From 5 on there are 11: leaves of 7 and 4 below a root. The leaf of 1 to 4 is left
+// alone, so three nodes lie free.
+fn a_split_makes_a_packed_tail<C: Comparator<u32>>(comp: &C) {
+    let mut forest = Forest::new();
+    let mut map = filled(1..=15, &mut forest, comp);
+    assert_eq!(sizes(&map, &forest), Sizes { levels: 2, slots: 4, free: 0 });
+    let tail = map.split_off(5, &mut forest, comp).unwrap();
+    assert_eq!(sizes(&map, &forest), Sizes { levels: 1, slots: 7, free: 3 });
+    assert_eq!(sizes(&tail, &forest), Sizes { levels: 2, slots: 7, free: 3 });
+    assert_eq!((entries(&map, &forest), entries(&tail, &forest)), (tenfold(1..=4), tenfold(5..=15)));
+    // Both go on apart.
+    assert_eq!(map.insert(5, 0, &mut forest, comp), Ok(None));
+    assert_eq!((map.len(&forest), tail.get(5, &forest, comp), tail.len(&forest)), (5, Some(50), 11));
+}
+
+fn a_split_one_node_short_changes_nothing<C: Comparator<u32>>(comp: &C) {
+    for (limit, moved) in [(6, None), (7, Some(11))] {
+        let mut forest = Forest::with_node_limit(limit);
+        let mut map = filled(1..=15, &mut forest, comp);
+        let tail = map.split_off(5, &mut forest, comp);
+        assert_eq!(tail.map(|it| it.len(&forest)), moved.ok_or(OutOfMemory::Full));
+        if moved.is_none() {
+            assert_eq!(entries(&map, &forest), tenfold(1..=15));
+            assert_eq!(sizes(&map, &forest), Sizes { levels: 2, slots: 4, free: 0 });
+        }
+    }
+}
+
+// 36 keys in order take nine leaves of 4, two inner nodes and a root. Packed they lie in six leaves below a root, made beside the old nodes,
+// which lie free then. To pack them again takes seven of these, and frees seven.
+fn a_compacted_map_has_the_fewest_nodes<C: Comparator<u32>>(comp: &C) {
+    let mut forest = Forest::new();
+    let mut map = filled(1..=36, &mut forest, comp);
+    assert_eq!(map.compact(&mut forest), Ok(()));
+    assert_eq!(sizes(&map, &forest), Sizes { levels: 2, slots: 19, free: 12 });
+    assert_eq!(entries(&map, &forest), tenfold(1..=36));
+    assert_eq!(map.get(36, &forest, comp), Some(360));
+    assert_eq!(map.compact(&mut forest), Ok(()));
+    assert_eq!(sizes(&map, &forest), Sizes { levels: 2, slots: 19, free: 12 });
+    let mut none = Numbers::new();
+    assert_eq!((none.compact(&mut forest), none.is_empty()), (Ok(()), true));
+}
+
+fn a_compaction_one_node_short_changes_nothing<C: Comparator<u32>>(comp: &C) {
+    for (limit, answer) in [(18, Err(OutOfMemory::Full)), (19, Ok(()))] {
+        let mut forest = Forest::with_node_limit(limit);
+        let mut map = filled(1..=36, &mut forest, comp);
+        let copy = map.clone();
+        assert_eq!(map.compact(&mut forest), answer);
+        assert_eq!(entries(&map, &forest), tenfold(1..=36));
+        assert_eq!((forest.nodes_in_use(), forest.holds(&copy)), if answer.is_ok() { (7, false) } else { (12, true) });
     }
 }
 

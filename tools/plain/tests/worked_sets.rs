@@ -94,6 +94,34 @@ fn two_maps_are_put_together() {
     assert!(map.difference_with(&other, &mut forest, &()) && map.is_empty());
 }
 
+/// Without 30 to 70 the first leaf has 3 keys, and those of both fit into one: 11. From 90 on there are 8.
+#[test]
+fn keys_that_go_and_keys_that_are_split_off() {
+    let mut forest = SetForest::new();
+    let mut set = two_leaves(&mut forest);
+    assert!(!set.remove_range(75..75, &mut forest, &()) && !set.remove_range(81..90, &mut forest, &()));
+    assert!(set.remove_range(30..=70, &mut forest, &()) && !set.remove_range(30..80, &mut forest, &()));
+    assert!(set.iter(&forest).eq([1, 2, 8, 9, 10, 11, 12, 13, 14, 15, 16].map(|key| 10 * key)));
+    assert_eq!((set.levels(&forest), forest.slots(), forest.nodes_in_use()), (1, 3, 1));
+    let tail = set.split_off(85, &mut forest, &()).unwrap();
+    assert!(set.iter(&forest).eq([10, 20, 80]) && tail.iter(&forest).eq((9..=16).map(|key| 10 * key)));
+    assert_eq!((tail.levels(&forest), forest.slots(), forest.nodes_in_use()), (1, 3, 2));
+    assert!(set.split_off(81, &mut forest, &()).unwrap().is_empty());
+}
+
+/// 24 keys in order lie in leaves of 8, 8 and 8 below a root, and packed in leaves of 15 and 9 below one.
+#[test]
+fn a_compacted_set_has_the_fewest_nodes() {
+    for (limit, answer) in [(6, Err(OutOfMemory::Full)), (7, Ok(()))] {
+        let mut forest = SetForest::with_node_limit(limit);
+        let mut set = set_of(1..=24, &mut forest);
+        assert_eq!((forest.nodes_in_use(), set.levels(&forest)), (4, 2));
+        assert_eq!(set.compact(&mut forest), answer);
+        assert_eq!(forest.nodes_in_use(), if answer.is_ok() { 3 } else { 4 });
+        assert!(set.iter(&forest).eq(1..=24) && set.contains(24, &forest, &()));
+    }
+}
+
 /// The cursor goes over the seam of the two leaves. The key that is put in between goes into the first, which has room.
 #[test]
 fn a_cursor_of_a_set_puts_in_and_takes_out() {

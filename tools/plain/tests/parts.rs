@@ -1,0 +1,391 @@
+//! Ranges that are removed, splits and compactions beside `BTreeMap` and `BTreeSet`: what is left and what goes, with exactly the nodes that are
+//! stated; one node short; and with each request for memory refused in turn.
+
+mod random;
+
+use bforest::{Map, MapForest, OutOfMemory, Set, SetForest};
+use random::Random;
+use std::alloc::{GlobalAlloc, Layout, System};
+use std::cell::Cell;
+use std::collections::{BTreeMap, BTreeSet};
+use std::ops::Bound::{self, Excluded, Included, Unbounded};
+use std::ops::RangeBounds;
+use std::ptr;
+
+thread_local! {
+    /// How many requests for memory this thread is granted yet, if they are counted.
+    static GRANTED: Cell<Option<u32>> = const { Cell::new(None) };
+}
+
+struct Counted;
+
+/// Whether a request is granted, which is counted.
+fn grants() -> bool {
+    GRANTED.try_with(|it| match it.get() {
+        Some(0) => false,
+        granted => {
+            it.set(granted.map(|left| left - 1));
+            true
+        }
+    }) != Ok(false)
+}
+
+unsafe impl GlobalAlloc for Counted {
+    unsafe fn alloc(&self, layout: Layout) -> *mut u8 {
+        if grants() { unsafe { System.alloc(layout) } } else { ptr::null_mut() }
+    }
+
+    unsafe fn dealloc(&self, at: *mut u8, layout: Layout) {
+        unsafe { System.dealloc(at, layout) }
+    }
+
+    unsafe fn realloc(&self, at: *mut u8, layout: Layout, size: usize) -> *mut u8 {
+        if grants() { unsafe { System.realloc(at, layout, size) } } else { ptr::null_mut() }
+    }
+}
+
+#[global_allocator]
+static ALLOCATOR: Counted = Counted;
+
+/// What a call answers that is granted so many requests for memory.
+fn granted<T>(requests: u32, call: impl FnOnce() -> T) -> T {
+    GRANTED.set(Some(requests));
+    let answer = call();
+    GRANTED.set(None);
+    answer
+}
+
+// What a test of maps and of sets needs. Each key of a map has ten times itself as its value.
+
+trait Handle: Clone + Default {
+    type Forest: Clone;
+
+    fn forest(limit: u32) -> Self::Forest;
+    /// The slots, and how many of them lie free.
+    fn slots(forest: &Self::Forest) -> (u32, u32);
+    fn fewest_nodes_for(entries: usize) -> usize;
+    fn keys(&self, forest: &Self::Forest) -> Vec<u32>;
+    fn levels(&self, forest: &Self::Forest) -> usize;
+    fn put(&mut self, key: u32, forest: &mut Self::Forest);
+    fn take(&mut self, key: u32, forest: &mut Self::Forest);
+    fn clear(&mut self, forest: &mut Self::Forest);
+    fn remove_range(&mut self, bounds: Bounds, forest: &mut Self::Forest) -> bool;
+    fn split_off(&mut self, key: u32, forest: &mut Self::Forest) -> Result<Self, OutOfMemory>;
+    fn compact(&mut self, forest: &mut Self::Forest) -> Result<(), OutOfMemory>;
+}
+
+type Bounds = (Bound<u32>, Bound<u32>);
+
+impl Handle for Map<u32, u32> {
+    type Forest = MapForest<u32, u32>;
+
+    fn forest(limit: u32) -> Self::Forest {
+        MapForest::with_node_limit(limit)
+    }
+
+    fn slots(forest: &Self::Forest) -> (u32, u32) {
+        (forest.slots(), forest.free_slots())
+    }
+
+    fn fewest_nodes_for(entries: usize) -> usize {
+        Map::<u32, u32>::fewest_nodes_for(entries)
+    }
+
+    fn keys(&self, forest: &Self::Forest) -> Vec<u32> {
+        assert!(forest.holds(self) && self.increases(forest, &()));
+        assert!(self.iter(forest).all(|(key, value)| value == 10 * key));
+        self.iter(forest).map(|it| it.0).collect()
+    }
+
+    fn levels(&self, forest: &Self::Forest) -> usize {
+        self.levels(forest)
+    }
+
+    fn put(&mut self, key: u32, forest: &mut Self::Forest) {
+        self.insert(key, 10 * key, forest, &()).unwrap();
+    }
+
+    fn take(&mut self, key: u32, forest: &mut Self::Forest) {
+        self.remove(key, forest, &());
+    }
+
+    fn clear(&mut self, forest: &mut Self::Forest) {
+        self.clear(forest);
+    }
+
+    fn remove_range(&mut self, bounds: Bounds, forest: &mut Self::Forest) -> bool {
+        self.remove_range(bounds, forest, &())
+    }
+
+    fn split_off(&mut self, key: u32, forest: &mut Self::Forest) -> Result<Self, OutOfMemory> {
+        self.split_off(key, forest, &())
+    }
+
+    fn compact(&mut self, forest: &mut Self::Forest) -> Result<(), OutOfMemory> {
+        self.compact(forest)
+    }
+}
+
+impl Handle for Set<u32> {
+    type Forest = SetForest<u32>;
+
+    fn forest(limit: u32) -> Self::Forest {
+        SetForest::with_node_limit(limit)
+    }
+
+    fn slots(forest: &Self::Forest) -> (u32, u32) {
+        (forest.slots(), forest.free_slots())
+    }
+
+    fn fewest_nodes_for(entries: usize) -> usize {
+        Set::<u32>::fewest_nodes_for(entries)
+    }
+
+    fn keys(&self, forest: &Self::Forest) -> Vec<u32> {
+        assert!(forest.holds(self) && self.increases(forest, &()));
+        self.iter(forest).collect()
+    }
+
+    fn levels(&self, forest: &Self::Forest) -> usize {
+        self.levels(forest)
+    }
+
+    fn put(&mut self, key: u32, forest: &mut Self::Forest) {
+        self.insert(key, forest, &()).unwrap();
+    }
+
+    fn take(&mut self, key: u32, forest: &mut Self::Forest) {
+        self.remove(key, forest, &());
+    }
+
+    fn clear(&mut self, forest: &mut Self::Forest) {
+        self.clear(forest);
+    }
+
+    fn remove_range(&mut self, bounds: Bounds, forest: &mut Self::Forest) -> bool {
+        self.remove_range(bounds, forest, &())
+    }
+
+    fn split_off(&mut self, key: u32, forest: &mut Self::Forest) -> Result<Self, OutOfMemory> {
+        self.split_off(key, forest, &())
+    }
+
+    fn compact(&mut self, forest: &mut Self::Forest) -> Result<(), OutOfMemory> {
+        self.compact(forest)
+    }
+}
+
+fn made<H: Handle>(keys: impl IntoIterator<Item = u32>, forest: &mut H::Forest) -> H {
+    let mut handle = H::default();
+    keys.into_iter().for_each(|key| handle.put(key, forest));
+    handle
+}
+
+/// The number of nodes of a tree.
+fn nodes_of<H: Handle>(handle: &H, forest: &H::Forest) -> u32 {
+    let mut forest = forest.clone();
+    let free = H::slots(&forest).1;
+    handle.clone().clear(&mut forest);
+    H::slots(&forest).1 - free
+}
+
+// Beside the standard library.
+
+/// The keys of a map or set, and a key at which it is cut, in rounds of four sizes.
+fn drawn(round: usize, random: &mut Random) -> (BTreeSet<u32>, u32) {
+    let (most, bound) = [(4, 6), (40, 60), (200, 300), (600, 5000)][round % 4];
+    let count = random.below(most + 1);
+    ((0..count).map(|_| random.below(bound)).collect(), random.below(bound + 2))
+}
+
+/// The nine kinds of bounds at two keys, which are crossed half the time.
+fn of_each_kind(start: u32, end: u32) -> impl Iterator<Item = Bounds> {
+    let (starts, ends) = ([Unbounded, Included(start), Excluded(start)], [Unbounded, Included(end), Excluded(end)]);
+    starts.into_iter().flat_map(move |start| ends.into_iter().map(move |end| (start, end)))
+}
+
+/// A range that goes leaves what as many single removals leave, from the first key on, and takes no node.
+fn each_range<H: Handle>() {
+    let mut random = Random(7);
+    for round in 0..300 {
+        let (keys, start) = drawn(round, &mut random);
+        let end = drawn(round, &mut random).1;
+        let mut forest = H::forest(u32::MAX);
+        let (handle, beside): (H, H) = (made(keys.iter().copied(), &mut forest), made([1, 2, 3], &mut forest));
+        for bounds in of_each_kind(start, end) {
+            let (mut ranged, mut forest, mut singly, mut other) = (handle.clone(), forest.clone(), handle.clone(), forest.clone());
+            let (within, left): (Vec<u32>, Vec<u32>) = keys.iter().partition(|key| bounds.contains(key));
+            assert_eq!(ranged.remove_range(bounds, &mut forest), !within.is_empty());
+            within.iter().for_each(|key| singly.take(*key, &mut other));
+            assert_eq!((ranged.keys(&forest), singly.keys(&other)), (left.clone(), left), "{bounds:?}");
+            assert_eq!(H::slots(&forest), H::slots(&other));
+            assert_eq!((ranged.levels(&forest), nodes_of(&ranged, &forest)), (singly.levels(&other), nodes_of(&singly, &other)));
+            assert_eq!(beside.keys(&forest), [1, 2, 3]);
+        }
+    }
+}
+
+#[test]
+fn ranges_of_maps_that_go() {
+    each_range::<Map<u32, u32>>();
+}
+
+#[test]
+fn ranges_of_sets_that_go() {
+    each_range::<Set<u32>>();
+}
+
+/// A forest with just the nodes that are needed beside those that are there, and one with one node fewer. In the second one the call is
+/// refused, and has changed nothing.
+fn with_limits<H: Handle>(keys: &BTreeSet<u32>, need: u32, call: impl Fn(&mut H, &mut H::Forest) -> Result<(), OutOfMemory>) {
+    let mut forest = H::forest(u32::MAX);
+    made::<H>(keys.iter().copied(), &mut forest);
+    let (slots, free) = H::slots(&forest);
+    for short in [0, 1] {
+        if need < free + short {
+            continue;
+        }
+        let mut forest = H::forest(slots + need - free - short);
+        let mut handle: H = made(keys.iter().copied(), &mut forest);
+        if short == 0 {
+            assert_eq!(call(&mut handle, &mut forest), Ok(()));
+        } else {
+            // before memory is asked for
+            assert_eq!(granted(0, || call(&mut handle, &mut forest)), Err(OutOfMemory::Full));
+            assert!(handle.keys(&forest).iter().eq(keys));
+            assert_eq!(H::slots(&forest), (slots, free));
+        }
+    }
+}
+
+/// A split leaves the keys below, moves the others to a packed tree, and takes that tree's nodes before it frees any.
+fn each_split<H: Handle>() {
+    let mut random = Random(11);
+    for round in 0..1000 {
+        let (keys, at) = drawn(round, &mut random);
+        let mut forest = H::forest(u32::MAX);
+        let mut handle: H = made(keys.iter().copied(), &mut forest);
+        let (slots, free) = H::slots(&forest);
+        let (mut removed, mut other) = (handle.clone(), forest.clone());
+        removed.remove_range((Included(at), Unbounded), &mut other);
+        let mut tail = handle.split_off(at, &mut forest).unwrap();
+        let mut front = keys.clone();
+        let behind = front.split_off(&at);
+        assert!(handle.keys(&forest).iter().eq(&front) && tail.keys(&forest).iter().eq(&behind));
+        let need = H::fewest_nodes_for(behind.len()) as u32;
+        assert_eq!((nodes_of(&tail, &forest), nodes_of(&handle, &forest)), (need, nodes_of(&removed, &other)));
+        assert_eq!(H::slots(&forest).0, slots + need.saturating_sub(free));
+        with_limits(&keys, need, |handle: &mut H, forest| handle.split_off(at, forest).map(drop));
+        // Both can be changed as any other.
+        for key in 0..30 {
+            handle.put(key, &mut forest);
+            tail.take(key + at, &mut forest);
+            handle.take(key + 1, &mut forest);
+        }
+        assert_eq!(handle.keys(&forest)[0], 0);
+        [handle, tail].iter_mut().for_each(|it| it.clear(&mut forest));
+        assert_eq!(H::slots(&forest).0, H::slots(&forest).1);
+    }
+}
+
+#[test]
+fn splits_of_maps() {
+    each_split::<Map<u32, u32>>();
+}
+
+#[test]
+fn splits_of_sets() {
+    each_split::<Set<u32>>();
+}
+
+/// A compaction leaves the keys in the fewest nodes, which it takes before it frees the old ones.
+fn each_compaction<H: Handle>() {
+    let mut random = Random(13);
+    for round in 0..1000 {
+        let (keys, _) = drawn(round, &mut random);
+        let mut forest = H::forest(u32::MAX);
+        let (mut handle, beside): (H, H) = (made(keys.iter().copied(), &mut forest), made([1, 2, 3], &mut forest));
+        let ((slots, free), old) = (H::slots(&forest), nodes_of(&handle, &forest));
+        assert_eq!(handle.compact(&mut forest), Ok(()));
+        let need = H::fewest_nodes_for(keys.len()) as u32;
+        assert_eq!(nodes_of(&handle, &forest), need);
+        assert_eq!(H::slots(&forest), (slots + need.saturating_sub(free), free.saturating_sub(need) + old));
+        assert!(handle.keys(&forest).iter().eq(&keys) && beside.keys(&forest) == [1, 2, 3]);
+        with_limits(&keys, need, |handle: &mut H, forest| handle.compact(forest));
+    }
+}
+
+#[test]
+fn compactions_of_maps() {
+    each_compaction::<Map<u32, u32>>();
+}
+
+#[test]
+fn compactions_of_sets() {
+    each_compaction::<Set<u32>>();
+}
+
+/// Values go with their keys.
+#[test]
+fn maps_beside_btreemap() {
+    let mut random = Random(17);
+    let (mut map, mut forest, mut model) = (Map::new(), MapForest::new(), BTreeMap::new());
+    for step in 0..2000 {
+        for _ in 0..random.below(20) {
+            let key = random.below(1000);
+            assert_eq!(map.insert(key, step, &mut forest, &()), Ok(model.insert(key, step)));
+        }
+        let (from, length) = (random.below(1000), random.below(30));
+        let within: Vec<u32> = model.range(from..from + length).map(|it| *it.0).collect();
+        assert_eq!(map.remove_range(from..from + length, &mut forest, &()), !within.is_empty());
+        within.iter().for_each(|key| _ = model.remove(key));
+        if step % 50 == 0 {
+            let mut tail = map.split_off(from, &mut forest, &()).unwrap();
+            let behind = model.split_off(&from);
+            assert!(tail.iter(&forest).eq(behind.iter().map(|(key, value)| (*key, *value))));
+            tail.compact(&mut forest).unwrap();
+            assert!(tail.range(.., &forest, &()).eq(behind));
+            tail.clear(&mut forest);
+        }
+        assert!(map.iter(&forest).eq(model.iter().map(|(key, value)| (*key, *value))));
+    }
+}
+
+// Memory that is refused.
+
+/// A call that takes memory for its list and then for its nodes: with one request granted the nodes are refused, and with none the list is.
+/// Nothing has changed then. With both granted it answers. A copy of a forest has a table without room.
+fn each_refusal<H: Handle>(call: fn(&mut H, &mut H::Forest) -> Result<(), OutOfMemory>) {
+    let mut forest = H::forest(u32::MAX);
+    let handle: H = made(0..500, &mut forest);
+    for requests in 0..=2 {
+        let (mut handle, mut forest, before) = (handle.clone(), forest.clone(), H::slots(&forest));
+        let answer = granted(requests, || call(&mut handle, &mut forest));
+        assert_eq!(answer, if requests < 2 { Err(OutOfMemory::Memory) } else { Ok(()) }, "{requests} requests");
+        if answer.is_err() {
+            assert_eq!(H::slots(&forest), before);
+            assert!(handle.keys(&forest).into_iter().eq(0..500));
+        }
+    }
+}
+
+#[test]
+fn lists_and_tables_that_are_refused() {
+    each_refusal::<Map<u32, u32>>(|map, forest| map.split_off(100, forest, &()).map(drop));
+    each_refusal::<Map<u32, u32>>(|map, forest| map.compact(forest));
+    each_refusal::<Set<u32>>(|set, forest| set.split_off(100, forest, &()).map(drop));
+    each_refusal::<Set<u32>>(|set, forest| set.compact(forest));
+}
+
+/// What takes no node asks for no memory: a removal, and a split and a compaction of nothing.
+#[test]
+fn calls_that_are_refused_nothing() {
+    let (mut maps, mut sets) = (MapForest::new(), SetForest::new());
+    let (mut map, mut set): (Map<u32, u32>, Set<u32>) = (made(0..500, &mut maps), made(0..500, &mut sets));
+    granted(0, || {
+        assert!(map.split_off(500, &mut maps, &()).unwrap().is_empty() && set.split_off(500, &mut sets, &()).unwrap().is_empty());
+        assert!(map.remove_range(100..400, &mut maps, &()) && set.remove_range(100..400, &mut sets, &()));
+        assert_eq!((Map::<u32, u32>::new().compact(&mut maps), Set::<u32>::new().compact(&mut sets)), (Ok(()), Ok(())));
+    });
+    assert_eq!((map.len(&maps), set.len(&sets)), (200, 200));
+}
