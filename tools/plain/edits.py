@@ -68,13 +68,12 @@ INDEXED = [
     (r"Vec::new\(alloc\)", "Vec::new()", 1),
     (r"\bAllocError\b", "TryReserveError", 4),
     (r"^use std::ops::Bound;", "use std::ops::RangeBounds;", 1),
-    # `range`, and `remove_range` where it is there
     (
         r"pub fn (range|remove_range)\((&(?:mut )?self, index: usize), bounds: \(Bound<K>, Bound<K>\)\)",
         r"pub fn \1<R: RangeBounds<K>>(\2, bounds: R)",
-        None,
+        2,
     ),
-    (r"^(?=    pub fn (?:range|remove_range)<)", BOUNDS, None),
+    (r"^(?=    pub fn (?:range|remove_range)<)", BOUNDS, 2),
 ]
 
 # A range is named by any bounds, as in the standard library.

@@ -531,6 +531,8 @@ fn calls_by_an_index_that_compare_nothing() {
     assert_eq!((maps.copy(0, 3), sets.copy(0, 3)), (Ok(()), Ok(())));
     assert_eq!((maps.len_of(3), sets.len_of(3), maps.len(), sets.len()), (maps.len_of(0), sets.len_of(0), 4, 4));
     assert_eq!((maps.reserve_nodes(5), sets.reserve_nodes(5)), (Ok(()), Ok(())));
+    assert_eq!((maps.compact(3), sets.compact(3)), (Ok(()), Ok(())));
+    assert!(maps.remove_range(3, ..) && sets.remove_range(3, ..));
     assert!(maps.free_slots() < maps.slots() && sets.free_slots() < sets.slots());
     assert_eq!((maps.node_limit(), sets.node_limit()), (u32::MAX, u32::MAX));
     maps.clear(0);
@@ -693,6 +695,24 @@ fn removals_of_ranges() {
             counting.taken()
         });
     }
+}
+
+#[test]
+fn removals_of_ranges_by_an_index() {
+    let order = Counting::default();
+    let (maps, sets) = (even_maps(7, &order), even_sets(15, &order));
+    each_removal(15, |_| of_search(&[7]), |bounds| {
+        let mut maps = maps.clone();
+        order.taken();
+        maps.remove_range(1, bounds);
+        order.taken()
+    });
+    each_removal(31, |_| of_search(&[15]), |bounds| {
+        let mut sets = sets.clone();
+        order.taken();
+        sets.remove_range(1, bounds);
+        order.taken()
+    });
 }
 
 /// A split searches three times, and compares once more in each range that it reads. Debug builds search twice more: for the split's own

@@ -82,6 +82,16 @@ fn change(maps: &mut Maps<u32, u32>, model: &mut Model, call: u32, at: usize, ke
             maps.clear(at);
             map.clear();
         }
+        31 => {
+            let within = map.range(key..=key + 9).count() > 0;
+            map.retain(|it, _| !(key..=key + 9).contains(it));
+            assert_eq!(maps.remove_range(at, key..=key + 9), within);
+        }
+        32 => {
+            let room = maps.node_limit() - (maps.slots() - maps.free_slots());
+            let fits = fewest_nodes(map.len(), 7) <= room;
+            assert_eq!(maps.compact(at), if fits { Ok(()) } else { Err(OutOfMemory::Full) });
+        }
         29 => {
             let other = key as usize % model.len();
             let copied = maps.copy(at, other);
@@ -113,7 +123,7 @@ fn maps_answer_as_a_vector_of_maps() {
         for step in 0..STEPS / 4 {
             let (at, key) = (random.below(9) as usize, random.below(KEYS));
             read(&maps, &model, at, key);
-            change(&mut maps, &mut model, random.below(31), at, key, step);
+            change(&mut maps, &mut model, random.below(33), at, key, step);
             if step % 4096 == 4095 {
                 assert_eq!(format!("{maps:?}"), format!("{model:?}"));
                 let copy = maps.clone();
@@ -144,7 +154,7 @@ fn sets_answer_as_a_vector_of_sets() {
             assert_eq!(sets.get_or_greater(at, key), model[at].range(key..).next().copied());
             assert_eq!((sets.first(at), sets.last(at)), (model[at].first().copied(), model[at].last().copied()));
             assert!(sets.range(at, ..key).rev().eq(model[at].range(..key).rev().copied()));
-            match random.below(25) {
+            match random.below(27) {
                 0..10 => match if key % 2 == 0 { sets.insert(at, key) } else { sets.try_insert(at, key) } {
                     Ok(new) => assert_eq!(new, model[at].insert(key)),
                     Err(refused) => assert!(refused == OutOfMemory::Full && !model[at].contains(&key)),
@@ -163,6 +173,16 @@ fn sets_answer_as_a_vector_of_sets() {
                 22 => {
                     sets.swap(at, key as usize % 9);
                     model.swap(at, key as usize % 9);
+                }
+                24 => {
+                    let within = model[at].range(key..key + 9).count() > 0;
+                    model[at].retain(|it| !(key..key + 9).contains(it));
+                    assert_eq!(sets.remove_range(at, key..key + 9), within);
+                }
+                25 => {
+                    let room = sets.node_limit() - (sets.slots() - sets.free_slots());
+                    let fits = fewest_nodes(model[at].len(), 15) <= room;
+                    assert_eq!(sets.compact(at), if fits { Ok(()) } else { Err(OutOfMemory::Full) });
                 }
                 23 => match sets.copy(at, key as usize % 9) {
                     Ok(()) => model[key as usize % 9] = model[at].clone(),
@@ -290,6 +310,8 @@ fn an_index_that_is_not_there_panics_and_is_named() {
         panic_of(|| maps.iter(7).count()),
         panic_of(|| maps.len_of(7)),
         panic_of(|| maps.load(7, &[(1, 1)])),
+        panic_of(|| maps.remove_range(7, ..)),
+        panic_of(|| maps.compact(7)),
         panic_of(|| maps.cursor_mut(7).next()),
     ] {
         assert!(text.contains("the len is 3") && text.contains("the index is 7"), "{text}");
