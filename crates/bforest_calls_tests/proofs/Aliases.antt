@@ -1,9 +1,9 @@
 -- A run with two handles exchanged.
-use Rattle.bforest.specs.Calls.{Clears, Clones, Inserts, Removes}
+use Rattle.bforest.specs.Calls.{Clears, Clones, Compacts, Inserts, Intersects, Removes, RemovesBetween, Subtracts, Unites}
 use Rattle.bforest.specs.Forest.{IsLive, list_of}
 use Rattle.bforest.specs.Bounds.{entries_between, entry_at_least, entry_at_most}
 use Rattle.bforest_calls.specs.Looks.{all_taken, sights_of}
-use Rattle.bforest_calls.specs.Machine.{Compares, ComparesIf, Lacks, Names, NamesBoth, Offered, On, Orders, Refuses, Run, State, Step, Tests, list_in, number_at, order_at, with_made}
+use Rattle.bforest_calls.specs.Machine.{Compares, ComparesBoth, ComparesIf, Lacks, Names, NamesBoth, Offered, On, Orders, Refuses, Run, State, Step, Tests, list_in, number_at, order_at, with_made}
 use Rattle.bforest_calls.specs.State.{Edits, FirstPopped, GotOrInserted, Held, LastPopped, Retained, Shifted, Updated, UpdatedOrInserted}
 use Rattle.bforest_calls.specs.declared.call.Answer.TheVariants as answer
 use Rattle.bforest_calls.specs.declared.call.Answer.{Answer}
@@ -25,7 +25,7 @@ offered-too false Made Lacking Made' Lacking' made lacks o = lacks o
 
 module _ {K V : Type 0} where
   -- a refusal stays one under equivalent tests
-  refused-too : (there there' : Type 0) (L O : Option ℕ → Type 0) (n n' : Option ℕ) (given : Answer K V) → n' ≡ n → (there → there') → (there' → there)
+  refused-too : {X : Type 0} (there there' : Type 0) (L O : X → Type 0) (n n' : X) (given : Answer K V) → n' ≡ n → (there → there') → (there' → there)
       → Refuses there (L n) (O n) given → Refuses there' (L n') (O n') given
   refused-too there there' L O n n' answer.NoIndex e to back r = λ t. r (back t)
   refused-too there there' L O n n' answer.Dead e to back r = (to r.0, λ l. r.1 (subst L e l))
@@ -33,7 +33,7 @@ module _ {K V : Type 0} where
   refused-too there there' L O n n' given e to back r = absurd r
 
   -- tests of a number stay the same under an equal number
-  tested-too : (there there' : Type 0) (L O : Option ℕ → Type 0) (n n' : Option ℕ) (old new old' new' : State K V) (given : Answer K V) (Made Made' : Type 0)
+  tested-too : {X : Type 0} (there there' : Type 0) (L O : X → Type 0) (n n' : X) (old new old' new' : State K V) (given : Answer K V) (Made Made' : Type 0)
       → n' ≡ n → (there → there') → (there' → there) → (new ≡ old → new' ≡ old') → (there → Made → Made')
       → Tests there (L n) (O n) old given new Made → Tests there' (L n') (O n') old' given new' Made'
   tested-too there there' L O n n' old new old' new' given Made Made' e to back stays made (inl r) = inl (refused-too there there' L O n n' given e to back r.0, stays r.1)
@@ -63,6 +63,12 @@ module _ {K V : Type 0} where
       ap (λ hs. swap hs i j) on.1 ∙ swap-set old.handles i j within within' h on.0 w,
       subst (λ (n : Option ℕ). R (record { forest = old.forest; number = n }) (record { forest = new.forest; number = on.0 })) (sym (number h)) on.2,
     )
+
+    -- and of one that another handle's tree is read for
+    beside-exchanged : (h o : ℕ) (R : Option ℕ → Held K V → Held K V → Type 0) → h < length old.handles → On h old new (R (number_at old o))
+        → On (exchange i j h) (turned i j old) (turned i j new) (R (number_at (turned i j old) (exchange i j o)))
+    beside-exchanged h o R w on =
+        subst (λ (n : Option ℕ). On (exchange i j h) (turned i j old) (turned i j new) (R n)) (sym (number o)) (on-exchanged h (R (number_at old o)) w on)
 
     -- the exchanged index of an index in range is in range
     here : (h : ℕ) → h < length old.handles → exchange i j h < length (swap old.handles i j)
@@ -96,6 +102,17 @@ module _ {K V : Type 0} where
           (number_at old h) (number_at (turned i j old) (exchange i j h)) old new (turned i j old) (turned i j new) given Made Made' (number h)
           (λ t. (here h t.0, t.1)) (λ t. (back h t.0, t.1)) stays (λ t m. made t.0 m) s
 
+      compares-both-too : (h o c : ℕ) (Made Made' : Type 0) → (h < length old.handles → Made → Made') → ComparesBoth orders h o c old given new Made
+          → ComparesBoth orders (exchange i j h) (exchange i j o) c (turned i j old) given (turned i j new) Made'
+      compares-both-too h o c Made Made' made s =
+          tested-too ((h < length old.handles) × (o < length old.handles) × (c < length orders))
+          ((exchange i j h < length (swap old.handles i j)) × (exchange i j o < length (swap old.handles i j)) × (c < length orders))
+          (λ (ns : Option ℕ × Option ℕ). IsLive old.forest ns.0 × IsLive old.forest ns.1)
+          (λ (ns : Option ℕ × Option ℕ). IsIncreasing (order_at orders c) (list_of old.forest ns.0) × IsIncreasing (order_at orders c) (list_of old.forest ns.1))
+          (number_at old h, number_at old o) (number_at (turned i j old) (exchange i j h), number_at (turned i j old) (exchange i j o))
+          old new (turned i j old) (turned i j new) given Made Made' (λ z. (number h z, number o z))
+          (λ t. (here h t.0, here o t.1, t.2)) (λ t. (back h t.0, back o t.1, t.2)) stays (λ t m. made t.0 m) s
+
     module _ (most : ℕ) (reads : Bool) (orders : Orders K) where
       -- a call that only maps offer
       if-offered : (given : Answer K V) (h c : ℕ) (Made Made' : Type 0) → (h < length old.handles → Made → Made') → ComparesIf reads orders h c old given new Made
@@ -124,6 +141,16 @@ module _ {K V : Type 0} where
       step-exchanged (call.Remove h c k) given s = compares-too orders given h c _ _ (λ t m. (m.0, m.1, on-exchanged h (λ held after. Removes most (order_at orders c) held.forest held.number k m.0 after.forest after.number) t m.2)) s
       step-exchanged (call.PopFirst h) given s = names-too orders given h _ _ (λ t m. (m.0, m.1, on-exchanged h (FirstPopped most m.0) t m.2)) s
       step-exchanged (call.PopLast h) given s = names-too orders given h _ _ (λ t m. (m.0, m.1, on-exchanged h (LastPopped most m.0) t m.2)) s
+      step-exchanged (call.Len h) given s = names-too orders given h _ _ (λ t m. (told given h (λ es. answer.Count (length es)) m.0, stays m.1)) s
+      step-exchanged (call.Compact h) given s = names-too orders given h _ _ (λ t m. (m.0, m.1, on-exchanged h (λ held after. Compacts most held.forest held.number m.0 after.forest after.number) t m.2)) s
+      step-exchanged (call.RemoveRange h c lo hi) given s = compares-too orders given h c _ _
+          (λ t m. (m.0, m.1, on-exchanged h (λ held after. RemovesBetween most (order_at orders c) lo hi held.forest held.number m.0 after.forest after.number) t m.2)) s
+      step-exchanged (call.Unite h o c) given s = compares-both-too orders given h o c _ _
+          (λ t m. (m.0, m.1, beside-exchanged h o (λ n held after. Unites most (order_at orders c) held.forest held.number n m.0 after.forest after.number) t m.2)) s
+      step-exchanged (call.Intersect h o c) given s = compares-both-too orders given h o c _ _
+          (λ t m. (m.0, m.1, beside-exchanged h o (λ n held after. Intersects most (order_at orders c) held.forest held.number n m.0 after.forest after.number) t m.2)) s
+      step-exchanged (call.Subtract h o c) given s = compares-both-too orders given h o c _ _
+          (λ t m. (m.0, m.1, beside-exchanged h o (λ n held after. Subtracts most (order_at orders c) held.forest held.number n m.0 after.forest after.number) t m.2)) s
       step-exchanged (call.Clear h) given s = names-too orders given h _ _ (λ t m. (m.0, on-exchanged h (λ held after. Clears held.forest held.number after.forest after.number) t m.1)) s
       step-exchanged (call.Iter h) given s = names-too orders given h _ _ (λ t m. (m.0, m.1, told m.0.items h (λ es. es) m.2, stays m.3)) s
       step-exchanged (call.IterBack h) given s = names-too orders given h _ _ (λ t m. (m.0, m.1, told m.0.items h (λ es. reverse es) m.2, stays m.3)) s
@@ -133,7 +160,7 @@ module _ {K V : Type 0} where
           (λ t m. ((m.0.0, m.0.1, told m.0.0.items h (λ es. all_taken (entries_between (order_at orders c) lo hi es) ends.items) m.0.2), stays m.1)) s
       step-exchanged (call.Retain h c keys put) given s = names-both-too orders given h c _ _ (λ t m. (m.0, on-exchanged h (Retained most (order_at orders c) keys.items put) t m.1)) s
       step-exchanged (call.Alias from to) given s =
-          tested-too ((from < length old.handles) × (to < length old.handles)) ((exchange i j from < length (swap old.handles i j)) × (exchange i j to < length (swap old.handles i j)))
+          tested-too {X = Option ℕ} ((from < length old.handles) × (to < length old.handles)) ((exchange i j from < length (swap old.handles i j)) × (exchange i j to < length (swap old.handles i j)))
           (λ n. Unit {0}) (λ n. Unit {0}) None None old new (turned i j old) (turned i j new) given _ _ refl (λ t. (here from t.0, here to t.1)) (λ t. (back from t.0, back to t.1)) stays
           (λ t m. (
             m.0,
@@ -147,7 +174,7 @@ module _ {K V : Type 0} where
           (λ t. (here from t.0, here to t.1)) (λ t. (back from t.0, back to t.1)) stays
           (λ t m. (m.0, m.1, with-exchanged to m.0 t.1 m.2, subst (λ (n : Option ℕ). Clones old.forest n m.0 new.forest) (sym (number from)) m.3)) s
       step-exchanged (call.Load h entries) given s = offered-too reads _ _ _ _
-          (tested-too (h < length old.handles) (exchange i j h < length (swap old.handles i j)) (λ n. Unit {0}) (λ n. Unit {0}) None None old new (turned i j old) (turned i j new) given _ _ refl
+          (tested-too {X = Option ℕ} (h < length old.handles) (exchange i j h < length (swap old.handles i j)) (λ n. Unit {0}) (λ n. Unit {0}) None None old new (turned i j old) (turned i j new) given _ _ refl
           (here h) (back h) stays (λ t m. (m.0, m.1, with-exchanged h m.0 t m.2, m.3)))
           (lacks-too (h < length old.handles) (exchange i j h < length (swap old.handles i j)) old new (turned i j old) (turned i j new) given (here h) (back h) stays) s
       step-exchanged call.ForestClear given s = (s.0, ap (turned i j) s.1)
@@ -181,6 +208,12 @@ module _ {K V : Type 0} where
     as-many old (call.Remove h c k) given new s = elim s [ inl r ↦ kept old new r.1 | inr r ↦ wrote old new h r.3.2.0 r.3.2.1 ]
     as-many old (call.PopFirst h) given new s = elim s [ inl r ↦ kept old new r.1 | inr r ↦ wrote old new h r.3.2.0 r.3.2.1 ]
     as-many old (call.PopLast h) given new s = elim s [ inl r ↦ kept old new r.1 | inr r ↦ wrote old new h r.3.2.0 r.3.2.1 ]
+    as-many old (call.Len h) given new s = elim s [ inl r ↦ kept old new r.1 | inr r ↦ kept old new r.3.1 ]
+    as-many old (call.Compact h) given new s = elim s [ inl r ↦ kept old new r.1 | inr r ↦ wrote old new h r.3.2.0 r.3.2.1 ]
+    as-many old (call.RemoveRange h c lo hi) given new s = elim s [ inl r ↦ kept old new r.1 | inr r ↦ wrote old new h r.3.2.0 r.3.2.1 ]
+    as-many old (call.Unite h o c) given new s = elim s [ inl r ↦ kept old new r.1 | inr r ↦ wrote old new h r.3.2.0 r.3.2.1 ]
+    as-many old (call.Intersect h o c) given new s = elim s [ inl r ↦ kept old new r.1 | inr r ↦ wrote old new h r.3.2.0 r.3.2.1 ]
+    as-many old (call.Subtract h o c) given new s = elim s [ inl r ↦ kept old new r.1 | inr r ↦ wrote old new h r.3.2.0 r.3.2.1 ]
     as-many old (call.Clear h) given new s = elim s [ inl r ↦ kept old new r.1 | inr r ↦ wrote old new h r.3.1.0 r.3.1.1 ]
     as-many old (call.Iter h) given new s = elim s [ inl r ↦ kept old new r.1 | inr r ↦ kept old new r.3.3 ]
     as-many old (call.IterBack h) given new s = elim s [ inl r ↦ kept old new r.1 | inr r ↦ kept old new r.3.3 ]

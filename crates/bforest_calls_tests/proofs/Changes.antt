@@ -1,6 +1,6 @@
 -- Each call that changes a tree is one change of it, and every other number keeps its list.
 use Rattle.bforest.proofs.Becoming.{becomes-both}
-use Rattle.bforest.specs.Calls.{Inserts}
+use Rattle.bforest.specs.Calls.{Compacts, Inserts, Unites}
 use Rattle.bforest.specs.Forest.{Becomes, Forest, IsLive, list_of}
 use Rattle.bforest_calls.proofs.Indexed.{becomes_same}
 use Rattle.bforest_calls.proofs.Updating.{got-or-inserted, updated-or-inserted}
@@ -10,7 +10,7 @@ use Rattle.bforest_calls.specs.declared.call.Act.{Act}
 use Rattle.bforest_calls.specs.declared.call.Seen.{Seen}
 use Rattle.bforest.specs.Refusal.{OutOfMemory}
 use Rattle.bforest_trees.specs.Calls.{as_inserted}
-use Rattle.std.proofs.Common.{Err, List, None, Ok, Option, Result, Some, [], ap, refl, subst, sym, ◌∷◌, ◌≡◌, ℕ}
+use Rattle.std.proofs.Common.{Bool, Err, List, None, Ok, Option, Result, Some, [], ap, refl, subst, sym, ◌∷◌, ◌≡◌, ℕ}
 use Rattle.std.specs.declared.cmp.Ordering.{Ordering}
 
 module _ {K V : Type 0} where
@@ -23,6 +23,11 @@ module _ {K V : Type 0} where
   stayed f f' h h' live same still =
       subst (λ (g : Forest K V). Becomes f h g h' (list_of g h')) (sym same)
       (subst (λ (q : Option ℕ). Becomes f h f q (list_of f q)) (sym still) (becomes_same f h (list_of f h) live refl))
+
+  pub compacted : (most : ℕ) (f : Forest K V) (h : Option ℕ) (result : Result (Unit {0}) OutOfMemory) (f' : Forest K V) (h' : Option ℕ)
+      → IsLive f h → Compacts most f h result f' h' → Becomes f h f' h' (list_of f' h')
+  compacted most f h (Ok done) f' h' live c = retold f f' h h' _ c.same_list
+  compacted most f h (Err e) f' h' live c = stayed f f' h h' live c.refused_forest c.refused_handle
 
   module _ (order : K → K → Ordering) (old new : Held K V) where
     pub updated : (k : K) (v : V) (result : Option V) → IsLive old.forest old.number → Updated order k v result old new
@@ -39,6 +44,11 @@ module _ {K V : Type 0} where
         → IsLive f h → Inserts most order f h k x result f' h' → Becomes f h f' h' (list_of f' h')
     inserted f h k x (Ok a) f' h' live i = retold f f' h h' _ i.put
     inserted f h k x (Err e) f' h' live i = stayed f f' h h' live i.refused_forest i.refused_handle
+
+    pub united-with : (f : Forest K V) (h o : Option ℕ) (result : Result Bool OutOfMemory) (f' : Forest K V) (h' : Option ℕ)
+        → IsLive f h → Unites most order f h o result f' h' → Becomes f h f' h' (list_of f' h')
+    united-with f h o (Ok changed) f' h' live u = retold f f' h h' _ u.united
+    united-with f h o (Err e) f' h' live u = stayed f f' h h' live u.refused_forest u.refused_handle
 
     module _ (old new : Held K V) (k : K) (v : V) where
       pub got-inserted : (result : Result V OutOfMemory) → IsLive old.forest old.number → GotOrInserted most order k v result old new

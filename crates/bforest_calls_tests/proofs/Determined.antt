@@ -1,16 +1,17 @@
 -- Two runs of one list of calls that go in step.
 use Rattle.bforest.specs.Bounds.{entries_between, entry_at_least, entry_at_most}
+use Rattle.bforest.specs.Calls.{Compacts, RemovesBetween}
 use Rattle.bforest.specs.Forest.{Becomes, Forest, IsLive, emptied, list_of, sizes_of}
 use Rattle.bforest_trees.specs.Forest.{list_at, sizes_at}
 use Rattle.bforest_calls.specs.Looks.{all_taken, sights_of}
-use Rattle.bforest_calls.specs.Machine.{Compares, ComparesIf, Lacks, MakesFor, Offered, On, Orders, Refuses, Run, State, Step, Tests, as_made, order_at, with_made}
+use Rattle.bforest_calls.specs.Machine.{Compares, ComparesBoth, ComparesIf, Lacks, MakesFor, Offered, On, Orders, Refuses, Run, State, Step, Tests, as_made, order_at, with_made}
 use Rattle.bforest_calls.specs.State.{FirstPopped, GotOrInserted, Held, LastPopped, Updated, UpdatedOrInserted, as_had}
 use Rattle.bforest_calls.specs.declared.call.Answer.TheVariants as answer
 use Rattle.bforest_calls.specs.declared.call.Answer.{Answer}
 use Rattle.bforest_calls.specs.declared.call.Call.TheVariants as call
 use Rattle.bforest_calls.specs.declared.call.Call.{Call}
-use Rattle.bforest_calls_tests.proofs.Changes.{got-inserted, inserted, retold, scripted, shifted, updated, updated-inserted}
-use Rattle.bforest_calls_tests.proofs.Resembling.{IsMade, Resembles, clears-alike, clones-made, clones-sizes, gets-or-inserts-alike, inserts-alike, loads-made, loads-sizes, made-alike, pops-alike, removes-alike, retains-alike, scripts-alike, shifts-alike, updates-alike, updates-or-inserts-alike}
+use Rattle.bforest_calls_tests.proofs.Changes.{compacted, got-inserted, inserted, retold, scripted, shifted, updated, updated-inserted, united-with}
+use Rattle.bforest_calls_tests.proofs.Resembling.{IsMade, Resembles, between-alike, clears-alike, clones-made, clones-sizes, compacts-alike, gets-or-inserts-alike, inserts-alike, keeps-alike, loads-made, loads-sizes, made-alike, pops-alike, removes-alike, retains-alike, scripts-alike, shifts-alike, unites-alike, updates-alike, updates-or-inserts-alike}
 use Rattle.bforest_calls_tests.specs.Determined.{AreAlike, AreDetermined, GoInStep, HadMemory, IsSameAnswer, RunsThrough}
 use Rattle.bforest_core.specs.Change.{node_count}
 use Rattle.bforest.specs.Refusal.{Memory, OutOfMemory}
@@ -207,6 +208,16 @@ module _ {K V : Type 0} where
             (subst (λ es. IsIncreasing (order c) es) (sym (lists h))) (subst (λ es. IsIncreasing (order c) es) (lists h))
             stays (λ t l l' m m'. made t.0 l l' m m') s s'
 
+        compares-both : (h o c : ℕ) (Made Made' : Type 0) → (h < length handles → IsLive f (number h) → IsLive g (number h) → Made → Made' → Agree)
+            → ComparesBoth orders h o c (at f handles) given new Made → ComparesBoth orders h o c (at g handles) given' new' Made' → Agree
+        compares-both h o c Made Made' made s s' =
+            tests-alike ((h < length handles) × (o < length handles) × (c < length orders)) _ _ _ _ (at f handles) new (at g handles) new' given given' Made Made'
+            (λ l. (live-alike f g a.lists (number h) l.0, live-alike f g a.lists (number o) l.1))
+            (λ l. (live-alike g f (λ n. sym (a.lists n)) (number h) l.0, live-alike g f (λ n. sym (a.lists n)) (number o) l.1))
+            (λ i. (subst (λ es. IsIncreasing (order c) es) (sym (lists h)) i.0, subst (λ es. IsIncreasing (order c) es) (sym (lists o)) i.1))
+            (λ i. (subst (λ es. IsIncreasing (order c) es) (lists h) i.0, subst (λ es. IsIncreasing (order c) es) (lists o) i.1))
+            stays (λ t l l' m m'. made t.0 l.0 l'.0 m m') s s'
+
         names : (there : Type 0) (h : ℕ) (Made Made' : Type 0) → (there → IsLive f (number h) → IsLive g (number h) → Made → Made' → Agree)
             → Tests there (IsLive f (number h)) (Unit {0}) (at f handles) given new Made → Tests there (IsLive g (number h)) (Unit {0}) (at g handles) given' new' Made' → Agree
         names there h Made Made' made s s' =
@@ -306,6 +317,38 @@ module _ {K V : Type 0} where
       step-alike (call.PopLast h) given given' new new' s s' same had had' = names given given' new new' (h < length handles) h _ _
           (λ t l l' m m'. altered given given' new new' (λ x. answer.Pair x) (LastPopped most) h t same (λ x one one' l r. retold _ _ _ _ _ r.removed.removed)
           (λ x x' one one' other other' r e e' p p'. pops-alike most (order 0) one other r _ _ x x' one' other' (λ z. length (r.list z) - 1) p p') l l' m m') s s'
+      step-alike (call.Len h) given given' new new' s s' same had had' = names given given' new new' (h < length handles) h _ _
+          (λ t l l' m m'. looked given given' new new' _ _ m.0 m'.0 (λ z. answer.Count (length (lists h z))) m.1 m'.1) s s'
+      step-alike (call.Compact h) given given' new new' s s' same had had' = names given given' new new' (h < length handles) h _ _
+          (λ t l l' m m'. altered given given' new new' (λ x. answer.Made x) (λ x held after. Compacts most held.forest held.number x after.forest after.number) h t same
+          (λ x one one' l r. compacted most one.forest one.number x one'.forest one'.number l r)
+          (λ x x' one one' other other' r e e' p p'. compacts-alike most odd one other r x x' one' other' p p' (memory-had given (answer.Made x) e had) (memory-had given' (answer.Made x') e' had')) l l' m m') s s'
+      step-alike (call.RemoveRange h c lo hi) given given' new new' s s' same had had' = compares given given' new new' h c _ _
+          (λ t l l' m m'. altered given given' new new' (λ x. answer.Changed x) (λ x held after. RemovesBetween most (order c) lo hi held.forest held.number x after.forest after.number) h t same
+          (λ x one one' l r. retold _ _ _ _ _ r.removed)
+          (λ x x' one one' other other' r e e' p p'. between-alike most (order c) one other r lo hi x x' one' other' p p') l l' m m') s s'
+      step-alike (call.Unite h o c) given given' new new' s s' same had had' = compares-both given given' new new' h o c _ _
+          (λ t l l' m m'.
+          let r = unites-alike most (order c) (held f (number h)) (held g (number h)) (held-alike f g handles a (number h)) (number o) (number o) (lists o) odd m.0 m'.0
+          (held new.forest m.2.0) (held new'.forest m'.2.0) m.2.2 m'.2.2 (memory-had given (answer.United m.0) m.1 had) (memory-had given' (answer.United m'.0) m'.1 had') in (
+            answers-alike given given' (answer.United m.0) (answer.United m'.0) m.1 m'.1 (ap (λ x. answer.United x) r.0),
+            changed given given' new new' h m.2.0 m'.2.0 _ _ t m.2.1 m'.2.1 same
+                (united-with most (order c) f (number h) (number o) m.0 new.forest m.2.0 l m.2.2) (united-with most (order c) g (number h) (number o) m'.0 new'.forest m'.2.0 l' m'.2.2) r.1,
+          )) s s'
+      step-alike (call.Intersect h o c) given given' new new' s s' same had had' = compares-both given given' new new' h o c _ _
+          (λ t l l' m m'.
+          let r = keeps-alike most (order c) (held f (number h)) (held g (number h)) (held-alike f g handles a (number h)) (number o) (number o) (lists o) true m.0 m'.0
+          (held new.forest m.2.0) (held new'.forest m'.2.0) m.2.2 m'.2.2 in (
+            answers-alike given given' (answer.Changed m.0) (answer.Changed m'.0) m.1 m'.1 (ap (λ x. answer.Changed x) r.0),
+            changed given given' new new' h m.2.0 m'.2.0 _ _ t m.2.1 m'.2.1 same m.2.2.kept m'.2.2.kept r.1,
+          )) s s'
+      step-alike (call.Subtract h o c) given given' new new' s s' same had had' = compares-both given given' new new' h o c _ _
+          (λ t l l' m m'.
+          let r = keeps-alike most (order c) (held f (number h)) (held g (number h)) (held-alike f g handles a (number h)) (number o) (number o) (lists o) false m.0 m'.0
+          (held new.forest m.2.0) (held new'.forest m'.2.0) m.2.2 m'.2.2 in (
+            answers-alike given given' (answer.Changed m.0) (answer.Changed m'.0) m.1 m'.1 (ap (λ x. answer.Changed x) r.0),
+            changed given given' new new' h m.2.0 m'.2.0 _ _ t m.2.1 m'.2.1 same m.2.2.kept m'.2.2.kept r.1,
+          )) s s'
       step-alike (call.Clear h) given given' new new' s s' same had had' = names given given' new new' (h < length handles) h _ _
           (λ t l l' m m'. (
             answers-alike given given' answer.Done answer.Done m.0 m'.0 refl,

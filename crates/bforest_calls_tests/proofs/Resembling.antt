@@ -1,7 +1,9 @@
 -- Changes of trees that resemble one another.
-use Rattle.bforest.specs.Calls.{Clears, Clones, Inserts, Loads, Pops, Removes, RemovesAt}
-use Rattle.bforest.specs.Forest.{Becomes, Forest, Gives, IsTooMany, Takes, fewest, free_of, limit_of, list_of, need_of, nodes_of, sizes_of, slots_of}
+use Rattle.bforest.specs.Bounds.{entries_between, entries_outside, start_place}
+use Rattle.bforest.specs.Calls.{Clears, Clones, Compacts, Inserts, KeepsFrom, Loads, Pops, Removes, RemovesAt, RemovesBetween, Unites, need_of_union, removals}
+use Rattle.bforest.specs.Forest.{Becomes, Forest, Gives, IsFitFor, IsLive, IsTooMany, Takes, TakesAndGives, fewest, free_of, limit_of, list_of, need_of, nodes_of, sizes_of, slots_of}
 use Rattle.bforest.specs.Retain.{AsksEach, kept_by, sizes_by}
+use Rattle.bforest.specs.Union.{are_among, kept_from, kept_of, keeps_all, united}
 use Rattle.bforest_calls.proofs.Packing.{loaded-fits, packed-same}
 use Rattle.bforest_calls.proofs.Updating.{updated-or-inserted}
 use Rattle.bforest_calls.specs.Looks.{place_after, sight_of}
@@ -18,17 +20,28 @@ use Rattle.bforest.specs.Refusal.{Full, Memory, OutOfMemory}
 use Rattle.bforest.specs.Entries.{cut, is_present, place, put, value_for, with_value}
 use Rattle.bforest_trees.specs.Calls.{as_inserted}
 use Rattle.bforest_trees.specs.Shift.{Rekeys}
-use Rattle.std.proofs.Common.{Bool, Err, List, None, Ok, Option, Result, Some, [], ap, arith, drop, length, map, refl, subst, sym, take, ◌+◌, ◌++◌, ◌-◌, ◌<◌, ◌∙◌, ◌∷◌, ◌≡◌, ◌≢◌, ℕ}
+use Rattle.std.proofs.Common.{Bool, Err, List, None, Ok, Option, Result, Some, [], ap, arith, drop, false, inl, inr, length, map, not, refl, subst, sym, take, true, ◌+◌, ◌++◌, ◌-◌, ◌<◌, ◌∙◌, ◌∷◌, ◌≡◌, ◌≢◌, ◌⊎◌, ℕ}
 use Rattle.std.specs.List.{AllByRecursion}
 use Rattle.std.proofs.lemmas.Result.{IfOk-weaker}
 use Rattle.std.specs.Prelude.{IfOk, IsOk, OnErr, OnOk, ◌%◌, ◌↔◌, if◌then◌else◌, is_some, nat_lt, remove, slice_get, unwrap_or}
 use Rattle.std.specs.declared.cmp.Ordering.{Ordering}
+use Rattle.std.specs.declared.ops.Bound.{Bound}
 
 -- where equal numbers of slots are freed, the numbers of free slots stay equal
 as-free : (one other before before' after after' left left' : ℕ) → other ≡ one → before' ≡ before → after' ≡ after → left + after ≡ one + before → left' + after' ≡ other + before' → left' ≡ left
 as-free one other before before' after after' left left' e e' e'' a b = omega arith
 
 module _ {K V : Type 0} where
+  -- a list without entries, or with some
+  empty-or-not : (es : List (K × V)) → (es ≡ []) ⊎ (es ≢ [])
+  empty-or-not [] = inl refl
+  empty-or-not (e ∷ es) = inr (λ d. cc)
+
+  -- a live handle without entries has no node
+  no-sizes : (f : Forest K V) (h : Option ℕ) → IsLive f h → list_of f h ≡ [] → sizes_of f h ≡ []
+  no-sizes f None live e = refl
+  no-sizes f (Some n) live e = absurd (live e)
+
   -- equal lists, sizes and numbers of slots, of free slots and of allowed slots; the handles' numbers may
   -- differ
   pub record Resembles (one other : Held K V) : Type 0 where
@@ -68,6 +81,15 @@ module _ {K V : Type 0} where
 
   few-alike : (one other : Held K V) {d d' : ℕ} → Resembles one other → d' ≡ d → IsTooMany d one.forest ≡ IsTooMany d' other.forest
   few-alike one other r e = λ z. sym r.free z + (sym r.limit z - sym r.slots z) < sym e z
+
+  -- trees that are made anew alike, and then those before them freed
+  renews-alike : (one other : Held K V) (f f' : Forest K V) (d d' : ℕ) → Resembles one other → d' ≡ d
+      → TakesAndGives d (sizes_of one.forest one.number) one.forest f → TakesAndGives d' (sizes_of other.forest other.number) other.forest f'
+      → (slots_of f' ≡ slots_of f) × (free_of f' ≡ free_of f)
+  renews-alike one other f f' d d' r e t t' = (
+    t'.slots ∙ (λ z. r.slots z + (e z - r.free z)) ∙ sym t.slots,
+    t'.free ∙ (λ z. (r.free z - e z) + node_count (r.sizes z)) ∙ sym t.free,
+  )
 
   -- a tree of these entries was made of d nodes, or refused
   pub record IsMade (f : Forest K V) (d : ℕ) (es : List (K × V)) (result : Result (Option ℕ) OutOfMemory) (f' : Forest K V) : Type 0 where
@@ -120,6 +142,31 @@ module _ {K V : Type 0} where
       let full = c'.full.1 (subst (λ (P : Type 0). P) (few-alike one other r e) (c.full.0 refl)) in absurd (cc)
   made-alike one other (Err Memory) result' f f' r e l c c' m m' sizes made refused = absurd (m refl)
   made-alike one other result (Err Memory) f f' r e l c c' m m' sizes made refused = absurd (m' refl)
+
+  -- two compactions: both are made, or both refused
+  pub compacts-alike : (most : ℕ) → most % 2 ≡ 1 → (one other : Held K V) → Resembles one other → (result result' : Result (Unit {0}) OutOfMemory) (one' other' : Held K V)
+      → Compacts most one.forest one.number result one'.forest one'.number → Compacts most other.forest other.number result' other'.forest other'.number
+      → result ≢ Err Memory → result' ≢ Err Memory → (result' ≡ result) × Resembles one' other'
+  compacts-alike most odd one other r (Ok done) (Ok done') one' other' c c' m m' =
+      let taken = renews-alike one other one'.forest other'.forest _ _ r (λ z. fewest most (length (r.list z))) c.account c'.account in (
+        refl,
+        record {
+          list = c'.same_list.list ∙ r.list ∙ sym c.same_list.list;
+          sizes = packed-same most (length (entries one)) odd (sizes-in other') (sizes-in one') c'.packed c.packed
+              (subst (λ (es : List (K × V)). IsFitFor most (length es) (sizes-in other')) r.list c'.fit) c.fit;
+          slots = taken.0;
+          free = taken.1;
+          limit = c'.same_list.limit ∙ r.limit ∙ sym c.same_list.limit;
+        },
+      )
+  compacts-alike most odd one other r (Err Full) (Err Full) one' other' c c' m m' =
+      (refl, resembling-same one other one' other' r (held-same one one' c.refused_forest c.refused_handle) (held-same other other' c'.refused_forest c'.refused_handle))
+  compacts-alike most odd one other r (Ok done) (Err Full) one' other' c c' m m' =
+      let full = c.full.1 (subst (λ (P : Type 0). P) (sym (few-alike one other r (λ z. fewest most (length (r.list z))))) (c'.full.0 refl)) in absurd (cc)
+  compacts-alike most odd one other r (Err Full) (Ok done) one' other' c c' m m' =
+      let full = c'.full.1 (subst (λ (P : Type 0). P) (few-alike one other r (λ z. fewest most (length (r.list z)))) (c.full.0 refl)) in absurd (cc)
+  compacts-alike most odd one other r (Err Memory) result' one' other' c c' m m' = absurd (m refl)
+  compacts-alike most odd one other r result (Err Memory) one' other' c c' m m' = absurd (m' refl)
 
   module _ (most : ℕ) (order : K → K → Ordering) where
     module _ (one other : Held K V) (r : Resembles one other) where
@@ -264,6 +311,83 @@ module _ {K V : Type 0} where
               limit = c'.cut.limit ∙ r.limit ∙ sym c.cut.limit;
             },
           )
+
+      pub between-alike : (lo hi : Bound K) (changed changed' : Bool) (one' other' : Held K V)
+          → RemovesBetween most order lo hi one.forest one.number changed one'.forest one'.number
+          → RemovesBetween most order lo hi other.forest other.number changed' other'.forest other'.number
+          → (changed' ≡ changed) × Resembles one' other'
+      between-alike lo hi changed changed' one' other' c c' =
+          let after = c'.sizes ∙ (λ z. removals most (start_place order lo (r.list z)) (length (entries_between order lo hi (r.list z))) (r.sizes z)) ∙ sym c.sizes in
+          let given = gives-alike one other one' other' (sizes-in one') (sizes-in other') r after c.account c'.account in (
+            c'.changed ∙ (λ z. nat_lt 0 (length (entries_between order lo hi (r.list z)))) ∙ sym c.changed,
+            record {
+              list = c'.removed.list ∙ (λ z. entries_outside order lo hi (r.list z)) ∙ sym c.removed.list;
+              sizes = after;
+              slots = given.0;
+              free = given.1;
+              limit = c'.removed.limit ∙ r.limit ∙ sym c.removed.limit;
+            },
+          )
+
+      -- calls that read the tree of another handle, which has equal entries in both
+      module _ (o o' : Option ℕ) (e : list_of other.forest o' ≡ list_of one.forest o) where
+        pub keeps-alike : (present changed changed' : Bool) (one' other' : Held K V)
+            → KeepsFrom most order present one.forest one.number o changed one'.forest one'.number
+            → KeepsFrom most order present other.forest other.number o' changed' other'.forest other'.number
+            → (changed' ≡ changed) × Resembles one' other'
+        keeps-alike present changed changed' one' other' c c' =
+            let list = c'.kept.list ∙ (λ z. kept_from order present (r.list z) (e z)) ∙ sym c.kept.list in
+            let after : sizes-in other' ≡ sizes-in one' = elim (empty-or-not (entries one')) [
+              | inl none ↦ no-sizes other'.forest other'.number c'.kept.live (list ∙ none) ∙ sym (no-sizes one'.forest one'.number c.kept.live none)
+              | inr some ↦ c'.sizes (λ none. some (sym list ∙ none)) ∙ (λ z. sizes_by most 0 (kept_of order present (r.list z) (e z)) (r.sizes z)) ∙ sym (c.sizes some)
+            ] in
+            let given = gives-alike one other one' other' (sizes-in one') (sizes-in other') r after c.account c'.account in (
+              c'.changed ∙ (λ z. not (keeps_all order present (r.list z) (e z))) ∙ sym c.changed,
+              record {
+                list = list;
+                sizes = after;
+                slots = given.0;
+                free = given.1;
+                limit = c'.kept.limit ∙ r.limit ∙ sym c.kept.limit;
+              },
+            )
+
+        need-of-union-alike : need_of_union most order other.forest other.number o' ≡ need_of_union most order one.forest one.number o
+        need-of-union-alike = λ z. if are_among order (e z) (r.list z) then 0 else fewest most (length (united order (r.list z) (e z)))
+
+        -- whether a union changes the first tree
+        changes-alike : (changed changed' : Bool) → changed ≡ not (are_among order (list_of one.forest o) (entries one)) → changed' ≡ not (are_among order (list_of other.forest o') (entries other))
+            → changed' ≡ changed
+        changes-alike changed changed' c c' = c' ∙ (λ z. not (are_among order (e z) (r.list z))) ∙ sym c
+
+        pub unites-alike : most % 2 ≡ 1 → (result result' : Result Bool OutOfMemory) (one' other' : Held K V)
+            → Unites most order one.forest one.number o result one'.forest one'.number → Unites most order other.forest other.number o' result' other'.forest other'.number
+            → result ≢ Err Memory → result' ≢ Err Memory → (result' ≡ result) × Resembles one' other'
+        unites-alike odd (Ok true) (Ok true) one' other' u u' m m' =
+            let taken = renews-alike one other one'.forest other'.forest _ _ r need-of-union-alike (u.account refl) (u'.account refl) in
+            let list = u'.united.list ∙ (λ z. united order (r.list z) (e z)) ∙ sym u.united.list in (
+              refl,
+              record {
+                list = list;
+                sizes = packed-same most (length (entries one')) odd (sizes-in other') (sizes-in one') (u'.packed refl) (u.packed refl)
+                    (subst (λ (es : List (K × V)). IsFitFor most (length es) (sizes-in other')) list (u'.fit refl)) (u.fit refl);
+                slots = taken.0;
+                free = taken.1;
+                limit = u'.united.limit ∙ r.limit ∙ sym u.united.limit;
+              },
+            )
+        unites-alike odd (Ok false) (Ok false) one' other' u u' m m' =
+            (refl, resembling-same one other one' other' r (held-same one one' (u.same_forest refl) (u.same_handle refl)) (held-same other other' (u'.same_forest refl) (u'.same_handle refl)))
+        unites-alike odd (Ok true) (Ok false) one' other' u u' m m' = let no = changes-alike true false u.changed u'.changed in absurd (cc)
+        unites-alike odd (Ok false) (Ok true) one' other' u u' m m' = let no = changes-alike false true u.changed u'.changed in absurd (cc)
+        unites-alike odd (Err Full) (Err Full) one' other' u u' m m' =
+            (refl, resembling-same one other one' other' r (held-same one one' u.refused_forest u.refused_handle) (held-same other other' u'.refused_forest u'.refused_handle))
+        unites-alike odd (Ok changed) (Err Full) one' other' u u' m m' =
+            let full = u.full.1 (subst (λ (P : Type 0). P) (sym (few-alike one other r need-of-union-alike)) (u'.full.0 refl)) in absurd (cc)
+        unites-alike odd (Err Full) (Ok changed) one' other' u u' m m' =
+            let full = u'.full.1 (subst (λ (P : Type 0). P) (few-alike one other r need-of-union-alike) (u.full.0 refl)) in absurd (cc)
+        unites-alike odd (Err Memory) result' one' other' u u' m m' = absurd (m refl)
+        unites-alike odd result (Err Memory) one' other' u u' m m' = absurd (m' refl)
 
       removes-at-alike : (p p' : ℕ) (one' other' : Held K V) → p' ≡ p → RemovesAt most one.forest one.number p one'.forest one'.number → RemovesAt most other.forest other.number p' other'.forest other'.number
           → Resembles one' other'

@@ -5,7 +5,7 @@ use Rattle.bforest_calls.specs.declared.call.Answer.TheVariants as answer
 use Rattle.bforest_calls.specs.declared.call.Answer.{Answer}
 use Rattle.bforest_calls.specs.declared.call.Call.TheVariants as call
 use Rattle.bforest_calls.specs.declared.call.Call.{Call}
-use Rattle.bforest_calls_tests.proofs.Changes.{got-inserted, inserted, scripted, shifted, updated, updated-inserted}
+use Rattle.bforest_calls_tests.proofs.Changes.{compacted, got-inserted, inserted, scripted, shifted, updated, updated-inserted, united-with}
 use Rattle.bforest_calls_tests.specs.Sparing.{IsSpared, Spares}
 use Rattle.bforest.specs.Refusal.{OutOfMemory}
 use Rattle.std.proofs.Common.{Bool, Err, List, None, Ok, Option, Result, Some, [], ap, false, get_or, inl, inr, length, subst, suc, sym, take, true, zero, ◌<◌, ◌∙◌, ◌∷◌, ◌≡◌, ◌≢◌, ℕ}
@@ -111,6 +111,28 @@ module _ {K V : Type 0} where
       | inl r ↦ same m old new r.1
       | inr r ↦ changed m old new h r.3.2.0 _ r.0 here apart r.3.2.1 r.3.2.2.removed.removed
     ]
+    spared-step m old (call.Len h) given new here apart s = elim s [ inl r ↦ same m old new r.1 | inr r ↦ same m old new r.3.1 ]
+    spared-step m old (call.Compact h) given new here apart s = elim s [
+      | inl r ↦ same m old new r.1
+      | inr r ↦ changed m old new h r.3.2.0 _ r.0 here apart r.3.2.1 (compacted most old.forest (number_at old h) r.3.0 new.forest r.3.2.0 r.1 r.3.2.2)
+    ]
+    spared-step m old (call.RemoveRange h c lo hi) given new here apart s = elim s [
+      | inl r ↦ same m old new r.1
+      | inr r ↦ changed m old new h r.3.2.0 _ r.0.0 here apart r.3.2.1 r.3.2.2.removed
+    ]
+    spared-step m old (call.Unite h o c) given new here apart s = elim s [
+      | inl r ↦ same m old new r.1
+      | inr r ↦ changed m old new h r.3.2.0 _ r.0.0 here apart r.3.2.1
+          (united-with most (order_at orders c) old.forest (number_at old h) (number_at old o) r.3.0 new.forest r.3.2.0 r.1.0 r.3.2.2)
+    ]
+    spared-step m old (call.Intersect h o c) given new here apart s = elim s [
+      | inl r ↦ same m old new r.1
+      | inr r ↦ changed m old new h r.3.2.0 _ r.0.0 here apart r.3.2.1 r.3.2.2.kept
+    ]
+    spared-step m old (call.Subtract h o c) given new here apart s = elim s [
+      | inl r ↦ same m old new r.1
+      | inr r ↦ changed m old new h r.3.2.0 _ r.0.0 here apart r.3.2.1 r.3.2.2.kept
+    ]
     spared-step m old (call.Clear h) given new here apart s = elim s [
       | inl r ↦ same m old new r.1
       | inr r ↦ changed m old new h r.3.1.0 _ r.0 here apart r.3.1.1 r.3.1.2.cleared
@@ -156,6 +178,11 @@ module _ {K V : Type 0} where
     later m old mid a (call.Remove h c k) apart = λ e. apart (a.handles h e)
     later m old mid a (call.PopFirst h) apart = λ e. apart (a.handles h e)
     later m old mid a (call.PopLast h) apart = λ e. apart (a.handles h e)
+    later m old mid a (call.Compact h) apart = λ e. apart (a.handles h e)
+    later m old mid a (call.RemoveRange h c lo hi) apart = λ e. apart (a.handles h e)
+    later m old mid a (call.Unite h o c) apart = λ e. apart (a.handles h e)
+    later m old mid a (call.Intersect h o c) apart = λ e. apart (a.handles h e)
+    later m old mid a (call.Subtract h o c) apart = λ e. apart (a.handles h e)
     later m old mid a (call.Clear h) apart = λ e. apart (a.handles h e)
     later m old mid a (call.Edit h c steps) apart = λ e. apart (a.handles h e)
     later m old mid a (call.Retain h c keys put) apart = λ e. apart (a.handles h e)

@@ -29,6 +29,7 @@ module _ {K V : Type 0} where
   abbrev pub HadMemory : Answer K V → Type 0
   HadMemory (answer.Put result) = result ≢ Err Memory
   HadMemory (answer.Made result) = result ≢ Err Memory
+  HadMemory (answer.United result) = result ≢ Err Memory
   HadMemory (answer.Script sights) = All (λ sight. sight ≢ seen.Put (Err Memory)) sights.items
   HadMemory given = Unit {0}
 

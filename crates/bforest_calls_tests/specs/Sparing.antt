@@ -18,6 +18,11 @@ module _ {K V : Type 0} where
   Spares m state (call.Remove h c k) = number_at state h ≢ Some m
   Spares m state (call.PopFirst h) = number_at state h ≢ Some m
   Spares m state (call.PopLast h) = number_at state h ≢ Some m
+  Spares m state (call.Compact h) = number_at state h ≢ Some m
+  Spares m state (call.RemoveRange h c lo hi) = number_at state h ≢ Some m
+  Spares m state (call.Unite h other c) = number_at state h ≢ Some m
+  Spares m state (call.Intersect h other c) = number_at state h ≢ Some m
+  Spares m state (call.Subtract h other c) = number_at state h ≢ Some m
   Spares m state (call.Clear h) = number_at state h ≢ Some m
   Spares m state (call.Edit h c steps) = number_at state h ≢ Some m
   Spares m state (call.Retain h c keys put) = number_at state h ≢ Some m
