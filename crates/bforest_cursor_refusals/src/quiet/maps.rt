@@ -17,9 +17,9 @@ pub(crate) fn all(mut forest: MapForest<u32, u32>, seen: &mut Seen) {
     seen.note(whole_maps::ends(&map, &forest));
     seen.note(whole_maps::values(&mut map, &mut forest));
     seen.note(whole_maps::pops(&mut map, &mut forest));
+    seen.note(change(&mut map, &mut forest));
     seen.note(whole_maps::copies(&map, &mut forest));
     seen.note(whole_maps::loads(&mut forest));
-    seen.note(change(&mut map, &mut forest));
     seen.note(empty(&mut map, &mut forest));
     seen.note(map.is_empty() && forest.free_slots() == free);
     forest.clear();

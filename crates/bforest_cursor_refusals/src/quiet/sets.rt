@@ -16,9 +16,9 @@ pub(crate) fn all(forest: &mut SetForest<u32>, seen: &mut Seen) {
     seen.note(read(&set, forest));
     seen.note(whole_sets::ends(&set, forest));
     seen.note(whole_sets::pops(&mut set, forest));
+    seen.note(change(&mut set, forest));
     seen.note(whole_sets::copies(&set, forest));
     seen.note(whole_sets::loads(forest));
-    seen.note(change(&mut set, forest));
     seen.note(empty(&mut set, forest));
     seen.note(set.is_empty() && forest.free_slots() == free);
     forest.clear();

@@ -56,7 +56,7 @@ pub(super) fn pops(map: &mut Map<u32, u32>, forest: &mut MapForest<u32, u32>) ->
     first == Some((1, 1)) && last == Some((LAST, LAST)) && put == Ok(None) && put_last == Ok(None)
 }
 
-// Copies the map, and takes the copy apart again.
+// Copies the map of the keys 1 and 2, and takes the copy apart again.
 pub(super) fn copies(map: &Map<u32, u32>, forest: &mut MapForest<u32, u32>) -> bool {
     if !forest.holds(map) {
         return false;
@@ -67,20 +67,16 @@ pub(super) fn copies(map: &Map<u32, u32>, forest: &mut MapForest<u32, u32>) -> b
     if !forest.holds(&copy) || !copy.increases(forest, &()) {
         return false;
     }
-    copy.shift(MIDDLE, |key| key, forest, &());
+    copy.shift(1, |key| key, forest, &());
     if !forest.holds(&copy) || !copy.increases(forest, &()) {
         return false;
     }
-    let went = copy.remove_range((Bound::Included(5), Bound::Excluded(10)), forest, &());
+    let went = copy.remove_range((Bound::Included(2), Bound::Excluded(MIDDLE)), forest, &());
     went && takes(&mut copy, map, forest)
 }
 
 // Keeps what another map has, and then what it has not, which is nothing.
-fn takes(
-    copy: &mut Map<u32, u32>,
-    map: &Map<u32, u32>,
-    forest: &mut MapForest<u32, u32>,
-) -> bool {
+fn takes(copy: &mut Map<u32, u32>, map: &Map<u32, u32>, forest: &mut MapForest<u32, u32>) -> bool {
     if !forest.holds(copy) || !copy.increases(forest, &()) {
         return false;
     }

@@ -39,7 +39,7 @@ pub(super) fn pops(set: &mut Set<u32>, forest: &mut SetForest<u32>) -> bool {
     first == Some(1) && last == Some(LAST) && put == Ok(true) && put_last == Ok(true)
 }
 
-// Copies the set, and takes the copy apart again.
+// Copies the set of the keys 1 and 2, and takes the copy apart again.
 pub(super) fn copies(set: &Set<u32>, forest: &mut SetForest<u32>) -> bool {
     if !forest.holds(set) {
         return false;
@@ -50,11 +50,11 @@ pub(super) fn copies(set: &Set<u32>, forest: &mut SetForest<u32>) -> bool {
     if !forest.holds(&copy) || !copy.increases(forest, &()) {
         return false;
     }
-    copy.shift(MIDDLE, |key| key, forest, &());
+    copy.shift(1, |key| key, forest, &());
     if !forest.holds(&copy) || !copy.increases(forest, &()) {
         return false;
     }
-    let went = copy.remove_range((Bound::Included(5), Bound::Excluded(10)), forest, &());
+    let went = copy.remove_range((Bound::Included(2), Bound::Excluded(MIDDLE)), forest, &());
     if !forest.holds(&copy) || !copy.increases(forest, &()) {
         return false;
     }
@@ -66,11 +66,7 @@ pub(super) fn copies(set: &Set<u32>, forest: &mut SetForest<u32>) -> bool {
 }
 
 // Keeps what another set has, and then what it has not, which is nothing.
-fn takes(
-    copy: &mut Set<u32>,
-    set: &Set<u32>,
-    forest: &mut SetForest<u32>,
-) -> bool {
+fn takes(copy: &mut Set<u32>, set: &Set<u32>, forest: &mut SetForest<u32>) -> bool {
     if !forest.holds(copy) || !copy.increases(forest, &()) {
         return false;
     }
