@@ -134,7 +134,7 @@ module _ {K V : Type 0} where
           within = λ few. omega (arith, c.account.slots, c.same_list.limit, low, few);
         }
 
-    -- so did one of a union
+    -- the nodes of the new tree were taken, and then those of the old one freed, by a union that changed something
     pub unites-balance : {cmp : K → K → Ordering} {other : Option ℕ} → Unites most cmp f h other (Ok true) f' h' → Balances most f h f' h'
     unites-balance {cmp} {other} c =
         let account = c.account refl in

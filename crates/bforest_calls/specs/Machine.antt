@@ -84,7 +84,7 @@ module _ {K V : Type 0} where
   abbrev pub Compares : Orders K → ℕ → ℕ → State K V → Answer K V → State K V → Type 0 → Type 0
   Compares orders h c old = Tests ((h < length old.handles) × (c < length orders)) (Live old h) (Ordered orders old h c) old
 
-  -- and of one that compares the keys of both by c
+  -- the tests of a call on handles h and o that compares the keys of both by comparator c
   abbrev pub ComparesBoth : Orders K → ℕ → ℕ → ℕ → State K V → Answer K V → State K V → Type 0 → Type 0
   ComparesBoth orders h o c old =
       Tests ((h < length old.handles) × (o < length old.handles) × (c < length orders)) (Live old h × Live old o) (Ordered orders old h c × Ordered orders old o c) old

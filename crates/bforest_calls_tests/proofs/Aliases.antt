@@ -64,7 +64,7 @@ module _ {K V : Type 0} where
       subst (λ (n : Option ℕ). R (record { forest = old.forest; number = n }) (record { forest = new.forest; number = on.0 })) (sym (number h)) on.2,
     )
 
-    -- and of one that another handle's tree is read for
+    -- a change of handle h, for which the tree of handle o is read, is one of the exchanged handles
     beside-exchanged : (h o : ℕ) (R : Option ℕ → Held K V → Held K V → Type 0) → h < length old.handles → On h old new (R (number_at old o))
         → On (exchange i j h) (turned i j old) (turned i j new) (R (number_at (turned i j old) (exchange i j o)))
     beside-exchanged h o R w on =

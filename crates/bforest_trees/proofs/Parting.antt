@@ -128,7 +128,7 @@ module _ {K X : Type 0} {most : ℕ} {cmp : K → K → Ordering} {lo hi : Bound
       abbrev pub parting-on : OnSpot f h path
       parting-on = record { place = start_place cmp lo (list_of f₀ h₀); spot = s.spot; within = low }
 
-      -- it is removed
+      -- the entry at the start of the range is removed, and the list gets shorter
       module _ {f' : Forest K X} {h' : Option ℕ} (removed : (at : OnSpot f h path) → Becomes f h f' h' (remove (list_of f h) at.place)) where
         pub parting-shorter : length (list_of f' h') < length (list_of f h)
         parting-shorter = omega (arith, low, ap length ((removed parting-on).list), length_remove (list_of f h) (start_place cmp lo (list_of f₀ h₀)) low)
