@@ -36,5 +36,4 @@ pub mod Shifting
 pub mod Loading
 pub mod Unordered
 pub mod unions
-pub mod Parting
 pub mod Packing

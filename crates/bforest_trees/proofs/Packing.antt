@@ -8,7 +8,7 @@ use Rattle.bforest_core.specs.declared.pool.OutOfMemory.TheVariants.{Full}
 use Rattle.bforest_core.specs.declared.pool.OutOfMemory.{OutOfMemory}
 use Rattle.bforest_nodes.specs.Entries.{IsIncreasing, place}
 use Rattle.bforest_trees.proofs.Cutting.{becomes-same}
-use Rattle.bforest_trees.proofs.Parting.{tested-up}
+use Rattle.bforest_trees.proofs.ranges.Parting.{tested-up}
 use Rattle.bforest_trees.proofs.ranges.Between.{end-unbounded, slice-between, start-included, start-rises}
 use Rattle.bforest_trees.proofs.ranges.Outside.{outside-is}
 use Rattle.bforest_trees.proofs.unions.Uniting.{becomes-made, made-beside, made-stays, other-stays}

@@ -6,3 +6,4 @@ pub mod Ranging
 pub mod Beside
 pub mod Narrowing
 pub mod Outside
+pub mod Parting

@@ -1,4 +1,4 @@
-use Rattle.bforest_trees.proofs.Parting.{parting-at, parting-end, parting-first, parting-live, parting-next, parting-on, parting-shorter}
+use Rattle.bforest_trees.proofs.ranges.Parting.{parting-at, parting-end, parting-first, parting-live, parting-next, parting-on, parting-shorter}
 use Rattle.bforest_trees.proofs.Spots.{spot-end}
 use Rattle.bforest_trees.proofs.trees.Trees.remove_range.Goals as goal
 use Rattle.std.proofs.Common.{rules}

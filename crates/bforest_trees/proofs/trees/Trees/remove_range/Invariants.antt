@@ -1,4 +1,4 @@
-use Rattle.bforest_trees.proofs.Parting.{Parting}
+use Rattle.bforest_trees.proofs.ranges.Parting.{Parting}
 use Rattle.bforest_trees.proofs.trees.Trees.remove_range.Given as goal
 use Rattle.bforest_trees.specs.Forest.{list_of}
 use Rattle.std.proofs.Common.{length}
