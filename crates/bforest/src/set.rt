@@ -412,7 +412,7 @@ impl<K: Copy> Set<K> {
     /// # Errors
     ///
     /// [`OutOfMemory::Full`] where the forest's limit does not allow the new tree's nodes beside the old ones. [`OutOfMemory::Memory`] where
-    /// an key goes and there was no memory for the list or for a table that had to grow. The set and the forest are unchanged then.
+    /// a key goes and there was no memory for the list or for a table that had to grow. The set and the forest are unchanged then.
     pub fn split_off<C: Comparator<K>>(
         &mut self,
         key: K,
