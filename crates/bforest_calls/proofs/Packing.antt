@@ -8,7 +8,7 @@ use Rattle.bforest_core.specs.Sizes.{IsFitAbove, IsFitFor, IsFitLevel}
 use Rattle.bforest_core.specs.Trees.{inner_row, inner_rows, leaf_row, is_root, levels_below, slot, tree_from, tree_of}
 use Rattle.bforest_nodes.specs.Content.{Content, children_of}
 use Rattle.bforest_trees.specs.Forest.{list_at, sizes_at}
-use Rattle.std.proofs.Common.{Bool, List, None, Ok, Option, Some, if◌then◌else◌, [], ap, arith, drop, false, inl, inr, length, map, nat_lt, refl, subst, suc, sym, take, true, zero, ◌%◌, ◌*◌, ◌+◌, ◌-◌, ◌<◌, ◌∙◌, ◌∷◌, ◌≡◌, ◌≤◌, ℕ}
+use Rattle.std.proofs.Common.{Bool, List, None, Ok, Option, Some, if◌then◌else◌, [], ap, arith, drop, false, inl, inr, length, map, nat_lt, refl, subst, suc, sym, take, true, zero, ◌%◌, ◌*◌, ◌+◌, ◌<◌, ◌∙◌, ◌∷◌, ◌≡◌, ◌≤◌, ℕ}
 use Rattle.std.proofs.lemmas.Bool.{cases_lt}
 use Rattle.std.proofs.lemmas.Grind.{div_ceil_times}
 use Rattle.std.proofs.lemmas.List.Sums.{sum_by-cons}

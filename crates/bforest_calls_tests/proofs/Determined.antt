@@ -1,6 +1,6 @@
 -- Two runs of one list of calls that go in step.
 use Rattle.bforest.specs.Bounds.{entries_between, entry_at_least, entry_at_most}
-use Rattle.bforest.specs.Calls.{Compacts, RemovesBetween}
+use Rattle.bforest.specs.Calls.{Compacts, KeepsFrom, RemovesBetween}
 use Rattle.bforest.specs.Forest.{Becomes, Forest, IsLive, emptied, list_of, sizes_of}
 use Rattle.bforest_trees.specs.Forest.{list_at, sizes_at}
 use Rattle.bforest_calls.specs.Looks.{all_taken, sights_of}
@@ -267,6 +267,22 @@ module _ {K V : Type 0} where
               changed h m.2.0 m'.2.0 _ _ t m.2.1 m'.2.1 same (becomes m.0 (held f (number h)) (held new.forest m.2.0) l m.2.2) (becomes m'.0 (held g (number h)) (held new'.forest m'.2.0) l' m'.2.2) r.1,
             )
 
+      -- a list keeps what another has, or what it has not
+      abbrev Keeps : Bool → Forest K V → (h o c : ℕ) → Answer K V → State K V → Type 0
+      Keeps present f h o c given new = ComparesBoth orders h o c (at f handles) given new
+          ((changed : Bool) × (given ≡ answer.Changed changed)
+          × On h (at f handles) new (λ before after. KeepsFrom most (order c) present before.forest before.number (number o) changed after.forest after.number))
+
+      keeps-both : (present : Bool) (h o c : ℕ) (given given' : Answer K V) (new new' : State K V) → new'.handles ≡ new.handles
+          → Keeps present f h o c given new → Keeps present g h o c given' new' → Agree given given' new new'
+      keeps-both present h o c given given' new new' same s s' = compares-both given given' new new' h o c _ _
+          (λ t l l' m m'.
+          let r = keeps-alike most (order c) (held f (number h)) (held g (number h)) (held-alike f g handles a (number h)) (number o) (number o) (lists o) present m.0 m'.0
+          (held new.forest m.2.0) (held new'.forest m'.2.0) m.2.2 m'.2.2 in (
+            answers-alike given given' (answer.Changed m.0) (answer.Changed m'.0) m.1 m'.1 (ap (λ x. answer.Changed x) r.0),
+            changed given given' new new' h m.2.0 m'.2.0 _ _ t m.2.1 m'.2.1 same m.2.2.kept m'.2.2.kept r.1,
+          )) s s'
+
       step-alike : (call : Call K V) (given given' : Answer K V) (new new' : State K V) → Step most reads orders (at f handles) call given new → Step most reads orders (at g handles) call given' new'
           → new'.handles ≡ new.handles → HadMemory given → HadMemory given' → Agree given given' new new'
       step-alike (call.Get h c k) given given' new new' s s' same had had' = compares given given' new new' h c _ _
@@ -335,20 +351,8 @@ module _ {K V : Type 0} where
             changed given given' new new' h m.2.0 m'.2.0 _ _ t m.2.1 m'.2.1 same
                 (united-with most (order c) f (number h) (number o) m.0 new.forest m.2.0 l m.2.2) (united-with most (order c) g (number h) (number o) m'.0 new'.forest m'.2.0 l' m'.2.2) r.1,
           )) s s'
-      step-alike (call.Intersect h o c) given given' new new' s s' same had had' = compares-both given given' new new' h o c _ _
-          (λ t l l' m m'.
-          let r = keeps-alike most (order c) (held f (number h)) (held g (number h)) (held-alike f g handles a (number h)) (number o) (number o) (lists o) true m.0 m'.0
-          (held new.forest m.2.0) (held new'.forest m'.2.0) m.2.2 m'.2.2 in (
-            answers-alike given given' (answer.Changed m.0) (answer.Changed m'.0) m.1 m'.1 (ap (λ x. answer.Changed x) r.0),
-            changed given given' new new' h m.2.0 m'.2.0 _ _ t m.2.1 m'.2.1 same m.2.2.kept m'.2.2.kept r.1,
-          )) s s'
-      step-alike (call.Subtract h o c) given given' new new' s s' same had had' = compares-both given given' new new' h o c _ _
-          (λ t l l' m m'.
-          let r = keeps-alike most (order c) (held f (number h)) (held g (number h)) (held-alike f g handles a (number h)) (number o) (number o) (lists o) false m.0 m'.0
-          (held new.forest m.2.0) (held new'.forest m'.2.0) m.2.2 m'.2.2 in (
-            answers-alike given given' (answer.Changed m.0) (answer.Changed m'.0) m.1 m'.1 (ap (λ x. answer.Changed x) r.0),
-            changed given given' new new' h m.2.0 m'.2.0 _ _ t m.2.1 m'.2.1 same m.2.2.kept m'.2.2.kept r.1,
-          )) s s'
+      step-alike (call.Intersect h o c) given given' new new' s s' same had had' = keeps-both true h o c given given' new new' same s s'
+      step-alike (call.Subtract h o c) given given' new new' s s' same had had' = keeps-both false h o c given given' new new' same s s'
       step-alike (call.Clear h) given given' new new' s s' same had had' = names given given' new new' (h < length handles) h _ _
           (λ t l l' m m'. (
             answers-alike given given' answer.Done answer.Done m.0 m'.0 refl,
