@@ -8,7 +8,7 @@ use Rattle.bforest.specs.Refusal.{OutOfMemory}
 use Rattle.bforest.specs.Room.{node_count}
 use Rattle.bforest_indexed.proofs.Kept.{changes, changes-not, here, kept-set, list-here, read, unchanged, with_tree}
 use Rattle.bforest_indexed.specs.Indexed.{AreKept, CompactsAt, Indexed, RemovesBetweenAt, count, entries, handle, node_sizes, table}
-use Rattle.std.proofs.Common.{Bool, Err, List, None, Ok, Option, Result, ap, get_or, if◌then◌else◌, refl, subst, sym, ◌<◌, ◌∙◌, ◌≡◌, ℕ}
+use Rattle.std.proofs.Common.{Bool, Err, List, None, Ok, Option, Result, ap, get_or, if◌then◌else◌, subst, sym, ◌<◌, ◌∙◌, ◌≡◌, ℕ}
 use Rattle.std.specs.declared.cmp.Ordering.{Ordering}
 use Rattle.std.specs.declared.ops.Bound.{Bound}
 

@@ -1,16 +1,14 @@
 -- What a call on the trees of two indices leaves of all trees.
 use Rattle.bforest.proofs.Balances.{keeps-balance, unites-balance}
-use Rattle.bforest.specs.Calls.{KeepsFrom, Unites, need_of_union}
+use Rattle.bforest.specs.Calls.{KeepsFrom, Unites}
 use Rattle.bforest.specs.Entries.{is_present, value_for}
-use Rattle.bforest.specs.Forest.{Forest, Gives, list_of, room_of, sizes_of}
-use Rattle.bforest.specs.Refusal.{Full, OutOfMemory}
-use Rattle.bforest.specs.Room.{Balances, node_count}
+use Rattle.bforest.specs.Forest.{Forest, Gives, list_of, sizes_of}
+use Rattle.bforest.specs.Refusal.{OutOfMemory}
+use Rattle.bforest.specs.Room.{node_count}
 use Rattle.bforest.specs.Union.{are_among, are_apart, fits}
-use Rattle.bforest_indexed.proofs.Kept.{changes, changes-not, here, kept-set, list-here, ok-err, read, same-list, unchanged, with_tree}
+use Rattle.bforest_indexed.proofs.Kept.{changes, changes-not, here, kept-set, list-here, read, same-list, unchanged, with_tree}
 use Rattle.bforest_indexed.specs.Indexed.{AreKept, Indexed, KeepsFromAt, UnitesAt, count, entries, handle, node_sizes, table}
-use Rattle.std.proofs.Common.{Bool, Err, List, None, Ok, Option, Result, ap, arith, false, get_or, if◌then◌else◌, inl, inr, length, refl, slice_set, subst, sym, true, ◌<◌, ◌∙◌, ◌≡◌, ◌≤◌, ℕ}
-use Rattle.std.proofs.lemmas.Bool.Decides.{leb_tells}
-use Rattle.std.proofs.lemmas.List.{set-get_or}
+use Rattle.std.proofs.Common.{Bool, Err, List, None, Ok, Option, Result, ap, false, get_or, if◌then◌else◌, length, refl, subst, sym, true, ◌<◌, ◌∙◌, ◌≡◌, ℕ}
 use Rattle.std.specs.declared.cmp.Ordering.{Ordering}
 
 module _ {K X C : Type 0} {most : ℕ} {cmp : K → K → Ordering} {m : Indexed K X C} {i : ℕ} (j : ℕ) (a : AreKept most cmp m) (within : i < count m) where
