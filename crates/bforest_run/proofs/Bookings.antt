@@ -5,7 +5,7 @@ use Rattle.bforest_run.specs.Bookings.{AreNew}
 use Rattle.bforest_run.specs.Session.{Outcome}
 use Rattle.bforest_run.specs.Words.{Word}
 use Rattle.interval_books.specs.Books.{Books}
-use Rattle.std.proofs.Common.{IfSome, List, None, Option, Some, [], ap, get_or, refl, replicate, suc, zero, ◌∙◌, ◌≡◌, ℕ}
+use Rattle.std.proofs.Common.{IfSome, List, None, Option, Some, [], ap, get_or, refl, replicate, suc, zero, ◌≡◌, ℕ}
 use Rattle.std.proofs.lemmas.List.{length-replicate}
 
 -- each handle of new books is empty

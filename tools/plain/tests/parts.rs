@@ -235,6 +235,42 @@ fn ranges_of_sets_that_go() {
     each_range::<Set<u32>>();
 }
 
+/// So does a range without an end, of maps and sets with a few thousand entries that were put in up, down or in no order.
+fn each_upper_part<H: Handle>() {
+    let mut random = Random(8);
+    for round in 0..60 {
+        let count = 1_000 + random.below(4_000);
+        let mut keys: Vec<u32> = (0..count).map(|at| 2 * at).collect();
+        match round % 3 {
+            0 => {}
+            1 => keys.reverse(),
+            _ => keys.sort_by_cached_key(|_| random.below(u32::MAX)),
+        }
+        let mut forest = H::forest(u32::MAX);
+        let handle: H = made(keys, &mut forest);
+        for _ in 0..4 {
+            let start = random.below(2 * count + 1);
+            let (mut ranged, mut forest, mut singly, mut other) = (handle.clone(), forest.clone(), handle.clone(), forest.clone());
+            let first = start.div_ceil(2);
+            assert_eq!(ranged.remove_range((Included(start), Unbounded), &mut forest), first < count);
+            (first..count).for_each(|at| singly.take(2 * at, &mut other));
+            assert!(ranged.keys(&forest).into_iter().eq((0..first).map(|at| 2 * at)), "{start}.. of {count} keys");
+            assert_eq!(H::slots(&forest), H::slots(&other), "{start}.. of {count} keys");
+            assert_eq!(ranged.levels(&forest), singly.levels(&other), "{start}.. of {count} keys");
+        }
+    }
+}
+
+#[test]
+fn upper_parts_of_large_maps_that_go() {
+    each_upper_part::<Map<u32, u32>>();
+}
+
+#[test]
+fn upper_parts_of_large_sets_that_go() {
+    each_upper_part::<Set<u32>>();
+}
+
 /// A forest with just the nodes that are needed beside those that are there, and one with one node fewer. In the second one the call is
 /// refused, and has changed nothing.
 fn with_limits<H: Handle>(keys: &BTreeSet<u32>, need: u32, call: impl Fn(&mut H, &mut H::Forest) -> Result<(), OutOfMemory>) {
