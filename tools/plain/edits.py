@@ -158,7 +158,7 @@ EDITS = {
         (r"pub fn new\(_alloc: Global\) -> Result<Self, AllocError>", "pub fn new() -> Self", 1),
         (r"Ok\((NodeData \{\s*state: State::Vacant\(PackedNode::none\(\)\),\s*\})\)", r"\1", 1),
         (r" It takes no memory and always succeeds[^.]*\.", " It takes no memory.", None),
-        (r"\bunreachable!\(\)", MISUSED, 27),
+        (r"\bunreachable!\(\)", MISUSED, 28),
         # what only a caller of the prover reads
         (r"(?:\n    //[^\n]*)+\n    pub rhs_entries: usize,", "", 1),
         (r"\n *rhs_entries: len - \w+,", "", 2),

@@ -15,3 +15,4 @@ pub mod Sets
 pub mod Shrinking
 pub mod Fewest
 pub mod Standard
+pub mod Truncating

@@ -426,9 +426,10 @@ impl<K: Copy, V: Copy> Map<K, V> {
 
     /// Removes the entries whose keys are within both bounds, and returns whether there was one.
     ///
-    /// At most one search, as in [`Map::get`], to the first of them. Then one comparison for each of them and one more; none for an end
-    /// without a bound. They are removed one after another, in order, and each may rebalance or merge nodes, as in [`Map::remove`]. No node
-    /// and no memory is taken, so this can't be refused.
+    /// At most one search, as in [`Map::get`], to the first of them. Up to an end bound they are removed one after another, in order, with one
+    /// comparison for each of them and one more, and each may rebalance or merge nodes, as in [`Map::remove`]. Without an end bound nothing is
+    /// compared: whole subtrees go, each node of which is read once, and of the nodes that stay only those on the path to the first are
+    /// written. No node and no memory is taken, so this can't be refused.
     pub fn remove_range<C: Comparator<K>>(
         &mut self,
         bounds: (Bound<K>, Bound<K>),
@@ -444,8 +445,9 @@ impl<K: Copy, V: Copy> Map<K, V> {
 
     /// Moves the entries whose keys are not less than `key` to a map of their own, and returns its handle. Those that are less stay.
     ///
-    /// Reads the entries that go twice, and makes a tree of them with the fewest nodes. Then it removes them from this map, as
-    /// [`Map::remove_range`] does. Three searches in all, as in [`Map::get`]. Until the call returns it takes memory for a list of them.
+    /// Reads the entries that go twice, and makes a tree of them with the fewest nodes. Then it removes them from this map with the nodes
+    /// that hold them, as [`Map::remove_range`] does without an end bound. Three searches in all, as in [`Map::get`]. Until the call returns
+    /// it takes memory for a list of them.
     ///
     /// Takes exactly the nodes of the new tree, none where no entry goes. They have to be there beside those of this map.
     ///

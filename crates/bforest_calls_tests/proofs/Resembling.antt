@@ -1,6 +1,6 @@
 -- Changes of trees that resemble one another.
 use Rattle.bforest.specs.Bounds.{entries_between, entries_outside, start_place}
-use Rattle.bforest.specs.Calls.{Clears, Clones, Compacts, Inserts, KeepsFrom, Loads, Pops, Removes, RemovesAt, RemovesBetween, Unites, need_of_union, removals}
+use Rattle.bforest.specs.Calls.{Clears, Clones, Compacts, Inserts, KeepsFrom, Loads, Pops, Removes, RemovesAt, RemovesBetween, Unites, need_of_union, sizes_outside}
 use Rattle.bforest.specs.Forest.{Becomes, Forest, Gives, IsFitFor, IsLive, IsTooMany, Takes, TakesAndGives, fewest, free_of, limit_of, list_of, need_of, nodes_of, sizes_of, slots_of}
 use Rattle.bforest.specs.Retain.{AsksEach, kept_by, sizes_by}
 use Rattle.bforest.specs.Union.{are_among, kept_from, kept_of, keeps_all, united}
@@ -317,7 +317,7 @@ module _ {K V : Type 0} where
           → RemovesBetween most order lo hi other.forest other.number changed' other'.forest other'.number
           → (changed' ≡ changed) × Resembles one' other'
       between-alike lo hi changed changed' one' other' c c' =
-          let after = c'.sizes ∙ (λ z. removals most (start_place order lo (r.list z)) (length (entries_between order lo hi (r.list z))) (r.sizes z)) ∙ sym c.sizes in
+          let after = c'.sizes ∙ (λ z. sizes_outside most hi (start_place order lo (r.list z)) (length (entries_between order lo hi (r.list z))) (r.sizes z)) ∙ sym c.sizes in
           let given = gives-alike one other one' other' (sizes-in one') (sizes-in other') r after c.account c'.account in (
             c'.changed ∙ (λ z. nat_lt 0 (length (entries_between order lo hi (r.list z)))) ∙ sym c.changed,
             record {

@@ -19,6 +19,11 @@ pub mod Counting
 pub mod Summing
 pub mod Duplicating
 pub mod Joining
+pub mod Fronts
+pub mod Emptying
+pub mod Narrowing
+pub mod Cutting
+pub mod CutTree
 pub mod Needs
 pub mod Building
 pub mod Filling

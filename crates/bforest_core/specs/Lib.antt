@@ -17,4 +17,5 @@ pub mod Leaves
 pub mod Updates
 pub mod Ways
 pub mod Copies
+pub mod Cut
 pub mod Packed

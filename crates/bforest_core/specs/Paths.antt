@@ -1,10 +1,10 @@
 -- Where a path stands in a pool, in the terms of its public calls; contracts read a path only through these.
-use Rattle.std.specs.Prelude.{◌≡◌, ◌≢◌, ℕ, List, Option, Some, None, IfSome, Result, Err, IfOk, IsOk, OnOk, OnErr, drop, insert, remove, length, get_or, slice_get, if◌then◌else◌, ◌==◌, ◌+◌, ◌++◌, ◌∷◌, [], nat_eq, ◌<◌, ◌≤◌, ◌↔◌}
+use Rattle.std.specs.Prelude.{◌≡◌, ◌≢◌, ℕ, List, Option, Some, None, IfSome, Result, Err, IfOk, IsOk, OnOk, OnErr, drop, take, insert, remove, length, get_or, slice_get, if◌then◌else◌, ◌==◌, ◌+◌, ◌++◌, ◌∷◌, [], nat_eq, ◌<◌, ◌≤◌, ◌↔◌}
 use Rattle.bforest_core.specs.Change.{AtUnder, Changes, Ends, EntryTaken, GivesInOrder, GivesNodes, PlacedUnder, PointsUnder, StandsUnder, TakesNodes}
 use Rattle.bforest_core.specs.Climb.{top_of}
 use Rattle.bforest_core.specs.Levels.{LevelNode, flat, node, sizes_of}
 use Rattle.bforest_core.specs.Place.{count, leaf_content}
-use Rattle.bforest_core.specs.Sizes.{growth, need, shrink}
+use Rattle.bforest_core.specs.Sizes.{growth, need, shrink, truncated}
 use Rattle.bforest_core.specs.Table.{NeedsGrowth, Table, free_count, room}
 use Rattle.bforest_core.specs.Trees.{tree_of}
 use Rattle.bforest_core.specs.declared.path.Path.{Path}
@@ -125,6 +125,18 @@ module _ {K V : Type 0} where
     pub end : result ≡ None → IsAtEnd path'
     pub none_left : result ≡ None → (at : OnEntry old path) → shrink n at.place (sizes_under old at.root) ≡ []
     pub freed_root : (at : OnEntry old path) → result ≢ Some at.root → 0 < count at.root new.chain
+
+  -- What a cut at a path returns and leaves, on each entry where the path stands. The entries from there on are out of the list, and the
+  -- nodes that held them alone are on the free list; `None` where the first entry went too, which ends the tree
+  pub record CutsHere {n : ℕ} (old new : Table K V) (path path' : Path K V n) (result : Option ℕ) : Type 0 where
+    pub removed : (at : OnEntry old path) → IfSome result (λ root'. Changes n old new at.root root' (take at.place (list_under old at.root)) (truncated at.place (sizes_under old at.root)))
+    pub account : (at : OnEntry old path) → GivesNodes (sizes_under old at.root) (truncated at.place (sizes_under old at.root)) old new
+    pub same_root : (at : OnEntry old path) → IfSome result (λ root'. (root' ≡ at.root) ↔ (length (truncated at.place (sizes_under old at.root)) ≡ length (sizes_under old at.root)))
+    pub first : (at : OnEntry old path) → (result ≡ None) ↔ (at.place ≡ 0)
+    pub ended : result ≡ None → (at : OnEntry old path) → Ends n old new at.root
+    pub none_left : result ≡ None → (at : OnEntry old path) → truncated at.place (sizes_under old at.root) ≡ []
+    pub freed_root : (at : OnEntry old path) → result ≢ Some at.root → 0 < count at.root new.chain
+    pub end : IsAtEnd path'
 
   -- the path stands at its index in a leaf of these entries, which start at this place of the list under a root
   pub record OnLeaf {n : ℕ} (table : Table K V) (root : ℕ) (path : Path K V n) (place : ℕ) (entries : List (K × V)) : Type 0 where

@@ -74,6 +74,22 @@ abbrev pub shrink : ℕ → ℕ → List (List ℕ) → List (List ℕ)
 shrink n place [] = []
 shrink n place (leaves ∷ levels) = trimmed ((loss n place leaves).1 ∷ loss_above (loss n place leaves).0 levels)
 
+-- the first nodes of a level, which hold so many entries together: the last keeps what is left for it
+abbrev pub front : ℕ → List ℕ → List ℕ
+front zero level = []
+front (suc kept) [] = []
+front (suc kept) (size ∷ after) =
+    if nat_lt size (suc kept) then size ∷ front (suc kept - size) after else suc kept ∷ []
+
+-- the levels over the first entries alone, so many
+abbrev pub fronts : ℕ → List (List ℕ) → List (List ℕ)
+fronts kept [] = []
+fronts kept (level ∷ levels) = front kept level ∷ fronts (length (front kept level)) levels
+
+-- the sizes after all entries from a place on were removed with the nodes behind them
+abbrev pub truncated : ℕ → List (List ℕ) → List (List ℕ)
+truncated place levels = trimmed (fronts place levels)
+
 -- how many nodes the split of this node, if any, takes: one for it, one for each node above that is split
 -- too, and one for a new root
 abbrev pub need_above : Option ℕ → List (List ℕ) → ℕ

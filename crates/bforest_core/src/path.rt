@@ -4,6 +4,7 @@ ghost use Rattle.bforest_nodes.specs.Content.{IsLeaf};
 ghost use Rattle.bforest_core.specs.Table.{Table};
 ghost use Rattle.bforest_core.specs.Trees.{IsUnion, is_root, slot};
 
+mod cut;
 mod find;
 mod here;
 mod insert;

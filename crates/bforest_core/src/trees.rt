@@ -4,6 +4,7 @@ ghost use Rattle.std.specs.List.{flat_map};
 ghost use Rattle.bforest_nodes.specs.Content.{Content, IsLeafCapacity, children_of};
 ghost use Rattle.bforest_core.specs.Change.{Ends, GivesNodes};
 ghost use Rattle.bforest_core.specs.Levels.{LevelNode, flat, half_of, sizes_of, most_levels, top_level};
+ghost use Rattle.bforest_core.specs.Cut.{Behind};
 ghost use Rattle.bforest_core.specs.Descent.{NodeOver, Under};
 ghost use Rattle.bforest_core.specs.Place.{count, Distinct};
 ghost use Rattle.bforest_core.specs.Removal.{numbers_under};
@@ -74,6 +75,21 @@ impl<K: Copy, V: Copy, const N: usize> NodePool<K, V, N> {
             self.free_below(child, depth + 1);
         }
         self.free_node(node);
+    }
+
+    // Frees everything below the children of a node from this index on. The node still names them.
+    pub(crate) fn free_behind(&mut self, node: Node, from: usize)
+        requires capacity { IsLeafCapacity N }
+        requires behind { (leaves : List (LevelNode K V)) × (lower : List (List (LevelNode K ℕ))) × (top : List (K × ℕ))
+            × Behind N self.old node from leaves lower top }
+        ensures { (leaves : List (LevelNode K V)) (lower : List (List (LevelNode K ℕ))) (top : List (K × ℕ))
+            → Behind N self.old node from leaves lower top
+            → (given : List ℕ) × Frees self.old self.new (numbers_under leaves lower) [] given }
+    {
+        for index in from..self.child_count(node) {
+            let child = self.node(node).child(index);
+            self.free_below(child, 0);
+        }
     }
 
     // Whether an inner node names this node.

@@ -1,7 +1,7 @@
 -- What contracts see of maps and of sets that are named by an index: a forest, an order, and a handle for each index. A set's values are
 -- all the unit.
 use Rattle.bforest.specs.Bounds.{entries_between, entries_outside, is_between, start_place}
-use Rattle.bforest.specs.Calls.{fewest, need_of_union, removals}
+use Rattle.bforest.specs.Calls.{fewest, need_of_union, sizes_outside}
 use Rattle.bforest.specs.Entries.{IsIncreasing, cut, is_present, put, value_for}
 use Rattle.bforest.specs.Forest.{ArePacked, Forest, Gives, GrowsFor, IsFitFor, IsLive, IsTooMany, NeedsGrowth, Takes, emptied, free_of, limit_of, list_of, need_of, shrink, sizes_of, sizes_with, sizes_without, slots_of}
 -- `TakesAndGives d sizes f f'`: d slots were taken, and then those of a tree of these sizes freed.
@@ -302,13 +302,13 @@ module _ {K X C : Type 0} where
     abbrev pub SubtractsAt : Indexed K X C → ℕ → ℕ → Bool → Indexed K X C → Type 0
     SubtractsAt m i j result m' = KeepsFromAt false m i j result m'
 
-    -- The entries of i whose keys are within both bounds were removed, one after another in their order, and whether there was one is
-    -- answered; where there was none, nothing changed. No node was taken.
+    -- The entries of i whose keys are within both bounds were removed, and whether there was one is answered; where there was none, nothing
+    -- changed. No node was taken.
     pub record RemovesBetweenAt (lo hi : Bound K) (m : Indexed K X C) (i : ℕ) (result : Bool) (m' : Indexed K X C) : Type 0 where
       pub removed : entries m' i ≡ entries_outside cmp lo hi (entries m i)
       pub changed : result ≡ nat_lt 0 (length (entries_between cmp lo hi (entries m i)))
       pub found : (q : K) → value_for cmp (entries m' i) q ≡ (if is_between cmp lo hi q then None else value_for cmp (entries m i) q)
-      pub sizes : node_sizes m' i ≡ removals most (start_place cmp lo (entries m i)) (length (entries_between cmp lo hi (entries m i))) (node_sizes m i)
+      pub sizes : node_sizes m' i ≡ sizes_outside most hi (start_place cmp lo (entries m i)) (length (entries_between cmp lo hi (entries m i))) (node_sizes m i)
       pub beside : ChangesAt m i m'
       pub account : Gives (node_sizes m i) (node_sizes m' i) (table m) (table m')
       pub same : result ≡ false → m' ≡ m

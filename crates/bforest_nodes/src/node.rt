@@ -1,5 +1,5 @@
 //! What a node holds: the children of an inner node, the entries of a leaf, or the next free slot.
-ghost use Rattle.bforest_nodes.specs.Content.{Balances, Free, HasShape, Inner, IsCut, IsFree, IsInner, IsLeaf, IsLeafCapacity, IsSameKind, Leaf, children_of, entry_capacity, entry_count, joined, keys_of, left_half, put_answer, removed_answer, take_answer, vals_of, with_child, with_child_at, with_entry, with_entry_key, with_key, with_put, with_taken, without_child, without_entry};
+ghost use Rattle.bforest_nodes.specs.Content.{Balances, Free, HasShape, Inner, IsCut, IsFree, IsInner, IsLeaf, IsLeafCapacity, IsSameKind, Leaf, children_of, entry_capacity, entry_count, first_part, joined, keys_of, left_half, put_answer, removed_answer, take_answer, vals_of, with_child, with_child_at, with_entry, with_entry_key, with_key, with_put, with_taken, without_child, without_entry};
 ghost use Rattle.bforest_nodes.specs.Search.{count_up_to, search_of};
 ghost use Rattle.std.specs.Borrow.{sem};
 ghost use Rattle.std.specs.List.Sorted.{IsStrictlySortedBy};
@@ -576,6 +576,20 @@ impl<K: Copy, V: Copy, const N: usize> NodeData<K, V, N> {
                 answer_of(index, len - 1, N)
             }
             _ => unreachable!(),
+        }
+    }
+
+    /// Keeps the first `count` children of an inner node, or entries of a leaf, and drops those behind. It has so many at least.
+    pub fn keep_front(&mut self, count: usize)
+        requires used { ¬ IsFree self.old }
+        requires some { 1 ≤ count }
+        requires within { count ≤ entry_count self.old }
+        ensures node { self.new ≡ first_part count self.old }
+    {
+        match &mut self.state {
+            State::Branch(size, ..) => *size = (count - 1) as u8,
+            State::Entries(size, ..) => *size = count as u8,
+            State::Vacant(_) => unreachable!(),
         }
     }
 

@@ -3,16 +3,19 @@ use Rattle.bforest_trees.proofs.Changed.{becomes, list-none, list-root, same_lis
 use Rattle.bforest_trees.proofs.Spots.{spot-on}
 use Rattle.bforest_trees.specs.Place.{IsSpot, OnSpot}
 use Rattle.bforest_core.proofs.walks.Standing.{on-within}
-use Rattle.bforest_core.specs.Paths.{IsAtEnd, OnEntry, StandsAt, list_under, sizes_under}
+use Rattle.bforest_trees.specs.Calls.{CutsFrom, truncation}
+use Rattle.std.proofs.lemmas.Bool.{lt-ltb}
+use Rattle.std.proofs.lemmas.List.{take_all}
+use Rattle.bforest_core.specs.Paths.{CutsHere, IsAtEnd, OnEntry, StandsAt, list_under, sizes_under}
 use Rattle.bforest_core.specs.declared.path.Path.{Path}
 use Rattle.bforest_trees.specs.Forest.{Becomes, Forest, Gives, IsLive, list_at, list_of, sizes_at, sizes_of as forest_sizes, sizes_without}
 use Rattle.bforest_core.specs.Change.{Changes, Ends, GivesNodes, Shrinks}
 use Rattle.bforest_core.specs.Levels.{flat, sizes_of}
-use Rattle.bforest_core.specs.Sizes.{shrink}
+use Rattle.bforest_core.specs.Sizes.{shrink, truncated}
 use Rattle.bforest_core.specs.Table.{Table}
 use Rattle.bforest_core.specs.Trees.{IsUnion, is_root, tree_of}
 use Rattle.bforest_nodes.specs.Entries.{is_present, place}
-use Rattle.std.proofs.Common.{IsTrue, List, None, Option, Some, [], IfSome, ap, arith, false, if◌then◌else◌, length, length-append, refl, remove, subst, suc, sym, true, zero, ◌<◌, ◌∙◌, ◌∷◌, ◌≡◌, ◌≤◌, ◌↔◌, ℕ}
+use Rattle.std.proofs.Common.{IsTrue, List, None, Option, Some, [], IfSome, nat_lt, take, ap, arith, false, if◌then◌else◌, length, length-append, refl, remove, subst, suc, sym, true, zero, ◌-◌, ◌<◌, ◌∙◌, ◌∷◌, ◌≡◌, ◌≤◌, ◌↔◌, ℕ}
 use Rattle.std.specs.declared.cmp.Ordering.{Ordering}
 
 -- a removal from a list of one entry leaves none
@@ -21,6 +24,13 @@ remove-last [] p one low = absurd (omega (arith, one))
 remove-last (e ∷ (x ∷ es)) p one low = absurd (omega (arith, one))
 remove-last (e ∷ []) zero one low = refl
 remove-last (e ∷ []) (suc p) one low = absurd (omega (arith, low))
+
+truncation-some : (p n : ℕ) (sizes : List (List ℕ)) → 0 < n → truncation p n sizes ≡ truncated p sizes
+truncation-some p zero sizes some = absurd (omega (arith, some))
+truncation-some p (suc n) sizes some = refl
+
+ltb-none : (n : ℕ) → nat_lt n n ≡ false
+ltb-none n = grind arith
 
 some_same : (n q : ℕ) → Some n ≡ Some q → n ≡ q
 some_same n q e = cc
@@ -156,6 +166,52 @@ module _ {K X : Type 0} where
       let e : OnEntry f path = record { root = t.0; place = at.place; on = t.2 } in
       subst (λ (z : Option ℕ). IsTaken most f f' z at.place o) (sym t.1)
       (taken most f f' t.0 at.place t.2.root_is (on-within f path t.2) o (removed e) (account e) (same e) (last e) (λ z. ended z e) (λ z. none z e))
+
+  -- the entries from a place of a handle's list on were removed: what that leaves
+  pub record IsCutOff (most : ℕ) (f f' : Forest K X) (h : Option ℕ) (p : ℕ) (o : Option ℕ) : Type 0 where
+    pub union : IsUnion most f'
+    pub cuts : CutsFrom f h p true f' o
+
+  cut-taken : (most : ℕ) (f f' : Forest K X) (n p : ℕ) → IsTrue (is_root f.nodes n) → p < length (list_under f n) → (o : Option ℕ) → IfSome o (λ r'. Changes most f f' n r' (take p (list_under f n)) (truncated p (sizes_under f n))) →
+      GivesNodes (sizes_under f n) (truncated p (sizes_under f n)) f f' → IfSome o (λ r'. (r' ≡ n) ↔ (length (truncated p (sizes_under f n)) ≡ length (sizes_under f n))) →
+      ((o ≡ None) ↔ (p ≡ 0)) → (o ≡ None → Ends most f f' n) → (o ≡ None → truncated p (sizes_under f n) ≡ []) → IsCutOff most f f' (Some n) p o
+  cut-taken most f f' n p root low o changes gv same first ended none =
+      let es = list_under f n in let ss = sizes_under f n in
+      let list : es ≡ list_at f n = sym (list-root f n root) in let sizes : ss ≡ sizes_at f n = sym (sizes-root f n root) in
+      let now = sizes-cut most f f' n (take p es) (truncated p ss) o changes none in
+      let empty : o ≡ None → take p es ≡ [] = λ e. ap (λ z. take z es) (first.0 e) in
+      record {
+        union = union-cut most f f' n (take p es) (truncated p ss) o changes ended;
+        cuts = record {
+          removed = subst (λ (l : List (K × X)). Becomes f (Some n) f' o (take p l)) list (becomes-cut most f f' n (take p es) (truncated p ss) o changes ended empty);
+          changed = sym (lt-ltb p (length (list_at f n)) (omega (arith, low, ap length list)));
+          sizes = now ∙ ap (truncated p) sizes ∙ sym (truncation-some p (length (list_at f n) - p) (sizes_at f n) (omega (arith, low, ap length list)));
+          same_levels = λ e. (same-cut n ss (truncated p ss) o same none (omega arith)).1 (sym (ap length now) ∙ e ∙ sym (ap length sizes));
+          account = subst (λ (z : List (List ℕ)). Gives z (forest_sizes f' o) f f') sizes (subst (λ (z : List (List ℕ)). Gives ss z f f') (sym now) (gives f f' ss (truncated p ss) gv));
+          same_forest = λ bad. absurd cc;
+          same_handle = λ bad. absurd cc;
+        };
+      }
+
+  -- a cut at a path of a handle removes the entries from the path's place on
+  pub cut-at : (most : ℕ) (f f' : Forest K X) (h : Option ℕ) (path path' : Path K X most) (o : Option ℕ) (at : OnSpot f h path) → CutsHere f f' path path' o → IsCutOff most f f' h at.place o
+  cut-at most f f' h path path' o at c =
+      let t = spot-on f path h at.place at.spot at.within in
+      let e : OnEntry f path = record { root = t.0; place = at.place; on = t.2 } in
+      subst (λ (z : Option ℕ). IsCutOff most f f' z at.place o) (sym t.1)
+      (cut-taken most f f' t.0 at.place t.2.root_is (on-within f path t.2) o (c.removed e) (c.account e) (c.same_root e) (c.first e) (λ z. c.ended z e) (λ z. c.none_left z e))
+
+  -- a cut at the end of a list changes nothing
+  pub cut-end : (f : Forest K X) (h : Option ℕ) (p : ℕ) → IsLive f h → p ≡ length (list_of f h) → CutsFrom f h p false f h
+  cut-end f h p live is = rw is (record {
+    removed = subst (Becomes f h f h) (sym (take_all (length (list_of f h)) (list_of f h) (omega arith))) (becomes-same f h live);
+    changed = sym (ltb-none (length (list_of f h)));
+    sizes = (let none : length (list_of f h) - length (list_of f h) ≡ 0 = omega arith in sym (ap (λ n. truncation (length (list_of f h)) n (forest_sizes f h)) none));
+    same_levels = λ e. refl;
+    account = record { slots = refl; free = refl; memory = refl };
+    same_forest = λ e. refl;
+    same_handle = λ e. refl;
+  })
 
   -- after a removal at a path of a handle, the path stands at the same place
   pub spot-at : (most : ℕ) (f f' : Forest K X) (h : Option ℕ) (path path' : Path K X most) (o : Option ℕ) (at : OnSpot f h path)

@@ -13,7 +13,7 @@ use Rattle.bforest_trees.proofs.ranges.Between.{end-unbounded, slice-between, st
 use Rattle.bforest_trees.proofs.ranges.Outside.{outside-is}
 use Rattle.bforest_trees.proofs.unions.Uniting.{becomes-made, made-beside, made-stays, other-stays}
 use Rattle.bforest_trees.specs.Bounds.{entries_between, entries_outside, is_between, is_from_start, start_place}
-use Rattle.bforest_trees.specs.Calls.{Clears, Compacts, Loads, RemovesBetween, SplitsOff, need_of_split, removals}
+use Rattle.bforest_trees.specs.Calls.{Clears, Compacts, Loads, RemovesBetween, SplitsOff, need_of_split, truncation}
 use Rattle.bforest_trees.specs.Forest.{Becomes, Forest, GrowsFor, IsLive, IsTooMany, list_of, sizes_of}
 use Rattle.bforest_trees.specs.Merge.{LoadsUnion}
 use Rattle.std.proofs.Common.{Bool, Err, List, None, Ok, Option, Some, [], ap, slice_range, append-nil, arith, drop, false, length, nat_lt, not, refl, subst, sym, take, true, ◌++◌, ◌-◌, ◌∙◌, ◌∷◌, ◌↔◌, ◌≡◌, ◌≢◌, ◌≤◌, ℕ, ◌<◌, Result, suc, zero}
@@ -173,7 +173,7 @@ module _ {K X : Type 0} (most : ℕ) (cmp : K → K → Ordering) (total : IsTot
         others = λ n a b c. refl;
         others_sizes = λ n a b c. refl;
         limit = refl;
-        sizes = sym (ap (λ n. removals most p n (sizes_of f h)) count);
+        sizes = sym (ap (λ n. truncation p n (sizes_of f h)) count);
         packed = tt;
         nodes = sym need;
         account = rw need (record { slots = omega arith; free = omega arith; memory = grows-not refl });
@@ -246,7 +246,7 @@ module _ {K X : Type 0} (most : ℕ) (cmp : K → K → Ordering) (total : IsTot
       others = λ n a b c. r.removed.others n a b ∙ l.loaded.others n (λ e. absurd (cc)) c;
       others_sizes = λ n a b c. r.removed.others_sizes n a b ∙ l.loaded.others_sizes n (λ e. absurd (cc)) c;
       limit = r.removed.limit ∙ l.loaded.limit;
-      sizes = r.sizes ∙ (λ i. removals most (start-is i) (count-is i) (beside.2 i));
+      sizes = r.sizes ∙ (λ i. truncation (start-is i) (count-is i) (beside.2 i));
       packed = subst (ArePacked most) (sym stays.2) l.packed;
       nodes = ap node_count stays.2 ∙ l.nodes ∙ need-is;
       account = rw (← need-is) (record {

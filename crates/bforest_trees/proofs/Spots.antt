@@ -4,10 +4,13 @@ use Rattle.bforest_trees.specs.Forest.{Forest, IsLive, list_of}
 use Rattle.bforest_trees.specs.Place.{AtSpot, IsComputed, IsSpot}
 use Rattle.bforest_core.proofs.walks.Standing.{at-on, at-spot, on-points, path-ended, placed-points}
 use Rattle.bforest_core.specs.Paths.{IsAtEnd, IsPlaced, PointsTo, StandsOn, list_under}
+use Rattle.bforest_core.proofs.removal.Removal.{place_low}
+use Rattle.bforest_core.specs.Levels.{Tree, flat}
+use Rattle.bforest_core.specs.Place.{IsPathAt}
 use Rattle.bforest_core.specs.Trees.{IsUnion, tree_of}
 use Rattle.bforest_core.specs.declared.path.Path.{Path}
 use Rattle.bforest_nodes.specs.Entries.{is_present, place}
-use Rattle.std.proofs.Common.{Bool, None, Option, Some, ap, false, length, refl, subst, sym, true, ◌<◌, ◌≡◌, ℕ, arith}
+use Rattle.std.proofs.Common.{Bool, List, None, Option, zero, suc, ◌∙◌, Some, ap, false, length, refl, subst, sym, true, ◌<◌, ◌≡◌, ℕ, arith}
 use Rattle.std.specs.declared.cmp.Ordering.{Ordering}
 
 module _ {K X : Type 0} where
@@ -30,6 +33,25 @@ module _ {K X : Type 0} where
     spot-on (Some n) p s low =
         let same = ap length (list-root f n s.root_is) in
         (n, refl, at-on f path s (omega (arith, low, same)))
+
+  path-last : (path indices : List ℕ) (tree : Tree K X) (place size : ℕ) → IsPathAt path indices size tree place → size ≡ 0 → place ≡ length (flat tree.leaves)
+  path-last path indices tree place zero at none = at
+  path-last path indices tree place (suc size) at none = absurd (omega arith)
+
+  path-in : (path indices : List ℕ) (tree : Tree K X) (place size : ℕ) → IsPathAt path indices size tree place → (size ≡ 0 → ⊥) → place < length (flat tree.leaves)
+  path-in path indices tree place zero at some = absurd (some refl)
+  path-in path indices tree place (suc size) at some = place_low path indices (suc size) tree place at
+
+  module _ {m : ℕ} (f : Forest K X) (path : Path K X m) where
+    -- a path with no node is at the end of its list
+    pub spot-last : (h : Option ℕ) (p : ℕ) → IsSpot f h path p → IsAtEnd path → p ≡ length (list_of f h)
+    spot-last None p s end = s.1
+    spot-last (Some n) p s end = path-last path.node path.entry (tree_of f.nodes n) p path.size s.at end ∙ ap length (sym (list-root f n s.root_is))
+
+    -- a path with nodes is in front of it
+    pub spot-in : (h : Option ℕ) (p : ℕ) → IsSpot f h path p → (IsAtEnd path → ⊥) → p < length (list_of f h)
+    spot-in None p s some = absurd (some s.0)
+    spot-in (Some n) p s some = omega (arith, path-in path.node path.entry (tree_of f.nodes n) p path.size s.at some, ap length (list-root f n s.root_is))
 
   -- a path stands at one place alone, which `spot_of` computes
   pub computed : (most : ℕ) (f : Forest K X) (h : Option ℕ) → IsUnion most f → IsComputed most f h

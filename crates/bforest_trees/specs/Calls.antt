@@ -2,7 +2,7 @@
 -- map cites.
 use Rattle.bforest_core.specs.Change.{node_count}
 use Rattle.bforest_core.specs.Packed.{ArePacked, fewest}
-use Rattle.bforest_core.specs.Sizes.{IsFitFor, shrink}
+use Rattle.bforest_core.specs.Sizes.{IsFitFor, shrink, truncated}
 use Rattle.bforest_core.specs.declared.pool.OutOfMemory.TheVariants.{Full, Memory}
 use Rattle.bforest_core.specs.declared.pool.OutOfMemory.{OutOfMemory}
 use Rattle.bforest_nodes.specs.Entries.{IsIncreasing, cut, is_present, place, put, value_for}
@@ -16,13 +16,24 @@ use Rattle.std.specs.Prelude.{Bool, Err, IfOk, IfSome, IsOk, IsSome, List, None,
 use Rattle.std.specs.Cmp.{IsTotalOrder}
 use Rattle.std.specs.Ordering.{is_eq}
 use Rattle.std.specs.declared.cmp.Ordering.{Ordering}
-use Rattle.std.specs.declared.ops.Bound.TheVariants.{Included, Unbounded}
+use Rattle.std.specs.declared.ops.Bound.TheVariants.{Excluded, Included, Unbounded}
 use Rattle.std.specs.declared.ops.Bound.{Bound}
 
 -- the sizes of a tree after n removals at one place, where a leaf has at most `most` entries
 abbrev pub removals : ℕ → ℕ → ℕ → List (List ℕ) → List (List ℕ)
 removals most place zero sizes = sizes
 removals most place (suc n) sizes = shrink most place (removals most place n sizes)
+
+-- the sizes of a tree after the last n entries were removed, from this place on, with the nodes that held them alone
+abbrev pub truncation : ℕ → ℕ → List (List ℕ) → List (List ℕ)
+truncation place zero sizes = sizes
+truncation place (suc n) sizes = truncated place sizes
+
+-- the sizes of a tree after n entries from a place on up to an end bound were removed: one after another, or all at once without an end
+abbrev pub sizes_outside : {K : Type 0} → ℕ → Bound K → ℕ → ℕ → List (List ℕ) → List (List ℕ)
+sizes_outside most (Included k) place n sizes = removals most place n sizes
+sizes_outside most (Excluded k) place n sizes = removals most place n sizes
+sizes_outside most Unbounded place n sizes = truncation place n sizes
 
 module _ {K X : Type 0} where
   -- the handle keeps its number exactly where the tree keeps its height
@@ -37,6 +48,17 @@ module _ {K X : Type 0} where
     pub account : Gives (sizes_of f h) (sizes_of f' h') f f'
     pub end_forest : length (list_of f h) ≤ place → f' ≡ f
     pub end_handle : length (list_of f h) ≤ place → h' ≡ h
+
+  -- The entries from a place of h's list on were removed, with the nodes that held them alone, and whether there was one is returned; where
+  -- there was none, nothing changed. No node was taken.
+  pub record CutsFrom (f : Forest K X) (h : Option ℕ) (place : ℕ) (result : Bool) (f' : Forest K X) (h' : Option ℕ) : Type 0 where
+    pub removed : Becomes f h f' h' (take place (list_of f h))
+    pub changed : result ≡ nat_lt place (length (list_of f h))
+    pub sizes : sizes_of f' h' ≡ truncation place (length (list_of f h) - place) (sizes_of f h)
+    pub same_levels : length (sizes_of f' h') ≡ length (sizes_of f h) → h' ≡ h
+    pub account : Gives (sizes_of f h) (sizes_of f' h') f f'
+    pub same_forest : result ≡ false → f' ≡ f
+    pub same_handle : result ≡ false → h' ≡ h
 
   -- the entry at a place of h was removed and is returned, where a leaf has at most `most` entries; at the end
   -- none is, and nothing changed
@@ -263,13 +285,13 @@ module _ {K X : Type 0} (most : ℕ) (cmp : K → K → Ordering) where
   abbrev pub Subtracts : Forest K X → Option ℕ → Option ℕ → Bool → Forest K X → Option ℕ → Type 0
   Subtracts f h other result f' h' = KeepsFrom false f h other result f' h'
 
-  -- The entries of h whose keys are within both bounds were removed, one after another in their order, and whether there was one is returned;
-  -- where there was none, nothing changed. No node was taken.
+  -- The entries of h whose keys are within both bounds were removed, and whether there was one is returned; where there was none, nothing
+  -- changed. No node was taken.
   pub record RemovesBetween (lo hi : Bound K) (f : Forest K X) (h : Option ℕ) (result : Bool) (f' : Forest K X) (h' : Option ℕ) : Type 0 where
     pub removed : Becomes f h f' h' (entries_outside cmp lo hi (list_of f h))
     pub changed : result ≡ nat_lt 0 (length (entries_between cmp lo hi (list_of f h)))
     pub found : (q : K) → value_for cmp (list_of f' h') q ≡ (if is_between cmp lo hi q then None else value_for cmp (list_of f h) q)
-    pub sizes : sizes_of f' h' ≡ removals most (start_place cmp lo (list_of f h)) (length (entries_between cmp lo hi (list_of f h))) (sizes_of f h)
+    pub sizes : sizes_of f' h' ≡ sizes_outside most hi (start_place cmp lo (list_of f h)) (length (entries_between cmp lo hi (list_of f h))) (sizes_of f h)
     pub same_levels : length (sizes_of f' h') ≡ length (sizes_of f h) → h' ≡ h
     pub account : Gives (sizes_of f h) (sizes_of f' h') f f'
     pub increasing : IsIncreasing cmp (list_of f' h')
@@ -291,7 +313,7 @@ module _ {K X : Type 0} (most : ℕ) (cmp : K → K → Ordering) where
     pub others : IfOk result (λ t. (n : ℕ) → Some n ≢ h → Some n ≢ h' → Some n ≢ t → list_at f' n ≡ list_at f n)
     pub others_sizes : IfOk result (λ t. (n : ℕ) → Some n ≢ h → Some n ≢ h' → Some n ≢ t → sizes_at f' n ≡ sizes_at f n)
     pub limit : limit_of f' ≡ limit_of f
-    pub sizes : OnOk result (sizes_of f' h' ≡ removals most (place cmp (list_of f h) k) (length (list_of f h) - place cmp (list_of f h) k) (sizes_of f h))
+    pub sizes : OnOk result (sizes_of f' h' ≡ truncation (place cmp (list_of f h) k) (length (list_of f h) - place cmp (list_of f h) k) (sizes_of f h))
     pub packed : IfOk result (λ t. ArePacked most (sizes_of f' t))
     pub nodes : IfOk result (λ t. nodes_of f' t ≡ need_of_split f h k)
     pub account : OnOk result (TakesThenGives (need_of_split f h k) (sizes_of f h) (sizes_of f' h') f f')

@@ -204,7 +204,8 @@ fn of_each_kind(start: u32, end: u32) -> impl Iterator<Item = Bounds> {
     starts.into_iter().flat_map(move |start| ends.into_iter().map(move |end| (start, end)))
 }
 
-/// A range that goes leaves what as many single removals leave, from the first key on, and takes no node.
+/// A range that goes up to an end leaves what as many single removals leave, from the first key on. Without an end it leaves no more nodes
+/// than these. No range takes a node.
 fn each_range<H: Handle>() {
     let mut random = Random(7);
     for round in 0..300 {
@@ -218,8 +219,13 @@ fn each_range<H: Handle>() {
             assert_eq!(ranged.remove_range(bounds, &mut forest), !within.is_empty());
             within.iter().for_each(|key| singly.take(*key, &mut other));
             assert_eq!((ranged.keys(&forest), singly.keys(&other)), (left.clone(), left), "{bounds:?}");
-            assert_eq!(H::slots(&forest), H::slots(&other));
-            assert_eq!((ranged.levels(&forest), nodes_of(&ranged, &forest)), (singly.levels(&other), nodes_of(&singly, &other)));
+            assert_eq!(H::slots(&forest).0, H::slots(&other).0);
+            let (nodes, levels) = (nodes_of(&ranged, &forest), ranged.levels(&forest));
+            if bounds.1 == Unbounded {
+                assert!(nodes <= nodes_of(&singly, &other) && levels <= singly.levels(&other), "{bounds:?}");
+            } else {
+                assert_eq!((nodes, levels), (nodes_of(&singly, &other), singly.levels(&other)), "{bounds:?}");
+            }
             assert_eq!(beside.keys(&forest), [1, 2, 3]);
         }
     }
@@ -235,28 +241,63 @@ fn ranges_of_sets_that_go() {
     each_range::<Set<u32>>();
 }
 
-/// So does a range without an end, of maps and sets with a few thousand entries that were put in up, down or in no order.
+/// The nodes that hold the first children of a level and the nodes above them, where each inner node but the last has 4 children, and the
+/// last 5 to 8, as insertions in order leave them.
+fn nodes_above(kept: usize, all: usize) -> usize {
+    if kept <= 1 {
+        return kept;
+    }
+    let parents = ((all - 1) / 4).max(1);
+    kept + nodes_above(kept.div_ceil(4).min(parents), parents)
+}
+
+/// A range without an end leaves the nodes in front of it as they are: of a packed tree a packed tree, and of one whose nodes
+/// have half of their entries such a one. Maps and sets of a few thousand entries, which were put in up, down or in no order.
 fn each_upper_part<H: Handle>() {
     let mut random = Random(8);
+    // Half of what a leaf holds, rounded up: insertions in order leave so many entries in each leaf but the last.
+    let half = (1..).find(|&count| H::fewest_nodes_for(count + 1) > 1).unwrap().div_ceil(2);
     for round in 0..60 {
         let count = 1_000 + random.below(4_000);
         let mut keys: Vec<u32> = (0..count).map(|at| 2 * at).collect();
-        match round % 3 {
-            0 => {}
-            1 => keys.reverse(),
+        match round % 4 {
+            0 | 1 => {}
+            2 => keys.reverse(),
             _ => keys.sort_by_cached_key(|_| random.below(u32::MAX)),
         }
         let mut forest = H::forest(u32::MAX);
-        let handle: H = made(keys, &mut forest);
+        let mut handle: H = made(keys, &mut forest);
+        if round % 4 == 0 {
+            handle.compact(&mut forest).unwrap();
+        }
+        let slots = H::slots(&forest).0;
         for _ in 0..4 {
             let start = random.below(2 * count + 1);
             let (mut ranged, mut forest, mut singly, mut other) = (handle.clone(), forest.clone(), handle.clone(), forest.clone());
             let first = start.div_ceil(2);
             assert_eq!(ranged.remove_range((Included(start), Unbounded), &mut forest), first < count);
-            (first..count).for_each(|at| singly.take(2 * at, &mut other));
             assert!(ranged.keys(&forest).into_iter().eq((0..first).map(|at| 2 * at)), "{start}.. of {count} keys");
-            assert_eq!(H::slots(&forest), H::slots(&other), "{start}.. of {count} keys");
-            assert_eq!(ranged.levels(&forest), singly.levels(&other), "{start}.. of {count} keys");
+            let nodes = nodes_of(&ranged, &forest) as usize;
+            match round % 4 {
+                0 => assert_eq!(nodes, H::fewest_nodes_for(first as usize), "{start}.. of {count} keys"),
+                1 => {
+                    let leaves = count as usize / half;
+                    let kept = (first as usize).div_ceil(half).min(leaves);
+                    assert_eq!(nodes, nodes_above(kept, leaves), "{start}.. of {count} keys");
+                }
+                _ => {
+                    (first..count).for_each(|at| singly.take(2 * at, &mut other));
+                    assert!(nodes <= nodes_of(&singly, &other) as usize, "{start}.. of {count} keys");
+                }
+            }
+            assert_eq!(H::slots(&forest), (slots, slots - nodes as u32), "{start}.. of {count} keys");
+            // What is left can be changed as any other tree.
+            for at in 0..40 {
+                ranged.put(start + at, &mut forest);
+                ranged.take(2 * (first.saturating_sub(at)), &mut forest);
+            }
+            ranged.clear(&mut forest);
+            assert_eq!(H::slots(&forest).0, H::slots(&forest).1);
         }
     }
 }

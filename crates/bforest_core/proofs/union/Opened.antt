@@ -4,7 +4,7 @@ use Rattle.bforest_core.proofs.Words.{numbers, FitRow, half_of, RowsIn, leaf_con
 use Rattle.bforest_core.proofs.Words.{IsLeaf, length-append, length-map, Some, append-nil, sym, subst, inl, inr, flat_map-append, Inner, Leaf, Free, IsInner, children_of, entry_count}
 use Rattle.bforest_core.proofs.{Words.{inner_content, entry_items, numbers_down, nil_from_length, IsLeafCapacity}, rows.LevelRows.flat-append}
 use Rattle.bforest_core.proofs.{rows.LevelRows.{numbers-append, least-pos, some_leaf}, table.Read.slot-is, table.Tables.{count-append, row-split}}
-use Rattle.bforest_core.proofs.{walks.Downward.HeadNode, walks.RowNodes.no_heads, walks.TopNode.{LeafUnder, InnerUnder, node_over, node_under}}
+use Rattle.bforest_core.proofs.{union.Joining.beside, walks.Downward.HeadNode, walks.RowNodes.no_heads, walks.TopNode.{LeafUnder, InnerUnder, node_over, node_under}}
 
 module _ {K X : Type 0} where
   -- a row, cut between two of its heads
@@ -35,6 +35,7 @@ pub record RowsCut {K V : Type 0} (slots : List (Content K V)) (list : Heads K) 
   pub left : Rows K
   pub right : Rows K
   pub list_is : list ≡ list_left ++ list_right
+  pub rows_are : rows ≡ beside left right
   pub left_stacked : StackedTo list_left left a
   pub right_stacked : StackedTo list_right right b
   pub left_in : RowsIn slots left
@@ -46,7 +47,7 @@ pub record RowsCut {K V : Type 0} (slots : List (Content K V)) (list : Heads K) 
 module _ {K V : Type 0} where
   rows-cut : (slots : List (Content K V)) (list rows a b : _) → StackedTo list rows (a ++ b) → RowsIn slots rows → RowsCut slots list rows a b
   rows-cut slots list [] a b s i =
-      record { list_left = a; list_right = b; left = []; right = []; list_is = s; left_stacked = refl; right_stacked = refl; left_in = tt; right_in = tt; left_height = refl; right_height = refl; counted = λ m. refl }
+      record { list_left = a; list_right = b; left = []; right = []; list_is = s; rows_are = refl; left_stacked = refl; right_stacked = refl; left_in = tt; right_in = tt; left_height = refl; right_height = refl; counted = λ m. refl }
   rows-cut slots list (row ∷ rows) a b s i =
       let r = rows-cut slots (heads row) rows a b s.2 i.1 in let c = row-cut 4 8 (omega arith) row r.list_left r.list_right s.1 r.list_is in
       let fits = fit_cut 4 8 (omega arith) c.left c.right (rw (← c.row_is) s.1) in let ins = row-split _ _ _ c.right (rw (← c.row_is) i.0) in record {
@@ -55,6 +56,7 @@ module _ {K V : Type 0} where
         left = c.left ∷ r.left;
         right = c.right ∷ r.right;
         list_is = cc (flat-append _ _);
+        rows_are = cc (c.row_is, r.rows_are);
         left_stacked = (refl, fits.0, rw c.left_is r.left_stacked);
         right_stacked = (refl, fits.1, rw c.right_is r.right_stacked);
         left_in = (ins.0, r.left_in);
@@ -72,6 +74,7 @@ module _ {K V : Type 0} (most : ℕ) (slots : List (Content K V)) where
     pub lower_left : Rows K
     pub lower_right : Rows K
     pub leaves_are : leaves ≡ leaves_left ++ leaves_right
+    pub lower_are : lower ≡ beside lower_left lower_right
     pub left : Under most slots leaves_left lower_left a
     pub right : Under most slots leaves_right lower_right b
     pub left_height : length lower_left ≡ length lower
@@ -88,6 +91,7 @@ module _ {K V : Type 0} (most : ℕ) (slots : List (Content K V)) where
         lower_left = r.left;
         lower_right = r.right;
         leaves_are = c.row_is;
+        lower_are = r.rows_are;
         left = record { leaves_fit = fits.0; leaves_in = ins.0; stacked = rw c.left_is r.left_stacked; rows_in = r.left_in };
         right = record { leaves_fit = fits.1; leaves_in = ins.1; stacked = rw c.right_is r.right_stacked; rows_in = r.right_in };
         left_height = r.left_height;
@@ -96,7 +100,7 @@ module _ {K V : Type 0} (most : ℕ) (slots : List (Content K V)) where
       }
 
 -- a row with one head has one node
-one_node : {K X : Type 0} {half : ℕ} (most : ℕ) → 1 ≤ half → {row : Row K X} {first number : _} (at : HeadNode half most row [] first number []) → row ≡ node number (at.e ∷ at.es) ∷ []
+pub one_node : {K X : Type 0} {half : ℕ} (most : ℕ) → 1 ≤ half → {row : Row K X} {first number : _} (at : HeadNode half most row [] first number []) → row ≡ node number (at.e ∷ at.es) ∷ []
 one_node most one at = cc (nil_from_length _ at.before_is, no_heads _ _ one _ at.after_fit at.after_is)
 
 module _ {K V : Type 0} where

@@ -62,6 +62,16 @@ module _ {A : Type 0} where
           by true is counted rest = omega (arith, counted, rest, at-most-one (s e && t e) e (filter (λ e. s e && t e) es))
           by false is counted rest = omega (arith, counted, rest, ap (λ z. length (cond (z && t e) (e ∷ filter (λ e. s e && t e) es) (filter (λ e. s e && t e) es))) is)
 
+  -- those of which s does not hold, and those of which it does
+  pub filter-from : (s : A → Bool) (es : List A) → count_by (λ e. not (s e)) es + length (filter (λ e. s e && true) es) ≡ length es
+  filter-from s [] = omega arith
+  filter-from s (e ∷ es) = go (s e) refl (filter-from s es)
+    where
+      go : (b : Bool) → s e ≡ b → count_by (λ e. not (s e)) es + length (filter (λ e. s e && true) es) ≡ length es
+          → count_by (λ e. not (s e)) (e ∷ es) + length (cond (s e && true) (e ∷ filter (λ e. s e && true) es) (filter (λ e. s e && true) es)) ≡ suc (length es)
+      go true is rest = omega (arith, count-cons (λ e. not (s e)) e es false (ap not is), rest, ap (λ z. length (cond (z && true) (e ∷ filter (λ e. s e && true) es) (filter (λ e. s e && true) es))) is)
+      go false is rest = omega (arith, count-cons (λ e. not (s e)) e es true (ap not is), rest, ap (λ z. length (cond (z && true) (e ∷ filter (λ e. s e && true) es) (filter (λ e. s e && true) es))) is)
+
   module _ (s t : A → Bool) where
     -- where t holds of an element, or there is none, it holds of all from there on
     pub past-behind : (es : List A) (i : ℕ) → Rises t es → ((e : A) → slice_get es i ≡ Some e → t e ≡ true) → AllByRecursion (λ y. t y ≡ true) (drop i es)

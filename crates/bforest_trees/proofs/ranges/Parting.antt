@@ -11,14 +11,15 @@ use Rattle.bforest_trees.proofs.ranges.Between.{end-rises, start-rises}
 use Rattle.bforest_trees.proofs.ranges.Outside.{Parts, get-behind, none-out, outside-is, past-behind, remove-behind}
 use Rattle.bforest_trees.proofs.unions.Choosing.{passing-value}
 use Rattle.bforest_trees.specs.Bounds.{entries_between, entries_outside, is_between, is_from_start, is_past_end, start_place}
-use Rattle.bforest_trees.specs.Calls.{RemovesBetween, SameLevels, removals}
+use Rattle.bforest_trees.specs.Calls.{CutsFrom, RemovesBetween, SameLevels, removals, sizes_outside, truncation}
 use Rattle.bforest_trees.specs.Forest.{Becomes, Forest, Gives, IsLive, list_of, sizes_of}
 use Rattle.bforest_trees.specs.Place.{AtSpot, IsSpot, OnSpot}
 use Rattle.bforest_trees.specs.Retain.{kept_by}
-use Rattle.std.proofs.Common.{Bool, List, None, Option, Some, [], ap, arith, drop, false, filter, if◌then◌else◌, inl, inr, length, map, nat_lt, not, refl, remove, slice_get, subst, suc, sym, take, true, ◌&&◌, ◌+◌, ◌++◌, ◌<◌, ◌∙◌, ◌∷◌, ◌≡◌, ◌≤◌, ℕ}
+use Rattle.std.proofs.Common.{Bool, List, None, Option, Some, [], ap, arith, drop, false, filter, if◌then◌else◌, inl, inr, length, map, nat_lt, not, refl, remove, slice_get, subst, suc, sym, take, true, zero, ◌&&◌, ◌+◌, ◌-◌, ◌++◌, ◌<◌, ◌∙◌, ◌∷◌, ◌≡◌, ◌≤◌, ℕ}
 use Rattle.std.proofs.lemmas.Bool.{cases_lt, lt-ltb, ltb-false}
 use Rattle.std.proofs.lemmas.Cmp.{alike_right}
 use Rattle.std.proofs.lemmas.List.Sums.{count_by-le-length}
+use Rattle.std.proofs.lemmas.List.{append-nil, drop_all}
 use Rattle.std.proofs.lemmas.Option.{slice_get_within}
 use Rattle.std.specs.Cmp.{IsTotalOrder}
 use Rattle.std.specs.List.{AllByRecursion}
@@ -27,6 +28,19 @@ use Rattle.std.specs.declared.cmp.Ordering.TheVariants.{Equal}
 use Rattle.std.specs.declared.cmp.Ordering.{Ordering}
 use Rattle.std.specs.declared.ops.Bound.TheVariants.{Excluded, Included, Unbounded}
 use Rattle.std.specs.declared.ops.Bound.{Bound}
+
+-- the sizes after a range with an end
+bounded : {K : Type 0} (most : ℕ) (hi : Bound K) (p n : ℕ) (sizes : List (List ℕ)) → (hi ≡ Unbounded → ⊥) → sizes_outside most hi p n sizes ≡ removals most p n sizes
+bounded most (Included k) p n sizes some = refl
+bounded most (Excluded k) p n sizes some = refl
+bounded most Unbounded p n sizes some = absurd (some refl)
+
+less-some : (p n m : ℕ) → p + m ≡ n → nat_lt p n ≡ nat_lt 0 m
+less-some p n zero is = sym (no (omega (arith, is)))
+  where
+    no : (n ≤ p) → nat_lt 0 0 ≡ nat_lt p n
+    no low = grind (arith, low)
+less-some p n (suc m) is = grind (arith, is)
 
 zero-by : (n : ℕ) → nat_lt 0 n ≡ false → n ≡ 0
 zero-by n t = omega (arith, ltb-false 0 n t)
@@ -168,12 +182,12 @@ module _ {K X : Type 0} {most : ℕ} {cmp : K → K → Ordering} {lo hi : Bound
             }
 
     -- the loop ends in front of an entry that is past the end, or behind all
-    pub parting-end : IsTotalOrder cmp → IsIncreasing cmp (list_of f₀ h₀) → ((at : AtSpot f h path) (e : K × X) → slice_get (list_of f h) at.place ≡ Some e → is_past_end cmp hi e.0 ≡ true) → RemovesBetween most cmp lo hi f₀ h₀ changed f h
-    parting-end total up past = record {
+    pub parting-end : (hi ≡ Unbounded → ⊥) → IsTotalOrder cmp → IsIncreasing cmp (list_of f₀ h₀) → ((at : AtSpot f h path) (e : K × X) → slice_get (list_of f h) at.place ≡ Some e → is_past_end cmp hi e.0 ≡ true) → RemovesBetween most cmp lo hi f₀ h₀ changed f h
+    parting-end some total up past = record {
       removed = subst (Becomes f₀ h₀ f h) (sym parts.outside_is) s.becomes;
       changed = s.changed_is ∙ ap (nat_lt 0) (sym count);
       found = λ q. ap (λ l. value_for cmp l q) (s.becomes.list ∙ sym parts.outside_is) ∙ outside-value cmp lo hi total (list_of f₀ h₀) q up;
-      sizes = s.sizes ∙ ap (λ n. removals most (start_place cmp lo (list_of f₀ h₀)) n (sizes_of f₀ h₀)) (sym count);
+      sizes = s.sizes ∙ ap (λ n. removals most (start_place cmp lo (list_of f₀ h₀)) n (sizes_of f₀ h₀)) (sym count) ∙ sym (bounded most hi (start_place cmp lo (list_of f₀ h₀)) (length (entries_between cmp lo hi (list_of f₀ h₀))) (sizes_of f₀ h₀) some);
       same_levels = s.same_levels;
       account = s.gives;
       increasing = subst (IsIncreasing cmp) (sym (s.becomes.list ∙ sym parts.outside_is)) (outside-up cmp lo hi (list_of f₀ h₀) up);
@@ -189,3 +203,30 @@ module _ {K X : Type 0} {most : ℕ} {cmp : K → K → Ordering} {lo hi : Bound
 
         count : length (entries_between cmp lo hi (list_of f₀ h₀)) ≡ s.count
         count = omega (arith, parts.count s.within, s.to_is)
+
+module _ {K X : Type 0} (cmp : K → K → Ordering) (total : IsTotalOrder cmp) (lo : Bound K) (es : List (K × X)) (up : IsIncreasing cmp es) where
+  -- the entries from a start on, and those in front of it
+  pub behind-parts : (entries_outside cmp lo Unbounded es ≡ take (start_place cmp lo es) es) × (start_place cmp lo es + length (entries_between cmp lo Unbounded es) ≡ length es)
+  behind-parts =
+      let p = start_place cmp lo es in
+      let none : drop (length es) es ≡ [] = drop_all (length es) es (omega arith) in
+      let both = outside-is (λ (e : K × X). is_from_start cmp lo e.0) (λ (e : K × X). false) es (start-rises cmp total lo es up) p (length es) refl (start-low cmp lo es) (λ i e over low is. refl) (subst (AllByRecursion (λ (y : K × X). false ≡ true)) (sym none) tt) in (
+        both.outside_is ∙ ap (λ l. take p es ++ l) none ∙ append-nil (take p es),
+        both.count (omega arith),
+      )
+
+-- all entries from a start on were removed at once
+pub parting-cut : {K X : Type 0} {most : ℕ} {cmp : K → K → Ordering} {lo hi : Bound K} {f f' : Forest K X} {h h' : Option ℕ} {changed : Bool} → hi ≡ Unbounded → IsTotalOrder cmp → IsIncreasing cmp (list_of f h) →
+    CutsFrom f h (start_place cmp lo (list_of f h)) changed f' h' → RemovesBetween most cmp lo hi f h changed f' h'
+parting-cut {most = most} {cmp} {lo} {f = f} {f'} {h} {h'} is total up c = let parts = behind-parts cmp total lo (list_of f h) up in
+    let count : length (list_of f h) - start_place cmp lo (list_of f h) ≡ length (entries_between cmp lo Unbounded (list_of f h)) = omega (arith, parts.1) in rw is (record {
+      removed = subst (Becomes f h f' h') (sym parts.0) c.removed;
+      changed = c.changed ∙ less-some (start_place cmp lo (list_of f h)) (length (list_of f h)) (length (entries_between cmp lo Unbounded (list_of f h))) parts.1;
+      found = λ q. ap (λ l. value_for cmp l q) (c.removed.list ∙ sym parts.0) ∙ outside-value cmp lo Unbounded total (list_of f h) q up;
+      sizes = c.sizes ∙ ap (λ n. truncation (start_place cmp lo (list_of f h)) n (sizes_of f h)) count;
+      same_levels = c.same_levels;
+      account = c.account;
+      increasing = subst (IsIncreasing cmp) (sym (c.removed.list ∙ sym parts.0)) (outside-up cmp lo Unbounded (list_of f h) up);
+      same_forest = c.same_forest;
+      same_handle = c.same_handle;
+    })

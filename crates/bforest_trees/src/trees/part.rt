@@ -1,18 +1,18 @@
 //! Removing the entries within bounds.
 ghost use Rattle.bforest_trees.specs.Bounds.{is_past_end, start_place};
-ghost use Rattle.bforest_trees.specs.Calls.{RemovesBetween};
+ghost use Rattle.bforest_trees.specs.Calls.{CutsFrom, RemovesBetween};
 ghost use Rattle.bforest_trees.specs.Forest.{IsLive, list_of};
 ghost use Rattle.bforest_trees.specs.Place.{AtSpot, IsSpot};
 ghost use Rattle.bforest_nodes.specs.Entries.{IsIncreasing};
 ghost use Rattle.std.specs.Prelude.{Some, false, slice_get, true, ◌≡◌};
 
-use crate::trees::Trees;
+use crate::trees::{Trees, packed};
 use bforest_core::{Comparator, PackedNode, Path};
 use std::ops::Bound;
 
 impl<K: Copy, V: Copy, const N: usize> Trees<K, V, N> {
-    /// Removes the entries whose keys are within bounds, in their order, and returns whether there was one. At most one search, and then one
-    /// comparison for each of them and one more.
+    /// Removes the entries whose keys are within bounds, and returns whether there was one. At most one search, and then one comparison for
+    /// each of them and one more. Without an end bound no more comparison, and whole subtrees go.
     pub fn remove_range<C: Comparator<K>>(
         &mut self,
         handle: &mut PackedNode,
@@ -26,12 +26,29 @@ impl<K: Copy, V: Copy, const N: usize> Trees<K, V, N> {
     {
         let mut path = Path::default();
         self.goto_start(*handle, &mut path, bounds.0, comp);
+        if let Bound::Unbounded = bounds.1 {
+            return self.cut_at(handle, &mut path);
+        }
         let mut changed = false;
         while self.is_within(*handle, &path, bounds.1, comp) {
             self.remove_at(handle, &mut path);
             changed = true;
         }
         changed
+    }
+
+    // Removes the entry where a path stands and all behind it, and returns whether there was one. The path goes to the end.
+    fn cut_at(&mut self, handle: &mut PackedNode, path: &mut Path<K, V, N>) -> bool
+        requires live { IsLive self.old handle.old }
+        requires stands { AtSpot self.old handle.old path.old }
+        ensures { (at : AtSpot self.old handle.old path.old) → CutsFrom self.old handle.old at.place result
+            self.new handle.new }
+    {
+        if path.leaf_pos().is_none() {
+            return false;
+        }
+        *handle = packed(path.cut(&mut self.pool));
+        true
     }
 
     // Whether a path stands on an entry whose key is in front of an end bound.

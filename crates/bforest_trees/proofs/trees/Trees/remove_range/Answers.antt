@@ -1,4 +1,4 @@
-use Rattle.bforest_trees.proofs.ranges.Parting.{parting-at, parting-end, parting-first, parting-live, parting-next, parting-on, parting-shorter}
+use Rattle.bforest_trees.proofs.ranges.Parting.{parting-at, parting-cut, parting-end, parting-first, parting-live, parting-next, parting-on, parting-shorter}
 use Rattle.bforest_trees.proofs.Spots.{spot-end}
 use Rattle.bforest_trees.proofs.trees.Trees.remove_range.Goals as goal
 use Rattle.std.proofs.Common.{rules}
@@ -24,4 +24,7 @@ loop-changed-preserved g c =
     parting-next c.loop-changed.invariant (c.is_within.ensures.yes c.loop-changed-test.true) e.removed e.sizes e.same_levels e.account e.spot
 
 pub returns : goal.returns
-returns g c = parting-end c.loop-changed.invariant (g.met.C.Comparator.total c.args.comp.now) c.requires.increasing (c.is_within.ensures.no c.loop-changed-test.false)
+returns g c = parting-end c.loop-changed.invariant c.in_default.not-Unbounded (g.met.C.Comparator.total c.args.comp.now) c.requires.increasing (c.is_within.ensures.no c.loop-changed-test.false)
+
+pub returns-in-Unbounded : goal.returns-in-Unbounded
+returns-in-Unbounded g c = parting-cut c.in-Unbounded.is (g.met.C.Comparator.total c.args.comp.now) c.requires.increasing (c.cut_at.ensures (record { place = _; spot = c.goto_start.ensures.spot }))
