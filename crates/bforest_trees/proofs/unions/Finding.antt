@@ -1,7 +1,6 @@
 -- A key that is looked for in what is left to a reader, and a list of which no key is found so.
 use Rattle.bforest_core.specs.Table.{Table}
 use Rattle.bforest_nodes.specs.Entries.{IsIncreasing, is_present}
-use Rattle.bforest_trees.proofs.Readers.{Taken}
 use Rattle.bforest_trees.proofs.unions.Fronts.{Begins, begins, passed}
 use Rattle.bforest_trees.proofs.unions.Merging.{Comparing, IsBelow, absent-below, all-below, each_is, equal-back, first-below, present-first, present-later, rest-up}
 use Rattle.bforest_trees.specs.Layout.{Entered, left_of}

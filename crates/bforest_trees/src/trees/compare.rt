@@ -43,10 +43,10 @@ impl<K: Copy, V: Copy, const N: usize> Trees<K, V, N> {
         ensures apart { result ≡ are_apart (C.order comp.now) (list_of self.now handle)
             (list_of self.now other) }
     {
-        let mut first = Reader::new(handle, self);
-        let mut second = Reader::new(other, self);
-        while let Some(entry) = first.next(self) {
-            if finds(entry.0, &mut second, self, comp) {
+        let mut keys = Reader::new(handle, self);
+        let mut others = Reader::new(other, self);
+        while let Some(entry) = keys.next(self) {
+            if finds(entry.0, &mut others, self, comp) {
                 return false;
             }
         }

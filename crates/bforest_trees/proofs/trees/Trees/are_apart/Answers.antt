@@ -5,9 +5,9 @@ use Rattle.std.proofs.Common.{ap, arith, length, refl, rules, sym}
 
 pub loop-entry-init : goal.loop-entry-init
 loop-entry-init g c = (
-  c.new-first.ensures.reader,
-  c.new-second.ensures.reader,
-  rw (c.new-first.ensures.left, c.new-second.ensures.left) (record { up = c.requires.increasing; others_up = c.requires.other_increasing; same = refl }),
+  c.new-keys.ensures.reader,
+  c.new-others.ensures.reader,
+  rw (c.new-keys.ensures.left, c.new-others.ensures.left) (record { up = c.requires.increasing; others_up = c.requires.other_increasing; same = refl }),
 )
 
 pub next-requires : goal.next-requires

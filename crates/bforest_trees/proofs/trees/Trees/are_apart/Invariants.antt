@@ -6,9 +6,9 @@ use Rattle.std.proofs.Common.{false, length}
 
 -- the entries that were taken off are not among the others
 abbrev pub invariant-loop-entry : goal.invariant-loop-entry
-invariant-loop-entry g l = IsReader l.self l.first × IsReader l.self l.second
-    × Comparing (g.C.Comparator.order l.comp) (list_of l.fn.self l.fn.handle) (list_of l.fn.self l.fn.other) false (left_of l.self l.first) (left_of l.self l.second)
+invariant-loop-entry g l = IsReader l.self l.keys × IsReader l.self l.others
+    × Comparing (g.C.Comparator.order l.comp) (list_of l.fn.self l.fn.handle) (list_of l.fn.self l.fn.other) false (left_of l.self l.keys) (left_of l.self l.others)
 
 -- the number of entries that are left
 abbrev pub decreases-loop-entry : goal.decreases-loop-entry
-decreases-loop-entry g l = length (left_of l.self l.first)
+decreases-loop-entry g l = length (left_of l.self l.keys)
