@@ -296,7 +296,7 @@ impl<K: Copy> Set<K> {
         ensures among { result ≡ are_among (C.order comp.now) (list_of forest.now self.now)
             (list_of forest.now other.now) }
     {
-        forest.trees.all_are(self.root, other.root, true, comp)
+        forest.trees.are_among(self.root, other.root, comp)
     }
 
     /// Returns whether no key of this set has an equal one in `other`. An empty set is disjoint from each set.
@@ -314,7 +314,7 @@ impl<K: Copy> Set<K> {
         ensures apart { result ≡ are_apart (C.order comp.now) (list_of forest.now self.now)
             (list_of forest.now other.now) }
     {
-        forest.trees.all_are(self.root, other.root, false, comp)
+        forest.trees.are_apart(self.root, other.root, comp)
     }
 
     /// Puts each key of `other` that is absent into this set, and returns whether there was one. A stored key that compares equal stays.

@@ -2,6 +2,7 @@
 pub mod Merging
 pub mod Rising
 pub mod Fronts
+pub mod Finding
 pub mod Uniting
 pub mod Choosing
 pub mod Keeping

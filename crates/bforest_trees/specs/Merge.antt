@@ -7,7 +7,9 @@ use Rattle.bforest_core.specs.Sizes.{IsFitFor}
 use Rattle.bforest_core.specs.Table.{Table}
 use Rattle.bforest_core.specs.declared.pool.OutOfMemory.TheVariants.{Full}
 use Rattle.bforest_core.specs.declared.pool.OutOfMemory.{OutOfMemory}
-use Rattle.std.specs.Prelude.{Bool, Err, IfOk, List, None, OnErr, OnOk, Option, Result, Some, [], length, not, true, ◌<◌, ◌∷◌, ◌≡◌, ℕ}
+use Rattle.bforest_nodes.specs.Entries.{IsIncreasing, is_present}
+use Rattle.std.specs.Prelude.{Bool, Err, IfOk, List, None, OnErr, OnOk, Option, Result, Some, [], false, length, ◌<◌, ◌∷◌, ◌≡◌, ℕ}
+use Rattle.std.specs.Ordering.{is_gt}
 use Rattle.std.specs.declared.cmp.Ordering.TheVariants.{Equal, Greater, Less}
 use Rattle.std.specs.declared.cmp.Ordering.{Ordering}
 
@@ -23,12 +25,6 @@ abbrev pub TakesOff : {K X : Type 0} → Ordering → List (K × X) → List (K 
 TakesOff Less es others e es' others' = (es ≡ e ∷ es') × (others' ≡ others)
 TakesOff Greater es others e es' others' = (es' ≡ es) × (others ≡ e ∷ others')
 TakesOff {K} {X} Equal es others e es' others' = (es ≡ e ∷ es') × (other : K × X) × (others ≡ other ∷ others')
-
--- what an order of the first entries tells of the keys of the first list, which are all to be present in the second one, or all absent
-abbrev pub agrees : Ordering → Bool → Bool
-agrees Less present = not present
-agrees Greater present = true
-agrees Equal present = present
 
 module _ {K X : Type 0} {n : ℕ} where
   -- the next entry is in the leaf that the reader holds
@@ -52,6 +48,17 @@ module _ {K X : Type 0} {n : ℕ} where
       pub reader : IsReader table first'
       pub second_reader : IsReader table second'
       pub can : CanTake order first' second'
+
+    -- a reader passed keys that are less than key
+    pub record Passes (cmp : K → K → Ordering) (key : K) (reader reader' : Reader K X n) : Type 0 where
+      pub reader_is : IsReader table reader'
+      pub up : IsIncreasing cmp (left_of table reader')
+      pub same : (k : K) → is_gt (cmp key k) ≡ false → is_present cmp (left_of table reader) k ≡ is_present cmp (left_of table reader') k
+
+    -- a key was looked for in what is left to a reader, which passed those that are less
+    pub record Finds (cmp : K → K → Ordering) (key : K) (reader : Reader K X n) (found : Bool) (reader' : Reader K X n) : Type 0 where
+      pub found_is : found ≡ is_present cmp (left_of table reader) key
+      pub passes : Passes cmp key reader reader'
 
     -- e was taken off what is left to two readers
     pub record TakesFrom (order : Ordering) (first second : Reader K X n) (e : K × X) (first' second' : Reader K X n) : Type 0 where

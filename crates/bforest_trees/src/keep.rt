@@ -30,58 +30,60 @@ pub(crate) fn keep<K: Copy, V: Copy, const N: usize, C: Comparator<K>>(
     let mut changed = false;
     let mut path = Path::default();
     let mut beside = Path::default();
-    path.first(root, pool);
-    beside.first(other, pool);
-    while let Some(entry) = path.entry(pool) {
-        let stays = find_onwards(entry.0, &mut beside, pool, comp) == present;
+    let mut mine = Some(path.first(root, pool));
+    let mut theirs = Some(beside.first(other, pool));
+    while let Some(entry) = mine {
+        let stays = find_onwards(entry.0, &mut theirs, &mut beside, pool, comp) == present;
         changed |= !stays;
-        let Some(left) = keep_step(stays, &mut path, root, pool) else {
+        let Some(step) = keep_step(stays, &mut path, root, pool) else {
             return (None, changed);
         };
-        root = left;
+        root = step.0;
+        mine = step.1;
     }
     (Some(root), changed)
 }
 
-// Whether a key is in the tree of a path, which stands at the key's place or in front of it, and goes there.
+// Whether a key is in the tree of a path, which stands at the key's place or in front of it, and goes there. `here` is the path's entry.
+#[inline(always)]
 fn find_onwards<K: Copy, V: Copy, const N: usize, C: Comparator<K>>(
     key: K,
+    here: &mut Option<(K, V)>,
     path: &mut Path<K, V, N>,
     pool: &NodePool<K, V, N>,
     comp: &C,
 ) -> bool
     requires union { IsUnion N pool.now }
-    requires nears { (root : ℕ) × Nears (C.order comp.now) pool.now root path.old key }
-    ensures reached { (root : ℕ) → Nears (C.order comp.now) pool.now root path.old key
-        → Reaches (C.order comp.now) pool.now root path.new key result }
+    requires nears { (root : ℕ) × Nears (C.order comp.now) pool.now root path.old here.old key }
+    ensures reached { (root : ℕ) → Nears (C.order comp.now) pool.now root path.old here.old key
+        → Reaches (C.order comp.now) pool.now root path.new here.new key result }
 {
-    while let Some(entry) = path.entry(pool) {
+    while let Some(entry) = *here {
         let order = comp.cmp(entry.0, key);
         if !order.is_lt() {
             return order.is_eq();
         }
-        path.next(pool);
+        *here = path.next(pool);
     }
     false
 }
 
 // Goes to the next entry from the one where a path stands, or to the end, and removes the entry unless it stays.
-// Returns the new root.
+// Returns the new root and the path's new entry.
 #[inline(always)]
 fn keep_step<K: Copy, V: Copy, const N: usize>(
     stays: bool,
     path: &mut Path<K, V, N>,
     root: Node,
     pool: &mut NodePool<K, V, N>,
-) -> Option<Node>
+) -> Option<(Node, Option<(K, V)>)>
     requires union { IsUnion N pool.old }
     requires stands { (place : ℕ) × StandsOn pool.old root path.old place }
     ensures { Steps N pool.old pool.new root path.old path.new stays result }
 {
     if stays {
-        path.next(pool);
-        Some(root)
-    } else {
-        path.remove(pool)
+        return Some((root, path.next(pool)));
     }
+    let left = path.remove(pool)?;
+    Some((left, path.entry(pool)))
 }

@@ -1,8 +1,9 @@
 //! Reading two trees side by side, in the order of their keys.
 ghost use Rattle.bforest_core.specs.Table.{Table};
-ghost use Rattle.bforest_trees.specs.Layout.{IsReader};
-ghost use Rattle.bforest_trees.specs.Merge.{CanTake, Compares, HoldsNext, TakesFrom, agrees};
-ghost use Rattle.std.specs.Prelude.{Some, ◌≡◌};
+ghost use Rattle.bforest_nodes.specs.Entries.{IsIncreasing};
+ghost use Rattle.bforest_trees.specs.Layout.{IsReader, left_of};
+ghost use Rattle.bforest_trees.specs.Merge.{CanTake, Compares, Finds, HoldsNext, TakesFrom};
+ghost use Rattle.std.specs.Prelude.{Some};
 
 use crate::reader::Reader;
 use crate::trees::Trees;
@@ -66,20 +67,33 @@ pub(crate) fn take<'a, K: Copy, V: Copy, const N: usize>(
         Ordering::Less => first.take_first(),
         Ordering::Greater => second.take_first(),
         Ordering::Equal => {
-            second.take_first();
+            second.pass();
             first.take_first()
         }
     }
 }
 
-/// Whether keys of a tree that are all to be present in another one, or all absent, are so, as far as the order of two next keys tells.
+/// Whether a key is among those that are left to a reader. Removes those that are less.
 #[inline(always)]
-pub(crate) fn agrees(order: Ordering, present: bool) -> bool
-    ensures { result ≡ agrees order present }
+pub(crate) fn finds<'a, K: Copy, V: Copy, const N: usize, C: Comparator<K>>(
+    key: K,
+    reader: &mut Reader<'a, K, V, N>,
+    trees: &'a Trees<K, V, N>,
+    comp: &C,
+) -> bool
+    requires reader { IsReader trees.now reader.old }
+    requires increasing { IsIncreasing (C.order comp.now) (left_of trees.now reader.old) }
+    ensures { Finds trees.now (C.order comp.now) key reader.old result reader.new }
 {
-    match order {
-        Ordering::Less => !present,
-        Ordering::Greater => true,
-        Ordering::Equal => present,
+    while reader.has_next(trees) {
+        let order = comp.cmp(key, reader.key());
+        if order.is_eq() {
+            return true;
+        }
+        if order.is_lt() {
+            return false;
+        }
+        reader.pass();
     }
+    false
 }

@@ -137,7 +137,16 @@ impl<'a, K: Copy, V: Copy, const N: usize> Reader<'a, K, V, N> {
     {
         let vals = &self.vals[..self.keys.len()];
         let entry = (self.keys[self.index], vals[self.index]);
-        self.index += 1;
+        self.pass();
         entry
+    }
+
+    /// Removes the first entry, which is in the leaf that the reader holds, and does not read it.
+    #[inline(always)]
+    pub(crate) fn pass(&mut self)
+        requires within { self.old.index < length self.old.keys.now }
+        ensures rest { self.new ≡ record self.old { index = self.old.index + 1 } }
+    {
+        self.index += 1;
     }
 }

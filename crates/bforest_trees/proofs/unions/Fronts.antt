@@ -1,5 +1,5 @@
 -- Two readers side by side: how their next entries compare, and taking one off.
-use Rattle.bforest_trees.proofs.Readers.{held-same, taken}
+use Rattle.bforest_trees.proofs.Readers.{Taken, held-same, taken}
 use Rattle.bforest_trees.specs.Layout.{Entered, IsReader, left_of}
 use Rattle.bforest_trees.specs.Merge.{CanTake, Compares, HoldsNext, TakesFrom, TakesOff, front_order}
 use Rattle.bforest_trees.specs.declared.reader.Reader.{Reader}
@@ -25,11 +25,14 @@ module _ {K X : Type 0} {n : ℕ} (table : Table K X) where
     pub rest : List (K × X)
     pub left_is : left_of table r ≡ (k, value) ∷ rest
 
-  begins : (r : Reader K X n) (k : K) → IsReader table r → HoldsNext r → slice_get r.keys.now r.index ≡ Some k → Begins r k
+  -- a reader that passes the key at hand
+  pub passed : (r r' : Reader K X n) (k : K) → IsReader table r → HoldsNext r → slice_get r.keys.now r.index ≡ Some k → r' ≡ record r { index = r.index + 1 } → (v : X) × Taken table r r' (k, v)
+  passed r r' k is held key moved = let v = some-at r.vals.now r.index (omega (arith, held.within, held.same)) in (v.0, taken table r r' (k, v.0) is key v.1 moved)
+
+  pub begins : (r : Reader K X n) (k : K) → IsReader table r → HoldsNext r → slice_get r.keys.now r.index ≡ Some k → Begins r k
   begins r k is held key =
-      let v = some-at r.vals.now r.index (omega (arith, held.within, held.same)) in
-      let t = taken table r (record r { index = r.index + 1 }) (k, v.0) is key v.1 refl in
-      record { value = v.0; rest = left_of table (record r { index = r.index + 1 }); left_is = t.left }
+      let p = passed r (record r { index = r.index + 1 }) k is held key refl in
+      record { value = p.0; rest = left_of table (record r { index = r.index + 1 }); left_is = p.1.left }
 
   -- whichever comes first is held where both are
   can-both : (first second : Reader K X n) (order : Ordering) → HoldsNext first → HoldsNext second → CanTake (Some order) first second
@@ -116,11 +119,12 @@ module _ {K X : Type 0} {n : ℕ} (table : Table K X) where
     took-second second' key value moved = let t = taken table second second' e second_is key value moved in
         record { off = (refl, t.left); reader = is; second_reader = t.reader }
 
-    pub took-both : (first' second' : Reader K X n) (other : K × X) → slice_get first.keys.now first.index ≡ Some e.0 → slice_get first.vals.now first.index ≡ Some e.1 → first' ≡ record first { index = first.index + 1 }
-        → slice_get second.keys.now second.index ≡ Some other.0 → slice_get second.vals.now second.index ≡ Some other.1 → second' ≡ record second { index = second.index + 1 } → TakesFrom table Equal first second e first' second'
-    took-both first' second' other key value moved second_key second_value second_moved = let t = taken table first first' e is key value moved in
-        let s = taken table second second' other second_is second_key second_value second_moved in
-        record { off = (t.left, other, s.left); reader = t.reader; second_reader = s.reader }
+    pub took-both : (first' second' : Reader K X n) → slice_get first.keys.now first.index ≡ Some e.0 → slice_get first.vals.now first.index ≡ Some e.1 → first' ≡ record first { index = first.index + 1 }
+        → HoldsNext second → second' ≡ record second { index = second.index + 1 } → TakesFrom table Equal first second e first' second'
+    took-both first' second' key value moved held second_moved = let t = taken table first first' e is key value moved in
+        let k = some-at second.keys.now second.index held.within in
+        let s = passed second second' k.0 second_is held k.1 second_moved in
+        record { off = (t.left, (k.0, s.0), s.1.left); reader = t.reader; second_reader = s.1.reader }
 
   -- one turn of a loop over two readers, whose next entries are compared before one is taken off
   pub turn : (cmp : K → K → Ordering) {first second : Reader K X n} {order : Ordering} {first1 second1 : Reader K X n} {e : K × X} {first2 second2 : Reader K X n}

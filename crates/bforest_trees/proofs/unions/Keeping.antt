@@ -1,6 +1,6 @@
 -- What the loop of `keep` has done: a path in the tree whose entries are kept, and one beside it in the other tree.
 use Rattle.bforest_core.proofs.table.Lists.{drop-read, drop_remove, length_remove}
-use Rattle.bforest_core.proofs.walks.Standing.{at-on, on-at}
+use Rattle.bforest_core.proofs.walks.Standing.{at-on, on-at, on-within}
 use Rattle.bforest_core.specs.Levels.{flat}
 use Rattle.bforest_core.specs.Paths.{OnEntry, RemovesHere, Standing, StandsAt, StandsOn, list_under, sizes_under}
 use Rattle.bforest_core.specs.Place.{IsPathAt}
@@ -8,6 +8,7 @@ use Rattle.bforest_core.specs.Table.{Table}
 use Rattle.bforest_core.specs.Trees.{IsUnion, is_root, tree_of}
 use Rattle.bforest_core.specs.declared.path.Path.{Path}
 use Rattle.bforest_core.proofs.walks.Backward.{at_entry}
+use Rattle.bforest_nodes.proofs.Seams.{slice_get-drop}
 use Rattle.bforest_nodes.specs.Entries.{IsIncreasing, is_present, place, with_value}
 use Rattle.bforest_trees.proofs.Cutting.{changes-none, gives-none}
 use Rattle.bforest_trees.proofs.Reading.{left-at}
@@ -61,34 +62,53 @@ stepped-on {most = most} {table} {root} {path' = path'} {place = place} {k} {v} 
 
 module _ {K X : Type 0} {most : ℕ} {old : Table K X} {root : ℕ} {path path' : Path K X most} {stays : Bool} where
   -- a step over an entry that stays
-  pub steps-on : IsUnion most old → stays ≡ true → ((at : OnEntry old path) → StandsAt old at.root path' (suc at.place)) → Steps most old old root path path' stays (Some root)
-  steps-on union kept at = record {
+  pub steps-on : IsUnion most old → stays ≡ true → ((at : OnEntry old path) → StandsAt old at.root path' (suc at.place)) → {read : Option (K × X)} → ((at : OnEntry old path) → read ≡ slice_get (list_under old at.root) (suc at.place))
+      → Steps most old old root path path' stays (Some (root, read))
+  steps-on union kept at value = record {
     same_pool = λ e. refl;
     same_root = λ e. refl;
+    read_is = λ place stands. value (record { root = root; place = place; on = stands });
     stepped = λ cmp present others place k v told stands here. stepped-on union (sym kept ∙ told) stands here (at (record { root = root; place = place; on = stands }));
     ended = λ bad. absurd (cc);
   }
 
-  -- a step that removes the entry
-  pub steps-off : {new : Table K X} {result : Option ℕ} → stays ≡ false → RemovesHere old new path path' result → Steps most old new root path path' stays result
-  steps-off {new} {result} gone r = record {
-    same_pool = λ e. absurd (let bad : true ≡ false = sym e ∙ gone in cc);
-    same_root = λ e. absurd (let bad : true ≡ false = sym e ∙ gone in cc);
-    stepped = λ cmp present others place k v told stands here.
-        let at : OnEntry old path = record { root = root; place = place; on = stands } in
-        sifted-out most (Tells cmp present others) old new root path' tt tt (list_under old root) (sizes_under old root) place k v v
-        (record { told = sym gone ∙ told; same = refl }) result (r.removed at) (r.account at) (r.stands at) (r.same_root at) (r.freed_root at);
-    ended = λ none cmp present others place k v told stands here.
-        let at : OnEntry old path = record { root = root; place = place; on = stands } in
-        record {
-          left = v;
-          stepped = record { told = sym gone ∙ told; same = refl };
-          last = (r.last at).0 none;
-          ended = r.ended none at;
-          gives = r.account at;
-          none_left = r.none_left none at;
-        };
-  }
+  module _ {new : Table K X} (gone : stays ≡ false) where
+    -- a step that removes the entry
+    pub steps-off : {root' : ℕ} → RemovesHere old new path path' (Some root') → {read : Option (K × X)} → ((at : Standing new path') → read ≡ slice_get (list_under new at.root) at.place)
+        → Steps most old new root path path' stays (Some (root', read))
+    steps-off {root'} r value = record {
+      same_pool = λ e. absurd (let bad : true ≡ false = sym e ∙ gone in cc);
+      same_root = λ e. absurd (let bad : true ≡ false = sym e ∙ gone in cc);
+      read_is = λ place stands.
+          let at : OnEntry old path = record { root = root; place = place; on = stands } in
+          let list = list_under old root in
+          value (record { root = root'; place = place; at = r.stands at }) ∙ ap (λ l. slice_get l place) (r.removed at).list_is ∙ sym (slice_get-drop (remove list place) place)
+          ∙ ap (λ l. slice_get l 0) (drop_remove list place (on-within old path stands)) ∙ slice_get-drop list (suc place);
+      stepped = λ cmp present others place k v told stands here.
+          let at : OnEntry old path = record { root = root; place = place; on = stands } in
+          sifted-out most (Tells cmp present others) old new root path' tt tt (list_under old root) (sizes_under old root) place k v v
+          (record { told = sym gone ∙ told; same = refl }) (Some root') (r.removed at) (r.account at) (r.stands at) (r.same_root at) (r.freed_root at);
+      ended = λ bad. absurd (cc);
+    }
+
+    -- a step that removes the only entry
+    pub steps-last : RemovesHere old new path path' None → Steps most old new root path path' stays None
+    steps-last r = record {
+      same_pool = λ e. absurd (let bad : true ≡ false = sym e ∙ gone in cc);
+      same_root = λ e. tt;
+      read_is = λ place stands. tt;
+      stepped = λ cmp present others place k v told stands here. tt;
+      ended = λ none cmp present others place k v told stands here.
+          let at : OnEntry old path = record { root = root; place = place; on = stands } in
+          record {
+            left = v;
+            stepped = record { told = sym gone ∙ told; same = refl };
+            last = (r.last at).0 refl;
+            ended = r.ended refl at;
+            gives = r.account at;
+            none_left = r.none_left refl at;
+          };
+    }
 
 module _ {K X : Type 0} {n : ℕ} {table : Table K X} {root : ℕ} where
   -- a path that stands at a place is on an entry unless it is at the end
@@ -108,22 +128,26 @@ module _ {K X : Type 0} {n : ℕ} {table : Table K X} {root : ℕ} where
         length-drop (suc spot) (list_under table root),
       )
 
-  module _ {cmp : K → K → Ordering} {path : Path K X n} {key : K} (s : Nears cmp table root path key) {read : Option (K × X)} (value : (at : Standing table path) → read ≡ slice_get (list_under table at.root) at.place) where
+  module _ {cmp : K → K → Ordering} {path : Path K X n} {read : Option (K × X)} {key : K} (s : Nears cmp table root path read key) where
     there : {o : Option (K × X)} → read ≡ o → o ≡ slice_get (list_under table root) s.spot
-    there is = sym is ∙ value (record { root = root; place = s.spot; at = s.at })
+    there is = sym is ∙ s.read_is
 
     module _ {e : K × X} (is : read ≡ Some e) where
       -- a step goes on from the entry here
       module _ {path' : Path K X n} (stands : (at : OnEntry table path) → StandsAt table at.root path' (suc at.place)) where
+        abbrev here_on : OnEntry table path
+        here_on = record { root = root; place = s.spot; on = at-on table path s.at (slice_get_within (list_under table root) s.spot e (sym (there is))) }
+
         next_at : StandsAt table root path' (suc s.spot)
-        next_at = stands (record { root = root; place = s.spot; on = at-on table path s.at (slice_get_within (list_under table root) s.spot e (sym (there is))) })
+        next_at = stands here_on
 
         pub nears-shorter : IsUnion n table → length (entries_from table path') < length (entries_from table path)
         nears-shorter union = step-shortens union s.at (there is) next_at
 
         -- a lesser entry is passed
-        pub nears-next : IsTotalOrder cmp → {order : Ordering} {less : Bool} → order ≡ cmp e.0 key → less ≡ is_lt order → less ≡ true → Nears cmp table root path' key
-        nears-next o told told_less lesser = record { spot = suc s.spot; at = next_at; low = place-behind cmp o (list_under table root) s.spot e key s.up (there is) (is-less (cmp e.0 key) (sym (ap is_lt told) ∙ sym told_less ∙ lesser)); up = s.up }
+        pub nears-next : {read' : Option (K × X)} → ((at : OnEntry table path) → read' ≡ slice_get (list_under table at.root) (suc at.place)) → IsTotalOrder cmp
+            → {order : Ordering} {less : Bool} → order ≡ cmp e.0 key → less ≡ is_lt order → less ≡ true → Nears cmp table root path' read' key
+        nears-next value o told told_less lesser = record { spot = suc s.spot; at = next_at; read_is = value here_on; low = place-behind cmp o (list_under table root) s.spot e key s.up (there is) (is-less (cmp e.0 key) (sym (ap is_lt told) ∙ sym told_less ∙ lesser)); up = s.up }
           where
             is-less : (r : Ordering) → is_lt r ≡ true → r ≡ Less
             is-less Less t = refl
@@ -131,15 +155,15 @@ module _ {K X : Type 0} {n : ℕ} {table : Table K X} {root : ℕ} where
             is-less Greater t = absurd (cc)
 
       -- at one that is not, the search ends
-      pub nears-here : IsTotalOrder cmp → {order : Ordering} {less found : Bool} → order ≡ cmp e.0 key → less ≡ is_lt order → less ≡ false → found ≡ is_eq order → Reaches cmp table root path key found
+      pub nears-here : IsTotalOrder cmp → {order : Ordering} {less found : Bool} → order ≡ cmp e.0 key → less ≡ is_lt order → less ≡ false → found ≡ is_eq order → Reaches cmp table root path read key found
       nears-here o told told_less not_less found_is =
           let t = place-at cmp o (list_under table root) s.spot e key s.up (there is) s.low (sym (ap is_lt told) ∙ sym told_less ∙ not_less) in
-          record { at = subst (StandsAt table root path) t.0 s.at; found_is = found_is ∙ ap is_eq told ∙ t.1 }
+          record { at = subst (StandsAt table root path) t.0 s.at; read_is = s.read_is ∙ ap (slice_get (list_under table root)) t.0; found_is = found_is ∙ ap is_eq told ∙ t.1 }
 
-    pub nears-end : IsTotalOrder cmp → read ≡ None → Reaches cmp table root path key false
+    pub nears-end : IsTotalOrder cmp → read ≡ None → Reaches cmp table root path read key false
     nears-end o is =
         let t = place-end cmp o (list_under table root) s.spot key (there is) s.low in
-        record { at = subst (StandsAt table root path) t.0 s.at; found_is = t.1 }
+        record { at = subst (StandsAt table root path) t.0 s.at; read_is = s.read_is ∙ ap (slice_get (list_under table root)) t.0; found_is = t.1 }
 
 -- the place in others is not behind that of the first key of these
 abbrev pub IsAhead : {K X : Type 0} → (K → K → Ordering) → List (K × X) → ℕ → List (K × X) → Type 0
@@ -147,8 +171,9 @@ IsAhead cmp others spot [] = Unit {0}
 IsAhead cmp others spot (e ∷ es) = spot ≤ place cmp others e.0
 
 module _ {K X : Type 0} (most : ℕ) (cmp : K → K → Ordering) (present : Bool) (old : Table K X) (first other : ℕ) where
-  -- the entries in front of the path's place are kept or removed, and the other tree's path is not behind the place of the next key
-  pub record Keeping (now : Table K X) (root : ℕ) (path beside : Path K X most) (changed : Bool) : Type 0 where
+  -- the entries in front of the path's place are kept or removed, and the other tree's path is not behind the place of the next key; both
+  -- paths' entries were read
+  pub record Keeping (now : Table K X) (root : ℕ) (path beside : Path K X most) (mine theirs : Option (K × X)) (changed : Bool) : Type 0 where
     pub sift : Sifting most (Tells cmp present (list_under old other)) (λ f k v. Unit {0}) old first tt now root tt path
     pub other_root : IsTrue (is_root now.nodes other)
     pub tree_is : tree_of now.nodes other ≡ tree_of old.nodes other
@@ -158,12 +183,15 @@ module _ {K X : Type 0} (most : ℕ) (cmp : K → K → Ordering) (present : Boo
     pub spot : ℕ
     pub beside_at : StandsAt now other beside spot
     pub ahead : IsAhead cmp (list_under old other) spot (entries_from now path)
+    pub mine_is : mine ≡ slice_get (entries_from now path) 0
+    pub theirs_is : theirs ≡ slice_get (list_under old other) spot
     pub same : changed ≡ false → (now ≡ old) × (root ≡ first)
     pub fewer : changed ≡ true → length (list_under now root) < length (list_under old first)
 
 module _ {K X : Type 0} {most : ℕ} {cmp : K → K → Ordering} {present : Bool} {old : Table K X} {first other : ℕ} where
-  pub keeping-first : {path beside : Path K X most} → IsUnion most old → first ≢ other → IsIncreasing cmp (list_under old first) → IsIncreasing cmp (list_under old other) → StandsOn old first path 0 → StandsOn old other beside 0 → Keeping most cmp present old first other old first path beside false
-  keeping-first {path} {beside} union apart up others_up on beside_on = record {
+  pub keeping-first : {path beside : Path K X most} → IsUnion most old → first ≢ other → IsIncreasing cmp (list_under old first) → IsIncreasing cmp (list_under old other) → StandsOn old first path 0 → StandsOn old other beside 0
+      → {mine theirs : K × X} → slice_get (list_under old first) 0 ≡ Some mine → slice_get (list_under old other) 0 ≡ Some theirs → Keeping most cmp present old first other old first path beside (Some mine) (Some theirs) false
+  keeping-first {path} {beside} union apart up others_up on beside_on mine_is theirs_is = record {
     sift = sifting-first union on (record { at = λ before after f k v is t. tt });
     other_root = beside_on.root_is;
     tree_is = refl;
@@ -173,6 +201,8 @@ module _ {K X : Type 0} {most : ℕ} {cmp : K → K → Ordering} {present : Boo
     spot = 0;
     beside_at = on-at old beside beside_on;
     ahead = go (entries_from old path);
+    mine_is = sym (ap (λ l. slice_get l 0) left ∙ mine_is);
+    theirs_is = sym theirs_is;
     same = λ e. (refl, refl);
     fewer = λ bad. absurd (cc);
   }
@@ -184,14 +214,17 @@ module _ {K X : Type 0} {most : ℕ} {cmp : K → K → Ordering} {present : Boo
       go [] = tt
       go (e ∷ es) = omega arith
 
-  module _ {now : Table K X} {root : ℕ} {path beside : Path K X most} {changed : Bool} (s : Keeping most cmp present old first other now root path beside changed) where
+  module _ {now : Table K X} {root : ℕ} {path beside : Path K X most} {mine theirs : Option (K × X)} {changed : Bool} (s : Keeping most cmp present old first other now root path beside mine theirs changed) where
     others_are : list_under now other ≡ list_under old other
     others_are = ap (λ t. flat t.leaves) s.tree_is
 
-    -- the path reads an entry
-    module _ {read : Option (K × X)} {k : K} {v : X} (value : (at : Standing now path) → read ≡ slice_get (list_under now at.root) at.place) (is : read ≡ Some (k, v)) where
+    mine_at : mine ≡ slice_get (list_under now root) s.sift.place
+    mine_at = s.mine_is ∙ ap (λ l. slice_get l 0) (left-at now root path s.sift.place s.sift.changes.union s.sift.at) ∙ slice_get-drop (list_under now root) s.sift.place
+
+    -- the path stands on an entry
+    module _ {k : K} {v : X} (is : mine ≡ Some (k, v)) where
       here : Some (k, v) ≡ slice_get (list_under now root) s.sift.place
-      here = sym is ∙ value (record { root = root; place = s.sift.place; at = s.sift.at })
+      here = sym is ∙ mine_at
 
       left : entries_from now path ≡ (k, v) ∷ drop (suc s.sift.place) (list_under now root)
       left = left-at now root path s.sift.place s.sift.changes.union s.sift.at ∙ drop-read (list_under now root) s.sift.place (k, v) (sym here)
@@ -201,29 +234,30 @@ module _ {K X : Type 0} {most : ℕ} {cmp : K → K → Ordering} {present : Boo
       keeping-stands = sifting-stands s.sift here
 
       -- the path beside stands in front of the place of the key here
-      pub keeping-nears : Nears cmp now other beside k
+      pub keeping-nears : Nears cmp now other beside theirs k
       keeping-nears = record {
         spot = s.spot;
         at = s.beside_at;
+        read_is = s.theirs_is ∙ ap (λ l. slice_get l s.spot) (sym others_are);
         low = subst (λ l. s.spot ≤ place cmp l k) (sym others_are) (subst (IsAhead cmp (list_under old other) s.spot) left s.ahead);
         up = subst (IsIncreasing cmp) (sym others_are) s.others_up;
       }
 
       -- the other path goes to the key's place
-      module _ {found : Bool} {beside' : Path K X most} (reached : (m : ℕ) → Nears cmp now m beside k → Reaches cmp now m beside' k found) where
+      module _ {found : Bool} {beside' : Path K X most} {theirs' : Option (K × X)} (reached : (m : ℕ) → Nears cmp now m beside theirs k → Reaches cmp now m beside' theirs' k found) where
         abbrev stays : Bool
         stays = beq found present
 
-        r : Reaches cmp now other beside' k found
+        r : Reaches cmp now other beside' theirs' k found
         r = reached other keeping-nears
 
         -- whether the entry stays, by the other list as it was
         keeping-told : stays ≡ fits present (is_present cmp (list_under old other) k)
         keeping-told = beq-fits found present ∙ ap (fits present) (r.found_is ∙ ap (λ l. is_present cmp l k) others_are)
 
-        module _ {new : Table K X} {result : Option ℕ} {path' : Path K X most} (steps : Steps most now new root path path' stays result) where
+        module _ {new : Table K X} {result : Option (ℕ × Option (K × X))} {path' : Path K X most} (steps : Steps most now new root path path' stays result) where
           -- the step at the entry here
-          keeping-stepped : IfSome result (λ root'. Stepped most (Tells cmp present (list_under old other)) now new root root' path' tt tt (list_under now root) (sizes_under now root) s.sift.place k v)
+          keeping-stepped : IfSome result (λ left. Stepped most (Tells cmp present (list_under old other)) now new root left.0 path' tt tt (list_under now root) (sizes_under now root) s.sift.place k v)
           keeping-stepped = steps.stepped cmp present (list_under old other) s.sift.place k v keeping-told (sifting-stands s.sift here) here
 
           -- where no entry is left
@@ -243,7 +277,7 @@ module _ {K X : Type 0} {most : ℕ} {cmp : K → K → Ordering} {present : Boo
               or-true true = refl
               or-true false = refl
 
-          module _ {root' : ℕ} (some : result ≡ Some root') where
+          module _ {root' : ℕ} {mine' : Option (K × X)} (some : result ≡ Some (root', mine')) where
             t : Stepped most (Tells cmp present (list_under old other)) now new root root' path' tt tt (list_under now root) (sizes_under now root) s.sift.place k v
             t = rw some at keeping-stepped
 
@@ -281,8 +315,11 @@ module _ {K X : Type 0} {most : ℕ} {cmp : K → K → Ordering} {present : Boo
                 go true w is bad = absurd (cc)
                 go false w is f = omega (arith, ap length is, length_remove (list_under now root) s.sift.place low)
 
+            next_read : mine' ≡ slice_get (list_under now root) (suc s.sift.place)
+            next_read = rw some at (steps.read_is s.sift.place (sifting-stands s.sift here))
+
             kept_root : stays ≡ true → root' ≡ root
-            kept_root kept = let e : Some root' ≡ Some root = sym some ∙ steps.same_root kept in cc
+            kept_root kept = rw some at (steps.same_root kept)
 
             shorter : (stays changed : Bool) → (stays ≡ true → new ≡ now) → (stays ≡ true → root' ≡ root) → (stays ≡ false → suc (length (list_under new root')) ≡ length (list_under now root))
                 → (changed ≡ false → (now ≡ old) × (root ≡ first)) → (changed ≡ true → length (list_under now root) < length (list_under old first)) → (changed || not stays) ≡ true → length (list_under new root') < length (list_under old first)
@@ -298,7 +335,7 @@ module _ {K X : Type 0} {most : ℕ} {cmp : K → K → Ordering} {present : Boo
             unchanged false false pool at same none = absurd (cc)
 
             -- the next state of the loop
-            pub keeping-next : IsTotalOrder cmp → Keeping most cmp present old first other new root' path' beside' (changed || not stays)
+            pub keeping-next : IsTotalOrder cmp → Keeping most cmp present old first other new root' path' beside' mine' theirs' (changed || not stays)
             unfolding IsStrictlySortedBy
             keeping-next o = record {
               sift = (sifting-next s.sift here t).0;
@@ -314,6 +351,8 @@ module _ {K X : Type 0} {most : ℕ} {cmp : K → K → Ordering} {present : Boo
                     (subst (λ l. IsPathAt beside'.node beside'.entry beside'.size (tree_of now.nodes other) (place cmp l k)) others_are r.at.at);
               };
               ahead = subst (IsAhead cmp (list_under old other) (place cmp (list_under old other) k)) (sym rest) (go (drop (suc s.sift.place) (list_under now root)) up_here.0);
+              mine_is = next_read ∙ sym (slice_get-drop (list_under now root) (suc s.sift.place)) ∙ ap (λ l. slice_get l 0) (sym rest);
+              theirs_is = r.read_is ∙ ap (λ l. slice_get l (place cmp l k)) others_are;
               same = unchanged stays changed steps.same_pool kept_root s.same;
               fewer = shorter stays changed steps.same_pool kept_root removed s.same s.fewer;
             }
@@ -326,9 +365,9 @@ module _ {K X : Type 0} {most : ℕ} {cmp : K → K → Ordering} {present : Boo
             keeping-shorter = omega (arith, ap length rest, ap length left)
 
     -- where no entry is left, all of them are kept or removed
-    pub keeping-last : {read : Option (K × X)} → ((at : Standing now path) → read ≡ slice_get (list_under now at.root) at.place) → read ≡ None → Kept most old now first cmp present other (Some root) changed
-    keeping-last value is = record {
-      kept = sifting-last s.sift (sym is ∙ value (record { root = root; place = s.sift.place; at = s.sift.at }));
+    pub keeping-last : mine ≡ None → Kept most old now first cmp present other (Some root) changed
+    keeping-last is = record {
+      kept = sifting-last s.sift (sym is ∙ mine_at);
       ended = λ bad. absurd (cc);
       same_pool = λ e. (s.same e).0;
       same_root = λ e. ap Some (s.same e).1;

@@ -1,8 +1,8 @@
 -- Two increasing lists, compared and united entry by entry.
 use Rattle.bforest_nodes.proofs.Ordered.{IsIncreasing-put, above, place-here, place-later}
 use Rattle.bforest_nodes.specs.Entries.{IsIncreasing, is_present, place, put, with_value}
-use Rattle.bforest_trees.specs.Merge.{TakesOff, agrees, front_order}
-use Rattle.bforest_trees.specs.Union.{are_among, are_apart, fits, united}
+use Rattle.bforest_trees.specs.Merge.{TakesOff, front_order}
+use Rattle.bforest_trees.specs.Union.{are_among, fits, united}
 use Rattle.std.proofs.Common.{Bool, List, None, Some, [], ap, arith, false, if◌then◌else◌, insert, length, not, refl, slice_get, suc, sym, true, zero, append_assoc, append-nil, length-append, ◌||◌, ◌++◌, ◌<◌, ◌+◌, ◌≤◌, ◌∙◌, ◌∷◌, ◌≡◌, ◌&&◌, ℕ}
 use Rattle.std.specs.Cmp.{IsTotalOrder, tied_itself}
 use Rattle.std.specs.List.Sorted.{IsStrictlySortedBy}
@@ -14,19 +14,19 @@ use Rattle.std.specs.declared.cmp.Ordering.TheVariants.{Equal, Greater, Less}
 use Rattle.std.specs.declared.cmp.Ordering.{Ordering}
 
 module _ {K : Type 0} (cmp : K → K → Ordering) (o : IsTotalOrder cmp) where
-  flip : (a b : K) → cmp a b ≡ Less → cmp b a ≡ Greater
+  pub flip : (a b : K) → cmp a b ≡ Less → cmp b a ≡ Greater
   flip a b t = o.antisymm b a ∙ ap ordering_reverse t
 
-  equal-back : (a b : K) → cmp a b ≡ Equal → cmp b a ≡ Equal
+  pub equal-back : (a b : K) → cmp a b ≡ Equal → cmp b a ≡ Equal
   equal-back a b t = o.antisymm b a ∙ ap ordering_reverse t
 
 module _ {K X : Type 0} (cmp : K → K → Ordering) where
   -- the key of e is less than each of these
-  abbrev IsBelow : K × X → List (K × X) → Type 0
+  abbrev pub IsBelow : K × X → List (K × X) → Type 0
   IsBelow e es = AllByRecursion (λ y. cmp e.0 y ≡ Less) (keys_of es)
 
   -- the key of e is less than the first of these
-  abbrev IsBefore : K × X → List (K × X) → Type 0
+  abbrev pub IsBefore : K × X → List (K × X) → Type 0
   IsBefore e [] = Unit {0}
   IsBefore e (x ∷ es) = cmp e.0 x.0 ≡ Less
 
@@ -42,14 +42,9 @@ module _ {K X : Type 0} (cmp : K → K → Ordering) where
   abbrev pub each_is : List (K × X) → List (K × X) → Bool → Bool
   each_is es others present = list_all (λ e. fits present (is_present cmp others e.0)) es
 
-  -- the same in the words of contracts
-  pub each-told : (es others : List (K × X)) (present : Bool) → each_is es others present ≡ (if present then are_among cmp es others else are_apart cmp es others)
-  each-told es others true = refl
-  each-told es others false = refl
-
   module _ (o : IsTotalOrder cmp) where
     -- a key is present behind a lesser one where it is among the others
-    present-later : (e : K × X) (es : List (K × X)) (k : K) → cmp e.0 k ≡ Less → is_present cmp (e ∷ es) k ≡ is_present cmp es k
+    pub present-later : (e : K × X) (es : List (K × X)) (k : K) → cmp e.0 k ≡ Less → is_present cmp (e ∷ es) k ≡ is_present cmp es k
     present-later e es k t = ap (found_at (e ∷ es) k) (place-later cmp o e es k t)
 
     put-later : (e : K × X) (es : List (K × X)) (k : K) (v : X) → cmp e.0 k ≡ Less → put cmp (e ∷ es) k v ≡ e ∷ put cmp es k v
@@ -60,12 +55,12 @@ module _ {K X : Type 0} (cmp : K → K → Ordering) where
         go false = refl
 
     -- a key that compares equal to the first is present
-    present-first : (e : K × X) (es : List (K × X)) (k : K) → IsIncreasing cmp (e ∷ es) → cmp e.0 k ≡ Equal → is_present cmp (e ∷ es) k ≡ true
+    pub present-first : (e : K × X) (es : List (K × X)) (k : K) → IsIncreasing cmp (e ∷ es) → cmp e.0 k ≡ Equal → is_present cmp (e ∷ es) k ≡ true
     present-first e es k up t = ap (found_at (e ∷ es) k) (place-here cmp o e es k up (ap is_lt t)) ∙ ap (λ r. is_some (if is_eq r then Some e else None)) t
 
     module _ (e : K × X) where
       -- a key below all others is not among them, and goes in front of them
-      absent-below : (es : List (K × X)) → IsIncreasing cmp es → IsBelow e es → is_present cmp es e.0 ≡ false
+      pub absent-below : (es : List (K × X)) → IsIncreasing cmp es → IsBelow e es → is_present cmp es e.0 ≡ false
       absent-below [] up below = refl
       absent-below (x ∷ es) up below =
           let t = flip cmp o e.0 x.0 below.0 in
@@ -97,16 +92,16 @@ module _ {K X : Type 0} (cmp : K → K → Ordering) where
           ap (λ b. fits present b && each_is es (e ∷ others) present) first ∙ ap (λ z. fits present (is_present cmp others x.0) && z) rest
 
       -- what increases is below its first entry
-      first-below : (es : List (K × X)) → IsIncreasing cmp (e ∷ es) → IsBelow e es
+      pub first-below : (es : List (K × X)) → IsIncreasing cmp (e ∷ es) → IsBelow e es
       unfolding IsStrictlySortedBy
       first-below es up = up.0
 
-      rest-up : (es : List (K × X)) → IsIncreasing cmp (e ∷ es) → IsIncreasing cmp es
+      pub rest-up : (es : List (K × X)) → IsIncreasing cmp (e ∷ es) → IsIncreasing cmp es
       unfolding IsStrictlySortedBy
       rest-up es up = up.1
 
     -- a key before the first of increasing ones is below all
-    all-below : (e : K × X) (es : List (K × X)) → IsIncreasing cmp es → IsBefore e es → IsBelow e es
+    pub all-below : (e : K × X) (es : List (K × X)) → IsIncreasing cmp es → IsBefore e es → IsBelow e es
     all-below e [] up before = tt
     all-below e (x ∷ es) up before = (before, above cmp o e.0 x.0 (keys_of es) before (first-below x es up))
 
@@ -119,7 +114,7 @@ module _ {K X : Type 0} (cmp : K → K → Ordering) where
     pub record Goes (es others : List (K × X)) (order : Ordering) (first : K × X) (es' others' : List (K × X)) : Type 0 where
       pub up : IsIncreasing cmp es'
       pub others_up : IsIncreasing cmp others'
-      pub each : (present : Bool) → each_is es others present ≡ (agrees order present && each_is es' others' present)
+      pub among : are_among cmp es others ≡ (not (is_lt order) && are_among cmp es' others')
       pub back : are_among cmp others es ≡ (not (is_gt order) && are_among cmp others' es')
       pub unites : united cmp es others ≡ first ∷ united cmp es' others'
 
@@ -128,14 +123,10 @@ module _ {K X : Type 0} (cmp : K → K → Ordering) where
         let below = all-below e others others_up before in record {
           up = rest-up e es up;
           others_up = others_up;
-          each = λ present. ap (λ b. fits present b && each_is es others present) (absent-below e others others_up below) ∙ out present (each_is es others present);
+          among = ap (λ b. b && are_among cmp es others) (absent-below e others others_up below);
           back = each-below e others es true below;
           unites = united-below e es others below;
         }
-      where
-        out : (present rest : Bool) → (fits present false && rest) ≡ (not present && rest)
-        out true rest = refl
-        out false rest = refl
 
     goes-second : (other : K × X) (es others : List (K × X)) → IsIncreasing cmp es → IsIncreasing cmp (other ∷ others) → IsBefore other es → Goes es (other ∷ others) Greater other es others
     goes-second other es others up others_up before =
@@ -143,7 +134,7 @@ module _ {K X : Type 0} (cmp : K → K → Ordering) where
         let absent = absent-below other es up below in record {
           up = up;
           others_up = rest-up other others others_up;
-          each = λ present. each-below other es others present below;
+          among = each-below other es others true below;
           back = ap (λ b. b && are_among cmp others es) absent;
           unites = ap (λ b. united cmp (if b then es else put cmp es other.0 other.1) others) absent ∙ ap (λ z. united cmp z others) (put-below other es up below) ∙ united-below other es others (first-below other others others_up);
         }
@@ -157,14 +148,10 @@ module _ {K X : Type 0} (cmp : K → K → Ordering) where
         let there = present-first e es other.0 up same in record {
           up = rest-up e es up;
           others_up = rest-up other others others_up;
-          each = λ present. ap (λ b. fits present b && each_is es (other ∷ others) present) here ∙ ap (λ z. fits present true && z) (each-below other es others present below) ∙ out present (each_is es others present);
+          among = ap (λ b. b && are_among cmp es (other ∷ others)) here ∙ each-below other es others true below;
           back = ap (λ b. b && are_among cmp others (e ∷ es)) there ∙ each-below e others es true others_below;
           unites = ap (λ b. united cmp (if b then e ∷ es else put cmp (e ∷ es) other.0 other.1) others) there ∙ united-below e es others others_below;
         }
-      where
-        out : (present rest : Bool) → (fits present true && rest) ≡ (present && rest)
-        out true rest = refl
-        out false rest = refl
 
     -- which entry is before the others
     front-less : (e : K × X) (es others : List (K × X)) → front_order cmp (e ∷ es) others ≡ Some Less → IsBefore e others
@@ -185,18 +172,11 @@ module _ {K X : Type 0} (cmp : K → K → Ordering) where
         let seen : Some (cmp first.0 t.1.0) ≡ Some Equal = rw (t.0, t.2) at is in
         rw (t.0, t.2) (goes-both first t.1 es' others' (rw t.0 at up) (rw t.2 at others_up) (cc))
 
-    -- an order that tells of the first key that it is not as it should be
-    pub refuses : (es others : List (K × X)) (order : Ordering) (present : Bool) → IsIncreasing cmp es → IsIncreasing cmp others → front_order cmp es others ≡ Some order → agrees order present ≡ false → each_is es others present ≡ false
-    refuses [] [] order present up others_up is told = absurd (cc)
-    refuses [] (x ∷ others) order present up others_up is told = let same : order ≡ Greater = cc in absurd (let bad : true ≡ false = rw same at told in cc)
-    refuses (e ∷ es) [] order present up others_up is told = let same : order ≡ Less = cc in
-        (goes Less {others = []} {first = e} {es' = es} {others' = []} up others_up refl (refl, refl)).each present ∙ ap (λ b. b && each_is es [] present) (rw same at told)
-    refuses (e ∷ es) (x ∷ others) order present up others_up is told = go order is told
-      where
-        go : (order : Ordering) → front_order cmp (e ∷ es) (x ∷ others) ≡ Some order → agrees order present ≡ false → each_is (e ∷ es) (x ∷ others) present ≡ false
-        go Less is told = (goes Less {others = x ∷ others} {first = e} {es' = es} {others' = x ∷ others} up others_up is (refl, refl)).each present ∙ ap (λ b. b && each_is es (x ∷ others) present) told
-        go Equal is told = (goes Equal {others = x ∷ others} {first = e} {es' = es} {others' = others} up others_up is (refl, x, refl)).each present ∙ ap (λ b. b && each_is es others present) told
-        go Greater is told = absurd (cc)
+    -- a first key that is the lesser one is not among the others
+    pub refuses : (es others : List (K × X)) → IsIncreasing cmp es → IsIncreasing cmp others → front_order cmp es others ≡ Some Less → are_among cmp es others ≡ false
+    refuses [] [] up others_up is = absurd (cc)
+    refuses [] (x ∷ others) up others_up is = absurd (cc)
+    refuses (e ∷ es) others up others_up is = (goes Less {others = others} {first = e} {es' = es} {others' = others} up others_up is (refl, refl)).among
 
     -- the union of an increasing list with any list increases
     pub united-up : (es others : List (K × X)) → IsIncreasing cmp es → IsIncreasing cmp (united cmp es others)
@@ -291,14 +271,16 @@ module _ {K X : Type 0} (cmp : K → K → Ordering) where
     pub others_up : IsIncreasing cmp others_rest
     pub whole : items ++ united cmp rest others_rest ≡ united cmp es others
 
-  -- an order that tells of a key that it is not as it should be
-  pub comparing-no : (o : IsTotalOrder cmp) {es others rest others_rest : List (K × X)} (order : Ordering) → front_order cmp rest others_rest ≡ Some order → {present : Bool} → Comparing es others present rest others_rest → agrees order present ≡ false → each_is cmp es others present ≡ false
-  comparing-no o {es} {others} {rest} {others_rest} order is {present} c told = c.same ∙ refuses cmp o rest others_rest order present c.up c.others_up is told
+  -- a key that is less than the next one of the others is not among them
+  pub comparing-no : (o : IsTotalOrder cmp) {es others rest others_rest : List (K × X)} (order : Ordering) → front_order cmp rest others_rest ≡ Some order → Comparing es others true rest others_rest → is_lt order ≡ true → are_among cmp es others ≡ false
+  comparing-no o {es} {others} {rest} {others_rest} Less is c told = c.same ∙ refuses cmp o rest others_rest c.up c.others_up is
+  comparing-no o Equal is c told = absurd (cc)
+  comparing-no o Greater is c told = absurd (cc)
 
   module _ (o : IsTotalOrder cmp) {es others rest others_rest : List (K × X)} (order : Ordering) (first : K × X) (rest' others_rest' : List (K × X)) (is : front_order cmp rest others_rest ≡ Some order) (t : TakesOff order rest others_rest first rest' others_rest') where
-    pub comparing-next : {present : Bool} → Comparing es others present rest others_rest → agrees order present ≡ true → Comparing es others present rest' others_rest'
-    comparing-next {present} c told = let g = goes cmp o order c.up c.others_up is t in
-        record { up = g.up; others_up = g.others_up; same = c.same ∙ g.each present ∙ ap (λ b. b && each_is cmp rest' others_rest' present) told }
+    pub comparing-next : Comparing es others true rest others_rest → is_lt order ≡ false → Comparing es others true rest' others_rest'
+    comparing-next c told = let g = goes cmp o order c.up c.others_up is t in
+        record { up = g.up; others_up = g.others_up; same = c.same ∙ g.among ∙ ap (λ b. not b && are_among cmp rest' others_rest') told }
 
     pub counting-low : {entries : ℕ} {new : Bool} → Counting es others entries new rest others_rest → entries < length (united cmp es others)
     counting-low c = let g = goes cmp o order c.up c.others_up is t in omega (arith, c.count, ap length g.unites)

@@ -4,9 +4,9 @@ use Rattle.bforest_trees.specs.Layout.{entries_from}
 use Rattle.std.proofs.Common.{length, ℕ}
 
 -- the path stands at the key's place or in front of it
-abbrev pub invariant-loop-entry : goal.invariant-loop-entry
-invariant-loop-entry g l = (root : ℕ) → Nears (g.C.Comparator.order l.comp) l.pool root l.fn.path l.key → Nears (g.C.Comparator.order l.comp) l.pool root l.path l.key
+abbrev pub invariant-loop-here : goal.invariant-loop-here
+invariant-loop-here g l = (root : ℕ) → Nears (g.C.Comparator.order l.comp) l.pool root l.fn.path l.fn.here l.key → Nears (g.C.Comparator.order l.comp) l.pool root l.path l.here l.key
 
 -- the number of entries that are left
-abbrev pub decreases-loop-entry : goal.decreases-loop-entry
-decreases-loop-entry g l = length (entries_from l.pool l.path)
+abbrev pub decreases-loop-here : goal.decreases-loop-here
+decreases-loop-here g l = length (entries_from l.pool l.path)

@@ -12,7 +12,7 @@ returns-in-Greater g c = let s = c.take_first-in-Greater in record {
 }
 
 pub returns-in-Equal : goal.returns-in-Equal
-returns-in-Equal g c = let s = c.take_first-in-Equal in let f = c.take_first-in-Equal-2 in record {
-  taken = λ table is second_is. rw c.in-Equal.is (took-both table c.args.first.now c.args.second.now is second_is f.result f.new.self s.new.self s.result
-      f.ensures.key f.ensures.value f.ensures.rest s.ensures.key s.ensures.value s.ensures.rest);
+returns-in-Equal g c = let f = c.take_first-in-Equal in let held = rw c.in-Equal.is at c.requires.holds in record {
+  taken = λ table is second_is. rw c.in-Equal.is (took-both table c.args.first.now c.args.second.now is second_is f.result f.new.self c.pass.new.self
+      f.ensures.key f.ensures.value f.ensures.rest held.1 c.pass.ensures.rest);
 }

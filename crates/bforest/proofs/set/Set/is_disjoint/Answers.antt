@@ -1,8 +1,8 @@
 use Rattle.bforest.proofs.set.Set.is_disjoint.Goals as goal
 use Rattle.std.proofs.Common.{rules}
 
-pub all_are-requires : goal.all_are-requires
-all_are-requires g c = (
+pub are_apart-requires : goal.are_apart-requires
+are_apart-requires g c = (
   search rules,
   rw (c.self.view_is, c.other.view_is, c.forest.view_is) (record {
     live = c.requires.searchable.live;
@@ -13,4 +13,4 @@ all_are-requires g c = (
 )
 
 pub returns : goal.returns
-returns g c = rw (← c.self.view_is, ← c.other.view_is, ← c.forest.view_is) (record { apart = c.all_are.ensures.value })
+returns g c = rw (← c.self.view_is, ← c.other.view_is, ← c.forest.view_is) (record { apart = c.are_apart.ensures.apart })

@@ -1,8 +1,8 @@
 use Rattle.bforest.proofs.set.Set.is_subset.Goals as goal
 use Rattle.std.proofs.Common.{rules}
 
-pub all_are-requires : goal.all_are-requires
-all_are-requires g c = (
+pub are_among-requires : goal.are_among-requires
+are_among-requires g c = (
   search rules,
   rw (c.self.view_is, c.other.view_is, c.forest.view_is) (record {
     live = c.requires.searchable.live;
@@ -13,4 +13,4 @@ all_are-requires g c = (
 )
 
 pub returns : goal.returns
-returns g c = rw (← c.self.view_is, ← c.other.view_is, ← c.forest.view_is) (record { among = c.all_are.ensures.value })
+returns g c = rw (← c.self.view_is, ← c.other.view_is, ← c.forest.view_is) (record { among = c.are_among.ensures.among })

@@ -1,7 +1,6 @@
 use Rattle.bforest_trees.proofs.unions.Fronts.{compared-entered, turn}
-use Rattle.bforest_trees.proofs.unions.Merging.{comparing-end, comparing-next, comparing-no, each-told, steps-less}
-use Rattle.bforest_trees.proofs.trees.Trees.all_are.Goals as goal
-use Rattle.bforest_trees.specs.Forest.{list_of}
+use Rattle.bforest_trees.proofs.unions.Merging.{comparing-end, comparing-next, comparing-no, steps-less}
+use Rattle.bforest_trees.proofs.trees.Trees.are_among.Goals as goal
 use Rattle.std.proofs.Common.{Some, refl, rules, sym, ◌∙◌}
 
 pub loop-first-init : goal.loop-first-init
@@ -19,15 +18,12 @@ order_of-order-requires g c =
     let e = c.has_next.ensures.entered c.loop-first-test.true in
     (search rules, (search rules, (e.reader_is, (c.loop-first.invariant.1, record { within = e.within; same = e.same }))))
 
-pub returns-then-not-agrees : goal.returns-then-not-agrees
-returns-then-not-agrees g c =
+pub returns-then-is_lt : goal.returns-then-is_lt
+returns-then-is_lt g c =
     let cmp = g.C.Comparator.order c.args.comp.now in
     let e = c.has_next.ensures.entered c.loop-first-test.true in
     let d = compared-entered c.args.self.now cmp c.loop-first.first c.loop-first.second c.loop-first.invariant.0 c.has_next.new.self e (Some c.order_of-order.result) c.order_of-order.new.second c.order_of-order.ensures in
-    record {
-      value = sym (sym (each-told cmp (list_of c.args.self.now c.args.handle) (list_of c.args.self.now c.args.other) c.args.present)
-          ∙ comparing-no cmp (g.met.C.Comparator.total c.args.comp.now) c.order_of-order.result (sym d.order_is) c.loop-first.invariant.2 (sym c.agrees.ensures ∙ c.if-not-agrees.true));
-    }
+    record { among = sym (comparing-no cmp (g.met.C.Comparator.total c.args.comp.now) c.order_of-order.result (sym d.order_is) c.loop-first.invariant.2 (sym c.is_lt.ensures ∙ c.if-is_lt.true)) }
 
 pub loop-first-smaller : goal.loop-first-smaller
 loop-first-smaller g c =
@@ -45,13 +41,8 @@ loop-first-preserved g c =
     let t = c.take.ensures.taken c.args.self.now d.reader d.second_reader in (
       t.reader,
       t.second_reader,
-      comparing-next cmp (g.met.C.Comparator.total c.args.comp.now) c.order_of-order.result _ _ _ (sym d.order_is) (turn c.args.self.now cmp d t) c.loop-first.invariant.2 (sym c.agrees.ensures ∙ c.if-not-agrees.false),
+      comparing-next cmp (g.met.C.Comparator.total c.args.comp.now) c.order_of-order.result _ _ _ (sym d.order_is) (turn c.args.self.now cmp d t) c.loop-first.invariant.2 (sym c.is_lt.ensures ∙ c.if-is_lt.false),
     )
 
 pub returns : goal.returns
-returns g c =
-    let cmp = g.C.Comparator.order c.args.comp.now in
-    record {
-      value = sym (sym (each-told cmp (list_of c.args.self.now c.args.handle) (list_of c.args.self.now c.args.other) c.args.present)
-          ∙ comparing-end cmp c.loop-first.invariant.2 (c.has_next.ensures.none c.loop-first-test.false));
-    }
+returns g c = record { among = sym (comparing-end (g.C.Comparator.order c.args.comp.now) c.loop-first.invariant.2 (c.has_next.ensures.none c.loop-first-test.false)) }
