@@ -1,33 +1,28 @@
 -- The sizes of a tree after all entries from a place on were removed: they fit the entries that are left.
 use Rattle.bforest.proofs.Growing.{total, total-cons}
+use Rattle.bforest_core.proofs.union.Fronts.{sizes-in, sizes-on}
 use Rattle.bforest_core.specs.Levels.{half_of}
 use Rattle.bforest_core.specs.Sizes.{front, fronts, least_size, trimmed}
 use Rattle.bforest.specs.Calls.{truncation}
 use Rattle.bforest.specs.Forest.{IsFitAbove, IsFitFor, IsFitLevel, truncated}
-use Rattle.std.proofs.Common.{List, [], arith, inl, inr, length, nat_lt, refl, subst, suc, sym, true, false, zero, ◌+◌, ◌-◌, ◌<◌, ◌∷◌, ◌≡◌, ◌≤◌, ℕ}
+use Rattle.std.proofs.Common.{List, [], arith, inl, inr, length, refl, subst, suc, sym, zero, ◌+◌, ◌-◌, ◌<◌, ◌∷◌, ◌≡◌, ◌≤◌, ℕ}
 use Rattle.std.proofs.lemmas.Bool.{cases_lt}
-
-front-on : (kept size : ℕ) (after : List ℕ) → size < suc kept → front (suc kept) (size ∷ after) ≡ size ∷ front (suc kept - size) after
-front-on kept size after low = let e : nat_lt size (suc kept) ≡ true = grind arith in rw e refl
-
-front-in : (kept size : ℕ) (after : List ℕ) → suc kept ≤ size → front (suc kept) (size ∷ after) ≡ suc kept ∷ []
-front-in kept size after low = let e : nat_lt size (suc kept) ≡ false = grind arith in rw e refl
 
 -- the front of a level has so many entries
 front-sum : (kept : ℕ) (level : List ℕ) → kept ≤ total level → total (front kept level) ≡ kept
 front-sum zero level low = refl
 front-sum (suc kept) [] low = absurd (omega (arith, low))
 front-sum (suc kept) (size ∷ after) low = elim (cases_lt size (suc kept)) [
-  | inl on ↦ rw (front-on kept size after on) (omega (arith, total-cons size (front (suc kept - size) after), front-sum (suc kept - size) after (omega (arith, low, total-cons size after))))
-  | inr within ↦ rw (front-in kept size after (omega (arith, within))) (omega (arith, total-cons (suc kept) []))
+  | inl on ↦ rw (sizes-on (suc kept) size after on) (omega (arith, total-cons size (front (suc kept - size) after), front-sum (suc kept - size) after (omega (arith, low, total-cons size after))))
+  | inr within ↦ rw (sizes-in (suc kept) size after (omega arith) (omega (arith, within))) (omega (arith, total-cons (suc kept) []))
 ]
 
 front-length : (kept : ℕ) (level : List ℕ) → length (front kept level) ≤ length level
 front-length zero level = omega arith
 front-length (suc kept) [] = omega arith
 front-length (suc kept) (size ∷ after) = elim (cases_lt size (suc kept)) [
-  | inl on ↦ rw (front-on kept size after on) (omega (arith, front-length (suc kept - size) after))
-  | inr within ↦ rw (front-in kept size after (omega (arith, within))) (omega arith)
+  | inl on ↦ rw (sizes-on (suc kept) size after on) (omega (arith, front-length (suc kept - size) after))
+  | inr within ↦ rw (sizes-in (suc kept) size after (omega arith) (omega (arith, within))) (omega arith)
 ]
 
 least-low : (half : ℕ) (level : List ℕ) → 1 ≤ half → (least_size half level ≤ half) × (1 ≤ least_size half level)
@@ -39,13 +34,13 @@ least-front half zero [] one = omega arith
 least-front half (suc kept) [] one = omega arith
 least-front half kept (size ∷ after) one = (least-low half (front kept (size ∷ after)) one).0
 
--- and fits
+-- the front of a level fits
 front-fit : (half most kept : ℕ) (level : List ℕ) → 1 ≤ half → IsFitLevel half most level → IsFitLevel half most (front kept level)
 front-fit half most zero level one f = tt
 front-fit half most (suc kept) [] one f = tt
 front-fit half most (suc kept) (size ∷ after) one f = elim (cases_lt size (suc kept)) [
-  | inl on ↦ rw (front-on kept size after on) (omega (arith, f.0, least-front half (suc kept - size) after one), f.1, front-fit half most (suc kept - size) after one f.2)
-  | inr within ↦ rw (front-in kept size after (omega (arith, within))) (omega arith, omega (arith, f.1, within), tt)
+  | inl on ↦ rw (sizes-on (suc kept) size after on) (omega (arith, f.0, least-front half (suc kept - size) after one), f.1, front-fit half most (suc kept - size) after one f.2)
+  | inr within ↦ rw (sizes-in (suc kept) size after (omega arith) (omega (arith, within))) (omega arith, omega (arith, f.1, within), tt)
 ]
 
 -- the levels above two nodes or more

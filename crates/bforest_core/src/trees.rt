@@ -80,8 +80,8 @@ impl<K: Copy, V: Copy, const N: usize> NodePool<K, V, N> {
     // Frees everything below the children of a node from this index on. The node still names them.
     pub(crate) fn free_behind(&mut self, node: Node, from: usize)
         requires capacity { IsLeafCapacity N }
-        requires behind { (leaves : List (LevelNode K V)) × (lower : List (List (LevelNode K ℕ))) × (top : List (K × ℕ))
-            × Behind N self.old node from leaves lower top }
+        requires behind { (leaves : List (LevelNode K V)) × (lower : List (List (LevelNode K ℕ)))
+            × (top : List (K × ℕ)) × Behind N self.old node from leaves lower top }
         ensures { (leaves : List (LevelNode K V)) (lower : List (List (LevelNode K ℕ))) (top : List (K × ℕ))
             → Behind N self.old node from leaves lower top
             → (given : List ℕ) × Frees self.old self.new (numbers_under leaves lower) [] given }

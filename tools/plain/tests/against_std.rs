@@ -261,6 +261,26 @@ impl Sizes {
                 break;
             }
         }
+        self.trim();
+    }
+
+    /// All entries from a place on go at once: of each level the nodes that hold the first ones are left, the last with what is in front.
+    fn truncate(&mut self, place: usize) {
+        let mut kept = place;
+        for level in &mut self.0 {
+            let mut held = 0;
+            level.retain_mut(|size| {
+                *size = (kept - held).min(*size);
+                held += *size;
+                *size > 0
+            });
+            kept = level.len();
+        }
+        self.trim();
+    }
+
+    /// Levels without a node go, and those above the first of one node.
+    fn trim(&mut self) {
         while self.0.last().is_some_and(|top| top.is_empty() || self.0.len() > 1 && top[..] == [1]) {
             self.0.pop();
         }
@@ -429,8 +449,24 @@ impl<'a, C: Order> Model<'a, C> {
 
     fn remove_range(&mut self, at: usize, low: Bound<u32>, high: Bound<u32>) -> bool {
         let within = self.within(at, low, high);
-        within.iter().for_each(|rank| _ = self.remove(at, *rank));
+        if high == Bound::Unbounded {
+            self.cut(at, &within);
+        } else {
+            within.iter().for_each(|rank| _ = self.remove(at, *rank));
+        }
         !within.is_empty()
+    }
+
+    /// The last entries go at once.
+    fn cut(&mut self, at: usize, behind: &[i64]) {
+        let list = &mut self.lists[at];
+        let before = list.sizes.nodes();
+        behind.iter().for_each(|rank| _ = list.entries.remove(rank));
+        list.ranks.truncate(list.entries.len());
+        if !behind.is_empty() {
+            list.sizes.truncate(list.ranks.len());
+        }
+        self.free += before - list.sizes.nodes();
     }
 
     /// The tree of these entries, packed, for which its nodes are taken.
@@ -444,7 +480,7 @@ impl<'a, C: Order> Model<'a, C> {
     fn split_off(&mut self, at: usize, key: u32, to: usize) -> Result<(), OutOfMemory> {
         let rank = self.order.rank(key);
         let tail = self.packed(self.lists[at].entries.range(rank..).map(|(rank, entry)| (*rank, *entry)).collect())?;
-        tail.ranks.iter().for_each(|rank| _ = self.remove(at, *rank));
+        self.cut(at, &tail.ranks);
         self.clear(to);
         self.lists[to] = tail;
         Ok(())

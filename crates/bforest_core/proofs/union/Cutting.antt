@@ -210,7 +210,7 @@ module _ {K V : Type 0} {most : ℕ} (capacity : IsLeafCapacity most) {old : Tab
         apart = λ m. omega (arith, once m, mid-chain m, count-append m (numbers_under parts.leaves_right parts.lower_right) mid.chain);
       }
 
-      -- and what is below the child is cut
+      -- what is below the child is cut
       module _ {last : Table K V} (cuts : LeavesFront mid last parts.leaves_right parts.lower_right own-place) where
         abbrev kept-leaves : Row K V
         kept-leaves = front_row own-place parts.leaves_right

@@ -12,11 +12,11 @@ take-over [] ys n k e = let same : n ≡ k = omega arith in ap (λ z. take z ys)
 take-over (x ∷ xs) ys zero k e = absurd (omega arith)
 take-over (x ∷ xs) ys (suc n) k e = ap (λ z. x ∷ z) (take-over xs ys n k (omega arith))
 
-sizes-on : (kept size : ℕ) (after : List ℕ) → size < kept → front kept (size ∷ after) ≡ size ∷ front (kept - size) after
+pub sizes-on : (kept size : ℕ) (after : List ℕ) → size < kept → front kept (size ∷ after) ≡ size ∷ front (kept - size) after
 sizes-on zero size after low = absurd (omega arith)
 sizes-on (suc kept) size after low = let e : nat_lt size (suc kept) ≡ true = grind arith in rw e refl
 
-sizes-in : (kept size : ℕ) (after : List ℕ) → 0 < kept → kept ≤ size → front kept (size ∷ after) ≡ kept ∷ []
+pub sizes-in : (kept size : ℕ) (after : List ℕ) → 0 < kept → kept ≤ size → front kept (size ∷ after) ≡ kept ∷ []
 sizes-in zero size after some within = absurd (omega arith)
 sizes-in (suc kept) size after some within = let e : nat_lt size (suc kept) ≡ false = grind arith in rw e refl
 

@@ -39,7 +39,8 @@ impl<K: Copy, V: Copy, const N: usize> Path<K, V, N> {
     fn cut_below(&self, node: Node, level: usize, pool: &mut NodePool<K, V, N>) -> usize
         requires capacity { IsLeafCapacity N }
         requires low { level ≤ top_level }
-        requires branch { (leaves : List (LevelNode K V)) × (lower : List (List (LevelNode K ℕ))) × (place : ℕ)
+        requires branch { (leaves : List (LevelNode K V)) × (lower : List (List (LevelNode K ℕ)))
+            × (place : ℕ)
             × OnBranch N pool.old self.now.node self.now.entry level node leaves lower place }
         ensures left { (leaves : List (LevelNode K V)) (lower : List (List (LevelNode K ℕ))) (place : ℕ)
             → OnBranch N pool.old self.now.node self.now.entry level node leaves lower place
@@ -68,8 +69,8 @@ fn keep_front<K: Copy, V: Copy, const N: usize>(
     count: usize,
 ) -> usize
     requires used { IsUsed pool.old node }
-    requires within { (content : Content K V) × (slice_get pool.old.nodes node ≡ Some content) × (¬ IsFree content)
-        × (count ≤ entry_count content) }
+    requires within { (content : Content K V) × (slice_get pool.old.nodes node ≡ Some content)
+        × (¬ IsFree content) × (count ≤ entry_count content) }
     ensures none { count ≡ 0 → (result ≡ 0) × (pool.new ≡ with_freed pool.old node) }
     ensures some { count ≢ 0 → (content : Content K V) → slice_get pool.old.nodes node ≡ Some content
         → (result ≡ 1) × (pool.new ≡ with_node pool.old node (first_part count content)) }
