@@ -5,7 +5,7 @@ use Rattle.bforest_core.specs.Levels.{half_of}
 use Rattle.bforest_core.specs.Sizes.{front, fronts, least_size, trimmed}
 use Rattle.bforest.specs.Calls.{truncation}
 use Rattle.bforest.specs.Forest.{IsFitAbove, IsFitFor, IsFitLevel, truncated}
-use Rattle.std.proofs.Common.{List, [], arith, inl, inr, length, refl, subst, suc, sym, zero, ◌+◌, ◌-◌, ◌<◌, ◌∷◌, ◌≡◌, ◌≤◌, ℕ}
+use Rattle.std.proofs.Common.{List, [], arith, inl, inr, length, refl, subst, suc, sym, zero, ◌+◌, ◌-◌, ◌∷◌, ◌≡◌, ◌≤◌, ℕ}
 use Rattle.std.proofs.lemmas.Bool.{cases_lt}
 
 -- the front of a level has so many entries
