@@ -74,6 +74,11 @@ INDEXED = [
         2,
     ),
     (r"^(?=    pub fn (?:range|remove_range)<)", BOUNDS, 2),
+    (
+        r"^(?=        let tail = self\.(maps|sets)\[from\]\.split_off\()",
+        r"        // An index that is not there panics before an entry moves.\n        _ = &self.\1[to];\n",
+        1,
+    ),
 ]
 
 # A range is named by any bounds, as in the standard library.

@@ -1,9 +1,10 @@
 -- What contracts see of maps and of sets that are named by an index: a forest, an order, and a handle for each index. A set's values are
 -- all the unit.
 use Rattle.bforest.specs.Bounds.{entries_between, entries_outside, is_between, start_place}
-use Rattle.bforest.specs.Calls.{fewest, need_of_union, sizes_outside}
-use Rattle.bforest.specs.Entries.{IsIncreasing, cut, is_present, put, value_for}
+use Rattle.bforest.specs.Calls.{fewest, need_of_union, sizes_outside, truncation}
+use Rattle.bforest.specs.Entries.{IsIncreasing, cut, is_present, place, put, value_for}
 use Rattle.bforest.specs.Forest.{ArePacked, Forest, Gives, GrowsFor, IsFitFor, IsLive, IsTooMany, NeedsGrowth, Takes, emptied, free_of, limit_of, list_of, need_of, shrink, sizes_of, sizes_with, sizes_without, slots_of}
+use Rattle.bforest_trees.specs.Forest.{TakesThenGives}
 -- `TakesAndGives d sizes f f'`: d slots were taken, and then those of a tree of these sizes freed.
 pub use Rattle.bforest.specs.Forest.{TakesAndGives}
 use Rattle.bforest.specs.Refusal.{Full, Memory, OutOfMemory}
@@ -16,7 +17,7 @@ use Rattle.std.specs.Cmp.{IsTotalOrder}
 use Rattle.std.specs.Fn.{FnOnceReturns, Once}
 use Rattle.std.specs.List.{sum_by}
 use Rattle.std.specs.Map.{keys_of}
-use Rattle.std.specs.Prelude.{Bool, Err, IfOk, IfSome, IsOk, IsSome, List, None, Ok, OnErr, OnOk, Option, Result, Some, [], false, get_or, if◌then◌else◌, length, map, max, nat_eq, nat_lt, not, remove, slice_get, suc, true, unwrap_or, zero, ℕ, ◌%◌, ◌*◌, ◌+◌, ◌-◌, ◌<◌, ◌↔◌, ◌∷◌, ◌≡◌, ◌≢◌, ◌≤◌}
+use Rattle.std.specs.Prelude.{Bool, Err, IfOk, IfSome, IsOk, IsSome, List, None, Ok, OnErr, OnOk, Option, Result, Some, [], drop, false, get_or, if◌then◌else◌, length, map, max, nat_eq, nat_lt, not, remove, slice_get, suc, take, true, unwrap_or, zero, ℕ, ◌%◌, ◌*◌, ◌+◌, ◌-◌, ◌<◌, ◌↔◌, ◌∷◌, ◌++◌, ◌≡◌, ◌≢◌, ◌≤◌}
 use Rattle.std.specs.Ordering.{is_eq}
 use Rattle.std.specs.declared.cmp.Ordering.{Ordering}
 use Rattle.std.specs.declared.ops.Bound.{Bound}
@@ -301,6 +302,30 @@ module _ {K X C : Type 0} where
     -- the entries of i whose key is not in j stay
     abbrev pub SubtractsAt : Indexed K X C → ℕ → ℕ → Bool → Indexed K X C → Type 0
     SubtractsAt m i j result m' = KeepsFromAt false m i j result m'
+
+    -- the number of nodes that a split of i takes: those of a packed tree of the entries whose keys are not less than k
+    abbrev pub split_need : Indexed K X C → ℕ → K → ℕ
+    split_need m i k = fewest most (length (drop (place cmp (entries m i) k) (entries m i)))
+
+    -- The entries of i whose keys are not less than k went to j, in a packed tree of their own, and the list of j ended. The tree was made first.
+    -- Where i and j are one, it has the entries that went. Or the call was refused, and nothing changed.
+    pub record SplitsOffAt (m : Indexed K X C) (i : ℕ) (k : K) (j : ℕ) (result : Result (Unit {0}) OutOfMemory) (m' : Indexed K X C) : Type 0 where
+      pub front : OnOk result (i ≢ j → entries m' i ≡ take (place cmp (entries m i) k) (entries m i))
+      pub tail : OnOk result (entries m' j ≡ drop (place cmp (entries m i) k) (entries m i))
+      pub sizes : OnOk result (i ≢ j → node_sizes m' i ≡ truncation (place cmp (entries m i) k) (length (entries m i) - place cmp (entries m i) k) (node_sizes m i))
+      pub packed : OnOk result (ArePacked most (node_sizes m' j))
+      pub nodes : OnOk result (node_count (node_sizes m' j) ≡ split_need m i k)
+      pub others : (q : ℕ) → q ≢ i → q ≢ j → entries m' q ≡ entries m q
+      pub other_sizes : (q : ℕ) → q ≢ i → q ≢ j → node_sizes m' q ≡ node_sizes m q
+      pub same_count : count m' ≡ count m
+      pub same_comparator : comparator m' ≡ comparator m
+      pub same_limit : limit_of (table m') ≡ limit_of (table m)
+      pub same_memory : memory m' ≡ memory m
+      pub account : OnOk result (i ≢ j → TakesThenGives (split_need m i k) (node_sizes m i ++ node_sizes m j) (node_sizes m' i) (table m) (table m'))
+      pub account_one : OnOk result (i ≡ j → TakesThenGives (split_need m i k) (node_sizes m i) [] (table m) (table m'))
+      pub full : (result ≡ Err Full) ↔ IsTooMany (split_need m i k) (table m)
+      pub memory : result ≡ Err Memory → drop (place cmp (entries m i) k) (entries m i) ≢ []
+      pub refused : OnErr result (m' ≡ m)
 
     -- The entries of i whose keys are within both bounds were removed, and whether there was one is answered; where there was none, nothing
     -- changed. No node was taken.

@@ -6,7 +6,7 @@ ghost use Rattle.bforest.specs.Forest.{IsFitFor, empty, first_level, free_of, li
 ghost use Rattle.bforest.specs.Memory.{MapsFitInMemory};
 ghost use Rattle.bforest.specs.Retain.{Answers, MayAsk, MayAskEach};
 ghost use Rattle.bforest_indexed.specs.Edits.{EditsAt};
-ghost use Rattle.bforest_indexed.specs.Indexed.{CompactsAt, HoldsFor, RemovesBetweenAt, ReservesFor};
+ghost use Rattle.bforest_indexed.specs.Indexed.{CompactsAt, HoldsFor, RemovesBetweenAt, SplitsOffAt, ReservesFor};
 ghost use Rattle.bforest_indexed.specs.Loads.{LoadsAt};
 ghost use Rattle.bforest_indexed.specs.Indexed.{ClearsAll, ClearsAt, CopiesAt, FiltersAt, GetsOrInsertsAt, InsertsAt, IntersectsAt, SubtractsAt, UnitesAt, UpdatesAt, UpdatesOrInsertsAt};
 ghost use Rattle.bforest_indexed.specs.Indexed.{KeepsAll, PopsAt, RemovesAt, Swaps};
@@ -407,6 +407,27 @@ impl<K: Copy, V: Copy, C: Comparator<K>> Maps<K, V, C> {
     {
         let theirs = self.maps[other].clone();
         self.maps[index].difference_with(&theirs, &mut self.forest, &self.order)
+    }
+
+    /// Moves the entries of the map at `from` whose keys are not less than `key` to the map at `to`, in a tree with the fewest nodes that so many
+    /// entries can have. The own entries of that one end, and those that are less stay where they are. Where both are one, it keeps those that went.
+    ///
+    /// As [`bforest::Map::split_off`], with three searches: the new tree is made first, beside the old ones, and then the nodes that held what
+    /// went become free, and those of the map at `to`.
+    ///
+    /// # Errors
+    ///
+    /// [`OutOfMemory::Full`] where the limit does not allow the new tree's nodes beside the old ones. [`OutOfMemory::Memory`] where an entry goes
+    /// and there was no memory for a list of them or for a table that had to grow. Nothing has changed then.
+    pub fn split_off(&mut self, from: usize, key: K, to: usize) -> Result<(), OutOfMemory>
+        requires from { from < count self.old }
+        requires to { to < count self.old }
+        ensures { SplitsOffAt MAP_LEAF (C.order (comparator self.old)) self.old from key to result self.new }
+    {
+        let tail = self.maps[from].split_off(key, &mut self.forest, &self.order)?;
+        let mut before = mem::replace(&mut self.maps[to], tail);
+        before.clear(&mut self.forest);
+        Ok(())
     }
 
     /// Removes the entries of a map whose keys are within both bounds, and returns whether there was one.

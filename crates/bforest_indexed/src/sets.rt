@@ -7,7 +7,7 @@ ghost use Rattle.bforest.specs.Memory.{SetsFitInMemory};
 ghost use Rattle.bforest.specs.Retain.{MayAskEach};
 ghost use Rattle.bforest.specs.Set.{AnswersKey, MayAskKey, as_popped, as_put, as_removed, the_value, with_unit};
 ghost use Rattle.bforest.specs.Union.{are_among, are_apart};
-ghost use Rattle.bforest_indexed.specs.Indexed.{CompactsAt, HoldsFor, RemovesBetweenAt, ReservesFor};
+ghost use Rattle.bforest_indexed.specs.Indexed.{CompactsAt, HoldsFor, RemovesBetweenAt, SplitsOffAt, ReservesFor};
 ghost use Rattle.bforest_indexed.specs.Loads.{LoadsAt};
 ghost use Rattle.bforest_indexed.specs.Indexed.{ClearsAll, ClearsAt, CopiesAt, FiltersAt, InsertsAt, IntersectsAt, KeepsAll, PopsAt, RemovesAt, SubtractsAt, Swaps, UnitesAt};
 ghost use Rattle.bforest.specs.declared.set_forest.TheConstants.{SET_LEAF};
@@ -384,6 +384,27 @@ impl<K: Copy, C: Comparator<K>> Sets<K, C> {
     {
         let theirs = self.sets[other].clone();
         self.sets[index].difference_with(&theirs, &mut self.forest, &self.order)
+    }
+
+    /// Moves the keys of the set at `from` that are not less than `key` to the set at `to`, in a tree with the fewest nodes that so many
+    /// keys can have. The own keys of that one end, and those that are less stay where they are. Where both are one, it keeps those that went.
+    ///
+    /// As [`bforest::Set::split_off`], with three searches: the new tree is made first, beside the old ones, and then the nodes that held what
+    /// went become free, and those of the set at `to`.
+    ///
+    /// # Errors
+    ///
+    /// [`OutOfMemory::Full`] where the limit does not allow the new tree's nodes beside the old ones. [`OutOfMemory::Memory`] where a key goes
+    /// and there was no memory for a list of them or for a table that had to grow. Nothing has changed then.
+    pub fn split_off(&mut self, from: usize, key: K, to: usize) -> Result<(), OutOfMemory>
+        requires from { from < count self.old }
+        requires to { to < count self.old }
+        ensures { SplitsOffAt SET_LEAF (C.order (comparator self.old)) self.old from key to result self.new }
+    {
+        let tail = self.sets[from].split_off(key, &mut self.forest, &self.order)?;
+        let mut before = mem::replace(&mut self.sets[to], tail);
+        before.clear(&mut self.forest);
+        Ok(())
     }
 
     /// Removes the keys of a set that are within both bounds, and returns whether there was one.

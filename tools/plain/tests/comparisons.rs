@@ -717,10 +717,13 @@ fn removals_of_ranges_by_an_index() {
 
 /// A split searches three times, and compares once more in each range that it reads. Debug builds search twice more: for the split's own
 /// key, and for the start of what is removed.
+fn of_split(search: u32) -> u32 {
+    3 * search + 2 * beside_bound(search)
+}
+
 #[test]
 fn splits() {
     let counting = Counting::default();
-    let of_split = |search: u32| 3 * search + 2 * beside_bound(search);
     let (mut maps, mut sets) = (MapForest::new(), SetForest::new());
     let (map, set) = (even_map(35, &mut maps), even_set(71, &mut sets));
     for key in 0..=143 {
@@ -732,6 +735,19 @@ fn splits() {
     _ = Map::new().split_off(0, &mut maps, &counting).unwrap();
     _ = Set::new().split_off(0, &mut sets, &counting).unwrap();
     assert_eq!(counting.taken(), 0);
+}
+
+#[test]
+fn splits_by_an_index() {
+    let order = Counting::default();
+    for key in 0..=143 {
+        let (mut maps, mut sets) = (even_maps(35, &order), even_sets(71, &order));
+        order.taken();
+        maps.split_off(1, key, 0).unwrap();
+        assert!(order.taken() <= of_split(of_search_in_35(key)), "{key}");
+        sets.split_off(1, key, 0).unwrap();
+        assert!(order.taken() <= of_split(of_search_in_71(key)), "{key}");
+    }
 }
 
 /// A range by an index makes as many searches as one of a handle.

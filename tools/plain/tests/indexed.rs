@@ -92,6 +92,15 @@ fn change(maps: &mut Maps<u32, u32>, model: &mut Model, call: u32, at: usize, ke
             let fits = fewest_nodes(map.len(), 7) <= room;
             assert_eq!(maps.compact(at), if fits { Ok(()) } else { Err(OutOfMemory::Full) });
         }
+        33 => {
+            let other = key as usize % model.len();
+            let room = maps.node_limit() - (maps.slots() - maps.free_slots());
+            let fits = fewest_nodes(model[at].range(key..).count(), 7) <= room;
+            assert_eq!(maps.split_off(at, key, other), if fits { Ok(()) } else { Err(OutOfMemory::Full) });
+            if fits {
+                model[other] = model[at].split_off(&key);
+            }
+        }
         29 => {
             let other = key as usize % model.len();
             let copied = maps.copy(at, other);
@@ -123,7 +132,7 @@ fn maps_answer_as_a_vector_of_maps() {
         for step in 0..STEPS / 4 {
             let (at, key) = (random.below(9) as usize, random.below(KEYS));
             read(&maps, &model, at, key);
-            change(&mut maps, &mut model, random.below(33), at, key, step);
+            change(&mut maps, &mut model, random.below(34), at, key, step);
             if step % 4096 == 4095 {
                 assert_eq!(format!("{maps:?}"), format!("{model:?}"));
                 let copy = maps.clone();
@@ -154,7 +163,7 @@ fn sets_answer_as_a_vector_of_sets() {
             assert_eq!(sets.get_or_greater(at, key), model[at].range(key..).next().copied());
             assert_eq!((sets.first(at), sets.last(at)), (model[at].first().copied(), model[at].last().copied()));
             assert!(sets.range(at, ..key).rev().eq(model[at].range(..key).rev().copied()));
-            match random.below(27) {
+            match random.below(28) {
                 0..10 => match if key % 2 == 0 { sets.insert(at, key) } else { sets.try_insert(at, key) } {
                     Ok(new) => assert_eq!(new, model[at].insert(key)),
                     Err(refused) => assert!(refused == OutOfMemory::Full && !model[at].contains(&key)),
@@ -183,6 +192,14 @@ fn sets_answer_as_a_vector_of_sets() {
                     let room = sets.node_limit() - (sets.slots() - sets.free_slots());
                     let fits = fewest_nodes(model[at].len(), 15) <= room;
                     assert_eq!(sets.compact(at), if fits { Ok(()) } else { Err(OutOfMemory::Full) });
+                }
+                26 => {
+                    let room = sets.node_limit() - (sets.slots() - sets.free_slots());
+                    let fits = fewest_nodes(model[at].range(key..).count(), 15) <= room;
+                    assert_eq!(sets.split_off(at, key, key as usize % 9), if fits { Ok(()) } else { Err(OutOfMemory::Full) });
+                    if fits {
+                        model[key as usize % 9] = model[at].split_off(&key);
+                    }
                 }
                 23 => match sets.copy(at, key as usize % 9) {
                     Ok(()) => model[key as usize % 9] = model[at].clone(),
@@ -299,6 +316,7 @@ fn panic_of<T>(call: impl FnOnce() -> T) -> String {
 fn an_index_that_is_not_there_panics_and_is_named() {
     let mut maps: Maps<u32, u32> = Maps::default();
     maps.grow_to(3).unwrap();
+    maps.insert(0, 1, 1).unwrap();
     for text in [
         panic_of(|| maps.get(7, 0)),
         panic_of(|| maps.insert(7, 0, 0)),
@@ -307,6 +325,8 @@ fn an_index_that_is_not_there_panics_and_is_named() {
         panic_of(|| maps.update_or_insert(7, 0, 0, |value| value)),
         panic_of(|| maps.copy(7, 0)),
         panic_of(|| maps.copy(0, 7)),
+        panic_of(|| maps.split_off(7, 0, 0)),
+        panic_of(|| maps.split_off(0, 0, 7)),
         panic_of(|| maps.iter(7).count()),
         panic_of(|| maps.len_of(7)),
         panic_of(|| maps.load(7, &[(1, 1)])),
@@ -316,6 +336,7 @@ fn an_index_that_is_not_there_panics_and_is_named() {
     ] {
         assert!(text.contains("the len is 3") && text.contains("the index is 7"), "{text}");
     }
+    assert!(maps.iter(0).eq([(1, 1)]));
     assert!(Sets::<u32>::default().is_empty());
 }
 
