@@ -1,4 +1,4 @@
-//! Calls that lists of the other tests do not have, each of them once.
+//! Calls that lists of the other tests do not have, each of them once: on maps, and what sets do not offer.
 use bforest::{Map, MapForest, Set, SetForest};
 use bforest_calls::{Answer, Call, run_map, run_set};
 use std::alloc::{AllocError, Global};
@@ -14,21 +14,21 @@ const ORDER: usize = 0;
 /// The value that an insertion or an update writes.
 const NEW: u32 = 7;
 
-fn insert<V: Copy>(k: u32, v: V) -> Call<u32, V> {
+fn insert(k: u32, v: u32) -> Call<u32, u32> {
     let (h, c) = (FILLED, ORDER);
     Call::Insert { h, c, k, v }
 }
 
-fn greater<V: Copy>(h: usize, k: u32) -> Call<u32, V> {
+fn greater(h: usize, k: u32) -> Call<u32, u32> {
     Call::GetOrGreater { h, c: ORDER, k }
 }
 
-/// Calls on the keys 10, 20 and 30, with these values, and on a copy, in which 20 becomes 25 and 30 becomes 15.
-fn calls<V: Copy>(first: V, second: V, third: V, keys: Vec<(u32, u32)>) -> [Call<u32, V>; 12] {
+/// Calls on the keys 10, 20 and 30, with the values 1, 2 and 3, and on a copy, in which these keys become others.
+fn calls(keys: Vec<(u32, u32)>) -> [Call<u32, u32>; 12] {
     [
-        insert(10, first),
-        insert(20, second),
-        insert(30, third),
+        insert(10, 1),
+        insert(20, 2),
+        insert(30, 3),
         greater(FILLED, 15),
         Call::First { h: FILLED },
         Call::Last { h: FILLED },
@@ -50,17 +50,17 @@ fn calls<V: Copy>(first: V, second: V, third: V, keys: Vec<(u32, u32)>) -> [Call
 }
 
 /// Their answers, where the entries of the copy are `left` from the last to the first.
-fn wanted<V: Copy>(first: V, second: V, third: V, left: Vec<(u32, V)>) -> [Answer<u32, V>; 12] {
+fn wanted(left: Vec<(u32, u32)>) -> [Answer<u32, u32>; 12] {
     [
         Answer::Put(Ok(None)),
         Answer::Put(Ok(None)),
         Answer::Put(Ok(None)),
-        Answer::Pair(Some((20, second))),
-        Answer::Pair(Some((10, first))),
-        Answer::Pair(Some((30, third))),
+        Answer::Pair(Some((20, 2))),
+        Answer::Pair(Some((10, 1))),
+        Answer::Pair(Some((30, 3))),
         Answer::Made(Ok(())),
-        Answer::Pair(Some((10, first))),
-        Answer::Pair(Some((30, third))),
+        Answer::Pair(Some((10, 1))),
+        Answer::Pair(Some((30, 3))),
         Answer::Done,
         Answer::Pairs(left),
         Answer::Unordered,
@@ -76,44 +76,26 @@ fn list<T: Copy, const N: usize>(alloc: Global, values: [T; N]) -> Result<Vec<T>
     Ok(list)
 }
 
-fn are<V: Copy + PartialEq>(answers: &[Answer<u32, V>], wanted: &[Answer<u32, V>]) -> bool {
+fn are(answers: &[Answer<u32, u32>], wanted: &[Answer<u32, u32>]) -> bool {
     answers == wanted
 }
 
-fn are_right_on_maps(alloc: Global) -> Result<bool, AllocError> {
+fn are_right(alloc: Global) -> Result<bool, AllocError> {
     let keys = list(alloc, [(20, 25), (30, 15)])?;
-    let left = list(alloc, [(15, 3u32), (25, 2), (10, 1)])?;
+    let left = list(alloc, [(15, 3), (25, 2), (10, 1)])?;
     let answers = run_map(
         alloc,
-        &calls(1, 2, 3, keys),
+        &calls(keys),
         &[()],
         &mut [Map::new(), Map::new()],
         &mut MapForest::new(alloc),
     )?;
-    Ok(are(&answers, &wanted(1, 2, 3, left)))
-}
-
-fn are_right_on_sets(alloc: Global) -> Result<bool, AllocError> {
-    let keys = list(alloc, [(20, 25), (30, 15)])?;
-    let left = list(alloc, [(15, ()), (25, ()), (10, ())])?;
-    let answers = run_set(
-        alloc,
-        &calls((), (), (), keys),
-        &[()],
-        &mut [Set::new(), Set::new()],
-        &mut SetForest::new(alloc),
-    )?;
-    Ok(are(&answers, &wanted((), (), (), left)))
+    Ok(are(&answers, &wanted(left)))
 }
 
 #[test]
-fn calls_on_maps_are_answered(rt: HostRuntime) {
-    assert_eq!(rt; are_right_on_maps(rt.alloc()), Ok(true));
-}
-
-#[test]
-fn calls_on_sets_are_answered(rt: HostRuntime) {
-    assert_eq!(rt; are_right_on_sets(rt.alloc()), Ok(true));
+fn calls_are_answered(rt: HostRuntime) {
+    assert_eq!(rt; are_right(rt.alloc()), Ok(true));
 }
 
 /// A load of these entries, of which 10 has the value `first`, and updates and insertions of the keys 10 and 20.

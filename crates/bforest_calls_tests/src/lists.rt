@@ -46,8 +46,8 @@ enum Refusal {
 }
 
 impl Refusal {
-    /// A call that is refused for this reason, the last one on sets alone.
-    fn call<V: Copy>(self, alloc: Global) -> Call<u32, V> {
+    /// A call on a set that is refused for this reason. Sets refuse what maps do, and calls that are not offered.
+    fn call(self, alloc: Global) -> Call<u32, ()> {
         match self {
             Refusal::NoHandle => Call::Get { h: 9, c: 0, k: 1 },
             Refusal::NoComparator => Call::GetOrLess {
@@ -70,7 +70,7 @@ impl Refusal {
     }
 
     /// What it answers.
-    fn answer<V: Copy>(self) -> Answer<u32, V> {
+    fn answer(self) -> Answer<u32, ()> {
         match self {
             Refusal::NoHandle | Refusal::NoComparator => Answer::NoIndex,
             Refusal::Dead => Answer::Dead,
@@ -81,18 +81,17 @@ impl Refusal {
 }
 
 /// Insertions into the filled tree, with the refused call in one position.
-fn list<V: Copy>(
+fn list(
     alloc: Global,
     refusal: Refusal,
     position: usize,
-    value: V,
-) -> Result<Vec<Call<u32, V>>, AllocError> {
+) -> Result<Vec<Call<u32, ()>>, AllocError> {
     let mut calls = Vec::new(alloc);
     for at in 0..CALLS {
         calls.push(if at == position {
             refusal.call(alloc)
         } else {
-            insert(FILLED, at as u32, value)
+            insert(FILLED, at as u32, ())
         })?;
     }
     Ok(calls)
@@ -103,11 +102,7 @@ fn insert<V: Copy>(h: usize, k: u32, v: V) -> Call<u32, V> {
 }
 
 /// Whether the answers are those of the list: new keys, but for the refused call.
-fn are_right<V: Copy + PartialEq>(
-    answers: &[Answer<u32, V>],
-    refusal: Refusal,
-    position: usize,
-) -> bool {
+fn are_right(answers: &[Answer<u32, ()>], refusal: Refusal, position: usize) -> bool {
     let mut at = 0usize;
     for answer in answers {
         let is_right = if at == position {
@@ -123,33 +118,8 @@ fn are_right<V: Copy + PartialEq>(
     at == CALLS
 }
 
-/// Makes the list on maps, and returns whether all answers are right and the filled tree has the other keys.
-fn passes_on_maps(alloc: Global, refusal: Refusal, position: usize) -> Result<bool, AllocError> {
-    let mut forest = MapForest::new(alloc);
-    let mut handles = [Map::new(), Map::new(), Map::new()];
-    let filling = [
-        insert(FILLED, LAST, 7u32),
-        insert(NONE, 7, 7),
-        insert(REVERSED, 1, 1),
-        insert(REVERSED, 2, 2),
-    ];
-    run_map(alloc, &filling, &[Reversed], &mut handles, &mut forest)?;
-    if forest.holds(&handles[NONE]) {
-        handles[NONE].clone().clear(&mut forest);
-    }
-    let calls = list(alloc, refusal, position, 0u32)?;
-    let answers = run_map(alloc, &calls, &[()], &mut handles, &mut forest)?;
-    let mut count = 0usize;
-    if forest.holds(&handles[FILLED]) {
-        for _ in handles[FILLED].iter(&forest) {
-            count = count.saturating_add(1);
-        }
-    }
-    Ok(are_right(&answers, refusal, position) && count == CALLS)
-}
-
-/// Makes the list on sets, and returns whether all answers are right and the filled tree has the other keys.
-fn passes_on_sets(alloc: Global, refusal: Refusal, position: usize) -> Result<bool, AllocError> {
+/// Makes the list, and returns whether all answers are right and the filled tree has the other keys.
+fn passes(alloc: Global, refusal: Refusal, position: usize) -> Result<bool, AllocError> {
     let mut forest = SetForest::new(alloc);
     let mut handles = [Set::new(), Set::new(), Set::new()];
     let filling = [
@@ -162,7 +132,7 @@ fn passes_on_sets(alloc: Global, refusal: Refusal, position: usize) -> Result<bo
     if forest.holds(&handles[NONE]) {
         handles[NONE].clone().clear(&mut forest);
     }
-    let calls = list(alloc, refusal, position, ())?;
+    let calls = list(alloc, refusal, position)?;
     let answers = run_set(alloc, &calls, &[()], &mut handles, &mut forest)?;
     let mut count = 0usize;
     if forest.holds(&handles[FILLED]) {
@@ -174,21 +144,7 @@ fn passes_on_sets(alloc: Global, refusal: Refusal, position: usize) -> Result<bo
 }
 
 #[test]
-fn a_refused_call_stops_no_other_on_maps(rt: HostRuntime) {
-    for position in 0..CALLS {
-        for refusal in [
-            Refusal::NoHandle,
-            Refusal::NoComparator,
-            Refusal::Dead,
-            Refusal::Unordered,
-        ] {
-            assert_eq!(rt; passes_on_maps(rt.alloc(), refusal, position), Ok(true));
-        }
-    }
-}
-
-#[test]
-fn a_refused_call_stops_no_other_on_sets(rt: HostRuntime) {
+fn a_refused_call_stops_no_other(rt: HostRuntime) {
     for position in 0..CALLS {
         for refusal in [
             Refusal::NoHandle,
@@ -197,7 +153,7 @@ fn a_refused_call_stops_no_other_on_sets(rt: HostRuntime) {
             Refusal::Unordered,
             Refusal::NotOffered,
         ] {
-            assert_eq!(rt; passes_on_sets(rt.alloc(), refusal, position), Ok(true));
+            assert_eq!(rt; passes(rt.alloc(), refusal, position), Ok(true));
         }
     }
 }
@@ -225,24 +181,4 @@ fn a_list_of_any_length_is_made(rt: HostRuntime) {
     for count in 0..10u32 {
         assert_eq!(rt; are_made(rt.alloc(), count), Ok(true));
     }
-}
-
-/// Looks a key up from below among three keys of a set, in one list of calls, and returns the last answer.
-fn last_up_to(alloc: Global, k: u32) -> Result<Option<Answer<u32, ()>>, AllocError> {
-    let mut forest = SetForest::new(alloc);
-    let mut handles = [Set::new()];
-    let calls = [
-        insert(0, 10, ()),
-        insert(0, 20, ()),
-        insert(0, 30, ()),
-        Call::GetOrLess { h: 0, c: 0, k },
-    ];
-    let mut answers = run_set(alloc, &calls, &[()], &mut handles, &mut forest)?;
-    Ok(answers.pop())
-}
-
-#[test]
-fn a_set_is_looked_up_from_below(rt: HostRuntime) {
-    let found = Some(Answer::Pair(Some((20, ()))));
-    assert_eq!(rt; last_up_to(rt.alloc(), 25), Ok(found));
 }

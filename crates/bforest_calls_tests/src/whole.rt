@@ -1,6 +1,6 @@
-//! Calls on whole lists: counted, cut, packed, and put together with another list.
-use bforest::{Map, MapForest, Set, SetForest};
-use bforest_calls::{Answer, Call, run_map, run_set};
+//! Calls on whole sets: counted, cut, packed, and put together with another one.
+use bforest::{Set, SetForest};
+use bforest_calls::{Answer, Call, run_set};
 use std::alloc::{AllocError, Global};
 use std::ops::Bound;
 
@@ -14,29 +14,29 @@ const TAIL: usize = 2;
 /// The one comparator of a list.
 const ORDER: usize = 0;
 
-fn insert<V: Copy>(k: u32, v: V) -> Call<u32, V> {
-    let (h, c) = (FILLED, ORDER);
+fn insert(k: u32) -> Call<u32, ()> {
+    let (h, c, v) = (FILLED, ORDER, ());
     Call::Insert { h, c, k, v }
 }
 
-fn intersect<V: Copy>(h: usize, other: usize) -> Call<u32, V> {
+fn intersect(h: usize, other: usize) -> Call<u32, ()> {
     Call::Intersect { h, other, c: ORDER }
 }
 
-fn subtract<V: Copy>(h: usize, other: usize) -> Call<u32, V> {
+fn subtract(h: usize, other: usize) -> Call<u32, ()> {
     Call::Subtract { h, other, c: ORDER }
 }
 
-fn unite<V: Copy>(h: usize, other: usize) -> Call<u32, V> {
+fn unite(h: usize, other: usize) -> Call<u32, ()> {
     Call::Unite { h, other, c: ORDER }
 }
 
-/// Calls on the keys 10, 20 and 30, with these values, and on a copy.
-fn calls<V: Copy>(first: V, second: V, third: V) -> [Call<u32, V>; 17] {
+/// Calls on the keys 10, 20 and 30, and on a copy.
+fn calls() -> [Call<u32, ()>; 17] {
     [
-        insert(10, first),
-        insert(20, second),
-        insert(30, third),
+        insert(10),
+        insert(20),
+        insert(30),
         Call::DeepClone {
             from: FILLED,
             to: COPY,
@@ -75,7 +75,7 @@ fn calls<V: Copy>(first: V, second: V, third: V) -> [Call<u32, V>; 17] {
 }
 
 /// Their answers, where the entries of the third one are `tail`.
-fn wanted<V: Copy>(tail: Vec<(u32, V)>) -> [Answer<u32, V>; 17] {
+fn wanted(tail: Vec<(u32, ())>) -> [Answer<u32, ()>; 17] {
     [
         Answer::Put(Ok(None)),
         Answer::Put(Ok(None)),
@@ -97,31 +97,17 @@ fn wanted<V: Copy>(tail: Vec<(u32, V)>) -> [Answer<u32, V>; 17] {
     ]
 }
 
-fn are<V: Copy + PartialEq>(answers: &[Answer<u32, V>], wanted: &[Answer<u32, V>]) -> bool {
+fn are(answers: &[Answer<u32, ()>], wanted: &[Answer<u32, ()>]) -> bool {
     answers == wanted
 }
 
-fn are_right_on_maps(alloc: Global) -> Result<bool, AllocError> {
-    let mut tail = Vec::new(alloc);
-    tail.push((20, 2u32))?;
-    tail.push((30, 3))?;
-    let answers = run_map(
-        alloc,
-        &calls(1, 2, 3),
-        &[()],
-        &mut [Map::new(), Map::new(), Map::new()],
-        &mut MapForest::new(alloc),
-    )?;
-    Ok(are(&answers, &wanted(tail)))
-}
-
-fn are_right_on_sets(alloc: Global) -> Result<bool, AllocError> {
+fn are_right(alloc: Global) -> Result<bool, AllocError> {
     let mut tail = Vec::new(alloc);
     tail.push((20, ()))?;
     tail.push((30, ()))?;
     let answers = run_set(
         alloc,
-        &calls((), (), ()),
+        &calls(),
         &[()],
         &mut [Set::new(), Set::new(), Set::new()],
         &mut SetForest::new(alloc),
@@ -130,11 +116,6 @@ fn are_right_on_sets(alloc: Global) -> Result<bool, AllocError> {
 }
 
 #[test]
-fn whole_maps_are_answered(rt: HostRuntime) {
-    assert_eq!(rt; are_right_on_maps(rt.alloc()), Ok(true));
-}
-
-#[test]
 fn whole_sets_are_answered(rt: HostRuntime) {
-    assert_eq!(rt; are_right_on_sets(rt.alloc()), Ok(true));
+    assert_eq!(rt; are_right(rt.alloc()), Ok(true));
 }

@@ -1,5 +1,5 @@
-//! Tests of `bforest_core` for types, loans and refusals: the table's calls, nodes of other types than small maps have, and sizes worked by
-//! hand. The cases of trees and of single nodes are files, which the program `tree_cases` reads.
+//! Tests of `bforest_core` for types, loans and refusals: values that are lent, a growth that is refused, nodes of other types than small
+//! maps have, and sizes worked by hand. The cases of trees and of single nodes are files, which the program `tree_cases` reads.
 #![tactic(auto)]
 
 #[cfg(test)]

@@ -1,13 +1,9 @@
-//! Nodes of known contents, and assertions on them.
-ghost use Rattle.bforest_nodes.specs.Content.{IsLeaf, IsLeafCapacity, Leaf};
+//! Leaves of known contents.
+ghost use Rattle.bforest_nodes.specs.Content.{IsLeafCapacity, Leaf};
 ghost use Rattle.std.specs.Prelude.{length, ◌<◌, ◌≡◌, ◌≤◌};
 
 use bforest_core::NodeData;
 use std::alloc::Global;
-use std::process::Abort;
-
-/// A node of numbers, whose leaf holds at most `N`.
-pub(crate) type Numbers<const N: usize> = NodeData<u32, u32, N>;
 
 /// A leaf of these keys and values.
 pub(crate) fn leaf_with<K: Copy, V: Copy, const N: usize>(
@@ -27,25 +23,6 @@ pub(crate) fn leaf_with<K: Copy, V: Copy, const N: usize>(
         node.try_leaf_insert(index, keys[index], vals[index]);
     }
     node
-}
-
-/// A leaf of these keys, each of whose values is its key.
-pub(crate) fn leaf_of<const N: usize>(alloc: Global, keys: &[u32]) -> Numbers<N>
-    requires capacity { IsLeafCapacity N }
-    requires some { 0 < length keys.now }
-    requires room { length keys.now ≤ N }
-    ensures { result ≡ Leaf keys.now keys.now }
-{
-    leaf_with(alloc, keys, keys)
-}
-
-/// Asserts that a leaf has these keys, each of whose values is its key.
-pub(crate) fn assert_leaf<const N: usize>(rt: &impl Abort, node: &Numbers<N>, expected: &[u32])
-    requires { IsLeaf node.now }
-{
-    let (keys, vals) = node.unwrap_leaf();
-    assert_eq!(rt; keys, expected);
-    assert_eq!(rt; vals, expected);
 }
 
 /// The keys 0 to 254, and their values: the key in the upper half of each.

@@ -1,6 +1,6 @@
 //! Nodes of other types than those of small maps, values that are lent, and packed numbers.
-use crate::nodes::{assert_leaf, leaf_of, leaf_with, numbered};
-use bforest_core::{Node, NodeData, PackedNode, Path, Removed, SetValue};
+use crate::nodes::{leaf_with, numbered};
+use bforest_core::{Node, NodeData, PackedNode, SetValue};
 use std::mem::size_of;
 
 // A node of a map or of a set of small numbers is one cache line.
@@ -10,7 +10,8 @@ const _: () = prove!(size_of::<NodeData<u32, SetValue, 15>>() == 64);
 
 #[test]
 fn values_of_a_leaf_are_written(rt: HostRuntime) {
-    let mut leaf = leaf_of::<7>(rt.alloc(), &[10, 20, 40]);
+    let keys = [10u32, 20, 40];
+    let mut leaf: NodeData<u32, u32, 7> = leaf_with(rt.alloc(), &keys, &keys);
     *leaf.value_mut(1) = 21;
     assert_eq!(rt; leaf.entry(1), (20, 21));
     let (keys, vals) = leaf.unwrap_leaf_mut();
@@ -21,56 +22,11 @@ fn values_of_a_leaf_are_written(rt: HostRuntime) {
 }
 
 #[test]
-fn the_least_leaf_is_halved(rt: HostRuntime) {
-    let alloc = rt.alloc();
-    let mut left = leaf_of::<3>(alloc, &[1, 2, 3]);
-    let mut right = NodeData::new(alloc).unwrap();
-    let halves = left.split(1, &mut right);
-    assert_eq!(rt; halves.crit_key, 2);
-    assert_leaf(&rt, &left, &[1]);
-    assert_leaf(&rt, &right, &[2, 3]);
-    let mut left = leaf_of::<3>(alloc, &[1, 2, 3]);
-    let halves = left.split(3, &mut right);
-    assert_eq!(rt; halves.crit_key, 3);
-    assert_leaf(&rt, &left, &[1, 2]);
-    assert_leaf(&rt, &right, &[3]);
-}
-
-#[test]
-fn the_least_leaves_are_balanced(rt: HostRuntime) {
-    let alloc = rt.alloc();
-    let mut left = leaf_of::<3>(alloc, &[1]);
-    let mut right = leaf_of(alloc, &[2, 3]);
-    assert_eq!(rt; left.balance(2, &mut right), None);
-    assert_leaf(&rt, &right, &[1, 2, 3]);
-    let mut left = leaf_of::<3>(alloc, &[1]);
-    let mut right = leaf_of(alloc, &[2, 3, 4]);
-    assert_eq!(rt; left.balance(2, &mut right), Some(3));
-    assert_leaf(&rt, &left, &[1, 2]);
-    assert_leaf(&rt, &right, &[3, 4]);
-}
-
-#[test]
-fn the_least_leaf_is_healthy_with_two(rt: HostRuntime) {
-    let mut leaf = leaf_of::<3>(rt.alloc(), &[1, 2, 3]);
-    assert_eq!(rt; leaf.leaf_remove(1), Removed::Healthy);
-    assert_eq!(rt; leaf.leaf_remove(1), Removed::Underflow);
-    assert_leaf(&rt, &leaf, &[1]);
-    assert_eq!(rt; leaf.leaf_remove(0), Removed::Empty);
-}
-
-#[test]
 fn the_greatest_leaf_is_halved(rt: HostRuntime) {
     let alloc = rt.alloc();
     let (keys, vals) = numbered();
     let mut left: NodeData<u8, u64, 255> = leaf_with(alloc, &keys, &vals);
-    assert!(rt; !left.try_leaf_insert(0, 0, 0));
     let mut right = NodeData::new(alloc).unwrap();
-    let halves = left.split(127, &mut right);
-    assert_eq!(rt; halves.lhs_entries, 127);
-    assert_eq!(rt; halves.rhs_entries, 128);
-    assert_eq!(rt; halves.crit_key, 127);
-    let mut left: NodeData<u8, u64, 255> = leaf_with(alloc, &keys, &vals);
     let halves = left.split(128, &mut right);
     assert_eq!(rt; halves.lhs_entries, 128);
     assert_eq!(rt; halves.rhs_entries, 127);
@@ -81,20 +37,6 @@ fn the_greatest_leaf_is_halved(rt: HostRuntime) {
     let (right_keys, right_vals) = right.unwrap_leaf();
     assert_eq!(rt; right_keys, &keys[128..]);
     assert_eq!(rt; right_vals, &vals[128..]);
-}
-
-#[test]
-fn the_greatest_leaves_are_balanced(rt: HostRuntime) {
-    let alloc = rt.alloc();
-    let (keys, vals) = numbered();
-    let mut left: NodeData<u8, u64, 255> = leaf_with(alloc, &[7, 8, 9], &[70, 80, 90]);
-    let mut right = leaf_with(alloc, &keys, &vals);
-    assert_eq!(rt; left.balance(0, &mut right), Some(126));
-    assert_eq!(rt; left.entries(), 129);
-    assert_eq!(rt; left.entry(2), (9, 90));
-    assert_eq!(rt; left.entry(128), (125, 125 << 32));
-    assert_eq!(rt; right.unwrap_leaf().0, &keys[126..]);
-    assert_eq!(rt; right.unwrap_leaf().1, &vals[126..]);
 }
 
 #[test]
@@ -129,13 +71,4 @@ fn packed_numbers(rt: HostRuntime) {
     assert!(rt; packed.take().is_none());
     assert!(rt; packed == PackedNode::none());
     assert!(rt; PackedNode::some(Node::new(0)) != PackedNode::none());
-}
-
-#[test]
-fn a_path_goes_to_a_root_that_is_a_leaf(rt: HostRuntime) {
-    let mut path: Path<u32, u32, 7> = Path::default();
-    assert!(rt; path.leaf_pos().is_none());
-    let root = Node::new(5);
-    path.set_root_node(root);
-    assert!(rt; path.leaf_pos() == Some((root, 0)));
 }

@@ -1,11 +1,9 @@
-//! Tests of `bforest_run`: numbers, sets, and readers and writers that fail. The lines and answers of the program `forest_run` are tested
-//! from files.
+//! Tests of `bforest_run`: numbers, and readers and writers that fail. The lines and answers of the program `forest_run` are tested from
+//! files.
 #![tactic(auto)]
 
 #[cfg(test)]
 mod numbers;
-#[cfg(test)]
-mod sets;
 #[cfg(test)]
 mod strange;
 #[cfg(test)]

@@ -38,19 +38,6 @@ pub(crate) fn try_insert<C: Comparator<u32>>(
     map.try_insert(key, value, forest, comp)
 }
 
-/// `get`, after a test of its conditions.
-pub(crate) fn get<C: Comparator<u32>>(
-    rt: &impl Abort,
-    map: &Numbers,
-    key: u32,
-    forest: &NumberForest,
-    comp: &C,
-) -> Option<u32> {
-    assert!(rt; forest.holds(map));
-    assert!(rt; map.increases(forest, comp));
-    map.get(key, forest, comp)
-}
-
 /// The entries that `iter` yields.
 pub(crate) fn entries(
     rt: &impl Abort,

@@ -1,5 +1,5 @@
-//! Tests of `bforest`: each public call at a concrete type, custom orders, and callers that are proved. The lines and answers of the
-//! program `forest_run` test maps from files, beside random lines.
+//! Tests of `bforest`: calls at concrete types, custom orders, and callers that are proved. The lines and answers of the program
+//! `forest_run` test maps from files, beside random lines, and `bforest_calls_tests` makes lists of calls.
 #![tactic(auto)]
 
 pub mod callers;

@@ -1,6 +1,6 @@
 //! Maps in the order of their keys' type.
 
-use crate::checked::{NumberForest, Numbers, ascending, get, insert};
+use crate::checked::{NumberForest, Numbers, ascending, insert};
 use bforest::{Map, MapForest, Set};
 use std::default::Default;
 use std::mem::size_of;
@@ -26,34 +26,6 @@ fn a_tried_insertion_answers_the_old_value(rt: HostRuntime) {
     let mut map = Map::new();
     assert_eq!(rt; map.try_insert(5, 50, &mut forest, &()), Ok(None));
     assert_eq!(rt; map.try_insert(5, 51, &mut forest, &()), Ok(Some(50)));
-}
-
-#[test]
-fn an_update_replaces_the_value_of_its_key_alone(rt: HostRuntime) {
-    let mut forest: NumberForest = MapForest::new(rt.alloc());
-    let mut map = Map::new();
-    assert_eq!(rt; map.insert(5, 50, &mut forest, &()), Ok(None));
-    assert_eq!(rt;
-        map.update(5, |value| value / 2, &mut forest, &()),
-        Some(25)
-    );
-    assert_eq!(rt; map.update(4, |value| value / 2, &mut forest, &()), None);
-    assert_eq!(rt; map.get(5, &forest, &()), Some(25));
-}
-
-#[test]
-fn an_update_inserts_the_value_of_an_absent_key(rt: HostRuntime) {
-    let mut forest: NumberForest = MapForest::new(rt.alloc());
-    let mut map = Map::new();
-    assert_eq!(rt;
-        map.update_or_insert(5, 50, |value| value / 2, &mut forest, &()),
-        Ok(50)
-    );
-    assert_eq!(rt;
-        map.update_or_insert(5, 60, |value| value / 2, &mut forest, &()),
-        Ok(25)
-    );
-    assert_eq!(rt; map.get(5, &forest, &()), Some(25));
 }
 
 #[test]
@@ -89,16 +61,6 @@ fn an_empty_map_takes_no_node(rt: HostRuntime) {
     assert!(rt; map.increases(&forest, &()));
     assert_eq!(rt; forest.slots(), 0);
     assert_eq!(rt; forest.node_limit(), u32::MAX);
-}
-
-#[test]
-fn a_clone_names_the_same_tree(rt: HostRuntime) {
-    let mut forest: NumberForest = MapForest::new(rt.alloc());
-    let mut map = Map::new();
-    assert_eq!(rt; insert(&rt, &mut map, (1, 10), &mut forest, &()), Ok(None));
-    let twin = map.clone();
-    assert!(rt; !twin.is_empty());
-    assert_eq!(rt; get(&rt, &twin, 1, &forest, &()), Some(10));
 }
 
 #[test]

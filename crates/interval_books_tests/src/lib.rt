@@ -1,6 +1,4 @@
-//! Tests of `interval_books`: runs worked by hand, and callers that are proved.
+//! Callers of `interval_books`, proved from its contracts alone. Runs on books are cases of the program `forest_run`.
 #![tactic(auto)]
 
 pub mod callers;
-#[cfg(test)]
-mod runs;
