@@ -445,16 +445,18 @@ impl<K: Copy, V: Copy> Map<K, V> {
 
     /// Moves the entries whose keys are not less than `key` to a map of their own, and returns its handle. Those that are less stay.
     ///
-    /// Reads the entries that go twice, and makes a tree of them with the fewest nodes. Then it removes them from this map with the nodes
-    /// that hold them, as [`Map::remove_range`] does without an end bound. Three searches in all, as in [`Map::get`]. Until the call returns
-    /// it takes memory for a list of them.
+    /// One search, as in [`Map::get`]. The nodes of each level that are in front stay, and those behind go with all below them. A node that has
+    /// entries or children on both sides keeps those in front, and the others go to a new node. Then the first node of each level of the
+    /// new map is filled from its right neighbour, or merged into it, where it is at most half full. So at most three nodes of a level are
+    /// written, however many entries go. Where all go, nothing is written: the new handle has this map's number, and this map is empty.
     ///
-    /// Takes exactly the nodes of the new tree, none where no entry goes. They have to be there beside those of this map.
+    /// Takes a node for each that has entries or children on both sides: at most one a level, and none where no entry or each entry goes.
+    /// Merged nodes are free afterwards.
     ///
     /// # Errors
     ///
-    /// [`OutOfMemory::Full`] where the forest's limit does not allow the new tree's nodes beside the old ones. [`OutOfMemory::Memory`] where
-    /// an entry goes and there was no memory for the list or for a table that had to grow. The map and the forest are unchanged then.
+    /// [`OutOfMemory::Full`] where the forest's limit does not allow these nodes, and [`OutOfMemory::Memory`] where the table had to grow for
+    /// them and could not; neither where so many nodes lie free. The map and the forest are unchanged then.
     pub fn split_off<C: Comparator<K>>(
         &mut self,
         key: K,

@@ -6,4 +6,5 @@ pub mod Allocating
 pub mod Tables
 pub mod Trading
 pub mod Stored
+pub mod Severing
 pub mod Read

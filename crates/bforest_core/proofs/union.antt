@@ -23,6 +23,13 @@ pub mod Fronts
 pub mod Emptying
 pub mod Narrowing
 pub mod Cutting
+pub mod Backs
+pub mod Detaching
+pub mod Filled
+pub mod FilledChild
+pub mod EdgeFilled
+pub mod Detached
+pub mod DetachTree
 pub mod CutTree
 pub mod Needs
 pub mod Building

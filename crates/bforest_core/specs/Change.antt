@@ -1,7 +1,7 @@
 -- What a call that changes one tree of a table states of it and of the others.
-use Rattle.std.specs.Prelude.{◌≡◌, ◌≢◌, ℕ, ◌+◌, ◌-◌, ◌<◌, ◌≤◌, ◌↔◌, ◌++◌, ◌∷◌, [], Err, IfOk, IfSome, IsOk, IsTrue, OnErr, OnOk, Result, List, None, Option, Some, drop, get_or, length, remove, slice_get}
+use Rattle.std.specs.Prelude.{◌≡◌, ◌≢◌, ℕ, ◌+◌, ◌-◌, ◌<◌, ◌≤◌, ◌↔◌, ◌++◌, ◌∷◌, [], Err, IfOk, IfSome, IsOk, IsTrue, OnErr, OnOk, Result, List, None, Option, Some, drop, get_or, length, remove, slice_get, take}
 use Rattle.std.specs.List.{sum_by}
-use Rattle.bforest_core.specs.Sizes.{shrink}
+use Rattle.bforest_core.specs.Sizes.{backs, detached, fronts, shrink, truncated}
 use Rattle.bforest_core.specs.Table.{GrowsFor, IsUsed, NeedsGrowth, Table, front_of, room, slot_count, free_count, reserved, with_front, with_node}
 use Rattle.bforest_core.specs.declared.pool.OutOfMemory.{OutOfMemory}
 use Rattle.bforest_core.specs.declared.pool.OutOfMemory.TheVariants.{Full, Memory}
@@ -15,6 +15,10 @@ use Rattle.bforest_core.specs.Trees.{tree_of, is_root, IsUnion, OthersKeep}
 abbrev pub node_count : List (List ℕ) → ℕ
 node_count levels = sum_by (λ (level : List ℕ). length level) levels
 
+-- how many nodes have entries or children both in front of a place and behind it: by so many more nodes the two parts have than the whole
+abbrev pub severed : ℕ → List (List ℕ) → ℕ
+severed place levels = (node_count (fronts place levels) + node_count (backs place levels)) - node_count levels
+
 module _ {K V : Type 0} where
   -- the tree under `root` is replaced by one with this list and these sizes, perhaps under another root,
   -- which had no tree before; no other tree changes
@@ -26,6 +30,27 @@ module _ {K V : Type 0} where
     pub others : OthersKeep old.nodes new.nodes root root'
     pub old_gone : root ≢ root' → ¬ IsTrue (is_root new.nodes root)
     pub new_came : root ≢ root' → ¬ IsTrue (is_root old.nodes root')
+    pub limit_is : new.limit ≡ old.limit
+
+  -- The tree under `root` became two, under `front` with the entries in front of a place, and under `behind` with those from there on, where
+  -- leaves have at most `most`. No other tree changes. Of the nodes that were free and those of the tree, all that are in neither are free.
+  pub record Divides (most : ℕ) (old new : Table K V) (root place front behind : ℕ) : Type 0 where
+    pub union : IsUnion most new
+    pub front_root : IsTrue (is_root new.nodes front)
+    pub behind_root : IsTrue (is_root new.nodes behind)
+    pub apart : front ≢ behind
+    pub front_list : flat (tree_of new.nodes front).leaves ≡ take place (flat (tree_of old.nodes root).leaves)
+    pub behind_list : flat (tree_of new.nodes behind).leaves ≡ drop place (flat (tree_of old.nodes root).leaves)
+    pub front_sizes : sizes_of (tree_of new.nodes front) ≡ truncated place (sizes_of (tree_of old.nodes root))
+    pub behind_sizes : sizes_of (tree_of new.nodes behind) ≡ detached most place (sizes_of (tree_of old.nodes root))
+    pub others : (other : ℕ) → other ≢ root → other ≢ front → other ≢ behind → (IsTrue (is_root new.nodes other) ↔ IsTrue (is_root old.nodes other)) × (IsTrue (is_root old.nodes other) → tree_of new.nodes other ≡ tree_of old.nodes other)
+    pub old_gone : root ≢ front → ¬ IsTrue (is_root new.nodes root)
+    pub front_came : root ≢ front → ¬ IsTrue (is_root old.nodes front)
+    pub behind_came : ¬ IsTrue (is_root old.nodes behind)
+    pub same_root : (front ≡ root) ↔ (length (truncated place (sizes_of (tree_of old.nodes root))) ≡ length (sizes_of (tree_of old.nodes root)))
+    pub slots : slot_count new ≡ slot_count old
+    pub free : free_count new + node_count (sizes_of (tree_of new.nodes front)) + node_count (sizes_of (tree_of new.nodes behind)) ≡ free_count old + node_count (sizes_of (tree_of old.nodes root))
+    pub memory_is : new.memory ≡ old.memory
     pub limit_is : new.limit ≡ old.limit
 
   -- both tables have the same roots, with the same tree under each

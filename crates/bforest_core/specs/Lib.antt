@@ -8,6 +8,7 @@ pub mod Climb
 pub mod Trees
 pub mod Trades
 pub mod Descent
+pub mod Detach
 pub mod Steps
 pub mod Change
 pub mod Removal

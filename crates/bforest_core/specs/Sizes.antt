@@ -90,6 +90,47 @@ fronts kept (level ∷ levels) = front kept level ∷ fronts (length (front kept
 abbrev pub truncated : ℕ → List (List ℕ) → List (List ℕ)
 truncated place levels = trimmed (fronts place levels)
 
+-- the nodes of a level behind its first entries, so many: the first keeps what is left of it
+abbrev pub back : ℕ → List ℕ → List ℕ
+back zero level = level
+back (suc gone) [] = []
+back (suc gone) (size ∷ after) =
+    if nat_lt (suc gone) size then (size - suc gone) ∷ after else back (suc gone - size) after
+
+-- the levels over the entries behind the first, so many
+abbrev pub backs : ℕ → List (List ℕ) → List (List ℕ)
+backs gone [] = []
+backs gone (level ∷ levels) = back gone level ∷ backs (length level - length (back gone level)) levels
+
+-- A level whose first node is at most half full, with that node filled: it is merged into the second where everything fits there, else the
+-- two share.
+abbrev pub filled : ℕ → List ℕ → List ℕ
+filled most [] = []
+filled most (size ∷ []) = size ∷ []
+filled most (size ∷ next ∷ after) =
+    if nat_lt most (2 * size) then size ∷ next ∷ after
+    else (if nat_le (size + next) most then (size + next) ∷ after else ((size + next) - (size + next) / 2) ∷ (size + next) / 2 ∷ after)
+
+-- a level whose first node has so many children less
+abbrev pub lessened : ℕ → List ℕ → List ℕ
+lessened lost [] = []
+lessened lost (size ∷ after) = (size - lost) ∷ after
+
+-- the levels over one that lost so many nodes, with the first node of each filled
+abbrev pub filled_above : ℕ → List (List ℕ) → List (List ℕ)
+filled_above lost [] = []
+filled_above lost (level ∷ levels) = lessened lost (filled 8 level) ∷ filled_above (length level - length (filled 8 level)) levels
+
+-- the levels with the first node of each filled, where leaves have at most `most`
+abbrev pub filled_levels : ℕ → List (List ℕ) → List (List ℕ)
+filled_levels most [] = []
+filled_levels most (leaves ∷ levels) = filled most leaves ∷ filled_above (length leaves - length (filled most leaves)) levels
+
+-- the sizes of the entries behind the first, so many, as a tree of their own: the tree as it is where none is in front
+abbrev pub detached : ℕ → ℕ → List (List ℕ) → List (List ℕ)
+detached most zero levels = levels
+detached most (suc gone) levels = trimmed (filled_levels most (backs (suc gone) levels))
+
 -- how many nodes the split of this node, if any, takes: one for it, one for each node above that is split
 -- too, and one for a new root
 abbrev pub need_above : Option ℕ → List (List ℕ) → ℕ

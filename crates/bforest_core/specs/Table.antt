@@ -146,8 +146,8 @@ module _ {K V : Type 0} where
     pub cut : IsCut whole parts.lhs_entries left_half_is parts.crit_key right_half_is
     pub after : new ≡ with_node (with_front old old.chain right_half_is) left left_half_is
 
-  -- the two slots hold nonempty nodes of one kind, the first of which underflowed
-  pub record IsUnderflowedAt (n : ℕ) (nodes : List (Content K V)) (left right : ℕ) : Type 0 where
+  -- the two slots hold nonempty nodes of one kind, the first of which is at most half full
+  pub record IsHalfFullAt (n : ℕ) (nodes : List (Content K V)) (left right : ℕ) : Type 0 where
     pub under : Content K V
     pub neighbour : Content K V
     pub left_is : slice_get nodes left ≡ Some under
@@ -155,7 +155,7 @@ module _ {K V : Type 0} where
     pub kind : IsSameKind under neighbour
     pub filled : 0 < entry_count under
     pub neighbour_filled : 0 < entry_count neighbour
-    pub underflowed : 2 * entry_count under < entry_capacity n under
+    pub half_full : 2 * entry_count under ≤ entry_capacity n under
 
   -- the two neighbours are balanced
   pub record IsBalancedAt (n : ℕ) (old : Table K V) (left : ℕ) (key : K) (right : ℕ) (new_key : Option K) (new : Table K V) : Type 0 where

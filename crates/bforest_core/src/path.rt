@@ -5,6 +5,7 @@ ghost use Rattle.bforest_core.specs.Table.{Table};
 ghost use Rattle.bforest_core.specs.Trees.{IsUnion, is_root, slot};
 
 mod cut;
+mod detach;
 mod find;
 mod here;
 mod insert;

@@ -4,7 +4,7 @@ ghost use Rattle.std.specs.Borrow.{sem, LendsBoth, Array};
 ghost use Rattle.bforest_nodes.specs.Content.{Content, Inner, Leaf, IsLeafCapacity, children_of};
 ghost use Rattle.bforest_core.specs.Change.{AllocatesLeaf, KeepsTrees};
 ghost use Rattle.bforest_core.specs.Trees.{IsUnion};
-ghost use Rattle.bforest_core.specs.Table.{slot_count, free_count, room, GrowsFor, NeedsGrowth, IsUsed, IsTable, reserved, without_front, with_front, with_freed, fresh_nodes, front_of, front_of_new, IsFullAt, IsSplitAt, IsUnderflowedAt, IsBalancedAt, IsEntryAt, value_at};
+ghost use Rattle.bforest_core.specs.Table.{slot_count, free_count, room, GrowsFor, NeedsGrowth, IsUsed, IsTable, reserved, without_front, with_front, with_freed, fresh_nodes, front_of, front_of_new, IsFullAt, IsSplitAt, IsHalfFullAt, IsBalancedAt, IsEntryAt, value_at};
 
 use bforest_nodes::{Node, NodeData, PackedNode, SplitOff};
 use std::alloc::{AllocError, Global};
@@ -279,13 +279,13 @@ impl<K: Copy, V: Copy, const N: usize> NodePool<K, V, N> {
         (right, lhs.split(insert_index, rhs))
     }
 
-    /// Balances the underflowed node `left` with its right neighbour, from which `crit_key` separates it: see `NodeData::balance`, whose
-    /// answer it returns. Takes no memory.
+    /// Balances the node `left`, which is at most half full, with its right neighbour, from which `crit_key` separates it: see
+    /// `NodeData::balance`, whose answer it returns. Takes no memory.
     pub fn balance_nodes(&mut self, left: Node, crit_key: K, right: Node) -> Option<K>
         requires left { IsUsed self.old left }
         requires right { IsUsed self.old right }
         requires apart { left ≢ right }
-        requires balanceable { IsUnderflowedAt N self.old.nodes left right }
+        requires balanceable { IsHalfFullAt N self.old.nodes left right }
         ensures balanced { IsBalancedAt N self.old left crit_key right result self.new }
     {
         let (lhs, rhs) = two_nodes(

@@ -3,8 +3,7 @@
 use Rattle.bforest.specs.Bounds.{entries_between, entries_outside, is_between, start_place}
 use Rattle.bforest.specs.Calls.{fewest, need_of_union, sizes_outside, truncation}
 use Rattle.bforest.specs.Entries.{IsIncreasing, cut, is_present, place, put, value_for}
-use Rattle.bforest.specs.Forest.{ArePacked, Forest, Gives, GrowsFor, IsFitFor, IsLive, IsTooMany, NeedsGrowth, Takes, emptied, free_of, limit_of, list_of, need_of, shrink, sizes_of, sizes_with, sizes_without, slots_of}
-use Rattle.bforest_trees.specs.Forest.{TakesThenGives}
+use Rattle.bforest.specs.Forest.{ArePacked, Forest, Gives, GrowsFor, IsFitFor, IsLive, IsTooMany, NeedsGrowth, Takes, detached, emptied, free_of, limit_of, list_of, need_of, severed, shrink, sizes_of, sizes_with, sizes_without, slots_of}
 -- `TakesAndGives d sizes f f'`: d slots were taken, and then those of a tree of these sizes freed.
 pub use Rattle.bforest.specs.Forest.{TakesAndGives}
 use Rattle.bforest.specs.Refusal.{Full, Memory, OutOfMemory}
@@ -303,28 +302,32 @@ module _ {K X C : Type 0} where
     abbrev pub SubtractsAt : Indexed K X C → ℕ → ℕ → Bool → Indexed K X C → Type 0
     SubtractsAt m i j result m' = KeepsFromAt false m i j result m'
 
-    -- the number of nodes that a split of i takes: those of a packed tree of the entries whose keys are not less than k
+    -- the number of nodes that a split of i at k takes: as many as nodes of i have entries or children on both sides
     abbrev pub split_need : Indexed K X C → ℕ → K → ℕ
-    split_need m i k = fewest most (length (drop (place cmp (entries m i) k) (entries m i)))
+    split_need m i k = severed (place cmp (entries m i) k) (node_sizes m i)
 
-    -- The entries of i whose keys are not less than k went to j, in a packed tree of their own, and the list of j ended. The tree was made first.
-    -- Where i and j are one, it has the entries that went. Or the call was refused, and nothing changed.
+    -- The entries of i whose keys are not less than k went to j, in a tree of their own, and the list of j ended. Where i and j are one, it has
+    -- the entries that went. Nodes were taken for the new tree, and then nodes were freed. Or the call was refused, and nothing changed.
     pub record SplitsOffAt (m : Indexed K X C) (i : ℕ) (k : K) (j : ℕ) (result : Result (Unit {0}) OutOfMemory) (m' : Indexed K X C) : Type 0 where
       pub front : OnOk result (i ≢ j → entries m' i ≡ take (place cmp (entries m i) k) (entries m i))
       pub tail : OnOk result (entries m' j ≡ drop (place cmp (entries m i) k) (entries m i))
       pub sizes : OnOk result (i ≢ j → node_sizes m' i ≡ truncation (place cmp (entries m i) k) (length (entries m i) - place cmp (entries m i) k) (node_sizes m i))
-      pub packed : OnOk result (ArePacked most (node_sizes m' j))
-      pub nodes : OnOk result (node_count (node_sizes m' j) ≡ split_need m i k)
+      pub tail_sizes : OnOk result (node_sizes m' j ≡ detached most (place cmp (entries m i) k) (node_sizes m i))
       pub others : (q : ℕ) → q ≢ i → q ≢ j → entries m' q ≡ entries m q
       pub other_sizes : (q : ℕ) → q ≢ i → q ≢ j → node_sizes m' q ≡ node_sizes m q
       pub same_count : count m' ≡ count m
       pub same_comparator : comparator m' ≡ comparator m
       pub same_limit : limit_of (table m') ≡ limit_of (table m)
       pub same_memory : memory m' ≡ memory m
-      pub account : OnOk result (i ≢ j → TakesThenGives (split_need m i k) (node_sizes m i ++ node_sizes m j) (node_sizes m' i) (table m) (table m'))
-      pub account_one : OnOk result (i ≡ j → TakesThenGives (split_need m i k) (node_sizes m i) [] (table m) (table m'))
+      pub slots : OnOk result (slots_of (table m') ≡ slots_of (table m) + (split_need m i k - free_of (table m)))
+      pub free : OnOk result (i ≢ j → free_of (table m') + node_count (node_sizes m' i) + node_count (node_sizes m' j)
+          ≡ (free_of (table m) - split_need m i k) + split_need m i k + node_count (node_sizes m i) + node_count (node_sizes m j))
+      pub free_one : OnOk result (i ≡ j → free_of (table m') + node_count (node_sizes m' j) ≡ (free_of (table m) - split_need m i k) + split_need m i k + node_count (node_sizes m i))
+      pub growth : OnOk result (GrowsFor (split_need m i k) (table m) (table m'))
+      pub few : split_need m i k ≤ length (node_sizes m i)
       pub full : (result ≡ Err Full) ↔ IsTooMany (split_need m i k) (table m)
-      pub memory : result ≡ Err Memory → drop (place cmp (entries m i) k) (entries m i) ≢ []
+      pub memory : result ≡ Err Memory → NeedsGrowth (split_need m i k) (table m)
+      pub enough : split_need m i k ≤ free_of (table m) → IsOk result
       pub refused : OnErr result (m' ≡ m)
 
     -- The entries of i whose keys are within both bounds were removed, and whether there was one is answered; where there was none, nothing

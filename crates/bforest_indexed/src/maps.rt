@@ -409,16 +409,16 @@ impl<K: Copy, V: Copy, C: Comparator<K>> Maps<K, V, C> {
         self.maps[index].difference_with(&theirs, &mut self.forest, &self.order)
     }
 
-    /// Moves the entries of the map at `from` whose keys are not less than `key` to the map at `to`, in a tree with the fewest nodes that so many
-    /// entries can have. The own entries of that one end, and those that are less stay where they are. Where both are one, it keeps those that went.
+    /// Moves the entries of the map at `from` whose keys are not less than `key` to the map at `to`, whose own entries end. Those that are less stay
+    /// where they are. Where both are one, it keeps those that went.
     ///
-    /// As [`bforest::Map::split_off`], with three searches: the new tree is made first, beside the old ones, and then the nodes that held what
-    /// went become free, and those of the map at `to`.
+    /// As [`bforest::Map::split_off`], with one search: nodes go as a whole, and at most one a level is new. The nodes of the map at `to` become
+    /// free afterwards.
     ///
     /// # Errors
     ///
-    /// [`OutOfMemory::Full`] where the limit does not allow the new tree's nodes beside the old ones. [`OutOfMemory::Memory`] where an entry goes
-    /// and there was no memory for a list of them or for a table that had to grow. Nothing has changed then.
+    /// [`OutOfMemory::Full`] where the limit does not allow the new nodes beside those that are there, and [`OutOfMemory::Memory`] where the
+    /// table had to grow for them and could not; neither where so many nodes lie free. Nothing has changed then.
     pub fn split_off(&mut self, from: usize, key: K, to: usize) -> Result<(), OutOfMemory>
         requires from { from < count self.old }
         requires to { to < count self.old }

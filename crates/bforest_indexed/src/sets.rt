@@ -386,16 +386,16 @@ impl<K: Copy, C: Comparator<K>> Sets<K, C> {
         self.sets[index].difference_with(&theirs, &mut self.forest, &self.order)
     }
 
-    /// Moves the keys of the set at `from` that are not less than `key` to the set at `to`, in a tree with the fewest nodes that so many
-    /// keys can have. The own keys of that one end, and those that are less stay where they are. Where both are one, it keeps those that went.
+    /// Moves the keys of the set at `from` that are not less than `key` to the set at `to`, whose own keys end. Those that are less stay
+    /// where they are. Where both are one, it keeps those that went.
     ///
-    /// As [`bforest::Set::split_off`], with three searches: the new tree is made first, beside the old ones, and then the nodes that held what
-    /// went become free, and those of the set at `to`.
+    /// As [`bforest::Set::split_off`], with one search: nodes go as a whole, and at most one a level is new. The nodes of the set at `to` become
+    /// free afterwards.
     ///
     /// # Errors
     ///
-    /// [`OutOfMemory::Full`] where the limit does not allow the new tree's nodes beside the old ones. [`OutOfMemory::Memory`] where a key goes
-    /// and there was no memory for a list of them or for a table that had to grow. Nothing has changed then.
+    /// [`OutOfMemory::Full`] where the limit does not allow the new nodes beside those that are there, and [`OutOfMemory::Memory`] where the
+    /// table had to grow for them and could not; neither where so many nodes lie free. Nothing has changed then.
     pub fn split_off(&mut self, from: usize, key: K, to: usize) -> Result<(), OutOfMemory>
         requires from { from < count self.old }
         requires to { to < count self.old }

@@ -65,7 +65,7 @@ module _ {K V : Type 0} where
   capacity_of_inner n (Leaf keys vals) inner = absurd inner
   capacity_of_inner n (Free next) inner = absurd inner
 
-  -- the kinds of two neighbours, and the size of an underflowed left one
+  -- the kinds of two neighbours, and the size of a left one that is at most half full
   pub inner_beside : (left right : Content K V) → IsInner left → IsSameKind left right → IsInner right
   inner_beside (Inner keys children) right inner kind = kind
   inner_beside (Leaf keys vals) right inner kind = absurd inner
@@ -76,12 +76,12 @@ module _ {K V : Type 0} where
   leaves_beside (Leaf keys vals) right other kind = (tt, kind)
   leaves_beside (Free next) right other kind = absurd kind
 
-  pub inner_under : (n : ℕ) (left : Content K V) → IsInner left → 2 * entry_count left < entry_capacity n left → entry_count left < 4
+  pub inner_under : (n : ℕ) (left : Content K V) → IsInner left → 2 * entry_count left ≤ entry_capacity n left → entry_count left ≤ 4
   inner_under n (Inner keys children) inner under = omega arith
   inner_under n (Leaf keys vals) inner under = absurd inner
   inner_under n (Free next) inner under = absurd inner
 
-  pub leaf_under : (n : ℕ) (left : Content K V) → IsLeaf left → 2 * entry_count left < entry_capacity n left → 2 * entry_count left < n
+  pub leaf_under : (n : ℕ) (left : Content K V) → IsLeaf left → 2 * entry_count left ≤ entry_capacity n left → 2 * entry_count left ≤ n
   leaf_under n (Inner keys children) leaf under = absurd leaf
   leaf_under n (Leaf keys vals) leaf under = under
   leaf_under n (Free next) leaf under = absurd leaf
@@ -93,7 +93,7 @@ module _ {K V : Type 0} where
 
   -- the left neighbour takes the first children of the right one
   pub Balances-inner : (n moved : ℕ) (kl kr new : List K) (cl cr : List ℕ) (crit key : K)
-      → length cl ≡ length kl + 1 → length cr ≡ length kr + 1 → length cr ≤ 8 → length cl < 4 → 8 < length cl + length cr
+      → length cl ≡ length kl + 1 → length cr ≡ length kr + 1 → length cr ≤ 8 → length cl ≤ 4 → 8 < length cl + length cr
       → length cl + moved ≡ left_share (length cl + length cr)
       → (kl ++ crit ∷ []) ++ take moved kr ≡ new ++ key ∷ []
       → Balances {V = V} n (Inner kl cl) crit (Inner kr cr) (Some key) (Inner new (cl ++ take moved cr)) (Inner (drop moved kr) (drop moved cr))

@@ -13,7 +13,7 @@ pub record Appends (len room from_len from_room moved : ℕ) : Type 0 where
   pub within : moved ≤ from_len
 
 -- there is room for one more key
-pub pushes : {size : ℕ} → size + 1 < 4 → size < 7
+pub pushes : {size : ℕ} → size + 1 ≤ 4 → size < 7
 pushes few = omega arith
 
 module _ (size right : ℕ) where
@@ -38,7 +38,7 @@ module _ (size right : ℕ) where
     pub tree_moved : size ≤ 7 → Appends (size + 1) 8 (right + 1) 8 (half - (size + 1))
     tree_moved small = record { fits = omega arith; from_fits = omega arith; within = from_tree }
 
-    module _ (few : size + 1 < 4) where
+    module _ (few : size + 1 ≤ 4) where
       pub parts : size + 1 ≤ half
       parts = omega arith
 
@@ -71,7 +71,7 @@ module _ (size right : ℕ) where
 
 -- the amounts moved between two leaves
 module _ (n size right half : ℕ) (half_is : half ≡ div_ceil (size + right) 2) (small : size ≤ n) (most : right ≤ n) (many : n < size + right) where
-  pub leaf_parts : 2 * size < n → size ≤ half
+  pub leaf_parts : 2 * size ≤ n → size ≤ half
   leaf_parts under = omega arith
 
   pub leaf_moved : Appends size n right n (half - size)
@@ -85,7 +85,7 @@ module _ (n size right half : ℕ) (half_is : half ≡ div_ceil (size + right) 2
 
   module _ {K V : Type 0} (keys appended rkeys rfront : List K) (vals appended_vals rvals rfront_vals : List V) (crit key : K)
       (keys_room : length keys ≡ n) (vals_room : length vals ≡ n) (rkeys_room : length rkeys ≡ n) (rvals_room : length rvals ≡ n) where
-    pub leaf_shares : 2 * size < n
+    pub leaf_shares : 2 * size ≤ n
         → take (size + (half - size)) appended ≡ take size keys ++ take (half - size) (take right rkeys)
         → take (size + (half - size)) appended_vals ≡ take size vals ++ take (half - size) (take right rvals)
         → take (right - (half - size)) rfront ≡ drop (half - size) (take right rkeys)

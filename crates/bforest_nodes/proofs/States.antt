@@ -67,18 +67,18 @@ module _ {K V : Type 0} {n : ℕ} where
   pub keys_within : (s : State K V n) (size : ℕ) (keys : Row K 7) (tree : Row Node 8) (whole : Content K V) (i : ℕ) → content_of s ≡ whole → s ≡ Branch size keys tree → i < length (keys_of whole) → i < size
   keys_within s size keys tree whole i view is within = within_front size keys.items i (rw (← view, is) at within)
 
-  -- a leaf less than half full has a size below half
-  pub under_half : (s : State K V n) (size : ℕ) (e : LeafEntries K V n) (whole : Content K V) → content_of s ≡ whole → s ≡ Entries size e → Fits s → length e.keys.items ≡ n → 2 * entry_count whole < n → 2 * size < n
+  -- a leaf at most half full has a size below half
+  pub under_half : (s : State K V n) (size : ℕ) (e : LeafEntries K V n) (whole : Content K V) → content_of s ≡ whole → s ≡ Entries size e → Fits s → length e.keys.items ≡ n → 2 * entry_count whole ≤ n → 2 * size ≤ n
   under_half s size e whole view is fits room under =
       let most : size ≤ n = rw is at fits in
-      let keys : 2 * length (take size e.keys.items) < n = rw (← view, is) at under in
+      let keys : 2 * length (take size e.keys.items) ≤ n = rw (← view, is) at under in
       omega (arith, length-take size e.keys.items)
 
-  -- an inner node less than half full has few children
-  pub few_children : (s : State K V n) (size : ℕ) (keys : Row K 7) (tree : Row Node 8) (whole : Content K V) → content_of s ≡ whole → s ≡ Branch size keys tree → Fits s → length tree.items ≡ 8 → entry_count whole < 4 → size + 1 < 4
+  -- an inner node at most half full has few children
+  pub few_children : (s : State K V n) (size : ℕ) (keys : Row K 7) (tree : Row Node 8) (whole : Content K V) → content_of s ≡ whole → s ≡ Branch size keys tree → Fits s → length tree.items ≡ 8 → entry_count whole ≤ 4 → size + 1 ≤ 4
   few_children s size keys tree whole view is fits room under =
       let most : size ≤ 7 = rw is at fits in
-      let children : length (take (size + 1) tree.items) < 4 = rw (← view, is) at under in
+      let children : length (take (size + 1) tree.items) ≤ 4 = rw (← view, is) at under in
       omega (arith, length-take (size + 1) tree.items)
 
   -- the children of an inner node fit

@@ -1,5 +1,5 @@
 //! What a node holds: the children of an inner node, the entries of a leaf, or the next free slot.
-ghost use Rattle.bforest_nodes.specs.Content.{Balances, Free, HasShape, Inner, IsCut, IsFree, IsInner, IsLeaf, IsLeafCapacity, IsSameKind, Leaf, children_of, entry_capacity, entry_count, first_part, joined, keys_of, left_half, put_answer, removed_answer, take_answer, vals_of, with_child, with_child_at, with_entry, with_entry_key, with_key, with_put, with_taken, without_child, without_entry};
+ghost use Rattle.bforest_nodes.specs.Content.{Balances, Free, HasShape, Inner, IsCut, IsFree, IsInner, IsLeaf, IsLeafCapacity, IsSameKind, Leaf, children_of, entry_capacity, entry_count, first_part, joined, keys_of, last_part, left_half, put_answer, removed_answer, take_answer, vals_of, with_child, with_child_at, with_entry, with_entry_key, with_key, with_put, with_taken, without_child, without_entry};
 ghost use Rattle.bforest_nodes.specs.Search.{count_up_to, search_of};
 ghost use Rattle.std.specs.Borrow.{sem};
 ghost use Rattle.std.specs.List.Sorted.{IsStrictlySortedBy};
@@ -593,6 +593,30 @@ impl<K: Copy, V: Copy, const N: usize> NodeData<K, V, N> {
         }
     }
 
+    /// Keeps the children of an inner node, or the entries of a leaf, from the index `from` on, and drops those in front. It has one there at
+    /// least.
+    pub fn keep_back(&mut self, from: usize)
+        requires used { ¬ IsFree self.old }
+        requires within { from < entry_count self.old }
+        ensures node { self.new ≡ last_part from self.old }
+    {
+        match &mut self.state {
+            State::Branch(size, keys, tree) => {
+                let len = *size as usize;
+                keys.remove_front(len, from);
+                tree.remove_front(len + 1, from);
+                *size = (len - from) as u8;
+            }
+            State::Entries(size, Entries { keys, vals }) => {
+                let len = *size as usize;
+                keys.remove_front(len, from);
+                vals.remove_front(len, from);
+                *size = (len - from) as u8;
+            }
+            State::Vacant(_) => unreachable!(),
+        }
+    }
+
     /// Splits a full node, at which an insertion at `insert_index` had no room. The right half is written to `rhs`, whatever that held.
     ///
     /// A leaf keeps `N / 2` entries where the insertion index is at most `N / 2`, else one more, so that both halves have `(N + 1) / 2`
@@ -670,7 +694,7 @@ impl<K: Copy, V: Copy, const N: usize> NodeData<K, V, N> {
         }
     }
 
-    /// Balances an underflowed node with its right neighbour, from which `crit_key` separates it, and returns the key that separates them
+    /// Balances a node that is at most half full with its right neighbour, from which `crit_key` separates it, and returns the key that separates them
     /// afterwards.
     ///
     /// Where one node can hold everything, all moves to the right one and the result is `None`; what the left one holds then is
@@ -679,7 +703,7 @@ impl<K: Copy, V: Copy, const N: usize> NodeData<K, V, N> {
         requires kind { IsSameKind self.old rhs.old }
         requires filled { 0 < entry_count self.old }
         requires rhs_filled { 0 < entry_count rhs.old }
-        requires underflowed { 2 * entry_count self.old < entry_capacity N self.old }
+        requires half_full { 2 * entry_count self.old ≤ entry_capacity N self.old }
         ensures balanced { Balances N self.old crit_key rhs.old result self.new rhs.new }
     {
         if self.is_inner() {
@@ -695,7 +719,7 @@ impl<K: Copy, V: Copy, const N: usize> NodeData<K, V, N> {
         requires rhs_inner { IsInner rhs.old }
         requires filled { 0 < entry_count self.old }
         requires rhs_filled { 0 < entry_count rhs.old }
-        requires underflowed { entry_count self.old < 4 }
+        requires half_full { entry_count self.old ≤ 4 }
         ensures { Balances N self.old crit_key rhs.old result self.new rhs.new }
     {
         match (&mut self.state, &mut rhs.state) {
@@ -728,7 +752,7 @@ impl<K: Copy, V: Copy, const N: usize> NodeData<K, V, N> {
         requires leaf { IsLeaf self.old }
         requires rhs_leaf { IsLeaf rhs.old }
         requires rhs_filled { 0 < entry_count rhs.old }
-        requires underflowed { 2 * entry_count self.old < N }
+        requires half_full { 2 * entry_count self.old ≤ N }
         ensures { (crit_key : K) → Balances N self.old crit_key rhs.old result self.new rhs.new }
     {
         match (&mut self.state, &mut rhs.state) {

@@ -25,7 +25,7 @@ remove-last (e ∷ (x ∷ es)) p one low = absurd (omega (arith, one))
 remove-last (e ∷ []) zero one low = refl
 remove-last (e ∷ []) (suc p) one low = absurd (omega (arith, low))
 
-truncation-some : (p n : ℕ) (sizes : List (List ℕ)) → 0 < n → truncation p n sizes ≡ truncated p sizes
+pub truncation-some : (p n : ℕ) (sizes : List (List ℕ)) → 0 < n → truncation p n sizes ≡ truncated p sizes
 truncation-some p zero sizes some = absurd (omega (arith, some))
 truncation-some p (suc n) sizes some = refl
 

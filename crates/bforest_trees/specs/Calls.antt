@@ -1,13 +1,13 @@
 -- What a call that may change one tree returns and leaves: one record per call, which every such call of a
 -- map cites.
-use Rattle.bforest_core.specs.Change.{node_count}
+use Rattle.bforest_core.specs.Change.{node_count, severed}
 use Rattle.bforest_core.specs.Packed.{ArePacked, fewest}
-use Rattle.bforest_core.specs.Sizes.{IsFitFor, shrink, truncated}
+use Rattle.bforest_core.specs.Sizes.{IsFitFor, detached, shrink, truncated}
 use Rattle.bforest_core.specs.declared.pool.OutOfMemory.TheVariants.{Full, Memory}
 use Rattle.bforest_core.specs.declared.pool.OutOfMemory.{OutOfMemory}
 use Rattle.bforest_nodes.specs.Entries.{IsIncreasing, cut, is_present, place, put, value_for}
 use Rattle.bforest_trees.specs.Bounds.{entries_between, entries_outside, is_between, start_place}
-use Rattle.bforest_trees.specs.Forest.{Becomes, Forest, Gives, GrowsFor, IsLive, IsTooMany, Keeps, NeedsGrowth, Takes, TakesAndGives, TakesThenGives, free_of, limit_of, list_at, list_of, memory_of, need_of, nodes_of, sizes_at, sizes_of, sizes_with, sizes_without, slots_of}
+use Rattle.bforest_trees.specs.Forest.{Becomes, Forest, Gives, GrowsFor, IsLive, IsTooMany, Keeps, NeedsGrowth, Takes, TakesAndGives, free_of, limit_of, list_at, list_of, memory_of, need_of, nodes_of, sizes_at, sizes_of, sizes_with, sizes_without, slots_of}
 use Rattle.bforest_trees.specs.Retain.{Retains, sizes_by}
 use Rattle.bforest_trees.specs.Shift.{Rekeys}
 use Rattle.bforest_trees.specs.Union.{are_among, fits, kept_from, kept_of, keeps_all, united}
@@ -59,6 +59,38 @@ module _ {K X : Type 0} where
     pub account : Gives (sizes_of f h) (sizes_of f' h') f f'
     pub same_forest : result ≡ false → f' ≡ f
     pub same_handle : result ≡ false → h' ≡ h
+
+  -- The entries from a place of h's list on went to a tree of their own, whose handle is returned, where a leaf has at most `most` entries: all
+  -- of h's tree where none is in front of them. As many nodes were taken as had entries or children on both sides, and then nodes were freed.
+  -- Or the call was refused, and nothing changed.
+  pub record SplitsAt (most : ℕ) (f : Forest K X) (h : Option ℕ) (place : ℕ) (result : Result (Option ℕ) OutOfMemory) (f' : Forest K X) (h' : Option ℕ) : Type 0 where
+    pub front : OnOk result (list_of f' h' ≡ take place (list_of f h))
+    pub tail : IfOk result (λ t. list_of f' t ≡ drop place (list_of f h))
+    pub sizes : OnOk result (sizes_of f' h' ≡ truncation place (length (list_of f h) - place) (sizes_of f h))
+    pub tail_sizes : IfOk result (λ t. sizes_of f' t ≡ detached most place (sizes_of f h))
+    pub live : IsLive f' h'
+    pub tail_live : IfOk result (λ t. IsLive f' t)
+    pub apart : IfOk result (λ t. t ≡ h' → t ≡ None)
+    pub fit : OnOk result (IsFitFor most (length (list_of f' h')) (sizes_of f' h'))
+    pub tail_fit : IfOk result (λ t. IsFitFor most (length (list_of f' t)) (sizes_of f' t))
+    pub leaves : IfOk result (λ t. h ≢ h' → h ≢ t → list_of f' h ≡ [])
+    pub fresh : h' ≢ h → list_of f h' ≡ []
+    pub tail_fresh : IfOk result (λ t. t ≢ h → list_of f t ≡ [])
+    pub others : IfOk result (λ t. (n : ℕ) → Some n ≢ h → Some n ≢ h' → Some n ≢ t → list_at f' n ≡ list_at f n)
+    pub others_sizes : IfOk result (λ t. (n : ℕ) → Some n ≢ h → Some n ≢ h' → Some n ≢ t → sizes_at f' n ≡ sizes_at f n)
+    pub limit : limit_of f' ≡ limit_of f
+    pub slots : OnOk result (slots_of f' ≡ slots_of f + (severed place (sizes_of f h) - free_of f))
+    pub free : IfOk result (λ t. free_of f' + nodes_of f' h' + nodes_of f' t ≡ (free_of f - severed place (sizes_of f h)) + severed place (sizes_of f h) + nodes_of f h)
+    pub growth : OnOk result (GrowsFor (severed place (sizes_of f h)) f f')
+    pub few : severed place (sizes_of f h) ≤ length (sizes_of f h)
+    pub full : (result ≡ Err Full) ↔ IsTooMany (severed place (sizes_of f h)) f
+    pub memory : result ≡ Err Memory → NeedsGrowth (severed place (sizes_of f h)) f
+    pub enough : severed place (sizes_of f h) ≤ free_of f → IsOk result
+    pub whole : place ≡ 0 → (result ≡ Ok h) × (f' ≡ f) × (h' ≡ None)
+    pub none_forest : result ≡ Ok None → f' ≡ f
+    pub none_handle : result ≡ Ok None → h' ≡ h
+    pub refused_forest : OnErr result (f' ≡ f)
+    pub refused_handle : OnErr result (h' ≡ h)
 
   -- the entry at a place of h was removed and is returned, where a leaf has at most `most` entries; at the end
   -- none is, and nothing changed
@@ -298,31 +330,13 @@ module _ {K X : Type 0} (most : ℕ) (cmp : K → K → Ordering) where
     pub same_forest : result ≡ false → f' ≡ f
     pub same_handle : result ≡ false → h' ≡ h
 
-  -- the number of nodes that a split takes: those of a packed tree of the entries whose keys are not less than k
+  -- the number of nodes that a split at k takes: as many as nodes of h's tree have entries or children on both sides
   abbrev pub need_of_split : Forest K X → Option ℕ → K → ℕ
-  need_of_split f h k = fewest most (length (drop (place cmp (list_of f h) k) (list_of f h)))
+  need_of_split f h k = severed (place cmp (list_of f h) k) (sizes_of f h)
 
-  -- The entries of h whose keys are not less than k went to a packed tree of their own, whose handle is returned. It was made first, and then
-  -- they were removed from h. Or the call was refused, and nothing changed.
+  -- the entries of h whose keys are not less than k went to a tree of their own, whose handle is returned; or the call was refused, and nothing
+  -- changed
   pub record SplitsOff (f : Forest K X) (h : Option ℕ) (k : K) (result : Result (Option ℕ) OutOfMemory) (f' : Forest K X) (h' : Option ℕ) : Type 0 where
-    pub front : OnOk result (list_of f' h' ≡ take (place cmp (list_of f h) k) (list_of f h))
-    pub tail : IfOk result (λ t. list_of f' t ≡ drop (place cmp (list_of f h) k) (list_of f h))
-    pub live : IsLive f' h'
-    pub tail_live : IfOk result (λ t. IsLive f' t)
-    pub apart : IfOk result (λ t. t ≡ h' → t ≡ None)
-    pub others : IfOk result (λ t. (n : ℕ) → Some n ≢ h → Some n ≢ h' → Some n ≢ t → list_at f' n ≡ list_at f n)
-    pub others_sizes : IfOk result (λ t. (n : ℕ) → Some n ≢ h → Some n ≢ h' → Some n ≢ t → sizes_at f' n ≡ sizes_at f n)
-    pub limit : limit_of f' ≡ limit_of f
-    pub sizes : OnOk result (sizes_of f' h' ≡ truncation (place cmp (list_of f h) k) (length (list_of f h) - place cmp (list_of f h) k) (sizes_of f h))
-    pub packed : IfOk result (λ t. ArePacked most (sizes_of f' t))
-    pub nodes : IfOk result (λ t. nodes_of f' t ≡ need_of_split f h k)
-    pub account : OnOk result (TakesThenGives (need_of_split f h k) (sizes_of f h) (sizes_of f' h') f f')
+    pub parts : SplitsAt most f h (place cmp (list_of f h) k) result f' h'
     pub increasing : IsIncreasing cmp (list_of f' h')
     pub tail_increasing : IfOk result (λ t. IsIncreasing cmp (list_of f' t))
-    pub full : (result ≡ Err Full) ↔ IsTooMany (need_of_split f h k) f
-    pub memory : result ≡ Err Memory → drop (place cmp (list_of f h) k) (list_of f h) ≢ []
-    pub steps : IfOk result (λ t. IsSome t → (g : Forest K X) × Loads most f (drop (place cmp (list_of f h) k) (list_of f h)) (Ok t) g × RemovesBetween (Included k) Unbounded g h true f' h')
-    pub none_forest : result ≡ Ok None → f' ≡ f
-    pub none_handle : result ≡ Ok None → h' ≡ h
-    pub refused_forest : OnErr result (f' ≡ f)
-    pub refused_handle : OnErr result (h' ≡ h)

@@ -279,6 +279,52 @@ impl Sizes {
         self.trim();
     }
 
+    /// The entries from a place on go to a tree of their own, which is returned with the number of new nodes: one for each node that has entries
+    /// or children on both sides. Of that tree the first node of each level, where it is at most half full, shares with its right neighbour, or
+    /// goes into it.
+    fn detach(&mut self, place: usize, leaf: usize) -> (Self, usize) {
+        if place == 0 {
+            return (std::mem::take(self), 0);
+        }
+        let mut behind = self.clone();
+        let (mut gone, mut parted) = (place, false);
+        let mut severed = 0;
+        for level in &mut behind.0 {
+            let nodes = level.len();
+            level.retain_mut(|size| {
+                let here = gone.min(*size);
+                gone -= here;
+                parted |= 0 < here && here < *size;
+                *size -= here;
+                *size > 0
+            });
+            gone = nodes - level.len();
+            severed += usize::from(parted);
+        }
+        let mut lost = 0;
+        for (height, level) in behind.0.iter_mut().enumerate() {
+            let (nodes, most) = (level.len(), most(height, leaf));
+            match level[..] {
+                [first, second, ..] if 2 * first <= most && first + second <= most => {
+                    level.remove(0);
+                    level[0] += first;
+                }
+                [first, second, ..] if 2 * first <= most => {
+                    level[0] = (first + second).div_ceil(2);
+                    level[1] = (first + second) / 2;
+                }
+                _ => {}
+            }
+            if let Some(first) = level.first_mut() {
+                *first -= lost;
+            }
+            lost = nodes - level.len();
+        }
+        behind.trim();
+        self.truncate(place);
+        (behind, severed)
+    }
+
     /// Levels without a node go, and those above the first of one node.
     fn trim(&mut self) {
         while self.0.last().is_some_and(|top| top.is_empty() || self.0.len() > 1 && top[..] == [1]) {
@@ -479,8 +525,19 @@ impl<'a, C: Order> Model<'a, C> {
 
     fn split_off(&mut self, at: usize, key: u32, to: usize) -> Result<(), OutOfMemory> {
         let rank = self.order.rank(key);
-        let tail = self.packed(self.lists[at].entries.range(rank..).map(|(rank, entry)| (*rank, *entry)).collect())?;
-        self.cut(at, &tail.ranks);
+        let mut front = self.lists[at].clone();
+        let entries = front.entries.split_off(&rank);
+        let ranks = front.ranks.split_off(front.entries.len());
+        if entries.is_empty() {
+            self.clear(to);
+            return Ok(());
+        }
+        let (sizes, severed) = front.sizes.detach(front.entries.len(), self.leaf);
+        self.reserve(severed)?;
+        let before = self.lists[at].sizes.nodes();
+        let tail = Listed { entries, ranks, sizes };
+        self.free = self.free + before - front.sizes.nodes() - tail.sizes.nodes();
+        self.lists[at] = front;
         self.clear(to);
         self.lists[to] = tail;
         Ok(())

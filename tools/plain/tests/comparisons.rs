@@ -715,10 +715,9 @@ fn removals_of_ranges_by_an_index() {
     });
 }
 
-/// A split searches three times, and compares once more in each range that it reads. Debug builds search twice more: for the split's own
-/// key, and for the start of what is removed.
+/// A split searches once. Debug builds search once more.
 fn of_split(search: u32) -> u32 {
-    3 * search + 2 * beside_bound(search)
+    search + beside_bound(search)
 }
 
 #[test]

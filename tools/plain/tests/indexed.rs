@@ -95,10 +95,13 @@ fn change(maps: &mut Maps<u32, u32>, model: &mut Model, call: u32, at: usize, ke
         33 => {
             let other = key as usize % model.len();
             let room = maps.node_limit() - (maps.slots() - maps.free_slots());
-            let fits = fewest_nodes(model[at].range(key..).count(), 7) <= room;
-            assert_eq!(maps.split_off(at, key, other), if fits { Ok(()) } else { Err(OutOfMemory::Full) });
-            if fits {
+            let split = maps.split_off(at, key, other);
+            if split.is_ok() {
                 model[other] = model[at].split_off(&key);
+            } else {
+                // A node a level at most, and none where all or none go.
+                assert!(split == Err(OutOfMemory::Full) && (room as usize) < maps.levels(at));
+                assert!(model[at].range(..key).count() > 0 && model[at].range(key..).count() > 0);
             }
         }
         29 => {
@@ -195,10 +198,12 @@ fn sets_answer_as_a_vector_of_sets() {
                 }
                 26 => {
                     let room = sets.node_limit() - (sets.slots() - sets.free_slots());
-                    let fits = fewest_nodes(model[at].range(key..).count(), 15) <= room;
-                    assert_eq!(sets.split_off(at, key, key as usize % 9), if fits { Ok(()) } else { Err(OutOfMemory::Full) });
-                    if fits {
+                    let split = sets.split_off(at, key, key as usize % 9);
+                    if split.is_ok() {
                         model[key as usize % 9] = model[at].split_off(&key);
+                    } else {
+                        assert!(split == Err(OutOfMemory::Full) && (room as usize) < sets.levels(at));
+                        assert!(model[at].range(..key).count() > 0 && model[at].range(key..).count() > 0);
                     }
                 }
                 23 => match sets.copy(at, key as usize % 9) {

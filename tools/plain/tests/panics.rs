@@ -73,14 +73,13 @@ fn a_comparator_that_panics_in_a_removal_of_a_range() {
     assert!(met[..=30].iter().all(|it| *it) && met[31..].iter().all(|it| !it));
 }
 
-/// A split compares before it changes its map. In the last of its searches the nodes of the tail are taken already: they stay in use, without
-/// a handle.
+/// A split compares before it changes its map.
 #[test]
 fn a_comparator_that_panics_in_a_split() {
     set_hook(Box::new(|_| {}));
     let (mut maps, mut sets) = (MapForest::new(), SetForest::new());
     let (map, set) = (Map::load(&[(1, 1), (3, 3), (5, 5)], &mut maps).unwrap(), Set::load(&[1, 3, 5], &mut sets).unwrap());
-    let (mut caught, mut kept) = (0, [0; 2]);
+    let mut caught = 0;
     for asked in 0..30 {
         let (mut map, mut maps, mut set, mut sets) = (map.clone(), maps.clone(), set.clone(), sets.clone());
         let (order, other) = (Failing(Cell::new(asked)), Failing(Cell::new(asked)));
@@ -90,13 +89,12 @@ fn a_comparator_that_panics_in_a_split() {
             caught += 1;
             assert!(map.iter(&maps).eq([1, 3, 5].map(|it| (it, it))) && set.iter(&sets).eq([1, 3, 5]));
             assert!(maps.holds(&map) && sets.holds(&set));
-            kept[maps.nodes_in_use() as usize - 1] += 1;
-            assert_eq!(maps.nodes_in_use(), sets.nodes_in_use());
+            assert_eq!((maps.nodes_in_use(), sets.nodes_in_use()), (1, 1));
         } else {
             assert!(map.iter(&maps).eq([(1, 1)]) && set.iter(&sets).eq([1]));
         }
     }
-    assert!(caught > 3 && kept[0] > 0 && kept[1] > 0, "{caught} panics, {kept:?}");
+    assert!(caught > 1, "{caught} panics");
 }
 
 #[test]

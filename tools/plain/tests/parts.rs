@@ -64,6 +64,7 @@ trait Handle: Clone + Default {
     /// The slots, and how many of them lie free.
     fn slots(forest: &Self::Forest) -> (u32, u32);
     fn fewest_nodes_for(entries: usize) -> usize;
+    fn nodes_for(entries: usize) -> usize;
     fn keys(&self, forest: &Self::Forest) -> Vec<u32>;
     fn levels(&self, forest: &Self::Forest) -> usize;
     fn put(&mut self, key: u32, forest: &mut Self::Forest);
@@ -89,6 +90,10 @@ impl Handle for Map<u32, u32> {
 
     fn fewest_nodes_for(entries: usize) -> usize {
         Map::<u32, u32>::fewest_nodes_for(entries)
+    }
+
+    fn nodes_for(entries: usize) -> usize {
+        Map::<u32, u32>::nodes_for(entries)
     }
 
     fn keys(&self, forest: &Self::Forest) -> Vec<u32> {
@@ -139,6 +144,10 @@ impl Handle for Set<u32> {
 
     fn fewest_nodes_for(entries: usize) -> usize {
         Set::<u32>::fewest_nodes_for(entries)
+    }
+
+    fn nodes_for(entries: usize) -> usize {
+        Set::<u32>::nodes_for(entries)
     }
 
     fn keys(&self, forest: &Self::Forest) -> Vec<u32> {
@@ -335,7 +344,7 @@ fn with_limits<H: Handle>(keys: &BTreeSet<u32>, need: u32, call: impl Fn(&mut H,
     }
 }
 
-/// A split leaves the keys below, moves the others to a packed tree, and takes that tree's nodes before it frees any.
+/// A split leaves the keys below, and moves the others to a tree of their own. It takes a node a level at most, and before it frees any.
 fn each_split<H: Handle>() {
     let mut random = Random(11);
     for round in 0..1000 {
@@ -345,12 +354,16 @@ fn each_split<H: Handle>() {
         let (slots, free) = H::slots(&forest);
         let (mut removed, mut other) = (handle.clone(), forest.clone());
         removed.remove_range((Included(at), Unbounded), &mut other);
+        let need = nodes_of_split(&handle, at, &forest);
+        assert!(need as usize <= handle.levels(&forest));
         let mut tail = handle.split_off(at, &mut forest).unwrap();
         let mut front = keys.clone();
         let behind = front.split_off(&at);
+        assert_eq!(need == 0, front.is_empty() || behind.is_empty());
         assert!(handle.keys(&forest).iter().eq(&front) && tail.keys(&forest).iter().eq(&behind));
-        let need = H::fewest_nodes_for(behind.len()) as u32;
-        assert_eq!((nodes_of(&tail, &forest), nodes_of(&handle, &forest)), (need, nodes_of(&removed, &other)));
+        assert_eq!(nodes_of(&handle, &forest), nodes_of(&removed, &other));
+        assert!(nodes_of(&tail, &forest) as usize <= H::nodes_for(behind.len()));
+        assert!(nodes_of(&handle, &forest) + nodes_of(&tail, &forest) <= slots - free + need);
         assert_eq!(H::slots(&forest).0, slots + need.saturating_sub(free));
         with_limits(&keys, need, |handle: &mut H, forest| handle.split_off(at, forest).map(drop));
         // Both can be changed as any other.
@@ -363,6 +376,17 @@ fn each_split<H: Handle>() {
         [handle, tail].iter_mut().for_each(|it| it.clear(&mut forest));
         assert_eq!(H::slots(&forest).0, H::slots(&forest).1);
     }
+}
+
+/// How many nodes a split takes: as many as slots are added in a forest where none is free.
+fn nodes_of_split<H: Handle>(handle: &H, at: u32, forest: &H::Forest) -> u32 {
+    let (mut handle, mut forest) = (handle.clone(), forest.clone());
+    while H::slots(&forest).1 > 0 {
+        H::default().put(0, &mut forest);
+    }
+    let slots = H::slots(&forest).0;
+    handle.split_off(at, &mut forest).unwrap();
+    H::slots(&forest).0 - slots
 }
 
 #[test]
@@ -430,15 +454,15 @@ fn maps_beside_btreemap() {
 
 // Memory that is refused.
 
-/// A call that takes memory for its list and then for its nodes: with one request granted the nodes are refused, and with none the list is.
-/// Nothing has changed then. With both granted it answers. A copy of a forest has a table without room.
-fn each_refusal<H: Handle>(call: fn(&mut H, &mut H::Forest) -> Result<(), OutOfMemory>) {
+/// A call that takes memory so many times: with fewer requests granted it is refused, and nothing has changed. With all granted it answers. A
+/// copy of a forest has a table without room.
+fn each_refusal<H: Handle>(needed: u32, call: fn(&mut H, &mut H::Forest) -> Result<(), OutOfMemory>) {
     let mut forest = H::forest(u32::MAX);
     let handle: H = made(0..500, &mut forest);
-    for requests in 0..=2 {
+    for requests in 0..=needed {
         let (mut handle, mut forest, before) = (handle.clone(), forest.clone(), H::slots(&forest));
         let answer = granted(requests, || call(&mut handle, &mut forest));
-        assert_eq!(answer, if requests < 2 { Err(OutOfMemory::Memory) } else { Ok(()) }, "{requests} requests");
+        assert_eq!(answer, if requests < needed { Err(OutOfMemory::Memory) } else { Ok(()) }, "{requests} requests");
         if answer.is_err() {
             assert_eq!(H::slots(&forest), before);
             assert!(handle.keys(&forest).into_iter().eq(0..500));
@@ -448,10 +472,10 @@ fn each_refusal<H: Handle>(call: fn(&mut H, &mut H::Forest) -> Result<(), OutOfM
 
 #[test]
 fn lists_and_tables_that_are_refused() {
-    each_refusal::<Map<u32, u32>>(|map, forest| map.split_off(100, forest, &()).map(drop));
-    each_refusal::<Map<u32, u32>>(|map, forest| map.compact(forest));
-    each_refusal::<Set<u32>>(|set, forest| set.split_off(100, forest, &()).map(drop));
-    each_refusal::<Set<u32>>(|set, forest| set.compact(forest));
+    each_refusal::<Map<u32, u32>>(1, |map, forest| map.split_off(100, forest, &()).map(drop));
+    each_refusal::<Map<u32, u32>>(2, |map, forest| map.compact(forest));
+    each_refusal::<Set<u32>>(1, |set, forest| set.split_off(100, forest, &()).map(drop));
+    each_refusal::<Set<u32>>(2, |set, forest| set.compact(forest));
 }
 
 /// What takes no node asks for no memory: a removal, and a split and a compaction of nothing.
@@ -461,6 +485,7 @@ fn calls_that_are_refused_nothing() {
     let (mut map, mut set): (Map<u32, u32>, Set<u32>) = (made(0..500, &mut maps), made(0..500, &mut sets));
     granted(0, || {
         assert!(map.split_off(500, &mut maps, &()).unwrap().is_empty() && set.split_off(500, &mut sets, &()).unwrap().is_empty());
+        (map, set) = (map.split_off(0, &mut maps, &()).unwrap(), set.split_off(0, &mut sets, &()).unwrap());
         assert!(map.remove_range(100..400, &mut maps, &()) && set.remove_range(100..400, &mut sets, &()));
         assert_eq!((Map::<u32, u32>::new().compact(&mut maps), Set::<u32>::new().compact(&mut sets)), (Ok(()), Ok(())));
     });

@@ -147,7 +147,8 @@ with_both_searches!(
     a_range_of_equal_keys_goes_whole,
     a_map_is_split_at_a_key_and_between_keys,
     a_split_at_an_end_moves_all_or_nothing,
-    a_split_makes_a_packed_tail,
+    a_split_hands_leaves_over,
+    a_split_in_a_leaf_fills_the_first_leaf,
     a_split_one_node_short_changes_nothing,
     a_compacted_map_has_the_fewest_nodes,
     a_compaction_one_node_short_changes_nothing,
@@ -766,28 +767,42 @@ fn a_split_at_an_end_moves_all_or_nothing<C: Comparator<u32>>(comp: &C) {
     let mut tail = map.split_off(1, &mut forest, comp).unwrap();
     assert!(map.is_empty() && map.split_off(0, &mut forest, comp).unwrap().is_empty());
     assert_eq!(entries(&tail, &forest), tenfold(1..=8));
-    assert_eq!(sizes(&tail, &forest), Sizes { levels: 2, slots: 6, free: 3 });
+    assert_eq!(sizes(&tail, &forest), Sizes { levels: 2, slots: 3, free: 0 });
     tail.clear(&mut forest);
     assert_eq!(forest.nodes_in_use(), 0);
 }
 
-// 15 keys in order lie in leaves of 4, 4 and 7 below a root. From 5 on there are 11: leaves of 7 and 4 below a root. The leaf of 1 to 4 is left
-// alone, so three nodes lie free.
-fn a_split_makes_a_packed_tail<C: Comparator<u32>>(comp: &C) {
+// 15 keys in order lie in leaves of 4, 4 and 7 below a root. The first leaf stays, and its root is discarded. The two others go below a new
+// root, and neither is at most half full.
+fn a_split_hands_leaves_over<C: Comparator<u32>>(comp: &C) {
     let mut forest = Forest::new();
     let mut map = filled(1..=15, &mut forest, comp);
     assert_eq!(sizes(&map, &forest), Sizes { levels: 2, slots: 4, free: 0 });
     let tail = map.split_off(5, &mut forest, comp).unwrap();
-    assert_eq!(sizes(&map, &forest), Sizes { levels: 1, slots: 7, free: 3 });
-    assert_eq!(sizes(&tail, &forest), Sizes { levels: 2, slots: 7, free: 3 });
+    assert_eq!(sizes(&map, &forest), Sizes { levels: 1, slots: 5, free: 1 });
+    assert_eq!(sizes(&tail, &forest), Sizes { levels: 2, slots: 5, free: 1 });
     assert_eq!((entries(&map, &forest), entries(&tail, &forest)), (tenfold(1..=4), tenfold(5..=15)));
     // Both go on apart.
     assert_eq!(map.insert(5, 0, &mut forest, comp), Ok(None));
     assert_eq!((map.len(&forest), tail.get(5, &forest, comp), tail.len(&forest)), (5, Some(50), 11));
 }
 
+// The second of the leaves of 4, 4 and 7 is parted, and so is the root: two new nodes. Its last three keys and the next leaf's 7 share: 5 and 5.
+fn a_split_in_a_leaf_fills_the_first_leaf<C: Comparator<u32>>(comp: &C) {
+    let mut forest = Forest::new();
+    let mut map = filled(1..=15, &mut forest, comp);
+    let mut tail = map.split_off(6, &mut forest, comp).unwrap();
+    assert_eq!(sizes(&map, &forest), Sizes { levels: 2, slots: 6, free: 0 });
+    assert_eq!((entries(&map, &forest), entries(&tail, &forest)), (tenfold(1..=5), tenfold(6..=15)));
+    // Of 5 and 5 a key goes, and a second one, where 3 and 5 share. After a third one 3 and 4 become one leaf, whose root is discarded.
+    for (key, slots_free) in [(6, 0), (7, 0), (8, 2)] {
+        assert_eq!(tail.remove(key, &mut forest, comp), Some(10 * key));
+        assert_eq!(sizes(&tail, &forest).free, slots_free);
+    }
+}
+
 fn a_split_one_node_short_changes_nothing<C: Comparator<u32>>(comp: &C) {
-    for (limit, moved) in [(6, None), (7, Some(11))] {
+    for (limit, moved) in [(4, None), (5, Some(11))] {
         let mut forest = Forest::with_node_limit(limit);
         let mut map = filled(1..=15, &mut forest, comp);
         let tail = map.split_off(5, &mut forest, comp);

@@ -29,7 +29,7 @@ last_key (z ∷ l) x some = cc (map-append (λ w. w.0) l (x ∷ []), slice_get_a
 
 module _ {K : Type 0} (V : Type 0) where
   -- removing one of two children or more removes the key before it
-  without_some : (ks : List K) (cs index : _) → 2 ≤ length cs → without_child {V = V} (Inner ks cs) index ≡ Inner (remove ks (index - 1)) (remove cs index)
+  pub without_some : (ks : List K) (cs index : _) → 2 ≤ length cs → without_child {V = V} (Inner ks cs) index ≡ Inner (remove ks (index - 1)) (remove cs index)
   without_some ks cs index two = elim (eqb_tells (length cs) 1) [ inl w ↦ absurd (let e = w.1 in omega arith) | inr w ↦ (let e = w.0 in rw e refl) ]
 
   -- removing a child that another follows, with the removed child's key passed to the next

@@ -1,6 +1,6 @@
 -- Balancing the short leaf of a way with its right neighbour under the same parent, which keeps 4 children or more, or is the root: the answers of `balance_on`.
 use Rattle.bforest_core.proofs.Words.{◌≡◌, ◌≢◌, ℕ, suc, ◌+◌, ◌-◌, ◌*◌, ◌/◌, ◌%◌, ◌^◌, ◌≤◌, ◌<◌, List, [], ◌∷◌, ◌++◌, length, get_or, set, slice_get, Option, Some, None, inl, refl, sym, ap, ◌∙◌}
-use Rattle.bforest_core.proofs.Words.{arith, subst, length-append, length-set, map, Heads, RowsIn, IsUsed, IsUnderflowedAt, IsBalancedAt, Table, with_freed, entry_count, inner_content, heads, sizes}
+use Rattle.bforest_core.proofs.Words.{arith, subst, length-append, length-set, map, Heads, RowsIn, IsUsed, IsHalfFullAt, IsBalancedAt, Table, with_freed, entry_count, inner_content, heads, sizes}
 use Rattle.bforest_core.proofs.Words.{cases_lt, inr, nil_from_length, ◌⊎◌, Rows, Trimmed, UpTo, Loses, Joins, OneAbove, TwoAbove, LoosenedRows, Rebuilt, Shrunk, ShortOn, loss_above, nodes_up, node}
 use Rattle.bforest_core.proofs.removal.{Asked.{no_nodes, some_first, Beside, ChildAt, Counts, KeyAt, ReadsChild, ReadsKey, Removes, Seen, Writes}, Healing.leaf_loses, Merge.{kept_restored, merge_asks, rebuilt}}
 use Rattle.bforest_core.proofs.removal.{Neighbours.{beside_same, item_asks, one_seen}, Rebalance.judged, RemovingMerged.{here, merge_same, remove_asks, same_parent}, Removing.{collapse_asks, healed_removed, joined_removed}}
@@ -79,7 +79,7 @@ module _ {K V : Type 0} {most : ℕ} {t : Table K V} {root : ℕ} {way : Way} (s
       beside : Beside t path indices 1 size (Some (key, right))
       beside w = beside_same (one_seen w other 0 wide height) (length es) now key right many.1 (rw (parent-is, index-is is) reads-key) (rw (parent-is, index-is is) reads-child)
 
-      pub balance-asks : IsUsed t way.leaf × (IsUsed t right × ((way.leaf ≢ right) × IsUnderflowedAt most t.nodes way.leaf right))
+      pub balance-asks : IsUsed t way.leaf × (IsUsed t right × ((way.leaf ≢ right) × IsHalfFullAt most t.nodes way.leaf right))
       balance-asks = rw (← f.leaf_is) (balance_asks loses 0 wide height left left-read under refl beside)
 
       module _ {v : Table K V} {got : Option K} (balanced : IsBalancedAt most t way.leaf key right got v) where

@@ -1,7 +1,7 @@
 -- Rebalancing a level, from what its calls state: the answers of `rebalance`.
 use Rattle.bforest_core.proofs.Words.{◌≡◌, ℕ, suc, ◌+◌, ◌≤◌, ◌<◌, ◌≢◌, List, ◌∷◌, length, slice_get, Option, Some, None, ap, ◌∙◌, subst, inl, inr}
 use Rattle.bforest_core.proofs.Words.{length-append, arith, Content, Table, IsBalancedAt, content_at, half_at, most_at, set, get_or, with_freed, node, flat}
-use Rattle.bforest_core.proofs.Words.{heads, count, OnLevel, Healed, Joined, add-one, get_or_default, Item, Heals, Joins, Loses, IsUsed, IsUnderflowedAt}
+use Rattle.bforest_core.proofs.Words.{heads, count, OnLevel, Healed, Joined, add-one, get_or_default, Item, Heals, Joins, Loses, IsUsed, IsHalfFullAt}
 use Rattle.bforest_core.proofs.{Words.{OneAbove, TwoAbove, Keeps}, removal.Rebalance.{above_both, above_two_put, apart, settle_join, settle_move}}
 use Rattle.bforest_core.proofs.removal.{Rebalance.{settle_spread, settle_stay}, Balance.{AllRight, IsHalf, IsStored, Spread, all_right_at, kind_half}}
 use Rattle.bforest_core.proofs.removal.{Balance.{kind_stored, spread_at}, Asked.{NodeAt, Counts, Beside, Rekeys, Enters, no_nodes, some_first, First}}
@@ -127,9 +127,9 @@ module _ {K V : Type 0} {cap least : ℕ} {t : Table K V} {path indices up size 
     slots : (slice_get t.nodes n ≡ Some (content (e ∷ others))) × (slice_get t.nodes q ≡ Some (content (d.f ∷ d.fs)))
     slots = let both = (row-split _ _ _ (node n (e ∷ others) ∷ node q (d.f ∷ d.fs) ∷ d.rest) (level d).inside).1 in (both.0, both.1.0)
 
-    pub balance_asks : IsUsed t (get_or path up r) × (IsUsed t q × ((get_or path up r ≢ q) × IsUnderflowedAt cap t.nodes (get_or path up r) q))
+    pub balance_asks : IsUsed t (get_or path up r) × (IsUsed t q × ((get_or path up r ≢ q) × IsHalfFullAt cap t.nodes (get_or path up r) q))
     balance_asks = let ce = s.count_is (e ∷ others) in let cf = s.count_is (d.f ∷ d.fs) in
-        let both : IsUnderflowedAt cap t.nodes n q = record {
+        let both : IsHalfFullAt cap t.nodes n q = record {
           under = content (e ∷ others);
           neighbour = content (d.f ∷ d.fs);
           left_is = slots.0;
@@ -137,7 +137,7 @@ module _ {K V : Type 0} {cap least : ℕ} {t : Table K V} {path indices up size 
           kind = s.kind (e ∷ others) (d.f ∷ d.fs);
           filled = omega arith;
           neighbour_filled = omega arith;
-          underflowed = omega (arith, s.capacity_is (e ∷ others), under_is, hm.hi);
+          half_full = omega (arith, s.capacity_is (e ∷ others), under_is, hm.hi);
         } in
         rw num_is (is_used _ _ _ slot_here none_here, (is_used _ _ _ slots.1 (apart hm (level d)).3, ((apart hm (level d)).0, both)))
 

@@ -26,10 +26,10 @@ module _ {K V : Type 0} where
     pub freed_root : result ≢ Some root → 0 < count root new.chain
 
   module _ {most : ℕ} {old : Table K V} {root place : ℕ} {path indices : List ℕ} {size : ℕ} (union : IsUnion most old) (s : StandsUnder old.nodes root path indices size place) where
-    abbrev tree : Tree K V
+    abbrev pub tree : Tree K V
     tree = tree_of old.nodes root
 
-    r : Rooted most old root tree
+    pub r : Rooted most old root tree
     r = rooted most old root union s.root_is
 
     pub path-top : get_or path (size - 1) 0 ≡ root
@@ -48,7 +48,7 @@ module _ {K V : Type 0} where
     pub height-low : (0 < size) × (size ≤ 17)
     height-low = (omega (arith, s.stands.size_is), omega (arith, s.stands.size_is, r.low))
 
-    low : place < length (flat tree.leaves)
+    pub low : place < length (flat tree.leaves)
     low = place_low path indices size tree place s.stands
 
     module _ {mid : Table K V} (cuts : LeavesFront old mid tree.leaves tree.above place) where
@@ -77,36 +77,38 @@ module _ {K V : Type 0} where
             freed_root = λ ne. omega (arith, ap (λ z. count z (numbers_of tree)) r.root_is, gone.numbers_are root, ap (count root) gone.chain_is, count-append);
           }
 
-      -- the first entries are left
-      module _ (some : 0 < place) where
-        abbrev leaves : Row K V
-        leaves = front_row place tree.leaves
+    -- the first entries are left
+    module _ (some : 0 < place) where
+      abbrev pub leaves : Row K V
+      leaves = front_row place tree.leaves
 
-        abbrev rows : Rows K
-        rows = front_rows (length leaves) tree.above
+      abbrev pub rows : Rows K
+      rows = front_rows (length leaves) tree.above
 
-        half : 1 ≤ half_of most
-        half = some_leaf union.1.capacity
+      pub half : 1 ≤ half_of most
+      half = some_leaf union.1.capacity
 
-        leaves-fit : FitRow (half_of most) most leaves
-        leaves-fit = fit-front (half_of most) most half tree.leaves place r.fit.leaves_fit
+      pub leaves-fit : FitRow (half_of most) most leaves
+      leaves-fit = fit-front (half_of most) most half tree.leaves place r.fit.leaves_fit
 
-        kept-some : 0 < length leaves
-        kept-some = some-front tree.leaves place some (omega (arith, low))
+      pub kept-some : 0 < length leaves
+      kept-some = some-front tree.leaves place some (omega (arith, low))
 
-        kept-low : length leaves ≤ length (heads tree.leaves)
-        kept-low = omega (arith, length-front tree.leaves place, fit_full (half_of most) most half tree.leaves r.fit.leaves_fit)
+      pub kept-low : length leaves ≤ length (heads tree.leaves)
+      kept-low = omega (arith, length-front tree.leaves place, fit_full (half_of most) most half tree.leaves r.fit.leaves_fit)
 
-        heads-are : heads leaves ≡ take (length leaves) (heads tree.leaves)
-        heads-are = heads-front (half_of most) most half tree.leaves place r.fit.leaves_fit
+      pub heads-are : heads leaves ≡ take (length leaves) (heads tree.leaves)
+      heads-are = heads-front (half_of most) most half tree.leaves place r.fit.leaves_fit
 
-        stacked : Stacked (heads leaves) rows
-        stacked = rw heads-are (stacked-fronts (heads tree.leaves) tree.above (length leaves) kept-some kept-low r.fit.stacked)
+      pub stacked : Stacked (heads leaves) rows
+      stacked = rw heads-are (stacked-fronts (heads tree.leaves) tree.above (length leaves) kept-some kept-low r.fit.stacked)
 
-        sizes-are : fronts place (sizes_of tree) ≡ sizes leaves ∷ map sizes rows
-        sizes-are = let here = sizes-front tree.leaves place in let len = length-sizes leaves in
-            cc (here, len, sizes-fronts tree.above (length leaves))
+      pub sizes-are : fronts place (sizes_of tree) ≡ sizes leaves ∷ map sizes rows
+      sizes-are = let here = sizes-front tree.leaves place in let len = length-sizes leaves in
+          cc (here, len, sizes-fronts tree.above (length leaves))
 
+      -- what is left is in the table
+      module _ {mid : Table K V} (cuts : LeavesFront old mid tree.leaves tree.above place) where
         pub cut-up : {top : ℕ} → top ≡ root → UpTo mid size rows (heads leaves) top
         cut-up is = rw is (record {
           stacked = stacked;

@@ -1,13 +1,14 @@
-//! Removing the entries within bounds.
+//! Removing the entries within bounds, and moving those behind a key to a tree of their own.
 ghost use Rattle.bforest_trees.specs.Bounds.{is_past_end, start_place};
-ghost use Rattle.bforest_trees.specs.Calls.{CutsFrom, RemovesBetween};
+ghost use Rattle.bforest_trees.specs.Calls.{CutsFrom, RemovesBetween, SplitsAt, SplitsOff};
 ghost use Rattle.bforest_trees.specs.Forest.{IsLive, list_of};
 ghost use Rattle.bforest_trees.specs.Place.{AtSpot, IsSpot};
 ghost use Rattle.bforest_nodes.specs.Entries.{IsIncreasing};
 ghost use Rattle.std.specs.Prelude.{Some, false, slice_get, true, ◌≡◌};
 
 use crate::trees::{Trees, packed};
-use bforest_core::{Comparator, PackedNode, Path};
+use bforest_core::{Comparator, OutOfMemory, PackedNode, Path};
+use std::mem;
 use std::ops::Bound;
 
 impl<K: Copy, V: Copy, const N: usize> Trees<K, V, N> {
@@ -49,6 +50,46 @@ impl<K: Copy, V: Copy, const N: usize> Trees<K, V, N> {
         }
         *handle = packed(path.cut(&mut self.pool));
         true
+    }
+
+    /// Moves the entries whose keys are not less than `key` to a tree of their own, and returns its handle. One search.
+    pub fn split_off<C: Comparator<K>>(
+        &mut self,
+        handle: &mut PackedNode,
+        key: K,
+        comp: &C,
+    ) -> Result<PackedNode, OutOfMemory>
+        requires live { IsLive self.old handle.old }
+        requires increasing { IsIncreasing (C.order comp.now) (list_of self.old handle.old) }
+        ensures { SplitsOff N (C.order comp.now) self.old handle.old key result self.new handle.new }
+    {
+        let mut path = Path::default();
+        let _value = self.goto(*handle, &mut path, key, comp);
+        self.detach_at(handle, &mut path)
+    }
+
+    // Moves the entry where a path stands and all behind it to a tree of their own, and returns its handle.
+    fn detach_at(
+        &mut self,
+        handle: &mut PackedNode,
+        path: &mut Path<K, V, N>,
+    ) -> Result<PackedNode, OutOfMemory>
+        requires live { IsLive self.old handle.old }
+        requires stands { AtSpot self.old handle.old path.old }
+        ensures { (at : AtSpot self.old handle.old path.old) → SplitsAt N self.old handle.old at.place result
+            self.new handle.new }
+    {
+        if path.leaf_pos().is_none() {
+            return Ok(PackedNode::none());
+        }
+        let need = path.nodes_to_detach();
+        if need == 0 {
+            return Ok(mem::replace(handle, PackedNode::none()));
+        }
+        self.pool.reserve(need)?;
+        let (front, behind) = path.detach(&mut self.pool);
+        *handle = PackedNode::some(front);
+        Ok(PackedNode::some(behind))
     }
 
     // Whether a path stands on an entry whose key is in front of an end bound.

@@ -39,7 +39,7 @@ keep_front-requires-2 g t c = let b = c.requires.branch.3 in let one = c.require
     let asks = child-asks one b high swept child in
     let cuts = c.cut_below-kept.ensures.left _ _ _ asks in
     let none = c.cut_below-kept.ensures.none _ _ _ asks in let few = c.cut_below-kept.ensures.one in
-    (search rules, (used-asks one b high swept cuts, (_, slot-is one b high swept cuts, (λ free. free), kept-within one b high swept cuts c.cut_below-kept.result none few)))
+    (search rules, (used-asks one b high swept cuts, (_, slot-is one b high swept cuts, (λ free. free), kept-within one b high c.cut_below-kept.result none few)))
 
 pub returns-clause-left : goal.returns-clause-left
 returns-clause-left g t c = λ leaves lower place b. let one = c.requires.capacity in let high = c.if-level-eq0.false in

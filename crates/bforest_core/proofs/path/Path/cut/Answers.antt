@@ -20,9 +20,9 @@ returns-then-cut_below-eq0 g c = cuts-here (λ at. let b = branch c.requires.uni
 pub collapse_root-top-requires : goal.collapse_root-top-requires
 collapse_root-top-requires g c = let w = c.requires.stands in let h = height-low c.requires.union w.on in
     let is = c.root-root.ensures ∙ path-top c.requires.union w.on in let b = branch c.requires.union w.on is in
-    (search rules, (search rules, (omega (arith, h.1), (_, _, cut-up c.requires.union w.on (c.cut_below.ensures.left _ _ _ b) (more (c.cut_below.ensures.none _ _ _ b).1 c.if-cut_below-eq0.false) is))))
+    (search rules, (search rules, (omega (arith, h.1), (_, _, cut-up c.requires.union w.on (more (c.cut_below.ensures.none _ _ _ b).1 c.if-cut_below-eq0.false) (c.cut_below.ensures.left _ _ _ b) is))))
 
 pub returns : goal.returns
 returns g c = cuts-here (λ at. let is = c.root-root.ensures ∙ path-top c.requires.union at.on in let b = branch c.requires.union at.on is in
     let cuts = c.cut_below.ensures.left _ _ _ b in let some = more (c.cut_below.ensures.none _ _ _ b).1 c.if-cut_below-eq0.false in
-    cut-left c.requires.union at.on cuts some is (c.collapse_root-top.ensures.trimmed _ _ (cut-up c.requires.union at.on cuts some is)).1) refl
+    cut-left c.requires.union at.on some cuts is (c.collapse_root-top.ensures.trimmed _ _ (cut-up c.requires.union at.on some cuts is)).1) refl

@@ -14,7 +14,7 @@ balance-requires g c =
     let left : slice_get c.args.self.now.nodes c.args.left ≡ Some c.two_nodes-lhs.result.0.now = rw (← c.self.view_is, ← c.number.ensures.value, ← c.as_mut_slice.ensures.value) c.two_nodes-lhs.ensures.left in
     let right : slice_get c.args.self.now.nodes c.args.right ≡ Some c.two_nodes-lhs.result.1.now = rw (← c.self.view_is, ← c.number-2.ensures.value, ← c.as_mut_slice.ensures.value) c.two_nodes-lhs.ensures.right in
     let w = c.requires.balanceable in let under = some_same (sym w.left_is ∙ left) in let neighbour = some_same (sym w.right_is ∙ right) in
-    (search rules, (rw (under, neighbour) at w.kind, (rw under at w.filled, (rw neighbour at w.neighbour_filled, rw under at w.underflowed))))
+    (search rules, (rw (under, neighbour) at w.kind, (rw under at w.filled, (rw neighbour at w.neighbour_filled, rw under at w.half_full))))
 
 pub invariant_of-self : goal.invariant_of-self
 invariant_of-self g c =

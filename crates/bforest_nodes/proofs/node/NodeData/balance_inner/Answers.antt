@@ -10,7 +10,7 @@ pub returns : goal.returns
 returns g c =
     let b = c.in-Branch-Branch in
     let len : length c.in-Branch-Branch.tree.items ≡ 8 = search rules in
-    let few = few_children c.self.inside.state c.in-Branch-Branch.size c.in-Branch-Branch.keys c.in-Branch-Branch.tree c.args.self.now c.self.view_is c.in-Branch-Branch.is-0 c.self.invariant.1 len c.requires.underflowed in
+    let few = few_children c.self.inside.state c.in-Branch-Branch.size c.in-Branch-Branch.keys c.in-Branch-Branch.tree c.args.self.now c.self.view_is c.in-Branch-Branch.is-0 c.self.invariant.1 len c.requires.half_full in
     let most = right_most c.rhs.inside.state c.in-Branch-Branch.right_size c.in-Branch-Branch.right_keys c.in-Branch-Branch.right_tree c.in-Branch-Branch.is-1 c.rhs.invariant.1 in
     let keys_room : length c.in-Branch-Branch.keys.items ≡ 7 = search rules in
     let right_room : length c.in-Branch-Branch.right_keys.items ≡ 7 = search rules in
@@ -38,7 +38,7 @@ returns-then-len-right_len-le-INNER_SIZE g c =
 pub push-requires : goal.push-requires
 push-requires g c =
     let len : length c.in-Branch-Branch.tree.items ≡ 8 = search rules in
-    let few = few_children c.self.inside.state c.in-Branch-Branch.size c.in-Branch-Branch.keys c.in-Branch-Branch.tree c.args.self.now c.self.view_is c.in-Branch-Branch.is-0 c.self.invariant.1 len c.requires.underflowed in
+    let few = few_children c.self.inside.state c.in-Branch-Branch.size c.in-Branch-Branch.keys c.in-Branch-Branch.tree c.args.self.now c.self.view_is c.in-Branch-Branch.is-0 c.self.invariant.1 len c.requires.half_full in
     (search rules, pushes few)
 
 pub put_before-requires : goal.put_before-requires
@@ -52,14 +52,14 @@ put_before-requires-then-len-right_len-le-INNER_SIZE g c =
 pub overflow_sub-moved : goal.overflow_sub-moved
 overflow_sub-moved g c =
     let len : length c.in-Branch-Branch.tree.items ≡ 8 = search rules in
-    let few = few_children c.self.inside.state c.in-Branch-Branch.size c.in-Branch-Branch.keys c.in-Branch-Branch.tree c.args.self.now c.self.view_is c.in-Branch-Branch.is-0 c.self.invariant.1 len c.requires.underflowed in
+    let few = few_children c.self.inside.state c.in-Branch-Branch.size c.in-Branch-Branch.keys c.in-Branch-Branch.tree c.args.self.now c.self.view_is c.in-Branch-Branch.is-0 c.self.invariant.1 len c.requires.half_full in
     let most = right_most c.rhs.inside.state c.in-Branch-Branch.right_size c.in-Branch-Branch.right_keys c.in-Branch-Branch.right_tree c.in-Branch-Branch.is-1 c.rhs.invariant.1 in
     parts c.in-Branch-Branch.size c.in-Branch-Branch.right_size most c.div_ceil.result c.div_ceil.ensures c.if-len-right_len-le-INNER_SIZE.false few
 
 pub append-requires : goal.append-requires
 append-requires g c =
     let len : length c.in-Branch-Branch.tree.items ≡ 8 = search rules in
-    let few = few_children c.self.inside.state c.in-Branch-Branch.size c.in-Branch-Branch.keys c.in-Branch-Branch.tree c.args.self.now c.self.view_is c.in-Branch-Branch.is-0 c.self.invariant.1 len c.requires.underflowed in
+    let few = few_children c.self.inside.state c.in-Branch-Branch.size c.in-Branch-Branch.keys c.in-Branch-Branch.tree c.args.self.now c.self.view_is c.in-Branch-Branch.is-0 c.self.invariant.1 len c.requires.half_full in
     let most = right_most c.rhs.inside.state c.in-Branch-Branch.right_size c.in-Branch-Branch.right_keys c.in-Branch-Branch.right_tree c.in-Branch-Branch.is-1 c.rhs.invariant.1 in
     let d = keys_moved c.in-Branch-Branch.size c.in-Branch-Branch.right_size most c.div_ceil.result c.div_ceil.ensures c.if-len-right_len-le-INNER_SIZE.false few in
     (search rules, (d.fits, (d.from_fits, d.within)))
@@ -86,7 +86,7 @@ remove_front-requires-in-Branch-Branch g c =
 pub at-requires : goal.at-requires
 at-requires g c =
     let len : length c.in-Branch-Branch.tree.items ≡ 8 = search rules in
-    let few = few_children c.self.inside.state c.in-Branch-Branch.size c.in-Branch-Branch.keys c.in-Branch-Branch.tree c.args.self.now c.self.view_is c.in-Branch-Branch.is-0 c.self.invariant.1 len c.requires.underflowed in
+    let few = few_children c.self.inside.state c.in-Branch-Branch.size c.in-Branch-Branch.keys c.in-Branch-Branch.tree c.args.self.now c.self.view_is c.in-Branch-Branch.is-0 c.self.invariant.1 len c.requires.half_full in
     let most = right_most c.rhs.inside.state c.in-Branch-Branch.right_size c.in-Branch-Branch.right_keys c.in-Branch-Branch.right_tree c.in-Branch-Branch.is-1 c.rhs.invariant.1 in
     let d = keys_moved c.in-Branch-Branch.size c.in-Branch-Branch.right_size most c.div_ceil.result c.div_ceil.ensures c.if-len-right_len-le-INNER_SIZE.false few in
     (search rules, (d.fits, last_within c.in-Branch-Branch.size c.in-Branch-Branch.right_size most c.div_ceil.result c.div_ceil.ensures c.if-len-right_len-le-INNER_SIZE.false))

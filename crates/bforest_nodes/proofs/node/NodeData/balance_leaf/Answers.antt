@@ -11,7 +11,7 @@ returns g c = λ crit_key.
     let small = entries_most _ _ _ c.in-Entries-Entries.is-0 c.self.invariant.1 in
     let most = entries_most _ _ _ c.in-Entries-Entries.is-1 c.rhs.invariant.1 in
     let room : length c.in-Entries-Entries.field-1-0.keys.items ≡ g.row.N = search rules in
-    let under = under_half _ _ _ _ c.self.view_is c.in-Entries-Entries.is-0 c.self.invariant.1 room c.requires.underflowed in
+    let under = under_half _ _ _ _ c.self.view_is c.in-Entries-Entries.is-0 c.self.invariant.1 room c.requires.half_full in
     let vals_room : length c.in-Entries-Entries.field-1-0.vals.items ≡ g.row.N = search rules in
     let right_room : length c.in-Entries-Entries.field-1-1.keys.items ≡ g.row.N = search rules in
     let right_vals_room : length c.in-Entries-Entries.field-1-1.vals.items ≡ g.row.N = search rules in
@@ -50,7 +50,7 @@ overflow_sub-moved g c =
     let small = entries_most _ _ _ c.in-Entries-Entries.is-0 c.self.invariant.1 in
     let most = entries_most _ _ _ c.in-Entries-Entries.is-1 c.rhs.invariant.1 in
     let room : length c.in-Entries-Entries.field-1-0.keys.items ≡ g.row.N = search rules in
-    let under = under_half _ _ _ _ c.self.view_is c.in-Entries-Entries.is-0 c.self.invariant.1 room c.requires.underflowed in
+    let under = under_half _ _ _ _ c.self.view_is c.in-Entries-Entries.is-0 c.self.invariant.1 room c.requires.half_full in
     leaf_parts g.row.N c.in-Entries-Entries.size c.in-Entries-Entries.right_size c.div_ceil.result c.div_ceil.ensures small most c.if-len-right_len.false under
 
 pub append-requires : goal.append-requires
