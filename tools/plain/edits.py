@@ -227,7 +227,7 @@ EDITS = {
         (r"list\.push_reserved\(", "list.push(", 1),
     ],
     "bforest_trees/trees/part.rt": [
-        NEW_TREE,
+        (r"^        Ok\(behind\)$", "        Ok(self.marked(behind))", 1),
         (
             r"^(?= *let mut path = Path::default\(\);\n *let _value = self\.goto\()",
             "        self.expect_order_at(*handle, Bound::Included(key), comp);\n",

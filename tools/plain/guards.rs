@@ -31,6 +31,13 @@ impl<K: Copy, V: Copy, const N: usize> Trees<K, V, N> {
         handle
     }
 
+    /// The handle of a tree that was a part of another one.
+    #[inline(always)]
+    pub(crate) fn marked(&mut self, handle: PackedNode) -> PackedNode {
+        self.mark(handle, true);
+        handle
+    }
+
     /// Gives a handle the root that its tree has from now on, and in debug builds the mark with it.
     #[inline(always)]
     pub(crate) fn rename(&mut self, handle: &mut PackedNode, root: PackedNode) {

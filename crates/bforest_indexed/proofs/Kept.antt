@@ -26,11 +26,11 @@ use Rattle.std.specs.declared.cmp.Ordering.{Ordering}
 use Rattle.std.specs.declared.ops.Bound.{Bound}
 
 -- the empty list increases
-nothing-increases : (K X : Type 0) (cmp : K → K → Ordering) → IsIncreasing {K = K} {X = X} cmp []
+pub nothing-increases : (K X : Type 0) (cmp : K → K → Ordering) → IsIncreasing {K = K} {X = X} cmp []
 unfolding IsStrictlySortedBy
 nothing-increases K X cmp = search rules
 
-none-some : {A : Type 0} (y : A) → None ≢ Some y
+pub none-some : {A : Type 0} (y : A) → None ≢ Some y
 none-some y = λ e. cc
 
 pub ok-err : {A E : Type 0} (x : A) (y : E) → Ok x ≢ Err y
@@ -72,12 +72,12 @@ still-accounted f f' n (Ok done) nodes given account = elim (leb_tells n (free_o
   | inr w ↦ omega (arith, given.slots, given.grown w.1, w.1, account)
 ]
 
-live_beside : {K X : Type 0} (f f' : Forest K X) (q : Option ℕ) → list_of f' q ≡ list_of f q → IsLive f q → IsLive f' q
+pub live_beside : {K X : Type 0} (f f' : Forest K X) (q : Option ℕ) → list_of f' q ≡ list_of f q → IsLive f q → IsLive f' q
 live_beside f f' None same live = tt
 live_beside f f' (Some n) same live = subst (λ es. es ≢ []) (sym same) live
 
 -- the number of nodes of a handle's tree
-abbrev nodes_of : {K X : Type 0} → Forest K X → Option ℕ → ℕ
+abbrev pub nodes_of : {K X : Type 0} → Forest K X → Option ℕ → ℕ
 nodes_of f h = node_count (sizes_of f h)
 
 module _ {K X C : Type 0} where

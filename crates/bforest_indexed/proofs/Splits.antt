@@ -1,14 +1,15 @@
 -- What a split of the list of one index, whose tail goes to another one, leaves of all indices.
-use Rattle.bforest.proofs.Balances.{between-balance, clears-balance, grows-not}
-use Rattle.bforest.specs.Calls.{Clears, Loads, RemovesBetween, SplitsOff, fewest}
+use Rattle.bforest.proofs.Balances.{clears-balance}
+use Rattle.bforest_core.proofs.table.Allocating.{grows-alike}
+use Rattle.bforest.specs.Calls.{Clears, SplitsAt, SplitsOff}
 use Rattle.bforest.specs.Entries.{IsIncreasing, place}
-use Rattle.bforest.specs.Forest.{Becomes, Forest, GrowsFor, memory_of, IsLive, list_of, room_of, sizes_of}
+use Rattle.bforest.specs.Forest.{Forest, GrowsFor, IsFitFor, IsLive, list_of, memory_of, sizes_of}
 use Rattle.bforest.specs.Refusal.{Full, Memory, OutOfMemory}
-use Rattle.bforest.specs.Room.{Balances, node_count}
+use Rattle.bforest.specs.Room.{node_count}
 use Rattle.bforest_indexed.proofs.Adding.{pushed}
-use Rattle.bforest_indexed.proofs.Copies.{not-less}
-use Rattle.bforest_indexed.proofs.Kept.{changes, cleared-at, here, kept-same, kept-set, kept-swapped, list-here, ok-err, read, unchanged, with_tree}
-use Rattle.bforest_indexed.specs.Indexed.{AreKept, ChangesAt, ClearsAt, Indexed, SplitsOffAt, count, entries, handle, node_sizes, table}
+use Rattle.bforest_indexed.proofs.Kept.{changes, here, kept-same, kept-set, kept-swapped, live_beside, none-some, nodes_of, nothing-increases, ok-err, read, unchanged, with_tree}
+use Rattle.bforest_indexed.proofs.Rooms.{sum-agree, sum-set}
+use Rattle.bforest_indexed.specs.Indexed.{AreKept, ChangesAt, Indexed, SplitsOffAt, count, entries, handle, node_sizes, nodes_in_use, table}
 use Rattle.std.proofs.Common.{IsErrAnd, true, Err, List, None, Ok, Option, Result, Some, [], ap, arith, drop, get_or, inl, inr, length, refl, set, subst, sym, ℕ, ◌++◌, ◌+◌, ◌<◌, ◌∙◌, ◌∷◌, ◌≡◌, ◌≢◌, ◌≤◌}
 use Rattle.std.proofs.lemmas.Bool.Decides.{eqb_tells}
 use Rattle.std.proofs.lemmas.List.{get_or-set_other, get_or-set_same, get_or_default, get_or_past, get_or_read, length-append, length-set}
@@ -17,7 +18,6 @@ use Rattle.std.proofs.lemmas.List.Sums.{sum_by-append}
 use Rattle.std.proofs.lemmas.Result.{err_from_is_err_and}
 use Rattle.std.specs.List.{SwappedAt, swap}
 use Rattle.std.specs.declared.cmp.Ordering.{Ordering}
-use Rattle.std.specs.declared.ops.Bound.TheVariants.{Included, Unbounded}
 
 pub node_count-append : (a b : List (List ℕ)) → node_count (a ++ b) ≡ node_count a + node_count b
 node_count-append a b = sum_by-append length a b
@@ -88,6 +88,9 @@ module _ {K X C : Type 0} {most : ℕ} {cmp : K → K → Ordering} {m : Indexed
     stays q ne None e = (refl, refl)
     stays q ne (Some n) e = (s.others n (apart-own q n ne e) (apart-front q n ne e) (apart-tail q n ne e), s.others_sizes n (apart-own q n ne e) (apart-front q n ne e) (apart-tail q n ne e))
 
+    stays-more : (q : ℕ) → q ≢ i → sizes_of f1 (get_or more q None) ≡ sizes_of (table m) (get_or more q None)
+    stays-more q ne = (stays q ne (get_or more q None) (sym (more-is q))).1
+
     beside2 : (q : ℕ) → q ≢ i → q ≢ last → (entries m2 q ≡ entries m q) × (node_sizes m2 q ≡ node_sizes m q)
     beside2 q ne ne' = let z = stays q ne (handle m q) refl in (ap (list_of f1) (other q ne ne') ∙ z.0, ap (sizes_of f1) (other q ne ne') ∙ z.1)
 
@@ -102,7 +105,7 @@ module _ {K X C : Type 0} {most : ℕ} {cmp : K → K → Ordering} {m : Indexed
     ]
 
     both : (n : ℕ) → h1 ≡ Some n → t ≡ Some n → ⊥
-    both n e e' = none-not n (sym (s.apart (e' ∙ sym e)) ∙ e')
+    both n e e' = none-some n (sym (s.apart (e' ∙ sym e)) ∙ e')
 
     alone : (q r n : ℕ) → handle m2 q ≡ Some n → handle m2 r ≡ Some n → q ≡ r
     alone q r n = each (λ z h. h ≡ Some n → handle m2 r ≡ Some n → z ≡ r)
@@ -112,7 +115,22 @@ module _ {K X C : Type 0} {most : ℕ} {cmp : K → K → Ordering} {m : Indexed
 
     -- the nodes of all indices
     in-use : nodes_in_use m2 + node_count (node_sizes m i) ≡ nodes_in_use m + node_count (sizes_of f1 h1) + node_count (sizes_of f1 t)
-    in-use = ?
+    in-use =
+        let wide : i < length more = omega (arith, there, length-append m.handles (None ∷ [])) in let wide' : last < length (set more i h1) = omega (arith, length-set more i h1, length-append m.handles (None ∷ [])) in
+        let none : get_or (set more i h1) last None ≡ None = get_or-set_other more i last h1 None (λ e. not-last i there (sym e)) ∙ more-is last ∙ get_or_past m.handles last None (omega arith) in
+        let two : (q : ℕ) → get_or (set (set more last t) i h1) q None ≡ get_or (set (set more i h1) last t) q None =
+        each (λ q h. h ≡ get_or (set (set more i h1) last t) q None)
+            (sym (get_or-set_other (set more i h1) last i t None (not-last i there) ∙ get_or-set_same more i h1 None wide))
+            (sym (get_or-set_same (set more i h1) last t None wide'))
+            (λ q ne ne'. sym (get_or-set_other (set more i h1) last q t None ne' ∙ get_or-set_other more i q h1 None ne ∙ more-is q)) in omega (
+              arith,
+              sum-agree (nodes_of (table m)) None refl m.handles more more-is,
+              sum-set (nodes_of (table m)) (nodes_of f1) None more i h1 wide (λ q ne. ap node_count (stays-more q ne)),
+              ap (nodes_of (table m)) (more-is i),
+              sum-set (nodes_of f1) (nodes_of f1) None (set more i h1) last t wide' (λ q ne. refl),
+              ap (nodes_of f1) none,
+              sum-agree (nodes_of f1) None refl (set (set more i h1) last t) (set (set more last t) i h1) two,
+            )
 
     a2 : AreKept most cmp m2
     a2 = record {

@@ -13,7 +13,7 @@ use Rattle.bforest_trees.proofs.ranges.Between.{end-unbounded, slice-between, st
 use Rattle.bforest_trees.proofs.ranges.Outside.{outside-is}
 use Rattle.bforest_trees.proofs.unions.Uniting.{becomes-made, made-beside, made-stays, other-stays}
 use Rattle.bforest_trees.specs.Bounds.{entries_between, entries_outside, is_between, is_from_start, start_place}
-use Rattle.bforest_trees.specs.Calls.{Clears, Compacts, Loads, RemovesBetween, SplitsOff, need_of_split, truncation}
+use Rattle.bforest_trees.specs.Calls.{Clears, Compacts, Loads, SplitsAt, SplitsOff}
 use Rattle.bforest_trees.specs.Forest.{Becomes, Forest, GrowsFor, IsLive, IsTooMany, list_of, sizes_of}
 use Rattle.bforest_trees.specs.Merge.{LoadsUnion}
 use Rattle.std.proofs.Common.{Bool, Err, List, None, Ok, Option, Some, [], ap, slice_range, append-nil, arith, drop, false, length, nat_lt, not, refl, subst, sym, take, true, ◌++◌, ◌-◌, ◌∙◌, ◌∷◌, ◌↔◌, ◌≡◌, ◌≢◌, ◌≤◌, ℕ, ◌<◌, Result, suc, zero}
@@ -142,3 +142,19 @@ module _ {K X : Type 0} (cmp : K → K → Ordering) (total : IsTotalOrder cmp) 
         both.outside_is ∙ ap (λ l. take p es ++ l) none ∙ append-nil (take p es),
         slice-between cmp total (Included k) Unbounded es up ∙ (λ i. slice_range es ((sym (start-included cmp total k es)) i) (end-unbounded cmp total es i)) ∙ take_all (length es - p) (drop p es) (omega (arith, length-drop p es)),
       )
+
+-- a split at the place of a key leaves and moves keys in order
+module _ {K X : Type 0} (most : ℕ) (cmp : K → K → Ordering) (total : IsTotalOrder cmp) (f : Forest K X) (h : Option ℕ) (k : K) (up : IsIncreasing cmp (list_of f h)) where
+  pub splits-off : {f' : Forest K X} {h' : Option ℕ} (t : Option ℕ) → SplitsAt most f h (place cmp (list_of f h) k) (Ok t) f' h' → SplitsOff most cmp f h k (Ok t) f' h'
+  splits-off t s = let both = parts cmp total k (list_of f h) up in record {
+    parts = s;
+    increasing = subst (IsIncreasing cmp) (both.0 ∙ sym s.front) (tested-up cmp (λ q. not (is_between cmp (Included k) Unbounded q)) (list_of f h) up);
+    tail_increasing = subst (IsIncreasing cmp) (both.1 ∙ sym s.tail) (tested-up cmp (λ q. is_between cmp (Included k) Unbounded q) (list_of f h) up);
+  }
+
+  pub splits-not : {f' : Forest K X} {h' : Option ℕ} (e : OutOfMemory) → SplitsAt most f h (place cmp (list_of f h) k) (Err e) f' h' → SplitsOff most cmp f h k (Err e) f' h'
+  splits-not e s = record {
+    parts = s;
+    increasing = subst (IsIncreasing cmp) (λ i. list_of (sym s.refused_forest i) (sym s.refused_handle i)) up;
+    tail_increasing = tt;
+  }

@@ -5,7 +5,9 @@ use Rattle.bforest_core.proofs.walks.RowNodes.{fit_full}
 use Rattle.bforest_core.specs.Change.{Divides, KeepsTrees, node_count, severed}
 use Rattle.bforest_core.specs.Detach.{row_sizes}
 use Rattle.bforest_core.specs.Levels.{FitRow, LevelNode, Stacked, flat, half_of, heads, node, sizes, sizes_of as tree_sizes}
-use Rattle.bforest_core.specs.Paths.{list_under, sizes_under}
+use Rattle.bforest_core.specs.Paths.{DetachesHere, IsAtEnd, OnEntry, StandsOn, list_under, sizes_under}
+use Rattle.bforest_core.specs.Place.{Stands}
+use Rattle.bforest_core.specs.declared.path.Path.{Path}
 use Rattle.bforest_core.specs.Sizes.{IsFitFor, back, backs, detached, filled, filled_levels, front, fronts, trimmed, truncated}
 use Rattle.bforest_core.specs.Table.{fresh_nodes, front_of, reserved}
 use Rattle.bforest_core.specs.Trees.{IsUnion, is_root, tree_of}
@@ -14,10 +16,13 @@ use Rattle.bforest_core.specs.declared.pool.OutOfMemory.{OutOfMemory}
 use Rattle.bforest_trees.proofs.Changed.{keeps, list-none, list-root, live-root, root-live, same_list, same_sizes, sizes-root}
 use Rattle.bforest_trees.proofs.Cutting.{truncation-some}
 use Rattle.bforest_trees.proofs.Fits.{fit-at}
+use Rattle.bforest_trees.proofs.Spots.{spot-in, spot-on}
 use Rattle.bforest_trees.specs.Calls.{SplitsAt, truncation}
-use Rattle.bforest_trees.specs.Forest.{Forest, GrowsFor, IsLive, IsTooMany, NeedsGrowth, free_of, list_at, list_of, sizes_at, sizes_of}
-use Rattle.std.proofs.Common.{Err, IsErr, IsOk, IsTrue, List, None, Ok, Option, Some, [], ap, arith, drop, length, length-append, map, refl, subst, suc, sym, take, zero, ◌+◌, ◌++◌, ◌-◌, ◌<◌, ◌≤◌, ◌↔◌, ◌∙◌, ◌∷◌, ◌≡◌, ◌≢◌, ℕ}
+use Rattle.bforest_trees.specs.Place.{AtSpot}
+use Rattle.bforest_trees.specs.Forest.{Forest, GrowsFor, Keeps, IsLive, IsTooMany, NeedsGrowth, free_of, list_at, list_of, sizes_at, sizes_of}
+use Rattle.std.proofs.Common.{inl, inr, Err, IsErr, IsOk, IsTrue, List, None, Ok, Option, Some, [], ap, arith, drop, length, length-append, map, refl, subst, suc, sym, take, zero, ◌+◌, ◌++◌, ◌-◌, ◌<◌, ◌≤◌, ◌↔◌, ◌∙◌, ◌∷◌, ◌≡◌, ◌≢◌, ℕ}
 use Rattle.std.proofs.lemmas.List.Sums.{sum_by-cons}
+use Rattle.std.proofs.lemmas.Bool.{cases_lt}
 use Rattle.std.proofs.lemmas.List.{drop_all, take_all}
 
 module _ {K X : Type 0} where
@@ -35,7 +40,7 @@ module _ {K X : Type 0} where
   -- no node of a row is behind its end
   back-all : (half most : ℕ) → 1 ≤ half → (row : List (LevelNode K X)) → FitRow half most row → back (length (flat row)) (sizes row) ≡ []
   back-all half most one [] f = refl
-  back-all half most one (node n es ∷ row) f = let all = length-append es (flat row) in let some = omega (arith, f.0, least-pos half one row) in
+  back-all half most one (node n es ∷ row) f = let all = length-append es (flat row) in
       back-on (length (flat (node n es ∷ row))) (length es) (sizes row) (omega (arith, all, f.0, least-pos half one row)) (omega (arith, all))
       ∙ ap (λ z. back z (sizes row)) (let left : length (es ++ flat row) - length es ≡ length (flat row) = omega (arith, all) in left) ∙ back-all half most one row f.2
 
@@ -65,7 +70,7 @@ detached-none : (most n : ℕ) (level : List ℕ) (levels : List (List ℕ)) →
 detached-none most zero level levels some none = absurd (omega (arith, some))
 detached-none most (suc n) level levels some none = ap (λ z. trimmed (filled_levels most (z ∷ backs (length level - length z) levels))) none
 
-module _ {K X : Type 0} {most : ℕ} {leaves : List (LevelNode K X)} {above : List (List (LevelNode K ℕ))} (one : 1 ≤ half_of most) (fit : FitRow (half_of most) most leaves) (stacked : Stacked (heads leaves) above) where
+module _ {K X : Type 0} (most : ℕ) (leaves : List (LevelNode K X)) (above : List (List (LevelNode K ℕ))) (one : 1 ≤ half_of most) (fit : FitRow (half_of most) most leaves) (stacked : Stacked (heads leaves) above) where
   severed-all : severed (length (flat leaves)) (row_sizes leaves above) ≡ 0
   severed-all =
       let full = fit_full (half_of most) most one leaves fit in let ahead = front-all (half_of most) most one leaves fit in let none = back-all (half_of most) most one leaves fit in
@@ -112,7 +117,10 @@ module _ {K X : Type 0} {most : ℕ} (f : Forest K X) (union : IsUnion most f) w
   end-sizes : (h : Option ℕ) → IsLive f h → (severed (length (list_of f h)) (sizes_of f h) ≡ 0) × (detached most (length (list_of f h)) (sizes_of f h) ≡ [])
   end-sizes None live = (refl, refl)
   end-sizes (Some n) live = let root = live-root f n live in let r = rooted most f n union root in let one = some_leaf union.1.capacity in
-      rw (list-root f n root, sizes-root f n root) (severed-all one r.fit.leaves_fit r.fit.stacked, detached-all one r.fit.leaves_fit r.fit.stacked r.some)
+      rw (list-root f n root, sizes-root f n root) (
+        severed-all most (tree_of f.nodes n).leaves (tree_of f.nodes n).above one r.fit.leaves_fit r.fit.stacked,
+        detached-all most (tree_of f.nodes n).leaves (tree_of f.nodes n).above one r.fit.leaves_fit r.fit.stacked r.some,
+      )
 
   -- no entry goes
   pub splits-end : (h : Option ℕ) (p : ℕ) → IsLive f h → p ≡ length (list_of f h) → SplitsAt most f h p (Ok None) f h
@@ -226,6 +234,7 @@ module _ {K X : Type 0} {most : ℕ} {f g f' : Forest K X} {n p need front behin
   needed : severed p (sizes_at f n) ≡ need
   needed = ap (severed p) (sizes-root f n root) ∙ sym need_is
 
+  stays : Keeps f g
   stays = keeps f g kept (ap (λ z. z.limit) is)
 
   pub splits-parted : SplitsAt most f (Some n) p (Ok (Some behind)) f' (Some front)
@@ -274,3 +283,59 @@ module _ {K X : Type 0} {most : ℕ} {f g f' : Forest K X} {n p need front behin
     refused_forest = tt;
     refused_handle = tt;
   }
+
+-- a path that stands on an entry
+module _ {K X : Type 0} {most : ℕ} {f : Forest K X} {h : Option ℕ} {path : Path K X most} (union : IsUnion most f) (live : IsLive f h) (at : AtSpot f h path) (on : IsAtEnd path → ⊥) where
+  low-place : at.place < length (list_of f h)
+  low-place = spot-in f path h at.place at.spot on
+
+  pub site : (n : ℕ) × (h ≡ Some n) × StandsOn f n path at.place
+  site = spot-on f path h at.place at.spot low-place
+
+  abbrev pub entry : OnEntry f path
+  entry = record { root = site.0; place = at.place; on = site.2 }
+
+  module _ {need : ℕ} (counts : (t : Forest K X) → IsUnion most t → (e : OnEntry t path) → need ≡ severed e.place (sizes_under t e.root)) (first : (t : Forest K X) → IsUnion most t → (e : OnEntry t path) → (need ≡ 0) ↔ (e.place ≡ 0))
+      (few : (t : Forest K X) → IsUnion most t → (e : OnEntry t path) → need ≤ length (sizes_under t e.root)) where
+    shape-here : sizes_under f site.0 ≡ sizes_of f h
+    shape-here = sym (sizes-root f site.0 site.2.root_is) ∙ ap (sizes_of f) (sym site.1)
+
+    need-here : severed at.place (sizes_of f h) ≡ need
+    need-here = sym (counts f union entry ∙ ap (severed at.place) shape-here)
+
+    -- all entries go
+    pub entry-whole : need ≡ 0 → SplitsAt most f h at.place (Ok h) f None
+    entry-whole none = splits-whole f union h at.place live ((first f union entry).0 none) (need-here ∙ none)
+
+    -- the nodes can't be had
+    pub entry-refused : (refused : OutOfMemory) → need ≢ 0 → ((refused ≡ Full) ↔ IsTooMany need f) → (refused ≡ Memory → NeedsGrowth need f) → (need ≤ free_of f → ⊥) → SplitsAt most f h at.place (Err refused) f h
+    entry-refused refused some full memory scarce = splits-refused f union h at.place refused live (λ z. some ((first f union entry).1 z))
+        (omega (arith, need-here, few f union entry, ap length shape-here)) (subst (λ z. (refused ≡ Full) ↔ IsTooMany z f) (sym need-here) full) (λ e. subst (λ z. NeedsGrowth z f) (sym need-here) (memory e))
+        (λ enough. scarce (omega (arith, need-here, enough)))
+
+    first-some : need ≢ 0 → 0 < at.place
+    first-some some = elim (cases_lt 0 at.place) [ inl more ↦ more | inr none ↦ absurd (some ((first f union entry).1 (omega arith))) ]
+
+    -- they are free
+    module _ {g : Forest K X} (some : need ≢ 0) (kept : KeepsTrees f.nodes g.nodes) where
+      abbrev there : OnEntry g path
+      there = record {
+        root = site.0;
+        place = at.place;
+        on = record {
+          root_is = subst (λ z. IsTrue z) (sym ((kept site.0).0)) site.2.root_is;
+          stands = subst (λ z. Stands path.node path.entry path.size z at.place) (sym ((kept site.0).1 site.2.root_is)) site.2.stands;
+        };
+      }
+
+      pub entry-asks : need ≤ length g.chain → (e : OnEntry g path) × (0 < e.place) × (severed e.place (sizes_under g e.root) ≤ length g.chain)
+      entry-asks enough = (there, first-some some, omega (arith, enough, counts f union entry, ap (λ z. severed at.place (tree_sizes z)) ((kept site.0).1 site.2.root_is)))
+
+      pub entry-union : {f' : Forest K X} {path' : Path K X most} {r : ℕ × ℕ} → DetachesHere g f' path path' r → IsUnion most f'
+      entry-union d = (d.divided there (first-some some)).union
+
+      -- the tree is divided
+      pub entry-parted : {f' : Forest K X} {path' : Path K X most} {r : ℕ × ℕ} → g ≡ reserved f need g.memory → GrowsFor need f g → ¬ IsTooMany need f → DetachesHere g f' path path' r →
+          SplitsAt most f h at.place (Ok (Some r.1)) f' (Some r.0)
+      entry-parted {f'} {r = r} is grown roomy d = subst (λ z. SplitsAt most f z at.place (Ok (Some r.1)) f' (Some r.0)) (sym site.1)
+          (splits-parted site.2.root_is kept is grown (d.divided there (first-some some)) (omega (arith, low-place, ap (λ z. length (list_of f z)) site.1, ap length (list-root f site.0 site.2.root_is))) (first-some some) (counts f union entry) (few f union entry) roomy)

@@ -3,12 +3,12 @@ ghost use Rattle.bforest_trees.specs.Bounds.{is_past_end, start_place};
 ghost use Rattle.bforest_trees.specs.Calls.{CutsFrom, RemovesBetween, SplitsAt, SplitsOff};
 ghost use Rattle.bforest_trees.specs.Forest.{IsLive, list_of};
 ghost use Rattle.bforest_trees.specs.Place.{AtSpot, IsSpot};
+ghost use Rattle.bforest_core.specs.Trees.{IsUnion};
 ghost use Rattle.bforest_nodes.specs.Entries.{IsIncreasing};
-ghost use Rattle.std.specs.Prelude.{Some, false, slice_get, true, ◌≡◌};
+ghost use Rattle.std.specs.Prelude.{Err, IfOk, Ok, Some, false, slice_get, true, ◌≡◌};
 
 use crate::trees::{Trees, packed};
-use bforest_core::{Comparator, OutOfMemory, PackedNode, Path};
-use std::mem;
+use bforest_core::{Comparator, NodePool, OutOfMemory, PackedNode, Path};
 use std::ops::Bound;
 
 impl<K: Copy, V: Copy, const N: usize> Trees<K, V, N> {
@@ -65,31 +65,9 @@ impl<K: Copy, V: Copy, const N: usize> Trees<K, V, N> {
     {
         let mut path = Path::default();
         let _value = self.goto(*handle, &mut path, key, comp);
-        self.detach_at(handle, &mut path)
-    }
-
-    // Moves the entry where a path stands and all behind it to a tree of their own, and returns its handle.
-    fn detach_at(
-        &mut self,
-        handle: &mut PackedNode,
-        path: &mut Path<K, V, N>,
-    ) -> Result<PackedNode, OutOfMemory>
-        requires live { IsLive self.old handle.old }
-        requires stands { AtSpot self.old handle.old path.old }
-        ensures { (at : AtSpot self.old handle.old path.old) → SplitsAt N self.old handle.old at.place result
-            self.new handle.new }
-    {
-        if path.leaf_pos().is_none() {
-            return Ok(PackedNode::none());
-        }
-        let need = path.nodes_to_detach();
-        if need == 0 {
-            return Ok(mem::replace(handle, PackedNode::none()));
-        }
-        self.pool.reserve(need)?;
-        let (front, behind) = path.detach(&mut self.pool);
-        *handle = PackedNode::some(front);
-        Ok(PackedNode::some(behind))
+        let (front, behind) = part_at(&mut self.pool, *handle, &mut path)?;
+        *handle = front;
+        Ok(behind)
     }
 
     // Whether a path stands on an entry whose key is in front of an end bound.
@@ -144,6 +122,33 @@ impl<K: Copy, V: Copy, const N: usize> Trees<K, V, N> {
             }
         }
     }
+}
+
+// Parts a tree where a path stands. Returns the handles of what is in front of the path, and of the entry there and all behind it.
+fn part_at<K: Copy, V: Copy, const N: usize>(
+    pool: &mut NodePool<K, V, N>,
+    handle: PackedNode,
+    path: &mut Path<K, V, N>,
+) -> Result<(PackedNode, PackedNode), OutOfMemory>
+    requires union { IsUnion N pool.old }
+    requires live { IsLive pool.old handle }
+    requires stands { AtSpot pool.old handle path.old }
+    ensures union { IsUnion N pool.new }
+    ensures ok { (at : AtSpot pool.old handle path.old) → IfOk result
+        (λ t. SplitsAt N pool.old handle at.place (Ok t.1) pool.new t.0) }
+    ensures err { (at : AtSpot pool.old handle path.old) (refused : OutOfMemory) → result ≡ Err refused
+        → SplitsAt N pool.old handle at.place (Err refused) pool.new handle }
+{
+    if path.leaf_pos().is_none() {
+        return Ok((handle, PackedNode::none()));
+    }
+    let need = path.nodes_to_detach();
+    if need == 0 {
+        return Ok((PackedNode::none(), handle));
+    }
+    pool.reserve(need)?;
+    let (front, behind) = path.detach(pool);
+    Ok((PackedNode::some(front), PackedNode::some(behind)))
 }
 
 // Whether a key is outside an end bound.
