@@ -3,16 +3,16 @@ use Rattle.bforest.proofs.Balances.{clears-balance}
 use Rattle.bforest_core.proofs.table.Allocating.{grows-alike}
 use Rattle.bforest.specs.Calls.{Clears, SplitsAt, SplitsOff}
 use Rattle.bforest.specs.Entries.{IsIncreasing, place}
-use Rattle.bforest.specs.Forest.{Forest, GrowsFor, IsFitFor, IsLive, list_of, memory_of, sizes_of}
+use Rattle.bforest.specs.Forest.{Forest, IsFitFor, IsLive, list_of, memory_of, sizes_of}
 use Rattle.bforest.specs.Refusal.{Full, Memory, OutOfMemory}
 use Rattle.bforest.specs.Room.{node_count}
 use Rattle.bforest_indexed.proofs.Adding.{pushed}
 use Rattle.bforest_indexed.proofs.Kept.{changes, here, kept-same, kept-set, kept-swapped, live_beside, none-some, nodes_of, nothing-increases, ok-err, read, unchanged, with_tree}
 use Rattle.bforest_indexed.proofs.Rooms.{sum-agree, sum-set}
 use Rattle.bforest_indexed.specs.Indexed.{AreKept, ChangesAt, Indexed, SplitsOffAt, count, entries, handle, node_sizes, nodes_in_use, table}
-use Rattle.std.proofs.Common.{IsErrAnd, true, Err, List, None, Ok, Option, Result, Some, [], ap, arith, drop, get_or, inl, inr, length, refl, set, subst, sym, ℕ, ◌++◌, ◌+◌, ◌<◌, ◌∙◌, ◌∷◌, ◌≡◌, ◌≢◌, ◌≤◌}
+use Rattle.std.proofs.Common.{IsErrAnd, Err, List, None, Ok, Option, Result, Some, [], ap, arith, get_or, inl, inr, length, refl, set, subst, sym, ℕ, ◌++◌, ◌+◌, ◌<◌, ◌∙◌, ◌∷◌, ◌≡◌, ◌≢◌}
 use Rattle.std.proofs.lemmas.Bool.Decides.{eqb_tells}
-use Rattle.std.proofs.lemmas.List.{get_or-set_other, get_or-set_same, get_or_default, get_or_past, get_or_read, length-append, length-set}
+use Rattle.std.proofs.lemmas.List.{get_or-set_other, get_or-set_same, get_or_past, get_or_read, length-append, length-set}
 use Rattle.std.proofs.lemmas.List.Edits.{swap_is}
 use Rattle.std.proofs.lemmas.List.Sums.{sum_by-append}
 use Rattle.std.proofs.lemmas.Result.{err_from_is_err_and}
@@ -120,17 +120,17 @@ module _ {K X C : Type 0} {most : ℕ} {cmp : K → K → Ordering} {m : Indexed
         let none : get_or (set more i h1) last None ≡ None = get_or-set_other more i last h1 None (λ e. not-last i there (sym e)) ∙ more-is last ∙ get_or_past m.handles last None (omega arith) in
         let two : (q : ℕ) → get_or (set (set more last t) i h1) q None ≡ get_or (set (set more i h1) last t) q None =
         each (λ q h. h ≡ get_or (set (set more i h1) last t) q None)
-            (sym (get_or-set_other (set more i h1) last i t None (not-last i there) ∙ get_or-set_same more i h1 None wide))
-            (sym (get_or-set_same (set more i h1) last t None wide'))
-            (λ q ne ne'. sym (get_or-set_other (set more i h1) last q t None ne' ∙ get_or-set_other more i q h1 None ne ∙ more-is q)) in omega (
-              arith,
-              sum-agree (nodes_of (table m)) None refl m.handles more more-is,
-              sum-set (nodes_of (table m)) (nodes_of f1) None more i h1 wide (λ q ne. ap node_count (stays-more q ne)),
-              ap (nodes_of (table m)) (more-is i),
-              sum-set (nodes_of f1) (nodes_of f1) None (set more i h1) last t wide' (λ q ne. refl),
-              ap (nodes_of f1) none,
-              sum-agree (nodes_of f1) None refl (set (set more i h1) last t) (set (set more last t) i h1) two,
-            )
+        (sym (get_or-set_other (set more i h1) last i t None (not-last i there) ∙ get_or-set_same more i h1 None wide))
+        (sym (get_or-set_same (set more i h1) last t None wide'))
+        (λ q ne ne'. sym (get_or-set_other (set more i h1) last q t None ne' ∙ get_or-set_other more i q h1 None ne ∙ more-is q)) in omega (
+          arith,
+          sum-agree (nodes_of (table m)) None refl m.handles more more-is,
+          sum-set (nodes_of (table m)) (nodes_of f1) None more i h1 wide (λ q ne. ap node_count (stays-more q ne)),
+          ap (nodes_of (table m)) (more-is i),
+          sum-set (nodes_of f1) (nodes_of f1) None (set more i h1) last t wide' (λ q ne. refl),
+          ap (nodes_of f1) none,
+          sum-agree (nodes_of f1) None refl (set (set more i h1) last t) (set (set more last t) i h1) two,
+        )
 
     a2 : AreKept most cmp m2
     a2 = record {

@@ -11,13 +11,12 @@ use Rattle.bforest_trees.proofs.Cutting.{becomes-same}
 use Rattle.bforest_trees.proofs.ranges.Parting.{tested-up}
 use Rattle.bforest_trees.proofs.ranges.Between.{end-unbounded, slice-between, start-included, start-rises}
 use Rattle.bforest_trees.proofs.ranges.Outside.{outside-is}
-use Rattle.bforest_trees.proofs.unions.Uniting.{becomes-made, made-beside, made-stays, other-stays}
-use Rattle.bforest_trees.specs.Bounds.{entries_between, entries_outside, is_between, is_from_start, start_place}
+use Rattle.bforest_trees.proofs.unions.Uniting.{becomes-made, made-beside, made-stays}
+use Rattle.bforest_trees.specs.Bounds.{entries_between, entries_outside, is_between, is_from_start}
 use Rattle.bforest_trees.specs.Calls.{Clears, Compacts, Loads, SplitsAt, SplitsOff}
-use Rattle.bforest_trees.specs.Forest.{Becomes, Forest, GrowsFor, IsLive, IsTooMany, list_of, sizes_of}
+use Rattle.bforest_trees.specs.Forest.{Becomes, Forest, GrowsFor, IsLive, IsTooMany, list_of}
 use Rattle.bforest_trees.specs.Merge.{LoadsUnion}
-use Rattle.std.proofs.Common.{Bool, Err, List, None, Ok, Option, Some, [], ap, slice_range, append-nil, arith, drop, false, length, nat_lt, not, refl, subst, sym, take, true, ◌++◌, ◌-◌, ◌∙◌, ◌∷◌, ◌↔◌, ◌≡◌, ◌≢◌, ◌≤◌, ℕ, ◌<◌, Result, suc, zero}
-use Rattle.std.proofs.lemmas.Bool.{lt-ltb}
+use Rattle.std.proofs.Common.{Err, List, None, Ok, Option, Some, [], ap, slice_range, append-nil, arith, drop, false, length, not, refl, subst, sym, take, true, ◌++◌, ◌-◌, ◌∙◌, ◌∷◌, ◌↔◌, ◌≡◌, ◌≢◌, ◌≤◌, ℕ, ◌<◌, suc, zero}
 use Rattle.std.proofs.lemmas.List.Sums.{count_by-le-length}
 use Rattle.std.proofs.lemmas.List.{drop_all, length-drop, take_all}
 use Rattle.std.specs.Cmp.{IsTotalOrder}

@@ -7,3 +7,4 @@ pub mod Beside
 pub mod Narrowing
 pub mod Outside
 pub mod Parting
+pub mod Splitting

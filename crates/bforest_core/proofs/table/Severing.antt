@@ -34,7 +34,7 @@ module _ {K V : Type 0} {t t1 : Table K V} {node behind : ℕ} {content : Conten
       off_chain = rw (copied, with_front-is t t.chain content front) (off-without_front t t.chain node refl used.off_chain);
     }
 
-    -- and the node
+    -- the copy and the node are cut
     pub severs : {from many : ℕ} → back ≡ last_part from content → {first : Content K V} → first ≡ first_part many content →
         Severs t (with_node (with_node t1 behind back) node first) node from many content behind
     severs back-is {first} first-is = let p = puts (with_node t1 behind back) _ node first content node-is refl in record {

@@ -267,7 +267,7 @@ module _ {K V : Type 0} {most : ℕ} (capacity : IsLeafCapacity most) {old : Tab
       lower-are : front_rows (length (front_row place leaves)) lower ≡ beside parts.lower_left kept-rows ++ front_row (get_or indices level 0 + kept) (node number children ∷ []) ∷ []
       lower-are = ap (front_rows (length (front_row place leaves))) inner.lower_is ∙ fronts-more inner.rows inner.row (length (front_row place leaves)) ∙ cc (outer-front.1, parts-front.1, tops-are, inner-row)
 
-      -- and the node has become this row
+      -- the node has become this row
       module _ (row : Row K ℕ) (row-is : front_row (get_or indices level 0 + kept) (node number children ∷ []) ≡ row) where
         pub leaves-are : front_row place leaves ≡ parts.leaves_left ++ kept-leaves
         leaves-are = outer-front.0 ∙ parts-front.0

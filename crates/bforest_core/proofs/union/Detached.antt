@@ -147,7 +147,7 @@ module _ {K V : Type 0} {most : ℕ} (capacity : IsLeafCapacity most) (leaves : 
   abbrev first : List ℕ
   first = back place (sizes leaves)
 
-  -- and those of the nodes above them
+  -- the sizes of the nodes above the leaves
   abbrev others : List (List ℕ)
   others = backs (length (sizes leaves) - length first) (map sizes above)
 
@@ -168,7 +168,7 @@ module _ {K V : Type 0} {most : ℕ} (capacity : IsLeafCapacity most) (leaves : 
   first-fit = rw (lessened-none (filled most first)) at
       (lost-fit (half_of most) most (some_leaf capacity) 0 first (omega (arith, capacity.least)) (omega arith) (omega arith) (omega (arith, on-leaves.sum, low)) on-leaves.loose)
 
-  -- and so do those of the nodes above them
+  -- the sizes of the nodes above the leaves fit
   others-fit : Every (IsFitLevel 4 8) (filled_above (length first - length (filled most first)) others)
   others-fit = let l = filled-lost most first (omega (arith, on-leaves.sum, low)) in above-fit _ _ _ others-loose l.0 l.1
 

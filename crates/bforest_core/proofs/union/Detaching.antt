@@ -116,7 +116,7 @@ module _ {K V : Type 0} {most : ℕ} (capacity : IsLeafCapacity most) {old : Tab
     bare : lower ≡ []
     bare = (leaf capacity b at_leaf).lower_is
 
-    -- it is parted
+    -- the leaf is parted
     leaf-parted : {new : Table K V} {r : ℕ} → place ≢ 0 → Severs old new number place place (leaf_content es) r → Parts old new leaves lower place r
     leaf-parted {new} {r} some s =
         let row = leaf-row capacity b at_leaf in let c = cut es place (omega (arith, few.0, few.1)) in

@@ -30,7 +30,7 @@ pub record Parted {K X : Type 0} (row : Row K X) (a b : Heads K) : Type 0 where
   pub left_is : heads l ≡ a
   pub right_is : heads r ≡ b
 
--- its heads are cut anywhere
+-- a row, cut where its heads are cut
 row-parted : {K X : Type 0} (row : Row K X) (a b : Heads K) → AllSome row → heads row ≡ a ++ b → Parted row a b
 row-parted row [] b some is = record { l = []; r = row; row_is = refl; left_is = refl; right_is = is }
 row-parted [] (x ∷ a) b some is = absurd cc
@@ -71,12 +71,12 @@ module _ {K : Type 0} where
   piled-more list [] row top p is = (sym p, is)
   piled-more list (r ∷ rows) row top p is = (p.0, piled-more (heads r) rows row top p.1 is)
 
-  -- it lies in the slots, too
+  -- rows with one more on top lie in the slots
   in-more : {V : Type 0} (slots : List (Content K V)) (rows : Rows K) (row : Row K ℕ) → RowsIn slots rows → RowIn inner_content slots row → RowsIn slots (rows ++ row ∷ [])
   in-more slots [] row i j = (j, tt)
   in-more slots (r ∷ rows) row i j = (i.0, in-more slots rows row i.1 j)
 
-  -- and its numbers come to those of the rows
+  -- the numbers of rows with one more on top
   numbers-more : (m : ℕ) (rows : Rows K) (row : Row K ℕ) → count m (flat_map numbers (rows ++ row ∷ [])) ≡ count m (flat_map numbers rows) + count m (numbers row)
   numbers-more m rows row = omega (arith, ap (count m) (flat_map-append numbers rows (row ∷ [])), count-append m (flat_map numbers rows) (numbers row ++ []), count-append m (numbers row) [])
 
@@ -364,7 +364,7 @@ module _ {K V : Type 0} where
     top-in : RowIn inner_content t.nodes (node number (top.e ∷ top.es) ∷ top.after)
     top-in = subst (RowIn inner_content t.nodes) top.row_is rows-under.1
 
-    -- it has two children or more where others are behind it
+    -- the highest row's first node has two children or more where others are behind it
     top-wide : flat top.after ≢ [] → 2 ≤ length (top.e ∷ top.es)
     top-wide more = subst IsWide (ap (last_level (sizes leaves)) levels-are ∙ last-is (sizes leaves) (map sizes z.init) (sizes z.last) ∙ ap sizes top.row_is) (a.wide (λ none. more (behind none)))
       where
@@ -393,7 +393,7 @@ module _ {K V : Type 0} where
     over-leaves : z.init ≡ [] → OverRow leaf_content t number top.e top.es top.after leaves
     over-leaves none = over-row leaf_content leaves a.leaves_in a.some.0 (subst (λ w. Piled (heads leaves) w (flat z.last)) none piled-under.0) (λ m. omega arith)
 
-    -- or a row of inner nodes
+    -- a row of inner nodes is below the highest one
     record InnerBelow : Type 0 where
       lower : Rows K
       under : Row K ℕ

@@ -97,7 +97,7 @@ ready-stays most (size ∷ rest) [] ready = filled-half rest ready
 ready-stays most [] (next ∷ levels) ready = ready-stays 8 next levels ready
 ready-stays most (size ∷ rest) (next ∷ levels) ready = ready-stays 8 next levels ready
 
--- and that node is wide
+-- the first node of a level that is ready is wide
 pub ready-wide : (most : ℕ) (level : List ℕ) (levels : List (List ℕ)) → 3 ≤ most → IsReady most (level ∷ levels) → IsWide (last_level level levels)
 ready-wide most [] [] three ready = tt
 ready-wide most (size ∷ rest) [] three ready = omega arith

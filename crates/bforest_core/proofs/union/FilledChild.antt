@@ -211,7 +211,7 @@ module _ {K V : Type 0} {cap : ℕ} (capacity : IsLeafCapacity cap) (leaf : Bool
             ar : AllRight content t u most x y (e ∷ es) (f ∷ fs)
             ar = all_right_at content t u x y e es f fs s apart two-most was.inside.0 was.inside.1.0 (subst (λ z. IsBalancedAt cap t x z y None u) both.key_is b)
 
-            -- it is no child any more
+            -- the first child is to be taken out of the node
             pub remove-asks : IsUsed u number × ChildAt u number 0
             remove-asks = (used-same ar.two.frees, (_, _, slot-same ar.two.frees, omega arith))
 
@@ -226,7 +226,7 @@ module _ {K V : Type 0} {cap : ℕ} (capacity : IsLeafCapacity cap) (leaf : Bool
               slot-merged : slice_get v.nodes x ≡ Some ar.left_content
               slot-merged = put-merged.others x (omega (arith, once x, one x)) ∙ ar.two.here
 
-              -- and it is freed
+              -- the first child is to be freed
               pub free-asks : IsUsed v x
               free-asks = is_used v x _ slot-merged (omega (arith, once x, one x, ap (count x) put-merged.chain_is, ap (count x) ar.two.chain_is))
 

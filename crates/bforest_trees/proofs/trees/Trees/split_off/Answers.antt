@@ -2,10 +2,9 @@ use Rattle.bforest_trees.proofs.After.{handed-on}
 use Rattle.bforest_trees.proofs.Packing.{splits-not, splits-off}
 use Rattle.bforest_trees.proofs.Spots.{spot-end}
 use Rattle.bforest_trees.proofs.trees.Trees.split_off.Goals as goal
-use Rattle.bforest_trees.specs.Calls.{SplitsOff}
 use Rattle.bforest_nodes.specs.Entries.{place}
 use Rattle.bforest_trees.specs.Forest.{list_of}
-use Rattle.std.proofs.Common.{Err, refl, rules, sym, ◌∙◌}
+use Rattle.std.proofs.Common.{refl, rules}
 
 pub goto-value-requires : goal.goto-value-requires
 goto-value-requires g c = (search rules, (search rules, (c.requires.live, (c.requires.increasing, spot-end c.args.self.now c.default-path.result c.args.handle.now c.requires.live c.default-path.ensures))))

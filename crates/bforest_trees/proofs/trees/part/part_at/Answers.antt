@@ -1,10 +1,9 @@
 use Rattle.bforest_trees.proofs.After.{handed-on}
-use Rattle.bforest_trees.proofs.Splitting.{entry, entry-asks, entry-parted, entry-refused, entry-union, entry-whole, splits-end}
+use Rattle.bforest_trees.proofs.ranges.Splitting.{entry, entry-asks, entry-parted, entry-refused, entry-union, entry-whole, splits-end}
 use Rattle.bforest_trees.proofs.Spots.{spot-last}
-use Rattle.bforest_trees.proofs.trees.part.part_at.Given.{Over}
 use Rattle.bforest_trees.proofs.trees.part.part_at.Goals as goal
 use Rattle.bforest_trees.specs.Calls.{SplitsAt}
-use Rattle.std.proofs.Common.{Err, Option, Bool, true, false, rules, arith, ap, subst, sym, ◌∙◌, ◌≡◌, inl, inr, not, None}
+use Rattle.std.proofs.Common.{Err, Option, Bool, false, rules, arith, ap, subst, sym, ◌∙◌, ◌≡◌, inl, inr, not, None}
 use Rattle.std.proofs.lemmas.Bool.{cases_lt, false≢true}
 use Rattle.std.specs.Option.{is_some}
 

@@ -8,7 +8,7 @@ use Rattle.bforest_core.specs.Levels.{FitRow, LevelNode, Stacked, flat, half_of,
 use Rattle.bforest_core.specs.Paths.{DetachesHere, IsAtEnd, OnEntry, StandsOn, list_under, sizes_under}
 use Rattle.bforest_core.specs.Place.{Stands}
 use Rattle.bforest_core.specs.declared.path.Path.{Path}
-use Rattle.bforest_core.specs.Sizes.{IsFitFor, back, backs, detached, filled, filled_levels, front, fronts, trimmed, truncated}
+use Rattle.bforest_core.specs.Sizes.{IsFitFor, back, backs, detached, filled_levels, front, fronts, trimmed, truncated}
 use Rattle.bforest_core.specs.Table.{fresh_nodes, front_of, reserved}
 use Rattle.bforest_core.specs.Trees.{IsUnion, is_root, tree_of}
 use Rattle.bforest_core.specs.declared.pool.OutOfMemory.TheVariants.{Full, Memory}
@@ -20,7 +20,7 @@ use Rattle.bforest_trees.proofs.Spots.{spot-in, spot-on}
 use Rattle.bforest_trees.specs.Calls.{SplitsAt, truncation}
 use Rattle.bforest_trees.specs.Place.{AtSpot}
 use Rattle.bforest_trees.specs.Forest.{Forest, GrowsFor, Keeps, IsLive, IsTooMany, NeedsGrowth, free_of, list_at, list_of, sizes_at, sizes_of}
-use Rattle.std.proofs.Common.{inl, inr, Err, IsErr, IsOk, IsTrue, List, None, Ok, Option, Some, [], ap, arith, drop, length, length-append, map, refl, subst, suc, sym, take, zero, ◌+◌, ◌++◌, ◌-◌, ◌<◌, ◌≤◌, ◌↔◌, ◌∙◌, ◌∷◌, ◌≡◌, ◌≢◌, ℕ}
+use Rattle.std.proofs.Common.{inl, inr, Err, IsTrue, List, None, Ok, Option, Some, [], ap, arith, drop, length, length-append, map, refl, subst, suc, sym, take, zero, ◌+◌, ◌++◌, ◌-◌, ◌<◌, ◌≤◌, ◌↔◌, ◌∙◌, ◌∷◌, ◌≡◌, ◌≢◌, ℕ}
 use Rattle.std.proofs.lemmas.List.Sums.{sum_by-cons}
 use Rattle.std.proofs.lemmas.Bool.{cases_lt}
 use Rattle.std.proofs.lemmas.List.{drop_all, take_all}
