@@ -384,7 +384,8 @@ impl<K: Copy, V: Copy> Map<K, V> {
         forest.trees.unite(&mut self.root, other.root, comp)
     }
 
-    /// Removes each entry whose key has no equal one in `other`, and returns whether there was one. The entries that stay keep their values.
+    /// Removes each entry whose key has no equal one in `other`, and returns whether there was one. The entries that stay keep their
+    /// values.
     ///
     /// Walks along both maps side by side, with at most one comparison for each entry of either. Each removed entry may rebalance or merge
     /// nodes, as in [`Map::remove`]. No node and no memory is taken, so this can't be refused.
@@ -404,7 +405,8 @@ impl<K: Copy, V: Copy> Map<K, V> {
         forest.trees.keep(&mut self.root, other.root, true, comp)
     }
 
-    /// Removes each entry whose key has an equal one in `other`, and returns whether there was one. The entries that stay keep their values.
+    /// Removes each entry whose key has an equal one in `other`, and returns whether there was one. The entries that stay keep their
+    /// values.
     ///
     /// Walks along both maps side by side, with at most one comparison for each entry of either. Each removed entry may rebalance or merge
     /// nodes, as in [`Map::remove`]. No node and no memory is taken, so this can't be refused.
@@ -426,10 +428,10 @@ impl<K: Copy, V: Copy> Map<K, V> {
 
     /// Removes the entries whose keys are within both bounds, and returns whether there was one.
     ///
-    /// At most one search, as in [`Map::get`], to the first of them. Up to an end bound they are removed one after another, in order, with one
-    /// comparison for each of them and one more, and each may rebalance or merge nodes, as in [`Map::remove`]. Without an end bound nothing is
-    /// compared: whole subtrees go, each node of which is read once, and of the nodes that stay only those on the path to the first are
-    /// written. No node and no memory is taken, so this can't be refused.
+    /// At most one search, as in [`Map::get`], to the first of them. Up to an end bound they are removed one after another, in order, with
+    /// one comparison for each of them and one more, and each may rebalance or merge nodes, as in [`Map::remove`]. Without an end bound
+    /// nothing is compared: whole subtrees go, each node of which is read once, and of the nodes that stay only those on the path to the
+    /// first are written. No node and no memory is taken, so this can't be refused.
     pub fn remove_range<C: Comparator<K>>(
         &mut self,
         bounds: (Bound<K>, Bound<K>),
@@ -445,18 +447,18 @@ impl<K: Copy, V: Copy> Map<K, V> {
 
     /// Moves the entries whose keys are not less than `key` to a map of their own, and returns its handle. Those that are less stay.
     ///
-    /// One search, as in [`Map::get`]. The nodes of each level that are in front stay, and those behind go with all below them. A node that has
-    /// entries or children on both sides keeps those in front, and the others go to a new node. Then the first node of each level of the
-    /// new map is filled from its right neighbour, or merged into it, where it is at most half full. So at most three nodes of a level are
-    /// written, however many entries go. Where all go, nothing is written: the new handle has this map's number, and this map is empty.
+    /// One search, as in [`Map::get`]. The nodes of each level that are in front stay, and those behind go with all below them. A node that
+    /// has entries or children on both sides keeps those in front, and the others go to a new node. Then the first node of each level of
+    /// the new map is filled from its right neighbour, or merged into it, where it is at most half full. So at most three nodes of a level
+    /// are written, however many entries go. Where all go, nothing is written: the new handle has this map's number, and this map is empty.
     ///
     /// Takes a node for each that has entries or children on both sides: at most one a level, and none where no entry or each entry goes.
     /// Merged nodes are free afterwards.
     ///
     /// # Errors
     ///
-    /// [`OutOfMemory::Full`] where the forest's limit does not allow these nodes, and [`OutOfMemory::Memory`] where the table had to grow for
-    /// them and could not; neither where so many nodes lie free. The map and the forest are unchanged then.
+    /// [`OutOfMemory::Full`] where the forest's limit does not allow these nodes, and [`OutOfMemory::Memory`] where the table had to grow
+    /// for them and could not; neither where so many nodes lie free. The map and the forest are unchanged then.
     pub fn split_off<C: Comparator<K>>(
         &mut self,
         key: K,
@@ -481,8 +483,8 @@ impl<K: Copy, V: Copy> Map<K, V> {
     ///
     /// # Errors
     ///
-    /// [`OutOfMemory::Full`] where the forest's limit does not allow the new tree's nodes beside the old ones. [`OutOfMemory::Memory`] where
-    /// there was no memory for the list or for a table that had to grow. The map and the forest are unchanged then.
+    /// [`OutOfMemory::Full`] where the forest's limit does not allow the new tree's nodes beside the old ones. [`OutOfMemory::Memory`]
+    /// where there was no memory for the list or for a table that had to grow. The map and the forest are unchanged then.
     pub fn compact(&mut self, forest: &mut MapForest<K, V>) -> Result<(), OutOfMemory>
         requires live { IsLive forest.old self.old }
         ensures { Compacts MAP_LEAF forest.old self.old result forest.new self.new }
@@ -510,8 +512,8 @@ impl<K: Copy, V: Copy> Map<K, V> {
     /// Gives a new key to each entry whose key is not less than `from`: the one that `change` returns of the old. The values stay, and no
     /// node moves.
     ///
-    /// One search, as in [`Map::get`], and then one call of `change` and one write for each of these entries, in order. No other comparison,
-    /// no memory. What lies behind a text that grew is shifted so by `shift(at, |key| key + length, ..)`.
+    /// One search, as in [`Map::get`], and then one call of `change` and one write for each of these entries, in order. No other
+    /// comparison, no memory. What lies behind a text that grew is shifted so by `shift(at, |key| key + length, ..)`.
     ///
     /// The new keys have to increase under the map's order, and the first of them has to be greater than the last key that stays. This is
     /// not tested: [`Map::increases`] tells. Where `change` panics, in the package, the entries in front of that one have their new keys.

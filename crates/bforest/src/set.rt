@@ -260,8 +260,8 @@ impl<K: Copy> Set<K> {
         })
     }
 
-    /// Returns a set of these keys, in this order, in a tree with the fewest nodes that so many keys can have: all nodes of a level are full
-    /// but the last.
+    /// Returns a set of these keys, in this order, in a tree with the fewest nodes that so many keys can have: all nodes of a level are
+    /// full but the last.
     ///
     /// Takes exactly these nodes, none for no key, and makes sure of them before it writes the first. Writes each key once. No comparison.
     ///
@@ -346,8 +346,8 @@ impl<K: Copy> Set<K> {
 
     /// Removes each key that has no equal one in `other`, and returns whether there was one. The keys that stay are this set's own.
     ///
-    /// Walks along both sets side by side, with at most one comparison for each key of either. Each removed key may rebalance or merge nodes,
-    /// as in [`Set::remove`]. No node and no memory is taken, so this can't be refused.
+    /// Walks along both sets side by side, with at most one comparison for each key of either. Each removed key may rebalance or merge
+    /// nodes, as in [`Set::remove`]. No node and no memory is taken, so this can't be refused.
     ///
     /// Where both are one set, nothing changes. Where `other` is empty, this set is cleared. Neither compares a key.
     pub fn intersect_with<C: Comparator<K>>(
@@ -366,8 +366,8 @@ impl<K: Copy> Set<K> {
 
     /// Removes each key that has an equal one in `other`, and returns whether there was one.
     ///
-    /// Walks along both sets side by side, with at most one comparison for each key of either. Each removed key may rebalance or merge nodes,
-    /// as in [`Set::remove`]. No node and no memory is taken, so this can't be refused.
+    /// Walks along both sets side by side, with at most one comparison for each key of either. Each removed key may rebalance or merge
+    /// nodes, as in [`Set::remove`]. No node and no memory is taken, so this can't be refused.
     ///
     /// Where both are one set, it is cleared. Where `other` is empty, nothing changes. Neither compares a key.
     pub fn difference_with<C: Comparator<K>>(
@@ -386,10 +386,10 @@ impl<K: Copy> Set<K> {
 
     /// Removes the keys that are within both bounds, and returns whether there was one.
     ///
-    /// At most one search, as in [`Set::contains`], to the first of them. Up to an end bound they are removed one after another, in order, with one
-    /// comparison for each of them and one more, and each may rebalance or merge nodes, as in [`Set::remove`]. Without an end bound nothing is
-    /// compared: whole subtrees go, each node of which is read once, and of the nodes that stay only those on the path to the first are
-    /// written. No node and no memory is taken, so this can't be refused.
+    /// At most one search, as in [`Set::contains`], to the first of them. Up to an end bound they are removed one after another, in order,
+    /// with one comparison for each of them and one more, and each may rebalance or merge nodes, as in [`Set::remove`]. Without an end
+    /// bound nothing is compared: whole subtrees go, each node of which is read once, and of the nodes that stay only those on the path to
+    /// the first are written. No node and no memory is taken, so this can't be refused.
     pub fn remove_range<C: Comparator<K>>(
         &mut self,
         bounds: (Bound<K>, Bound<K>),
@@ -405,18 +405,18 @@ impl<K: Copy> Set<K> {
 
     /// Moves the keys that are not less than `key` to a set of their own, and returns its handle. Those that are less stay.
     ///
-    /// One search, as in [`Set::contains`]. The nodes of each level that are in front stay, and those behind go with all below them. A node that has
-    /// keys or children on both sides keeps those in front, and the others go to a new node. Then the first node of each level of the
-    /// new set is filled from its right neighbour, or merged into it, where it is at most half full. So at most three nodes of a level are
-    /// written, however many keys go. Where all go, nothing is written: the new handle has this set's number, and this set is empty.
+    /// One search, as in [`Set::contains`]. The nodes of each level that are in front stay, and those behind go with all below them. A node
+    /// that has keys or children on both sides keeps those in front, and the others go to a new node. Then the first node of each level of
+    /// the new set is filled from its right neighbour, or merged into it, where it is at most half full. So at most three nodes of a level
+    /// are written, however many keys go. Where all go, nothing is written: the new handle has this set's number, and this set is empty.
     ///
     /// Takes a node for each that has keys or children on both sides: at most one a level, and none where no key or each key goes.
     /// Merged nodes are free afterwards.
     ///
     /// # Errors
     ///
-    /// [`OutOfMemory::Full`] where the forest's limit does not allow these nodes, and [`OutOfMemory::Memory`] where the table had to grow for
-    /// them and could not; neither where so many nodes lie free. The set and the forest are unchanged then.
+    /// [`OutOfMemory::Full`] where the forest's limit does not allow these nodes, and [`OutOfMemory::Memory`] where the table had to grow
+    /// for them and could not; neither where so many nodes lie free. The set and the forest are unchanged then.
     pub fn split_off<C: Comparator<K>>(
         &mut self,
         key: K,
@@ -441,8 +441,8 @@ impl<K: Copy> Set<K> {
     ///
     /// # Errors
     ///
-    /// [`OutOfMemory::Full`] where the forest's limit does not allow the new tree's nodes beside the old ones. [`OutOfMemory::Memory`] where
-    /// there was no memory for the list or for a table that had to grow. The set and the forest are unchanged then.
+    /// [`OutOfMemory::Full`] where the forest's limit does not allow the new tree's nodes beside the old ones. [`OutOfMemory::Memory`]
+    /// where there was no memory for the list or for a table that had to grow. The set and the forest are unchanged then.
     pub fn compact(&mut self, forest: &mut SetForest<K>) -> Result<(), OutOfMemory>
         requires live { IsLive forest.old self.old }
         ensures { Compacts SET_LEAF forest.old self.old result forest.new self.new }

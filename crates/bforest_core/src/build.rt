@@ -24,8 +24,8 @@ struct Plan {
 }
 
 impl<K: Copy, V: Copy, const N: usize> NodePool<K, V, N> {
-    /// Makes a tree of these entries, in this order, and returns its root. All nodes of a level are full but the last, so no tree of so many
-    /// entries has fewer nodes. No key is compared.
+    /// Makes a tree of these entries, in this order, and returns its root. All nodes of a level are full but the last, so no tree of so
+    /// many entries has fewer nodes. No key is compared.
     ///
     /// Takes as many nodes as the tree has; one `reserve` before the first change provides them.
     ///

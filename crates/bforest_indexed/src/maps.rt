@@ -316,8 +316,8 @@ impl<K: Copy, V: Copy, C: Comparator<K>> Maps<K, V, C> {
     ///
     /// # Errors
     ///
-    /// [`OutOfMemory`] where too few nodes are available; nothing has changed then. It does not come where there is room for one more map, by
-    /// [`Maps::reserve_for`].
+    /// [`OutOfMemory`] where too few nodes are available; nothing has changed then. It does not come where there is room for one more map,
+    /// by [`Maps::reserve_for`].
     pub fn copy(&mut self, from: usize, to: usize) -> Result<(), OutOfMemory>
         requires from { from < count self.old }
         requires to { to < count self.old }
@@ -334,14 +334,14 @@ impl<K: Copy, V: Copy, C: Comparator<K>> Maps<K, V, C> {
 
     /// Gives the map at an index these entries, in a tree with the fewest nodes that so many entries can have; its own entries end.
     ///
-    /// The order is tested first, with one comparison for each key but the first. Then the tree is made, as [`bforest::Map::load`] makes it,
-    /// and only then the nodes that the map had become free. Writes each entry once.
+    /// The order is tested first, with one comparison for each key but the first. Then the tree is made, as [`bforest::Map::load`] makes
+    /// it, and only then the nodes that the map had become free. Writes each entry once.
     ///
     /// # Errors
     ///
-    /// [`LoadError::Unordered`] with the index in the slice of the first key that is not less than the next one. [`LoadError::Refused`] where
-    /// too few nodes are available. It does not come where there is room for one more map, by [`Maps::reserve_for`]. Nothing has changed
-    /// then.
+    /// [`LoadError::Unordered`] with the index in the slice of the first key that is not less than the next one. [`LoadError::Refused`]
+    /// where too few nodes are available. It does not come where there is room for one more map, by [`Maps::reserve_for`]. Nothing has
+    /// changed then.
     pub fn load(&mut self, index: usize, entries: &[(K, V)]) -> Result<(), LoadError>
         requires within { index < count self.old }
         ensures { LoadsAt MAP_LEAF (C.order (comparator self.old)) self.old index entries.now
@@ -368,8 +368,8 @@ impl<K: Copy, V: Copy, C: Comparator<K>> Maps<K, V, C> {
     ///
     /// # Errors
     ///
-    /// [`OutOfMemory`] where a key is new and too few nodes are available beside the old ones, or there is no memory for a list of the union;
-    /// nothing has changed then.
+    /// [`OutOfMemory`] where a key is new and too few nodes are available beside the old ones, or there is no memory for a list of the
+    /// union; nothing has changed then.
     pub fn union_with(&mut self, index: usize, other: usize) -> Result<bool, OutOfMemory>
         requires within { index < count self.old }
         requires other { other < count self.old }
@@ -397,8 +397,8 @@ impl<K: Copy, V: Copy, C: Comparator<K>> Maps<K, V, C> {
     /// Removes each entry of the map at `index` whose key has an equal one in the map at `other`, and returns whether there was one. The
     /// entries that stay keep their values. Where both are one, all entries are removed.
     ///
-    /// As [`bforest::Map::difference_with`]: walks along both, with at most one comparison for each entry of either. It takes no node and no
-    /// memory, so it can't be refused.
+    /// As [`bforest::Map::difference_with`]: walks along both, with at most one comparison for each entry of either. It takes no node and
+    /// no memory, so it can't be refused.
     pub fn difference_with(&mut self, index: usize, other: usize) -> bool
         requires within { index < count self.old }
         requires other { other < count self.old }
@@ -409,16 +409,16 @@ impl<K: Copy, V: Copy, C: Comparator<K>> Maps<K, V, C> {
         self.maps[index].difference_with(&theirs, &mut self.forest, &self.order)
     }
 
-    /// Moves the entries of the map at `from` whose keys are not less than `key` to the map at `to`, whose own entries end. Those that are less stay
-    /// where they are. Where both are one, it keeps those that went.
+    /// Moves the entries of the map at `from` whose keys are not less than `key` to the map at `to`, whose own entries end. Those that are
+    /// less stay where they are. Where both are one, it keeps those that went.
     ///
-    /// As [`bforest::Map::split_off`], with one search: nodes go as a whole, and at most one a level is new. The nodes of the map at `to` become
-    /// free afterwards.
+    /// As [`bforest::Map::split_off`], with one search: nodes go as a whole, and at most one a level is new. The nodes of the map at `to`
+    /// become free afterwards.
     ///
     /// # Errors
     ///
-    /// [`OutOfMemory::Full`] where the limit does not allow the new nodes beside those that are there, and [`OutOfMemory::Memory`] where the
-    /// table had to grow for them and could not; neither where so many nodes lie free. Nothing has changed then.
+    /// [`OutOfMemory::Full`] where the limit does not allow the new nodes beside those that are there, and [`OutOfMemory::Memory`] where
+    /// the table had to grow for them and could not; neither where so many nodes lie free. Nothing has changed then.
     pub fn split_off(&mut self, from: usize, key: K, to: usize) -> Result<(), OutOfMemory>
         requires from { from < count self.old }
         requires to { to < count self.old }
@@ -432,8 +432,8 @@ impl<K: Copy, V: Copy, C: Comparator<K>> Maps<K, V, C> {
 
     /// Removes the entries of a map whose keys are within both bounds, and returns whether there was one.
     ///
-    /// As [`bforest::Map::remove_range`]: at most one search, one comparison for each entry that goes, and one more. Without an end bound none
-    /// is compared, and whole subtrees go. It takes no node and no memory, so it can't be refused.
+    /// As [`bforest::Map::remove_range`]: at most one search, one comparison for each entry that goes, and one more. Without an end bound
+    /// none is compared, and whole subtrees go. It takes no node and no memory, so it can't be refused.
     pub fn remove_range(&mut self, index: usize, bounds: (Bound<K>, Bound<K>)) -> bool
         requires within { index < count self.old }
         ensures { RemovesBetweenAt MAP_LEAF (C.order (comparator self.old)) bounds.0 bounds.1 self.old index

@@ -271,8 +271,8 @@ impl<K: Copy, C: Comparator<K>> Sets<K, C> {
     ///
     /// # Errors
     ///
-    /// [`OutOfMemory`] where too few nodes are available; nothing has changed then. It does not come where there is room for one more set, by
-    /// [`Sets::reserve_for`].
+    /// [`OutOfMemory`] where too few nodes are available; nothing has changed then. It does not come where there is room for one more set,
+    /// by [`Sets::reserve_for`].
     pub fn copy(&mut self, from: usize, to: usize) -> Result<(), OutOfMemory>
         requires from { from < count self.old }
         requires to { to < count self.old }
@@ -289,14 +289,14 @@ impl<K: Copy, C: Comparator<K>> Sets<K, C> {
 
     /// Gives the set at an index these keys, in a tree with the fewest nodes that so many keys can have; its own keys end.
     ///
-    /// The order is tested first, with one comparison for each key but the first. Then the tree is made, as [`bforest::Set::load`] makes it,
-    /// and only then the nodes that the set had become free. Writes each key once.
+    /// The order is tested first, with one comparison for each key but the first. Then the tree is made, as [`bforest::Set::load`] makes
+    /// it, and only then the nodes that the set had become free. Writes each key once.
     ///
     /// # Errors
     ///
-    /// [`LoadError::Unordered`] with the index in the slice of the first key that is not less than the next one. [`LoadError::Refused`] where
-    /// too few nodes are available. It does not come where there is room for one more set, by [`Sets::reserve_for`]. Nothing has changed
-    /// then.
+    /// [`LoadError::Unordered`] with the index in the slice of the first key that is not less than the next one. [`LoadError::Refused`]
+    /// where too few nodes are available. It does not come where there is room for one more set, by [`Sets::reserve_for`]. Nothing has
+    /// changed then.
     pub fn load(&mut self, index: usize, keys: &[K]) -> Result<(), LoadError>
         requires within { index < count self.old }
         ensures { LoadsAt SET_LEAF (C.order (comparator self.old)) self.old index (with_unit keys.now)
@@ -315,8 +315,8 @@ impl<K: Copy, C: Comparator<K>> Sets<K, C> {
         }
     }
 
-    /// Returns whether each key of the set at `index` has an equal one in the set at `other`, which may be the same. An empty set is a subset
-    /// of each set. Reads both side by side, up to the first key that is not there: at most one comparison for each key of either.
+    /// Returns whether each key of the set at `index` has an equal one in the set at `other`, which may be the same. An empty set is a
+    /// subset of each set. Reads both side by side, up to the first key that is not there: at most one comparison for each key of either.
     pub fn is_subset(&self, index: usize, other: usize) -> bool
         requires within { index < count self.now }
         requires other { other < count self.now }
@@ -345,8 +345,8 @@ impl<K: Copy, C: Comparator<K>> Sets<K, C> {
     ///
     /// # Errors
     ///
-    /// [`OutOfMemory`] where a key is new and too few nodes are available beside the old ones, or there is no memory for a list of the union;
-    /// nothing has changed then.
+    /// [`OutOfMemory`] where a key is new and too few nodes are available beside the old ones, or there is no memory for a list of the
+    /// union; nothing has changed then.
     pub fn union_with(&mut self, index: usize, other: usize) -> Result<bool, OutOfMemory>
         requires within { index < count self.old }
         requires other { other < count self.old }
@@ -371,8 +371,8 @@ impl<K: Copy, C: Comparator<K>> Sets<K, C> {
         self.sets[index].intersect_with(&theirs, &mut self.forest, &self.order)
     }
 
-    /// Removes each key of the set at `index` that has an equal one in the set at `other`, and returns whether there was one. Where both are
-    /// one, all keys are removed.
+    /// Removes each key of the set at `index` that has an equal one in the set at `other`, and returns whether there was one. Where both
+    /// are one, all keys are removed.
     ///
     /// As [`bforest::Set::difference_with`]: walks along both, with at most one comparison for each key of either. It takes no node and no
     /// memory, so it can't be refused.
@@ -389,13 +389,13 @@ impl<K: Copy, C: Comparator<K>> Sets<K, C> {
     /// Moves the keys of the set at `from` that are not less than `key` to the set at `to`, whose own keys end. Those that are less stay
     /// where they are. Where both are one, it keeps those that went.
     ///
-    /// As [`bforest::Set::split_off`], with one search: nodes go as a whole, and at most one a level is new. The nodes of the set at `to` become
-    /// free afterwards.
+    /// As [`bforest::Set::split_off`], with one search: nodes go as a whole, and at most one a level is new. The nodes of the set at `to`
+    /// become free afterwards.
     ///
     /// # Errors
     ///
-    /// [`OutOfMemory::Full`] where the limit does not allow the new nodes beside those that are there, and [`OutOfMemory::Memory`] where the
-    /// table had to grow for them and could not; neither where so many nodes lie free. Nothing has changed then.
+    /// [`OutOfMemory::Full`] where the limit does not allow the new nodes beside those that are there, and [`OutOfMemory::Memory`] where
+    /// the table had to grow for them and could not; neither where so many nodes lie free. Nothing has changed then.
     pub fn split_off(&mut self, from: usize, key: K, to: usize) -> Result<(), OutOfMemory>
         requires from { from < count self.old }
         requires to { to < count self.old }
@@ -409,8 +409,8 @@ impl<K: Copy, C: Comparator<K>> Sets<K, C> {
 
     /// Removes the keys of a set that are within both bounds, and returns whether there was one.
     ///
-    /// As [`bforest::Set::remove_range`]: at most one search, one comparison for each key that goes, and one more. Without an end bound none
-    /// is compared, and whole subtrees go. It takes no node and no memory, so it can't be refused.
+    /// As [`bforest::Set::remove_range`]: at most one search, one comparison for each key that goes, and one more. Without an end bound
+    /// none is compared, and whole subtrees go. It takes no node and no memory, so it can't be refused.
     pub fn remove_range(&mut self, index: usize, bounds: (Bound<K>, Bound<K>)) -> bool
         requires within { index < count self.old }
         ensures { RemovesBetweenAt SET_LEAF (C.order (comparator self.old)) bounds.0 bounds.1 self.old index

@@ -7,6 +7,7 @@
 
 mod comparator;
 mod entries;
+mod half;
 mod lent;
 mod node;
 mod number;

@@ -3,10 +3,11 @@ ghost use Rattle.bforest_nodes.specs.Content.{Balances, Free, HasShape, Inner, I
 ghost use Rattle.bforest_nodes.specs.Search.{count_up_to, search_of};
 ghost use Rattle.std.specs.Borrow.{sem};
 ghost use Rattle.std.specs.List.Sorted.{IsStrictlySortedBy};
-ghost use Rattle.std.specs.Prelude.{Err, IfOk, IfSome, IsSome, IsTrue, None, Some, Ok, [], if◌then◌else◌, length, map, nat_le, option_map, slice_get, ◌*◌, ◌+◌, ◌-◌, ◌/◌, ◌<◌, ◌^◌, ◌↔◌, ◌∷◌, ◌≡◌, ◌≤◌, ℕ};
+ghost use Rattle.std.specs.Prelude.{Err, IfOk, IfSome, IsSome, IsTrue, None, Some, Ok, [], length, map, option_map, slice_get, ◌*◌, ◌+◌, ◌-◌, ◌/◌, ◌<◌, ◌↔◌, ◌∷◌, ◌≡◌, ◌≤◌, ℕ};
 
 use crate::comparator::Comparator;
 use crate::entries::Entries;
+use crate::half::{answer_of, left_half_of};
 use crate::number::{Node, PackedNode};
 use crate::row::Row;
 use std::alloc::{AllocError, Global};
@@ -593,8 +594,8 @@ impl<K: Copy, V: Copy, const N: usize> NodeData<K, V, N> {
         }
     }
 
-    /// Keeps the children of an inner node, or the entries of a leaf, from the index `from` on, and drops those in front. It has one there at
-    /// least.
+    /// Keeps the children of an inner node, or the entries of a leaf, from the index `from` on, and drops those in front. It has one there
+    /// at least.
     pub fn keep_back(&mut self, from: usize)
         requires used { ¬ IsFree self.old }
         requires within { from < entry_count self.old }
@@ -694,8 +695,8 @@ impl<K: Copy, V: Copy, const N: usize> NodeData<K, V, N> {
         }
     }
 
-    /// Balances a node that is at most half full with its right neighbour, from which `crit_key` separates it, and returns the key that separates them
-    /// afterwards.
+    /// Balances a node that is at most half full with its right neighbour, from which `crit_key` separates it, and returns the key that
+    /// separates them afterwards.
     ///
     /// Where one node can hold everything, all moves to the right one and the result is `None`; what the left one holds then is
     /// unspecified. Otherwise the right one gets half, rounded down, and the left one the rest.
@@ -785,37 +786,5 @@ impl<K: Copy, V: Copy, const N: usize> NodeData<K, V, N> {
             }
             _ => unreachable!(),
         }
-    }
-}
-
-// The state of a node of this capacity with `left` entries, after the one at `index` was removed.
-fn answer_of(index: usize, left: usize, most: usize) -> Removed
-    requires { left < 2 ^ 32 }
-    ensures { result ≡ removed_answer most index left }
-{
-    if 2 * left >= most {
-        if index == left {
-            Removed::Rightmost
-        } else {
-            Removed::Healthy
-        }
-    } else if left > 0 {
-        Removed::Underflow
-    } else {
-        Removed::Empty
-    }
-}
-
-// How many entries of a full leaf of this capacity stay in its left half.
-fn left_half_of(most: usize, insert_index: usize) -> usize
-    requires { IsLeafCapacity most }
-    ensures half { result ≡ (if nat_le insert_index (most / 2) then most / 2 else (most + 1) / 2) }
-    ensures some { 0 < result }
-    ensures within { result < most }
-{
-    if insert_index <= most / 2 {
-        most / 2
-    } else {
-        most / 2 + 1
     }
 }

@@ -68,6 +68,7 @@ module _ {K X : Type 0} where
     pub tail : IfOk result (λ t. list_of f' t ≡ drop place (list_of f h))
     pub sizes : OnOk result (sizes_of f' h' ≡ truncation place (length (list_of f h) - place) (sizes_of f h))
     pub tail_sizes : IfOk result (λ t. sizes_of f' t ≡ detached most place (sizes_of f h))
+    pub same_levels : OnOk result (SameLevels f h f' h')
     pub live : IsLive f' h'
     pub tail_live : IfOk result (λ t. IsLive f' t)
     pub apart : IfOk result (λ t. t ≡ h' → t ≡ None)

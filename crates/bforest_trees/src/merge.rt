@@ -52,7 +52,8 @@ pub(crate) fn next_order<'a, K: Copy, V: Copy, const N: usize, C: Comparator<K>>
     }
 }
 
-/// Takes the lesser of the next entries of two readers off. Where they compare equal, both are taken off, and that of the first is returned.
+/// Takes the lesser of the next entries of two readers off. Where they compare equal, both are taken off, and that of the first is
+/// returned.
 #[inline(always)]
 pub(crate) fn take<'a, K: Copy, V: Copy, const N: usize>(
     order: Ordering,

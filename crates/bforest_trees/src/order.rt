@@ -5,7 +5,8 @@ ghost use Rattle.std.specs.Prelude.{IfSome, None, ◌≡◌};
 
 use bforest_core::{Comparator, Source};
 
-/// Returns the first place whose key is not less than the next one's, if there is one, by at most one comparison for each key but the first.
+/// Returns the first place whose key is not less than the next one's, if there is one, by at most one comparison for each key but the
+/// first.
 pub fn first_unordered<K: Copy, V: Copy, S: Source<K, V>, C: Comparator<K>>(
     entries: S,
     order: &C,

@@ -21,9 +21,9 @@ impl<K: Copy, V: Copy, const N: usize> Path<K, V, N> {
     /// Detaches the entry here, which is not the first, and all behind it. Returns the root of what is in front, and that of a tree of the
     /// others. The path goes to the end.
     ///
-    /// On each level the nodes beside the path stay as they are, and belong to the part on their side. A node of the path that has entries or
-    /// children on both sides keeps those in front, and the others go to a new node. Then the first node of each level of the second tree is
-    /// filled from its right neighbour, or merged into it, where it is at most half full. Roots with a single child are discarded.
+    /// On each level the nodes beside the path stay as they are, and belong to the part on their side. A node of the path that has entries
+    /// or children on both sides keeps those in front, and the others go to a new node. Then the first node of each level of the second
+    /// tree is filled from its right neighbour, or merged into it, where it is at most half full. Roots with a single child are discarded.
     ///
     /// Takes `nodes_to_detach` nodes, which have to be free, and no memory.
     pub fn detach(&mut self, pool: &mut NodePool<K, V, N>) -> (Node, Node)
@@ -43,8 +43,8 @@ impl<K: Copy, V: Copy, const N: usize> Path<K, V, N> {
         (front, back)
     }
 
-    /// How many nodes `detach` takes: as many as nodes of the path have entries or children on both sides. None where the path is on the first
-    /// entry.
+    /// How many nodes `detach` takes: as many as nodes of the path have entries or children on both sides. None where the path is on the
+    /// first entry.
     pub fn nodes_to_detach(&self) -> u32
         requires stands { (table : Table K V) × IsUnion N table × OnEntry table self.now }
         ensures count { (table : Table K V) → IsUnion N table → (at : OnEntry table self.now) → result

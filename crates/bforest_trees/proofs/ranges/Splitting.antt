@@ -17,7 +17,7 @@ use Rattle.bforest_trees.proofs.Changed.{keeps, list-none, list-root, live-root,
 use Rattle.bforest_trees.proofs.Cutting.{truncation-some}
 use Rattle.bforest_trees.proofs.Fits.{fit-at}
 use Rattle.bforest_trees.proofs.Spots.{spot-in, spot-on}
-use Rattle.bforest_trees.specs.Calls.{SplitsAt, truncation}
+use Rattle.bforest_trees.specs.Calls.{SameLevels, SplitsAt, truncation}
 use Rattle.bforest_trees.specs.Place.{AtSpot}
 use Rattle.bforest_trees.specs.Forest.{Forest, GrowsFor, Keeps, IsLive, IsTooMany, NeedsGrowth, free_of, list_at, list_of, sizes_at, sizes_of}
 use Rattle.std.proofs.Common.{inl, inr, Err, IsTrue, List, None, Ok, Option, Some, [], ap, arith, drop, length, length-append, map, refl, subst, suc, sym, take, zero, ◌+◌, ◌++◌, ◌-◌, ◌<◌, ◌≤◌, ◌↔◌, ◌∙◌, ◌∷◌, ◌≡◌, ◌≢◌, ℕ}
@@ -113,6 +113,11 @@ module _ {K X : Type 0} {most : ℕ} (f : Forest K X) (union : IsUnion most f) w
   whole-sizes None live = refl
   whole-sizes (Some n) live = sym (truncation-some 0 (length (list_at f n) - 0) (sizes_at f n) (above-none (list_at f n) live) ∙ truncated-none (sizes_at f n))
 
+  -- a live handle has a level exactly where it is not empty
+  whole-levels : (h : Option ℕ) → IsLive f h → SameLevels f h f None
+  whole-levels None live = (λ z. refl, λ z. refl)
+  whole-levels (Some n) live = (λ bad. absurd (cc), λ none. absurd (omega (arith, none, ap length (sizes-root f n (live-root f n live)))))
+
   -- at the end of a list nothing is to be split
   end-sizes : (h : Option ℕ) → IsLive f h → (severed (length (list_of f h)) (sizes_of f h) ≡ 0) × (detached most (length (list_of f h)) (sizes_of f h) ≡ [])
   end-sizes None live = (refl, refl)
@@ -129,6 +134,7 @@ module _ {K X : Type 0} {most : ℕ} (f : Forest K X) (union : IsUnion most f) w
     tail = sym (drop_all (length (list_of f h)) (list_of f h) (omega arith));
     sizes = (let none : length (list_of f h) - length (list_of f h) ≡ 0 = omega arith in sym (ap (λ n. truncation (length (list_of f h)) n (sizes_of f h)) none));
     tail_sizes = sym e.1;
+    same_levels = (λ z. refl, λ z. refl);
     live = live;
     tail_live = tt;
     fit = fits h;
@@ -161,6 +167,7 @@ module _ {K X : Type 0} {most : ℕ} (f : Forest K X) (union : IsUnion most f) w
     tail = refl;
     sizes = whole-sizes h live;
     tail_sizes = refl;
+    same_levels = whole-levels h live;
     live = tt;
     tail_live = live;
     fit = refl;
@@ -194,6 +201,7 @@ module _ {K X : Type 0} {most : ℕ} (f : Forest K X) (union : IsUnion most f) w
     tail = tt;
     sizes = tt;
     tail_sizes = tt;
+    same_levels = tt;
     live = live;
     tail_live = tt;
     fit = tt;
@@ -234,6 +242,9 @@ module _ {K X : Type 0} {most : ℕ} {f g f' : Forest K X} {n p need front behin
   needed : severed p (sizes_at f n) ≡ need
   needed = ap (severed p) (sizes-root f n root) ∙ sym need_is
 
+  heights : (length (sizes_at f' front) ≡ length (truncated p (sizes_under g n))) × (length (sizes_under g n) ≡ length (sizes_at f n))
+  heights = (ap length (sizes-root f' front d.front_root ∙ d.front_sizes), ap length shape)
+
   stays : Keeps f g
   stays = keeps f g kept (ap (λ z. z.limit) is)
 
@@ -243,6 +254,10 @@ module _ {K X : Type 0} {most : ℕ} {f g f' : Forest K X} {n p need front behin
     tail = list-root f' behind d.behind_root ∙ d.behind_list ∙ ap (drop p) list;
     sizes = sizes-root f' front d.front_root ∙ d.front_sizes ∙ ap (truncated p) shape ∙ sym (truncation-some p (length (list_at f n) - p) (sizes_at f n) (omega (arith, low, ap length (list-root f n root))));
     tail_sizes = sizes-root f' behind d.behind_root ∙ d.behind_sizes ∙ ap (detached most p) shape;
+    same_levels = (
+      λ e. let same : front ≡ n = cc in omega (arith, d.same_root.0 same, heights),
+      λ e. ap Some (d.same_root.1 (omega (arith, e, heights))),
+    );
     live = root-live most f' front d.union d.front_root;
     tail_live = root-live most f' behind d.union d.behind_root;
     fit = fit-at most f' d.union front;

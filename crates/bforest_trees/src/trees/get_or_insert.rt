@@ -53,8 +53,8 @@ impl<K: Copy, V: Copy, const N: usize> Trees<K, V, N> {
         }
     }
 
-    /// Replaces the value of a key by what `change` returns of it. Where the key is absent, `value` is inserted there. Returns the value that
-    /// the key has then. `change` is called before anything is written. One search.
+    /// Replaces the value of a key by what `change` returns of it. Where the key is absent, `value` is inserted there. Returns the value
+    /// that the key has then. `change` is called before anything is written. One search.
     pub fn update_or_insert<C: Comparator<K>, F: FnOnce(V) -> V>(
         &mut self,
         handle: &mut PackedNode,

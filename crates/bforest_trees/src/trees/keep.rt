@@ -9,8 +9,8 @@ use crate::trees::{Trees, packed};
 use bforest_core::{Comparator, PackedNode};
 
 impl<K: Copy, V: Copy, const N: usize> Trees<K, V, N> {
-    /// Keeps the entries of a tree whose keys are in another one, or those whose keys are not, as `present` says. Returns whether an entry was
-    /// removed. The two may be one tree.
+    /// Keeps the entries of a tree whose keys are in another one, or those whose keys are not, as `present` says. Returns whether an entry
+    /// was removed. The two may be one tree.
     pub fn keep<C: Comparator<K>>(
         &mut self,
         handle: &mut PackedNode,

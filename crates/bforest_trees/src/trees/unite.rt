@@ -23,7 +23,8 @@ struct Count {
 }
 
 impl<K: Copy, V: Copy, const N: usize> Trees<K, V, N> {
-    /// Puts each entry of another tree whose key is absent into a tree, and returns whether there was one. Then the tree is made anew, packed.
+    /// Puts each entry of another tree whose key is absent into a tree, and returns whether there was one. Then the tree is made anew,
+    /// packed.
     pub fn unite<C: Comparator<K>>(
         &mut self,
         handle: &mut PackedNode,
