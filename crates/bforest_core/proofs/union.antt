@@ -29,7 +29,9 @@ pub mod Filled
 pub mod FilledChild
 pub mod EdgeFilled
 pub mod Detached
+pub mod BehindTree
 pub mod DetachTree
+pub mod FrontTree
 pub mod CutTree
 pub mod Needs
 pub mod Building

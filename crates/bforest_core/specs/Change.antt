@@ -108,6 +108,14 @@ module _ {K V : Type 0} where
     pub memory_is : new.memory ≡ old.memory
     pub count_is : length given + node_count after ≡ node_count before
 
+  -- the tree under a root lost the entries in front of a place and is under `root'` then, where leaves have at most `most`; nodes that are left
+  -- over are free, as the old root is where it is not the new one
+  pub record CutsFront (most : ℕ) (old new : Table K V) (root place root' : ℕ) : Type 0 where
+    pub removed : Changes most old new root root' (drop place (flat (tree_of old.nodes root).leaves)) (detached most place (sizes_of (tree_of old.nodes root)))
+    pub account : GivesNodes (sizes_of (tree_of old.nodes root)) (detached most place (sizes_of (tree_of old.nodes root))) old new
+    pub same_root : (root' ≡ root) ↔ (length (detached most place (sizes_of (tree_of old.nodes root))) ≡ length (sizes_of (tree_of old.nodes root)))
+    pub freed_root : root' ≢ root → 0 < count root new.chain
+
   -- freed nodes are in front of the free list: nodes of this path, leaf first, then one discarded root per lost
   -- level; each is in front of those freed before it
   pub record GivesInOrder (path : List ℕ) (before after : List (List ℕ)) (old new : Table K V) : Type 0 where

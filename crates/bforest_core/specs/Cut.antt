@@ -1,5 +1,5 @@
 -- Cutting a tree at a place: what is in front of it on each level, and what a call below a node of the path leaves.
-use Rattle.std.specs.Prelude.{◌≡◌, ℕ, zero, suc, ◌-◌, ◌≤◌, nat_lt, if◌then◌else◌, Some, slice_get, List, [], ◌∷◌, ◌++◌, length, take, get_or}
+use Rattle.std.specs.Prelude.{◌≡◌, ℕ, zero, suc, ◌+◌, ◌-◌, ◌≤◌, nat_lt, if◌then◌else◌, Some, slice_get, List, [], ◌∷◌, ◌++◌, length, take, get_or}
 use Rattle.bforest_core.specs.Descent.{StandsTo, Under}
 use Rattle.bforest_core.specs.Levels.{LevelNode, node, top_level}
 use Rattle.bforest_core.specs.Place.{Distinct, IsAt, RowIn, RowsIn, count, inner_content, leaf_content}
@@ -29,11 +29,13 @@ module _ {K V : Type 0} where
     pub height : length lower ≡ level
     pub apart : Distinct (numbers_under leaves lower ++ table.chain)
 
-  -- a node has children from this index on, which are `top`, and these leaves and rows are below them, off the free list
-  pub record Behind (most : ℕ) (table : Table K V) (number from : ℕ) (leaves : List (LevelNode K V)) (lower : List (List (LevelNode K ℕ))) (top : List (K × ℕ)) : Type 0 where
+  -- a node has these children, `top`, from an index on up to another, and these leaves and rows are below them, off the free list
+  pub record Between (most : ℕ) (table : Table K V) (number from to : ℕ) (leaves : List (LevelNode K V)) (lower : List (List (LevelNode K ℕ))) (top : List (K × ℕ)) : Type 0 where
     pub before : List (K × ℕ)
-    pub slot_is : slice_get table.nodes number ≡ Some (inner_content (before ++ top))
+    pub after : List (K × ℕ)
+    pub slot_is : slice_get table.nodes number ≡ Some (inner_content (before ++ (top ++ after)))
     pub from_is : length before ≡ from
+    pub to_is : from + length top ≡ to
     pub under : Under most table.nodes leaves lower top
     pub low : length lower ≤ top_level
     pub outside : count number (numbers_under leaves lower) ≡ 0

@@ -1,5 +1,5 @@
--- Detaching what is behind a place: the two parts that a call below a node of the path leaves, and the left edge of the second one, whose nodes
--- are filled from their right neighbours.
+-- Detaching what is behind a place, or freeing what is in front of it: the parts that a call below a node of the path leaves, and the left edge
+-- of what is behind, whose nodes are filled from their right neighbours.
 use Rattle.std.specs.Prelude.{◌≡◌, ◌≢◌, ℕ, ◌*◌, ◌<◌, ◌≤◌, List, [], ◌∷◌, ◌++◌, map, length, drop, slice_get, Some}
 use Rattle.bforest_nodes.specs.Content.{Content, first_part, last_part}
 use Rattle.bforest_core.specs.Cut.{front_row, front_rows}
@@ -30,21 +30,33 @@ module _ {K V : Type 0} where
     pub there : slice_get new.nodes behind ≡ Some (last_part from content)
     pub draws : Draws old new (node ∷ []) (node ∷ behind ∷ []) (behind ∷ [])
 
+  -- Of these leaves and the rows over them what is behind a place is below a node: the leaves and the rows that are named here.
+  pub record IsBehind (table : Table K V) (leaves : List (LevelNode K V)) (lower : List (List (LevelNode K ℕ))) (place behind : ℕ) : Type 0 where
+    pub tail : List (LevelNode K V)
+    pub above : List (List (LevelNode K ℕ))
+    pub first : K
+    pub tail_in : RowIn leaf_content table.nodes tail
+    pub above_in : RowsIn table.nodes above
+    pub tail_is : flat tail ≡ drop place (flat leaves)
+    pub piled : Piled (heads tail) above ((first, behind) ∷ [])
+    pub sizes_are : row_sizes tail above ≡ backs place (row_sizes leaves lower)
+
   -- Of these leaves and the rows over them what is in front of a place is left, and what is behind it is below a node of its own. Nodes were
   -- taken from the front of the free list.
   pub record Parts (old new : Table K V) (leaves : List (LevelNode K V)) (lower : List (List (LevelNode K ℕ))) (place behind : ℕ) : Type 0 where
     pub leaves_in : RowIn leaf_content new.nodes (front_row place leaves)
     pub rows_in : RowsIn new.nodes (front_rows (length (front_row place leaves)) lower)
-    pub tail : List (LevelNode K V)
-    pub above : List (List (LevelNode K ℕ))
-    pub first : K
-    pub tail_in : RowIn leaf_content new.nodes tail
-    pub above_in : RowsIn new.nodes above
-    pub tail_is : flat tail ≡ drop place (flat leaves)
-    pub piled : Piled (heads tail) above ((first, behind) ∷ [])
-    pub sizes_are : row_sizes tail above ≡ backs place (row_sizes leaves lower)
+    pub rest : IsBehind new leaves lower place behind
+    pub open rest use *
     pub taken : List ℕ
     pub draws : Draws old new (numbers_under leaves lower) (numbers_under (front_row place leaves) (front_rows (length (front_row place leaves)) lower) ++ numbers_under tail above) taken
+
+  -- of these leaves and the rows over them what is behind a place is left, below the node that it was below, and all in front of it is freed
+  pub record LeavesBehind (old new : Table K V) (leaves : List (LevelNode K V)) (lower : List (List (LevelNode K ℕ))) (place node : ℕ) : Type 0 where
+    pub rest : IsBehind new leaves lower place node
+    pub open rest use *
+    pub given : List ℕ
+    pub frees : Frees old new (numbers_under leaves lower) (numbers_under tail above) given
 
   -- The node is the first of a level, whose nodes are listed. These leaves and the rows over them are that level and all below, off the free
   -- list, and no node is empty. The node is more than half full, or the only one of its level.

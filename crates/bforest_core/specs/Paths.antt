@@ -1,6 +1,6 @@
 -- Where a path stands in a pool, in the terms of its public calls; contracts read a path only through these.
 use Rattle.std.specs.Prelude.{◌≡◌, ◌≢◌, ℕ, List, Option, Some, None, IfSome, Result, Err, IfOk, IsOk, OnOk, OnErr, drop, take, insert, remove, length, get_or, slice_get, if◌then◌else◌, ◌==◌, ◌+◌, ◌++◌, ◌∷◌, [], nat_eq, ◌<◌, ◌≤◌, ◌↔◌}
-use Rattle.bforest_core.specs.Change.{AtUnder, Changes, Divides, Ends, EntryTaken, GivesInOrder, GivesNodes, PlacedUnder, PointsUnder, StandsUnder, TakesNodes}
+use Rattle.bforest_core.specs.Change.{AtUnder, Changes, CutsFront, Divides, Ends, EntryTaken, GivesInOrder, GivesNodes, PlacedUnder, PointsUnder, StandsUnder, TakesNodes}
 use Rattle.bforest_core.specs.Climb.{top_of}
 use Rattle.bforest_core.specs.Levels.{LevelNode, flat, node, sizes_of}
 use Rattle.bforest_core.specs.Place.{count, leaf_content}
@@ -136,6 +136,11 @@ module _ {K V : Type 0} where
     pub ended : result ≡ None → (at : OnEntry old path) → Ends n old new at.root
     pub none_left : result ≡ None → (at : OnEntry old path) → truncated at.place (sizes_under old at.root) ≡ []
     pub freed_root : (at : OnEntry old path) → result ≢ Some at.root → 0 < count at.root new.chain
+    pub end : IsAtEnd path'
+
+  -- What a cut in front of a path returns and leaves, on each entry where the path stands but the first: the root of what is left
+  pub record CutsFrontHere {n : ℕ} (old new : Table K V) (path path' : Path K V n) (root' : ℕ) : Type 0 where
+    pub cut : (at : OnEntry old path) → 0 < at.place → CutsFront n old new at.root at.place root'
     pub end : IsAtEnd path'
 
   -- What a detaching at a path returns and leaves, on each entry where the path stands but the first: the roots of the two trees

@@ -4,7 +4,7 @@ ghost use Rattle.std.specs.List.{flat_map};
 ghost use Rattle.bforest_nodes.specs.Content.{Content, IsLeafCapacity, children_of};
 ghost use Rattle.bforest_core.specs.Change.{Ends, GivesNodes};
 ghost use Rattle.bforest_core.specs.Levels.{LevelNode, flat, half_of, sizes_of, most_levels, top_level};
-ghost use Rattle.bforest_core.specs.Cut.{Behind};
+ghost use Rattle.bforest_core.specs.Cut.{Between};
 ghost use Rattle.bforest_core.specs.Descent.{NodeOver, Under};
 ghost use Rattle.bforest_core.specs.Place.{count, Distinct};
 ghost use Rattle.bforest_core.specs.Removal.{numbers_under};
@@ -77,16 +77,16 @@ impl<K: Copy, V: Copy, const N: usize> NodePool<K, V, N> {
         self.free_node(node);
     }
 
-    // Frees everything below the children of a node from this index on. The node still names them.
-    pub(crate) fn free_behind(&mut self, node: Node, from: usize)
+    // Frees everything below some children of a node, from this index on up to another. The node still names them.
+    pub(crate) fn free_children(&mut self, node: Node, from: usize, to: usize)
         requires capacity { IsLeafCapacity N }
-        requires behind { (leaves : List (LevelNode K V)) × (lower : List (List (LevelNode K ℕ)))
-            × (top : List (K × ℕ)) × Behind N self.old node from leaves lower top }
+        requires children { (leaves : List (LevelNode K V)) × (lower : List (List (LevelNode K ℕ)))
+            × (top : List (K × ℕ)) × Between N self.old node from to leaves lower top }
         ensures { (leaves : List (LevelNode K V)) (lower : List (List (LevelNode K ℕ))) (top : List (K × ℕ))
-            → Behind N self.old node from leaves lower top
+            → Between N self.old node from to leaves lower top
             → (given : List ℕ) × Frees self.old self.new (numbers_under leaves lower) [] given }
     {
-        for index in from..self.child_count(node) {
+        for index in from..to {
             let child = self.node(node).child(index);
             self.free_below(child, 0);
         }

@@ -5,6 +5,12 @@ use Rattle.bforest_core.proofs.Words.{take_all, append-nil, slice_get-get_or, sl
 pub use Rattle.bforest_nodes.proofs.Seams.{slice_get-append-add}
 
 module _ {X : Type 0} where
+  -- an element at an index of the first of two lists
+  pub slice_get-left : (xs more : List X) (k : ℕ) → k < length xs → slice_get (xs ++ more) k ≡ slice_get xs k
+  slice_get-left [] more k low = absurd (omega arith)
+  slice_get-left (y ∷ xs) more zero low = refl
+  slice_get-left (y ∷ xs) more (suc k) low = slice_get-left xs more k (omega (arith, low))
+
   -- an element of the first of two lists is one of their concatenation
   pub slice_get-append_left : (xs more : List X) (k x : _) → slice_get xs k ≡ Some x → slice_get (xs ++ more) k ≡ Some x
   slice_get-append_left [] more k x found = absurd cc

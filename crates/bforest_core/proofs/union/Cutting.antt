@@ -1,13 +1,13 @@
 -- Cutting what is below a node at a path: a leaf, and an inner node after the child through which the path goes.
 use Rattle.bforest_core.proofs.Words.{◌≡◌, ◌≢◌, ℕ, zero, suc, ◌+◌, ◌-◌, ◌≤◌, ◌<◌, ◌↔◌, List, [], ◌∷◌, ◌++◌, length, take, drop, get_or, slice_get, Some, refl, sym, ap, subst, ◌∙◌, arith}
 use Rattle.bforest_core.proofs.Words.{cases_lt, inl, inr, append-nil, append_assoc, length-append, length-map, IsAt, IsLeafCapacity, StandsTo, Row, Rows, RowsIn, Heads, Under, Content, Table, flat_map, flat_map-append}
-use Rattle.bforest_core.proofs.Words.{Distinct, Frees, IsUsed, count, entry_items, entry_keys, flat, half_of, heads, inner_content, leaf_content, node, numbers, numbers_under, with_freed, with_node}
+use Rattle.bforest_core.proofs.Words.{Distinct, Frees, IsUsed, count, entry_count, entry_items, entry_keys, flat, half_of, heads, inner_content, leaf_content, node, numbers, numbers_under, with_freed, with_node}
 use Rattle.bforest_core.proofs.rows.{LevelRows.{flat-append, numbers-append, some_leaf}, Zipper.{Cut, cut}}
 use Rattle.bforest_core.proofs.table.{Stored.slice_get_at, Tables.{count-append, count-same, is_used, row-join, row-same, rows-same}, Trading.{frees-one, frees-then, puts, trades-wider}}
 use Rattle.bforest_core.proofs.union.{Joining.{beside, numbers-beside, rows-in-beside, rows-in-over}, Opened.{UnderCut, one_node, under-cut}, Sweep.under-same}
 use Rattle.bforest_core.proofs.union.{Fronts.{front-in, fronts-more, height-fronts, length-front, numbers-none, some-front, tops, tops-few, tops-none, tops-some}, Narrowing.{below-left, below-right, path-left, path-right, stands-less}}
 use Rattle.bforest_core.proofs.walks.{LeafSearch.items-read, RowNodes.fit_full, TopNode.{InnerUnder, LeafUnder, inner_at, leaf_at, node_over}}
-use Rattle.bforest_core.specs.Cut.{Behind, LeavesFront, OnBranch, front_row, front_rows}
+use Rattle.bforest_core.specs.Cut.{Between, LeavesFront, OnBranch, front_row, front_rows}
 use Rattle.bforest_nodes.specs.Content.{first_part}
 use Rattle.std.proofs.lemmas.List.{take-map}
 
@@ -196,11 +196,13 @@ module _ {K V : Type 0} {most : ℕ} (capacity : IsLeafCapacity most) {old : Tab
       apart = apart;
     }
 
-    pub behind-asks : level ≤ 16 → Behind most old number (get_or indices level 0 + 1) outer.leaves_right outer.lower_right here.r
-    behind-asks high = record {
+    pub behind-asks : {to : ℕ} → to ≡ entry_count {V = V} (inner_content children) → level ≤ 16 → Between most old number (get_or indices level 0 + 1) to outer.leaves_right outer.lower_right here.r
+    behind-asks to_is high = record {
       before = here.l ++ here.x ∷ [];
-      slot_is = inner.slot_is ∙ ap (λ z. Some (inner_content z)) (here.es_is ∙ sym (append_assoc here.l (here.x ∷ []) here.r));
+      after = [];
+      slot_is = inner.slot_is ∙ ap (λ z. Some (inner_content z)) (here.es_is ∙ sym (append_assoc here.l (here.x ∷ []) here.r) ∙ ap (λ z. (here.l ++ here.x ∷ []) ++ z) (sym (append-nil here.r)));
       from_is = omega (arith, here.place_is, length-append here.l (here.x ∷ []));
+      to_is = omega (arith, to_is, length-map children (λ (e : K × ℕ). e.1), ap length here.es_is, length-append here.l (here.x ∷ here.r), here.place_is);
       under = outer.right;
       low = omega (arith, high, b.height, inner.count_is, outer.right_height);
       outside = omega (arith, once number, one);

@@ -1,30 +1,14 @@
 -- Detaching what is behind a place of a whole tree: the two trees that it becomes, once the second one's left edge is filled and roots with a
 -- single child are discarded.
-use Rattle.bforest_core.proofs.Words.{◌≡◌, ◌≢◌, ℕ, zero, suc, ◌+◌, ◌-◌, ◌≤◌, ◌<◌, List, [], ◌∷◌, ◌++◌, map, length, drop, take, refl, sym, ap, subst, ◌∙◌, arith, append_assoc}
-use Rattle.bforest_core.proofs.Words.{inl, inr, eqb_tells, length-append, length-map, length-take-le, length-drop, flat_map, flat_map-append, Heads, Row, Rows, StandsUnder, IsForest, IsUnion, Table, Tree}
-use Rattle.bforest_core.proofs.Words.{Every, IsFree, leaf_content, slice_get, FitRow, Stacked, Frees, Trimmed, root_above, root_of, first_number, UpTo, count, flat, half_of, heads, node_count, numbers, numbers_of, numbers_under, sizes, sizes_of, slot, trimmed}
+use Rattle.bforest_core.proofs.Words.{◌≡◌, ◌≢◌, ℕ, suc, ◌+◌, ◌-◌, ◌≤◌, ◌<◌, List, [], ◌∷◌, ◌++◌, map, length, drop, take, refl, sym, ap, subst, ◌∙◌, arith, append_assoc}
+use Rattle.bforest_core.proofs.Words.{inl, inr, eqb_tells, length-append, length-map, length-take-le, flat_map, flat_map-append, Heads, Row, Rows, StandsUnder, IsForest, IsUnion, Table, Tree}
+use Rattle.bforest_core.proofs.Words.{Distinct, Every, IsFree, leaf_content, slice_get, Frees, Trimmed, root_above, root_of, UpTo, count, flat, half_of, heads, node_count, numbers, numbers_of, numbers_under, sizes, sizes_of, slot, trimmed}
 use Rattle.bforest_core.proofs.removal.{Collapse.{length-sizes, rows-parts, trimmed-is}}
 use Rattle.bforest_core.proofs.table.{Tables.{count-append, count-other, count-same, row-same, rows-same}}
-use Rattle.bforest_core.proofs.union.{Account.{length-same, nodes-count}, CutTree.{half, heads-are, kept-low, kept-some, leaves, leaves-fit, low, r, rows, sizes-are, stacked, tree}, Detached.{behind-fit, behind-some}, Detaching.{backs-length}}
+use Rattle.bforest_core.proofs.union.{Account.{length-same, nodes-count}, CutTree.{half, heads-are, kept-low, kept-some, leaves, leaves-fit, low, r, rows, sizes-are, stacked, tree}, BehindTree.{behind-edge, behind-planted, behind-sizes-are, behind-up, behinds-count, fills-count}}
 use Rattle.bforest_core.proofs.union.{Exchange.{IsPlanted, Traded, exchange-trees, others-keep, roots-gone}, Forests.{every-append, every-join, root-among, tree-back}, FreeSlots.free-same, Fronts.{flat-front, height-fronts, root-fronts}}
 use Rattle.bforest_core.proofs.walks.RowNodes.{fit_full}
-use Rattle.bforest_core.specs.{Change.{Divides}, Detach.{FillsEdge, OnEdge, Parts, row_sizes}, Packed.Piled, Sizes.{backs, detached, filled, filled_above, filled_levels, truncated}}
-
-root-piled : {K : Type 0} (list : Heads K) (rows : Rows K) (top : Heads K) → Piled list rows top → root_above list rows ≡ first_number top
-root-piled list [] top p = ap first_number p
-root-piled list (row ∷ rows) top p = root-piled (heads row) rows top p.1
-
-length-filled_above : (levels : List (List ℕ)) (lost : ℕ) → length (filled_above lost levels) ≡ length levels
-length-filled_above [] lost = refl
-length-filled_above (level ∷ levels) lost = ap suc (length-filled_above levels (length level - length (filled 8 level)))
-
-length-filled : (most : ℕ) (levels : List (List ℕ)) → length (filled_levels most levels) ≡ length levels
-length-filled most [] = refl
-length-filled most (level ∷ levels) = ap suc (length-filled_above levels (length level - length (filled most level)))
-
-detached-some : (most place : ℕ) (levels : List (List ℕ)) → 0 < place → detached most place levels ≡ trimmed (filled_levels most (backs place levels))
-detached-some most zero levels some = absurd (omega (arith, some))
-detached-some most (suc place) levels some = refl
+use Rattle.bforest_core.specs.{Change.{Divides}, Detach.{FillsEdge, IsBehind, OnEdge, Parts}, Sizes.{detached, truncated}}
 
 module _ {K V : Type 0} where
   -- roots that were discarded from a number that is the root
@@ -94,94 +78,63 @@ module _ {K V : Type 0} where
         tail-slot : (m : ℕ) → 0 < count m (numbers_under p.tail p.above) → slice_get mid2.nodes m ≡ slice_get mid.nodes m
         tail-slot m here = t.frees.others m (omega (arith, here, halves m, fronts-count m))
 
-        pub edge : OnEdge most mid2 (size - 1) behind p.tail p.above p.first []
-        edge = record {
-          leaves_in = row-same leaf_content mid.nodes mid2.nodes p.tail (λ m here. tail-slot m (omega (arith, here, tail-count m))) p.tail_in;
-          rows_in = rows-same mid.nodes mid2.nodes p.above (λ m here. tail-slot m (omega (arith, here, tail-count m))) p.above_in;
+        -- the second part, in the table as it is now
+        abbrev moved : IsBehind mid2 whole-tree.leaves whole-tree.above place behind
+        moved = record {
+          tail = p.tail;
+          above = p.above;
+          first = p.first;
+          tail_in = row-same leaf_content mid.nodes mid2.nodes p.tail (λ m here. tail-slot m (omega (arith, here, tail-count m))) p.tail_in;
+          above_in = rows-same mid.nodes mid2.nodes p.above (λ m here. tail-slot m (omega (arith, here, tail-count m))) p.above_in;
+          tail_is = p.tail_is;
           piled = p.piled;
-          some = subst (Every (Every (λ size. 1 ≤ size))) (sym p.sizes_are) (behind-some union.1.capacity whole-tree.leaves whole-tree.above (r union s).fit.leaves_fit (r union s).fit.stacked (low union s));
-          ready = λ ne. absurd (ne refl);
-          height = omega (arith, ap length p.sizes_are, backs-length place (row_sizes whole-tree.leaves whole-tree.above), length-map p.above sizes, length-map whole-tree.above sizes, s.stands.size_is);
-          apart = λ m. omega (arith, halves m, fronts-count m, count-append m (numbers_under p.tail p.above) mid2.chain);
+          sizes_are = p.sizes_are;
         }
+
+        moved-apart : Distinct (numbers_under p.tail p.above ++ mid2.chain)
+        moved-apart m = omega (arith, halves m, fronts-count m, count-append m (numbers_under p.tail p.above) mid2.chain)
+
+        pub edge : OnEdge most mid2 (size - 1) behind p.tail p.above p.first []
+        edge = behind-edge union s some moved moved-apart
 
         -- the second part's left edge was filled
         module _ {mid3 : Table K V} (f : FillsEdge most mid2 mid3 behind p.tail p.above p.first []) where
-          sizes-filled : row_sizes f.leaves' f.rows' ≡ filled_levels most (backs place (row_sizes whole-tree.leaves whole-tree.above))
-          sizes-filled = f.sizes_are ∙ ap (filled_levels most) p.sizes_are
+          pub second-up : UpTo mid3 size f.rows' (heads f.leaves') behind
+          second-up = behind-up union s some moved moved-apart f
 
-          fits : FitRow (half_of most) most f.leaves' × Stacked (heads f.leaves') f.rows'
-          fits = behind-fit union.1.capacity whole-tree.leaves whole-tree.above (r union s).fit.leaves_fit (r union s).fit.stacked (low union s) f.leaves' f.rows' (p.first, behind) f.piled sizes-filled
-
-          fills-count : (m : ℕ) → (count m (numbers_under p.tail p.above) ≡ count m f.freed + count m (numbers_under f.leaves' f.rows')) × (count m mid3.chain ≡ count m f.freed + count m mid2.chain)
-              × (count m (numbers_under f.leaves' f.rows') ≡ count m (numbers f.leaves') + count m (flat_map numbers f.rows'))
-          fills-count m = (
-            omega (arith, f.frees.numbers_are m, count-append m f.freed (numbers_under f.leaves' f.rows')),
-            omega (arith, ap (count m) f.frees.chain_is, count-append m f.freed mid2.chain),
-            count-append m (numbers f.leaves') (flat_map numbers f.rows'),
-          )
-
-          height-filled : suc (length f.rows') ≡ size
-          height-filled = omega (
-            arith,
-            ap length sizes-filled,
-            length-filled most (backs place (row_sizes whole-tree.leaves whole-tree.above)),
-            backs-length place (row_sizes whole-tree.leaves whole-tree.above),
-            length-map f.rows' sizes,
-            length-map whole-tree.above sizes,
-            s.stands.size_is,
-          )
-
-          pub behind-up : UpTo mid3 size f.rows' (heads f.leaves') behind
-          behind-up = record {
-            stacked = fits.1;
-            inside = f.rows_in;
-            height = height-filled;
-            root_is = root-piled (heads f.leaves') f.rows' ((p.first, behind) ∷ []) f.piled;
-            apart = λ m. omega (arith, halves m, fronts-count m, fills-count m, count-append m (flat_map numbers f.rows') mid3.chain);
-          }
+          filled-count : (m : ℕ) → (count m (numbers_under p.tail p.above) ≡ count m f.freed + count m (numbers_under f.leaves' f.rows')) × (count m mid3.chain ≡ count m f.freed + count m mid2.chain)
+          filled-count m = let c = fills-count union s some moved moved-apart f m in (c.0, c.1)
 
           -- roots over it were discarded
           module _ {new : Table K V} {size'' root'' : ℕ} {gone' : List ℕ} (u : Trimmed mid3 new size size'' f.rows' (heads f.leaves') behind root'' gone') where
-            abbrev behind-tree : Tree K V
-            behind-tree = record { leaves = f.leaves'; above = u.rows' }
+            abbrev second : Tree K V
+            second = record { leaves = f.leaves'; above = u.rows' }
 
-            behinds-count : (m : ℕ) → (count m (numbers_under f.leaves' f.rows') ≡ count m (numbers_of behind-tree) + count m (flat_map numbers u.discarded))
+            second-count : (m : ℕ) → (count m (numbers_under f.leaves' f.rows') ≡ count m (numbers_of second) + count m (flat_map numbers u.discarded))
                 × (count m gone' ≡ count m (flat_map numbers u.discarded)) × (count m new.chain ≡ count m gone' + count m mid3.chain)
-            behinds-count m = (
-              omega (
-                arith,
-                fills-count m,
-                ap (λ z. count m (flat_map numbers z)) u.rows_are,
-                ap (count m) (flat_map-append numbers u.rows' u.discarded),
-                count-append m (flat_map numbers u.rows') (flat_map numbers u.discarded),
-                count-append m (numbers f.leaves') (flat_map numbers u.rows'),
-              ),
-              omega (arith, u.frees.numbers_are m, count-append m gone' []),
-              omega (arith, ap (count m) u.frees.chain_is, count-append m gone' mid3.chain),
-            )
+            second-count m = behinds-count union s some moved moved-apart f u m
+
+            second-planted : IsPlanted most new.nodes second
+            second-planted = behind-planted union s some moved moved-apart f u
+
+            second-sizes : sizes_of second ≡ detached most place (sizes_of whole-tree)
+            second-sizes = behind-sizes-are union s some moved moved-apart f u
 
             -- each number is in one of the two trees or on the chain, as often as before
-            all-count : (m : ℕ) → count m (numbers_of front-tree) + count m (numbers_of behind-tree) + count m new.chain ≡ count m (numbers_of whole-tree) + count m old.chain
-            all-count m = omega (arith, halves m, fronts-count m, fills-count m, behinds-count m)
+            all-count : (m : ℕ) → count m (numbers_of front-tree) + count m (numbers_of second) + count m new.chain ≡ count m (numbers_of whole-tree) + count m old.chain
+            all-count m = omega (arith, halves m, fronts-count m, filled-count m, second-count m)
 
             front-slot : (m : ℕ) → 0 < count m (numbers_of front-tree) → slice_get new.nodes m ≡ slice_get mid.nodes m
-            front-slot m here = u.frees.others m (omega (arith, here, halves m, fronts-count m, fills-count m, behinds-count m)) ∙ f.frees.others m (omega (arith, here, halves m, fronts-count m, fills-count m)) ∙ t.frees.others m (omega (arith, here, halves m, fronts-count m))
-
-            behind-slot : (m : ℕ) → 0 < count m (numbers_of behind-tree) → slice_get new.nodes m ≡ slice_get mid3.nodes m
-            behind-slot m here = u.frees.others m (omega (arith, here, halves m, fronts-count m, fills-count m, behinds-count m))
+            front-slot m here = u.frees.others m (omega (arith, here, halves m, fronts-count m, filled-count m, second-count m)) ∙ f.frees.others m (omega (arith, here, halves m, fronts-count m, filled-count m)) ∙ t.frees.others m (omega (arith, here, halves m, fronts-count m))
 
             front-numbers : (m : ℕ) → count m (numbers_of front-tree) ≡ count m (numbers front-leaves) + count m (flat_map numbers t.rows')
             front-numbers m = count-append m (numbers front-leaves) (flat_map numbers t.rows')
 
-            behind-numbers : (m : ℕ) → count m (numbers_of behind-tree) ≡ count m (numbers f.leaves') + count m (flat_map numbers u.rows')
-            behind-numbers m = count-append m (numbers f.leaves') (flat_map numbers u.rows')
-
             front-flat : flat front-leaves ≡ take place (flat whole-tree.leaves)
             front-flat = flat-front whole-tree.leaves place
 
-            behind-flat : flat f.leaves' ≡ drop place (flat whole-tree.leaves)
-            behind-flat = f.list_is ∙ p.tail_is
+            second-flat : flat f.leaves' ≡ drop place (flat whole-tree.leaves)
+            second-flat = f.list_is ∙ p.tail_is
 
             front-planted : IsPlanted most new.nodes front-tree
             front-planted = record {
@@ -194,50 +147,39 @@ module _ {K V : Type 0} where
               low = omega (arith, ap length t.rows_are, length-append t.rows' t.discarded, height-fronts whole-tree.above (length front-leaves), (r union s).low);
             }
 
-            behind-planted : IsPlanted most new.nodes behind-tree
-            behind-planted = record {
-              fit = record { leaves_fit = fits.0; stacked = u.stacked; topped = u.topped };
-              inside = record {
-                leaves_in = row-same leaf_content mid3.nodes new.nodes f.leaves' (λ m here. behind-slot m (omega (arith, here, behind-numbers m))) f.leaves_in;
-                rows_in = rows-same mid3.nodes new.nodes u.rows' (λ m here. behind-slot m (omega (arith, here, behind-numbers m))) (rows-parts mid3.nodes u.rows' u.discarded (rw (← u.rows_are) f.rows_in)).0;
-              };
-              some = omega (arith, ap length behind-flat, length-drop place (flat whole-tree.leaves), low union s);
-              low = omega (arith, ap length u.rows_are, length-append u.rows' u.discarded, height-filled, s.stands.size_is, (r union s).low);
-            }
-
             chain-is-free : Every (λ m. IsFree (slot new.nodes m)) new.chain
             chain-is-free =
                 let left = (every-append (λ m. IsFree (slot old.nodes m)) p.taken mid.chain (rw p.draws.chain_is union.1.free)).1 in
                 let kept = free-same old.nodes mid.nodes mid.chain (λ m here. p.draws.others m (omega (arith, here, halves m, count-append m p.taken (numbers_of whole-tree)))) left in
-                chain-free u.frees (λ m here. omega (arith, here, halves m, fronts-count m, fills-count m, behinds-count m))
-                (chain-free f.frees (λ m here. omega (arith, here, halves m, fronts-count m, fills-count m)) (chain-free t.frees (λ m here. omega (arith, here, halves m, fronts-count m)) kept))
+                chain-free u.frees (λ m here. omega (arith, here, halves m, fronts-count m, filled-count m, second-count m))
+                (chain-free f.frees (λ m here. omega (arith, here, halves m, fronts-count m, filled-count m)) (chain-free t.frees (λ m here. omega (arith, here, halves m, fronts-count m)) kept))
 
-            both-numbers : (m : ℕ) → count m (flat_map numbers_of (front-tree ∷ (behind-tree ∷ []))) ≡ count m (numbers_of front-tree) + count m (numbers_of behind-tree)
-            both-numbers m = omega (arith, count-append m (numbers_of front-tree) (numbers_of behind-tree ++ []), count-append m (numbers_of behind-tree) [])
+            both-numbers : (m : ℕ) → count m (flat_map numbers_of (front-tree ∷ (second ∷ []))) ≡ count m (numbers_of front-tree) + count m (numbers_of second)
+            both-numbers m = omega (arith, count-append m (numbers_of front-tree) (numbers_of second ++ []), count-append m (numbers_of second) [])
 
             whole-numbers : (m : ℕ) → count m (flat_map numbers_of (whole-tree ∷ [])) ≡ count m (numbers_of whole-tree)
             whole-numbers m = omega (arith, count-append m (numbers_of whole-tree) [])
 
-            is-traded : Traded old new (flat_map numbers_of (whole-tree ∷ [])) (flat_map numbers_of (front-tree ∷ (behind-tree ∷ [])))
+            is-traded : Traded old new (flat_map numbers_of (whole-tree ∷ [])) (flat_map numbers_of (front-tree ∷ (second ∷ [])))
             is-traded = record {
               free = chain-is-free;
               slots_are = u.frees.slots_are ∙ f.frees.slots_are ∙ t.frees.slots_are ∙ p.draws.slots_are;
               nums = λ m. omega (arith, both-numbers m, whole-numbers m, all-count m);
               others = λ m none. (
                   let nothing : count m (numbers_of whole-tree) + count m old.chain ≡ 0 = omega (arith, none, whole-numbers m) in
-                  u.frees.others m (omega (arith, nothing, halves m, fronts-count m, fills-count m, behinds-count m)) ∙ f.frees.others m (omega (arith, nothing, halves m, fronts-count m, fills-count m))
+                  u.frees.others m (omega (arith, nothing, halves m, fronts-count m, filled-count m, second-count m)) ∙ f.frees.others m (omega (arith, nothing, halves m, fronts-count m, filled-count m))
                   ∙ t.frees.others m (omega (arith, nothing, halves m, fronts-count m)) ∙ p.draws.others m (omega (arith, nothing, halves m, count-append m p.taken (numbers_of whole-tree)))
                   );
             }
 
-            new-forest : IsForest most new ((r union s).before ++ front-tree ∷ (behind-tree ∷ (r union s).after))
-            new-forest = exchange-trees (r union s).before (whole-tree ∷ []) (front-tree ∷ (behind-tree ∷ [])) (r union s).after (r union s).forest (front-planted, (behind-planted, tt)) is-traded
+            new-forest : IsForest most new ((r union s).before ++ front-tree ∷ (second ∷ (r union s).after))
+            new-forest = exchange-trees (r union s).before (whole-tree ∷ []) (front-tree ∷ (second ∷ [])) (r union s).after (r union s).forest (front-planted, (second-planted, tt)) is-traded
 
             front-among : 0 < count root' (numbers_of front-tree)
             front-among = let among = root-among most new.nodes front-tree front-planted.fit front-planted.inside front-planted.some in subst (λ z. 0 < count z (numbers_of front-tree)) t.root_is among
 
-            behind-among : 0 < count root'' (numbers_of behind-tree)
-            behind-among = let among = root-among most new.nodes behind-tree behind-planted.fit behind-planted.inside behind-planted.some in subst (λ z. 0 < count z (numbers_of behind-tree)) u.root_is among
+            behind-among : 0 < count root'' (numbers_of second)
+            behind-among = let among = root-among most new.nodes second second-planted.fit second-planted.inside second-planted.some in subst (λ z. 0 < count z (numbers_of second)) u.root_is among
 
             -- the old root is a node of the first part, or was freed
             root-front : 0 < count root (numbers_under front-leaves front-rows)
@@ -250,17 +192,12 @@ module _ {K V : Type 0} where
             roots-apart same = omega (arith, subst (λ z. 0 < count z (numbers_of front-tree)) same front-among, behind-among, all-count root'', halves root'')
 
             behind-other : root ≢ root''
-            behind-other same = omega (arith, subst (λ z. 0 < count z (numbers_under front-leaves front-rows)) same root-front, behind-among, halves root'', fronts-count root'', fills-count root'', behinds-count root'')
+            behind-other same = omega (arith, subst (λ z. 0 < count z (numbers_under front-leaves front-rows)) same root-front, behind-among, halves root'', fronts-count root'', filled-count root'', second-count root'')
 
             front-sizes-are : sizes_of front-tree ≡ truncated place (sizes_of whole-tree)
             front-sizes-are = let len = length-sizes front-leaves ∙ sym (fit_full (half_of most) most (half union s some) front-leaves (leaves-fit union s some)) in
                 let trim = trimmed-is (sizes front-leaves) (heads front-leaves) t.rows' t.discarded len (rw (← t.rows_are) (stacked union s some)) t.stacked t.topped in
                 sym (ap trimmed (sizes-are union s some) ∙ ap (λ z. trimmed (sizes front-leaves ∷ map sizes z)) t.rows_are ∙ trim)
-
-            behind-sizes-are : sizes_of behind-tree ≡ detached most place (sizes_of whole-tree)
-            behind-sizes-are = let len = length-sizes f.leaves' ∙ sym (fit_full (half_of most) most (half union s some) f.leaves' fits.0) in
-                let trim = trimmed-is (sizes f.leaves') (heads f.leaves') u.rows' u.discarded len (rw (← u.rows_are) fits.1) u.stacked u.topped in
-                sym (detached-some most place (sizes_of whole-tree) some ∙ ap trimmed (sym sizes-filled) ∙ ap (λ z. trimmed (sizes f.leaves' ∷ map sizes z)) u.rows_are ∙ trim)
 
             levels : (length (truncated place (sizes_of whole-tree)) ≡ suc (length t.rows')) × (length (sizes_of whole-tree) ≡ suc (length whole-tree.above))
             levels = (omega (arith, ap length front-sizes-are, length-map t.rows' sizes), omega (arith, length-map whole-tree.above sizes))
@@ -268,31 +205,31 @@ module _ {K V : Type 0} where
             not-freed : root' ≡ root → 0 < count root gone → ⊥
             not-freed same here = omega (arith, here, subst (λ z. 0 < count z (numbers_of front-tree)) same front-among, halves root, fronts-count root)
 
-            nodes-are : length new.chain + node_count (sizes_of front-tree) + node_count (sizes_of behind-tree) ≡ length old.chain + node_count (sizes_of whole-tree)
+            nodes-are : length new.chain + node_count (sizes_of front-tree) + node_count (sizes_of second) ≡ length old.chain + node_count (sizes_of whole-tree)
             nodes-are = omega (
               arith,
-              length-same (numbers_of front-tree ++ (numbers_of behind-tree ++ new.chain)) (numbers_of whole-tree ++ old.chain)
-                  (λ m. omega (arith, all-count m, count-append m (numbers_of front-tree) (numbers_of behind-tree ++ new.chain), count-append m (numbers_of behind-tree) new.chain, count-append m (numbers_of whole-tree) old.chain)),
-              length-append (numbers_of front-tree) (numbers_of behind-tree ++ new.chain),
-              length-append (numbers_of behind-tree) new.chain,
+              length-same (numbers_of front-tree ++ (numbers_of second ++ new.chain)) (numbers_of whole-tree ++ old.chain)
+                  (λ m. omega (arith, all-count m, count-append m (numbers_of front-tree) (numbers_of second ++ new.chain), count-append m (numbers_of second) new.chain, count-append m (numbers_of whole-tree) old.chain)),
+              length-append (numbers_of front-tree) (numbers_of second ++ new.chain),
+              length-append (numbers_of second) new.chain,
               length-append (numbers_of whole-tree) old.chain,
               nodes-count front-tree,
-              nodes-count behind-tree,
+              nodes-count second,
               nodes-count whole-tree,
             )
 
             pub divides : Divides most old new root place root' root''
             divides =
-                let q = r union s in let g = new-forest in let come = front-tree ∷ (behind-tree ∷ []) in
-                let front-back = tree-back q.before front-tree (behind-tree ∷ q.after) root' g refl t.root_is in
-                let behind-back = tree-back (q.before ++ front-tree ∷ []) behind-tree q.after root'' g (sym (append_assoc q.before (front-tree ∷ []) (behind-tree ∷ q.after))) u.root_is in
+                let q = r union s in let g = new-forest in let come = front-tree ∷ (second ∷ []) in
+                let front-back = tree-back q.before front-tree (second ∷ q.after) root' g refl t.root_is in
+                let behind-back = tree-back (q.before ++ front-tree ∷ []) second q.after root'' g (sym (append_assoc q.before (front-tree ∷ []) (second ∷ q.after))) u.root_is in
                 let two : (m : ℕ) → m ≢ root' → m ≢ root'' → count m (map root_of come) ≡ 0 =
-                λ m ne ne'. omega (arith, count-other m (root_of front-tree) (root_of behind-tree ∷ []) (λ e. ne (sym e ∙ t.root_is)), count-other m (root_of behind-tree) [] (λ e. ne' (sym e ∙ u.root_is))) in
+                λ m ne ne'. omega (arith, count-other m (root_of front-tree) (root_of second ∷ []) (λ e. ne (sym e ∙ t.root_is)), count-other m (root_of second) [] (λ e. ne' (sym e ∙ u.root_is))) in
                 let was : count root (map root_of (whole-tree ∷ [])) ≡ 1 = omega (arith, ap (λ z. count root (z ∷ [])) q.root_is, count-same root []) in
                 let not-whole : (m : ℕ) → m ≢ root → count m (map root_of (whole-tree ∷ [])) ≡ 0 = λ m ne. count-other m (root_of whole-tree) [] (λ e. ne (sym e ∙ q.root_is)) in
                 let here : (0 < count root' (map root_of come)) × (0 < count root'' (map root_of come)) = (
-                  omega (arith, ap (λ z. count root' (z ∷ (root_of behind-tree ∷ []))) t.root_is, count-same root' (root_of behind-tree ∷ [])),
-                  omega (arith, ap (λ z. count root'' (z ∷ [])) u.root_is, count-same root'' [], count-append root'' (root_of front-tree ∷ []) (root_of behind-tree ∷ [])),
+                  omega (arith, ap (λ z. count root' (z ∷ (root_of second ∷ []))) t.root_is, count-same root' (root_of second ∷ [])),
+                  omega (arith, ap (λ z. count root'' (z ∷ [])) u.root_is, count-same root'' [], count-append root'' (root_of front-tree ∷ []) (root_of second ∷ [])),
                 ) in
                 record {
                   union = (_, g);
@@ -300,9 +237,9 @@ module _ {K V : Type 0} where
                   behind_root = behind-back.1;
                   apart = roots-apart;
                   front_list = ap (λ z. flat z.leaves) front-back.0 ∙ front-flat;
-                  behind_list = ap (λ z. flat z.leaves) behind-back.0 ∙ behind-flat;
+                  behind_list = ap (λ z. flat z.leaves) behind-back.0 ∙ second-flat;
                   front_sizes = ap sizes_of front-back.0 ∙ front-sizes-are;
-                  behind_sizes = ap sizes_of behind-back.0 ∙ behind-sizes-are;
+                  behind_sizes = ap sizes_of behind-back.0 ∙ second-sizes;
                   others = λ other ne ne' ne''. others-keep q.before (whole-tree ∷ []) come q.after q.forest g other (not-whole other ne) (two other ne' ne'');
                   old_gone = λ ne. roots-gone q.before (whole-tree ∷ []) come q.after q.forest g root (omega (arith, was)) (two root ne behind-other);
                   front_came = λ ne. roots-gone q.before come (whole-tree ∷ []) q.after g q.forest root' here.0 (not-whole root' (λ e. ne (sym e)));

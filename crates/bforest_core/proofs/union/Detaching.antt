@@ -1,15 +1,16 @@
--- Detaching what is behind a place below a node of a path: a leaf, and an inner node from the child through which the path goes.
+-- Detaching what is behind a place below a node of a path, or freeing what is in front of it: a leaf, and an inner node from the child through
+-- which the path goes.
 use Rattle.bforest_core.proofs.Words.{◌≡◌, ◌≢◌, ℕ, zero, suc, ◌+◌, ◌-◌, ◌≤◌, ◌<◌, ◌↔◌, List, [], ◌∷◌, ◌++◌, length, take, drop, get_or, slice_get, Some, refl, sym, ap, subst, ◌∙◌, arith}
 use Rattle.bforest_core.proofs.Words.{Bool, true, false, nat_eq, eqb_tells, cases_lt, inl, inr, append-nil, length-append, length-map, map-append, IsLeafCapacity, Heads, Row, Rows, RowsIn, StackedTo, Content, Table, flat_map, flat_map-append}
-use Rattle.bforest_core.proofs.Words.{Draws, IsFree, IsInner, IsUsed, count, entry_count, entry_items, entry_keys, flat, half_of, heads, inner_content, leaf_content, node, node_count, numbers, numbers_under, sizes, with_node}
-use Rattle.bforest_core.proofs.rows.Zipper.{cut}
+use Rattle.bforest_core.proofs.Words.{Draws, Frees, IsFree, IsInner, IsUsed, count, entry_count, entry_items, entry_keys, flat, half_of, heads, inner_content, leaf_content, node, node_count, numbers, numbers_under, sizes, with_node}
+use Rattle.bforest_core.proofs.rows.Zipper.{Cut, cut}
 use Rattle.bforest_core.proofs.rows.LevelRows.{flat-append, heads-append, numbers-append, sizes-append, some_leaf}
-use Rattle.bforest_core.proofs.table.{Stored.some_same, Tables.{count-append, is_used, row-join, row-same, rows-same}, Trading.{apart_from, draws-after, draws-then, puts, trades-none, trades-wider}}
-use Rattle.bforest_core.proofs.union.{Account.{length-same, nodes-count}, Backs.{aside, back-in, back-length, back-some, backs-more, behind-left, behind-right, gones-low, gones_under, sizes-beside}, Joining.{beside, numbers-beside, piled-beside, piled-over, rows-in-beside, rows-in-over}}
+use Rattle.bforest_core.proofs.table.{Stored.some_same, Tables.{count-append, is_used, row-join, row-same, rows-same}, Trading.{apart_from, draws-after, draws-then, frees-then, puts, trades-none, trades-wider}}
+use Rattle.bforest_core.proofs.union.{Account.{length-same, nodes-count}, Backs.{aside, back-in, back-length, back-some, backs-more, behind-left, behind-right, gones-low, gones_under, sizes-beside}, Joining.{beside, numbers-beside, piled-beside, piled-over, rows-in-beside, rows-in-over}, Sweep.under-same}
 use Rattle.bforest_core.proofs.union.{Cutting.{all-are, at-low, child-is, child-on, child-path, child-within, children, first-children, first-entries, here, index-is, inner, inner-row, kept-leaves, kept-rows, leaf, leaf-counts, leaf-place, leaf-row, leaves-are, left-count, once, one, outer, outer-path, own-place, parts, parts-count, place-none, rows-in-fronts, within}}
 use Rattle.bforest_core.proofs.union.{Fronts.{front-in, numbers-none, sizes-front, sizes-fronts}}
 use Rattle.bforest_core.proofs.{removal.Collapse.length-sizes, walks.RowNodes.fit_full}
-use Rattle.bforest_core.specs.{Cut.{OnBranch, front_row, front_rows}, Detach.{Parts, Severs, row_sizes}, Packed.{Piled}, Sizes.{back, backs, fronts}}
+use Rattle.bforest_core.specs.{Cut.{Between, OnBranch, front_row, front_rows}, Detach.{IsBehind, LeavesBehind, Parts, Severs, row_sizes}, Packed.{Piled}, Sizes.{back, backs, fronts}}
 use Rattle.bforest_nodes.specs.Content.{last_part, with_child_at}
 use Rattle.std.proofs.Math.Seq.{drop-append-add, drop-append_seam}
 use Rattle.std.proofs.lemmas.List.{drop-append-le, drop-map}
@@ -91,14 +92,16 @@ module _ {K V : Type 0} {most : ℕ} {old : Table K V} {path indices : List ℕ}
   whole none = subst (λ z. Parts old old leaves lower z number) (sym none) (record {
     leaves_in = tt;
     rows_in = rows-in-fronts old.nodes lower;
-    tail = leaves;
-    above = lower;
-    first = b.first;
-    tail_in = b.under.leaves_in;
-    above_in = b.under.rows_in;
-    tail_is = refl;
-    piled = piled-stacked (heads leaves) lower ((b.first, number) ∷ []) b.under.stacked;
-    sizes_are = sym (backs-none (row_sizes leaves lower));
+    rest = record {
+      tail = leaves;
+      above = lower;
+      first = b.first;
+      tail_in = b.under.leaves_in;
+      above_in = b.under.rows_in;
+      tail_is = refl;
+      piled = piled-stacked (heads leaves) lower ((b.first, number) ∷ []) b.under.stacked;
+      sizes_are = sym (backs-none (row_sizes leaves lower));
+    };
     taken = [];
     draws = trades-wider (numbers_under leaves lower) (numbers_under {V = V} [] (front_rows 0 lower) ++ numbers_under leaves lower)
         (λ m. omega (arith, none-front m, count-append m (numbers_under {V = V} [] (front_rows 0 lower)) (numbers_under leaves lower))) (trades-none old []);
@@ -116,37 +119,58 @@ module _ {K V : Type 0} {most : ℕ} (capacity : IsLeafCapacity most) {old : Tab
     bare : lower ≡ []
     bare = (leaf capacity b at_leaf).lower_is
 
-    -- the leaf is parted
-    leaf-parted : {new : Table K V} {r : ℕ} → place ≢ 0 → Severs old new number place place (leaf_content es) r → Parts old new leaves lower place r
-    leaf-parted {new} {r} some s =
-        let row = leaf-row capacity b at_leaf in let c = cut es place (omega (arith, few.0, few.1)) in
-        let front_is : front_row place leaves ≡ node number (take place es) ∷ [] = ap (front_row place) row ∙ front-in place number es [] (omega (arith, some)) (omega (arith, few.0, few.1)) in
+    -- the entries from the place on, of which there is one
+    behind-es : Cut es place
+    behind-es = cut es place (omega (arith, few.0, few.1))
+
+    -- a leaf has them
+    abbrev leaf-rest : {new : Table K V} {r : ℕ} → slice_get new.nodes r ≡ Some (last_part place (leaf_content es)) → IsBehind new leaves lower place r
+    leaf-rest {new} {r} there =
+        let row = leaf-row capacity b at_leaf in let c = behind-es in
         let at : place ≡ length c.l = omega (arith, c.place_is) in
         let drop_is : drop place es ≡ c.x ∷ c.r = ap (λ z. drop z es) at ∙ ap (drop (length c.l)) c.es_is ∙ drop-append_seam c.l (c.x ∷ c.r) in
         let many : length es - place ≡ suc (length c.r) = omega (arith, ap length c.es_is, length-append c.l (c.x ∷ c.r), at) in
         record {
-          leaves_in = rw front_is (s.here ∙ ap Some (first-entries place es), tt);
-          rows_in = rw bare tt;
           tail = node r (c.x ∷ c.r) ∷ [];
           above = [];
           first = c.x.0;
-          tail_in = (s.there ∙ ap Some (last-entries place es ∙ ap leaf_content drop_is), tt);
+          tail_in = (there ∙ ap Some (last-entries place es ∙ ap leaf_content drop_is), tt);
           above_in = tt;
           tail_is = append-nil (c.x ∷ c.r) ∙ sym (ap (λ z. drop place (flat z)) row ∙ ap (drop place) (append-nil es) ∙ drop_is);
           piled = refl;
           sizes_are = sym (ap (λ z. backs place (row_sizes leaves z)) bare ∙ ap (λ z. back place (sizes z) ∷ []) row ∙ ap (λ z. z ∷ []) (back-one place (length es) (omega (arith, few.0, few.1))) ∙ ap (λ z. (z ∷ []) ∷ []) many);
+        }
+
+    -- the leaf is parted
+    leaf-parted : {new : Table K V} {r : ℕ} → place ≢ 0 → Severs old new number place place (leaf_content es) r → Parts old new leaves lower place r
+    leaf-parted {new} {r} some s =
+        let row = leaf-row capacity b at_leaf in let q = leaf-rest s.there in
+        let front_is : front_row place leaves ≡ node number (take place es) ∷ [] = ap (front_row place) row ∙ front-in place number es [] (omega (arith, some)) (omega (arith, few.0, few.1)) in
+        record {
+          leaves_in = rw front_is (s.here ∙ ap Some (first-entries place es), tt);
+          rows_in = rw bare tt;
+          rest = q;
           taken = r ∷ [];
-          draws = trades-wider (numbers_under leaves lower) (numbers_under (front_row place leaves) (front_rows (length (front_row place leaves)) lower) ++ numbers_under (node r (c.x ∷ c.r) ∷ []) [])
+          draws = trades-wider (numbers_under leaves lower) (numbers_under (front_row place leaves) (front_rows (length (front_row place leaves)) lower) ++ numbers_under q.tail q.above)
               (λ m. omega (
                 arith,
                 leaf-counts capacity b at_leaf m,
-                count-append m (numbers_under (front_row place leaves) (front_rows (length (front_row place leaves)) lower)) (numbers_under (node r (c.x ∷ c.r) ∷ []) []),
+                count-append m (numbers_under (front_row place leaves) (front_rows (length (front_row place leaves)) lower)) (numbers_under q.tail q.above),
                 count-append m (numbers (front_row place leaves)) (flat_map numbers (front_rows (length (front_row place leaves)) lower)),
                 ap (λ z. count m (numbers z)) front_is,
                 ap (λ z. count m (flat_map numbers (front_rows (length (front_row place leaves)) z))) bare,
                 count-append m (number ∷ []) (r ∷ []),
               )) s.draws;
         }
+
+    -- the entries in front of the path's index go
+    pub leaf-behind : {new : Table K V} → ((content : Content K V) → slice_get old.nodes number ≡ Some content → new ≡ with_node old number (last_part (get_or indices level 0) content)) →
+        LeavesBehind old new leaves lower place number
+    leaf-behind {new} put =
+        let slot = (leaf capacity b at_leaf).slot_is in let q = puts old new number _ _ slot (put _ slot) in
+        let there : slice_get new.nodes number ≡ Some (last_part place (leaf_content es)) = q.here ∙ ap (λ z. Some (last_part z (leaf_content es))) (sym few.0) in
+        let rest = leaf-rest there in
+        record { rest = rest; given = []; frees = trades-wider (numbers_under leaves lower) (numbers_under rest.tail rest.above) (λ m. omega (arith, leaf-counts capacity b at_leaf m)) q.frees }
 
     pub leaf-low : get_or indices level 0 < length (entry_keys es)
     leaf-low = omega (arith, few.1, length-map es (λ (e : K × V). e.0))
@@ -253,28 +277,8 @@ module _ {K V : Type 0} {most : ℕ} (capacity : IsLeafCapacity most) {old : Tab
         ap (λ z. backs place (row_sizes leaves z)) i.lower_is ∙ more
         ∙ ap (λ z. backs place (row_sizes leaves i.rows) ++ z ∷ []) top ∙ ap (λ z. z ++ (suc (length right-top) ∷ []) ∷ []) (l.0 ∙ ap (λ z. aside z (row_sizes right-leaves right-rows)) r.0)
 
-    -- what is below the child is parted, so many nodes of it are in front, and the node has become this row and another node
-    module _ {mid new : Table K V} {first : ℕ} (behind : ℕ) (p : Parts old mid own-leaves own-rows own first) (kept : ℕ) (none : (kept ≡ 0) ↔ (own ≡ 0)) (few' : kept ≤ 1)
-        (row : Row K ℕ) (row-is : front_row (index + kept) (node number (children capacity b high) ∷ []) ≡ row) {taken : List ℕ} (top : Draws mid new (number ∷ []) (numbers row ++ behind ∷ []) taken)
-        (over : (rows : Rows K) → RowsIn new.nodes rows → RowsIn new.nodes (rows ++ row ∷ [])) (there : slice_get new.nodes behind ≡ Some (inner_content ((p.first, first) ∷ right-top))) where
-      chains : (m : ℕ) → (count m p.taken + count m mid.chain ≡ count m old.chain) × (count m taken + count m new.chain ≡ count m mid.chain)
-      chains m = (omega (arith, ap (count m) p.draws.chain_is, count-append m p.taken mid.chain), omega (arith, ap (count m) top.chain_is, count-append m taken new.chain))
-
-      halves : (m : ℕ) → count m (numbers_under (kept-leaves capacity b high) (kept-rows capacity b high)) + count m (numbers_under p.tail p.above) ≡ count m p.taken + count m (numbers_under own-leaves own-rows)
-      halves m = omega (
-        arith,
-        p.draws.numbers_are m,
-        count-append m (numbers_under (kept-leaves capacity b high) (kept-rows capacity b high)) (numbers_under p.tail p.above),
-        count-append m p.taken (numbers_under own-leaves own-rows),
-      )
-
-      still : (m : ℕ) → 0 < count m (numbers_under (kept-leaves capacity b high) (kept-rows capacity b high)) + count m (numbers_under p.tail p.above) → slice_get new.nodes m ≡ slice_get mid.nodes m
-      still m some = top.others m (omega (arith, some, halves m, chains m, once capacity b high m, count-append m taken (number ∷ [])))
-
-      outside : (m : ℕ) → 0 < count m (numbers_under left-leaves left-rows) + count m (numbers_under right-leaves right-rows) → slice_get new.nodes m ≡ slice_get old.nodes m
-      outside m some = top.others m (omega (arith, some, chains m, once capacity b high m, count-append m taken (number ∷ [])))
-          ∙ p.draws.others m (omega (arith, some, chains m, once capacity b high m, count-append m p.taken (numbers_under own-leaves own-rows)))
-
+    -- what is below the child from the path on is below a node, and another node has that one and the children behind the child
+    module _ {mid : Table K V} {first : ℕ} (behind : ℕ) (p : IsBehind mid own-leaves own-rows own first) where
       heights : length p.above ≡ length right-rows
       heights = omega (
         arith,
@@ -322,14 +326,10 @@ module _ {K V : Type 0} {most : ℕ} (capacity : IsLeafCapacity most) {old : Tab
           cc (sizes-append p.tail right-leaves, map-append sizes (beside p.above right-rows) ((node behind tail-top ∷ []) ∷ []), sizes-beside p.above right-rows) in
           here ∙ ap (λ z. aside z (row_sizes right-leaves right-rows) ++ (suc (length right-top) ∷ []) ∷ []) p.sizes_are ∙ sym behind-is
 
-      closes : Parts old new leaves lower place behind
-      closes = record {
-        leaves_in = rw (leaves-are capacity b high kept none few' row row-is) (row-join leaf_content new.nodes left-leaves (kept-leaves capacity b high)
-            (row-same leaf_content old.nodes new.nodes left-leaves (λ m some. outside m (omega (arith, some, count-append m (numbers left-leaves) (flat_map numbers left-rows)))) (parts capacity b high).left.leaves_in)
-            (row-same leaf_content mid.nodes new.nodes (kept-leaves capacity b high) (λ m some. still m (omega (arith, some, count-append m (numbers (kept-leaves capacity b high)) (flat_map numbers (kept-rows capacity b high))))) p.leaves_in));
-        rows_in = rw (all-are capacity b high kept none few' row row-is) (over (beside left-rows (kept-rows capacity b high)) (rows-in-beside new.nodes left-rows (kept-rows capacity b high)
-            (rows-same old.nodes new.nodes left-rows (λ m some. outside m (omega (arith, some, count-append m (numbers left-leaves) (flat_map numbers left-rows)))) (parts capacity b high).left.rows_in)
-            (rows-same mid.nodes new.nodes (kept-rows capacity b high) (λ m some. still m (omega (arith, some, count-append m (numbers (kept-leaves capacity b high)) (flat_map numbers (kept-rows capacity b high))))) p.rows_in)));
+      abbrev inner-rest : {new : Table K V} → ((m : ℕ) → 0 < count m (numbers_under p.tail p.above) → slice_get new.nodes m ≡ slice_get mid.nodes m) →
+          ((m : ℕ) → 0 < count m (numbers_under right-leaves right-rows) → slice_get new.nodes m ≡ slice_get old.nodes m) →
+          slice_get new.nodes behind ≡ Some (inner_content tail-top) → IsBehind new leaves lower place behind
+      inner-rest {new} still outside there = record {
         tail = tail;
         above = above;
         first = p.first;
@@ -343,15 +343,48 @@ module _ {K V : Type 0} {most : ℕ} (capacity : IsLeafCapacity most) {old : Tab
         piled = rw (heads-append p.tail right-leaves) (piled-over (heads p.tail ++ heads right-leaves) right-top (beside p.above right-rows) behind (p.first, first)
             (piled-beside (heads p.tail) (heads right-leaves) ((p.first, first) ∷ []) right-top p.above right-rows heights p.piled (piled-stacked (heads right-leaves) right-rows right-top (outer capacity b high).right.stacked)));
         sizes_are = sizes-are;
+      }
+
+    -- what is below the child is parted, so many nodes of it are in front, and the node has become this row and another node
+    module _ {mid new : Table K V} {first : ℕ} (behind : ℕ) (p : Parts old mid own-leaves own-rows own first) (kept : ℕ) (none : (kept ≡ 0) ↔ (own ≡ 0)) (few' : kept ≤ 1)
+        (row : Row K ℕ) (row-is : front_row (index + kept) (node number (children capacity b high) ∷ []) ≡ row) {taken : List ℕ} (top : Draws mid new (number ∷ []) (numbers row ++ behind ∷ []) taken)
+        (over : (rows : Rows K) → RowsIn new.nodes rows → RowsIn new.nodes (rows ++ row ∷ [])) (there : slice_get new.nodes behind ≡ Some (inner_content ((p.first, first) ∷ right-top))) where
+      chains : (m : ℕ) → (count m p.taken + count m mid.chain ≡ count m old.chain) × (count m taken + count m new.chain ≡ count m mid.chain)
+      chains m = (omega (arith, ap (count m) p.draws.chain_is, count-append m p.taken mid.chain), omega (arith, ap (count m) top.chain_is, count-append m taken new.chain))
+
+      halves : (m : ℕ) → count m (numbers_under (kept-leaves capacity b high) (kept-rows capacity b high)) + count m (numbers_under p.tail p.above) ≡ count m p.taken + count m (numbers_under own-leaves own-rows)
+      halves m = omega (
+        arith,
+        p.draws.numbers_are m,
+        count-append m (numbers_under (kept-leaves capacity b high) (kept-rows capacity b high)) (numbers_under p.tail p.above),
+        count-append m p.taken (numbers_under own-leaves own-rows),
+      )
+
+      still : (m : ℕ) → 0 < count m (numbers_under (kept-leaves capacity b high) (kept-rows capacity b high)) + count m (numbers_under p.tail p.above) → slice_get new.nodes m ≡ slice_get mid.nodes m
+      still m some = top.others m (omega (arith, some, halves m, chains m, once capacity b high m, count-append m taken (number ∷ [])))
+
+      outside : (m : ℕ) → 0 < count m (numbers_under left-leaves left-rows) + count m (numbers_under right-leaves right-rows) → slice_get new.nodes m ≡ slice_get old.nodes m
+      outside m some = top.others m (omega (arith, some, chains m, once capacity b high m, count-append m taken (number ∷ [])))
+          ∙ p.draws.others m (omega (arith, some, chains m, once capacity b high m, count-append m p.taken (numbers_under own-leaves own-rows)))
+
+      closes : Parts old new leaves lower place behind
+      closes = record {
+        leaves_in = rw (leaves-are capacity b high kept none few' row row-is) (row-join leaf_content new.nodes left-leaves (kept-leaves capacity b high)
+            (row-same leaf_content old.nodes new.nodes left-leaves (λ m some. outside m (omega (arith, some, count-append m (numbers left-leaves) (flat_map numbers left-rows)))) (parts capacity b high).left.leaves_in)
+            (row-same leaf_content mid.nodes new.nodes (kept-leaves capacity b high) (λ m some. still m (omega (arith, some, count-append m (numbers (kept-leaves capacity b high)) (flat_map numbers (kept-rows capacity b high))))) p.leaves_in));
+        rows_in = rw (all-are capacity b high kept none few' row row-is) (over (beside left-rows (kept-rows capacity b high)) (rows-in-beside new.nodes left-rows (kept-rows capacity b high)
+            (rows-same old.nodes new.nodes left-rows (λ m some. outside m (omega (arith, some, count-append m (numbers left-leaves) (flat_map numbers left-rows)))) (parts capacity b high).left.rows_in)
+            (rows-same mid.nodes new.nodes (kept-rows capacity b high) (λ m some. still m (omega (arith, some, count-append m (numbers (kept-leaves capacity b high)) (flat_map numbers (kept-rows capacity b high))))) p.rows_in)));
+        rest = inner-rest behind p.rest (λ m some. still m (omega (arith, some))) (λ m some. outside m (omega (arith, some))) there;
         taken = p.taken ++ taken;
-        draws = draws-then (numbers_under leaves lower) (numbers_under (front_row place leaves) (front_rows (length (front_row place leaves)) lower) ++ numbers_under tail above)
+        draws = draws-then (numbers_under leaves lower) (numbers_under (front_row place leaves) (front_rows (length (front_row place leaves)) lower) ++ numbers_under (tail behind p.rest) (above behind p.rest))
             (λ m. omega (
               arith,
               parts-count capacity b high m,
               halves m,
               left-count capacity b high kept none few' row row-is m,
-              tail-count m,
-              count-append m (numbers_under (front_row place leaves) (front_rows (length (front_row place leaves)) lower)) (numbers_under tail above),
+              tail-count behind p.rest m,
+              count-append m (numbers_under (front_row place leaves) (front_rows (length (front_row place leaves)) lower)) (numbers_under (tail behind p.rest) (above behind p.rest)),
               count-append m (numbers_under (kept-leaves capacity b high) (kept-rows capacity b high)) (numbers_under p.tail p.above),
               count-append m (numbers row) (behind ∷ []),
             )) p.draws top;
@@ -360,6 +393,64 @@ module _ {K V : Type 0} {most : ℕ} (capacity : IsLeafCapacity most) {old : Tab
     -- what the slot of the second part holds, whatever key is named for its first child
     rest-is : (k : K) → last_part {V = V} index (inner_content (children capacity b high)) ≡ inner_content ((k, (here capacity b high).x.1) ∷ right-top)
     rest-is k = let h = here capacity b high in ap (λ z. last_part {V = V} index (inner_content z)) h.es_is ∙ ap (λ z. last_part {V = V} z (inner_content (h.l ++ h.x ∷ h.r))) (sym index-at) ∙ last-children h.l h.x h.r k
+
+    -- the children in front of the path, and what is below them
+    pub front-asks : level ≤ 16 → Between most old number 0 index left-leaves left-rows (here capacity b high).l
+    front-asks low' = record {
+      before = [];
+      after = (here capacity b high).x ∷ right-top;
+      slot_is = (inner capacity b high).slot_is ∙ ap (λ z. Some (inner_content z)) (here capacity b high).es_is;
+      from_is = refl;
+      to_is = omega (arith, index-at);
+      under = (parts capacity b high).left;
+      low = omega (arith, low', b.height, (inner capacity b high).count_is, (parts capacity b high).left_height, (outer capacity b high).left_height);
+      outside = omega (arith, once capacity b high number, one capacity b high);
+      apart = λ m. omega (arith, once capacity b high m, count-append m (numbers_under left-leaves left-rows) old.chain);
+    }
+
+    -- what is below the children in front of the path is freed
+    module _ {mid : Table K V} {gone : List ℕ} (swept : Frees old mid (numbers_under left-leaves left-rows) [] gone) where
+      swept-chain : (m : ℕ) → count m mid.chain ≡ count m (numbers_under left-leaves left-rows) + count m old.chain
+      swept-chain m = omega (arith, swept.numbers_are m, ap (count m) swept.chain_is, count-append m gone old.chain, count-append m gone [])
+
+      pub swept-branch : {child : ℕ} → (here capacity b high).x.1 ≡ child → OnBranch most mid path indices (level - 1) child own-leaves own-rows own
+      swept-branch = child-on capacity b high (under-same mid.nodes (λ m some. swept.others m (omega (arith, some, once capacity b high m))) (parts capacity b high).right)
+          (λ m. omega (arith, once capacity b high m, swept-chain m, count-append m (numbers_under own-leaves own-rows) mid.chain))
+
+      -- and what is in front of it below the child
+      module _ {last : Table K V} {child : ℕ} (is : (here capacity b high).x.1 ≡ child) (p : LeavesBehind mid last own-leaves own-rows own child) where
+        left-over : (m : ℕ) → (count m (numbers_under own-leaves own-rows) ≡ count m p.given + count m (numbers_under p.tail p.above)) × (count m last.chain ≡ count m p.given + count m mid.chain)
+        left-over m = (omega (arith, p.frees.numbers_are m, count-append m p.given (numbers_under p.tail p.above)), omega (arith, ap (count m) p.frees.chain_is, count-append m p.given mid.chain))
+
+        still-inner : slice_get last.nodes number ≡ Some (inner_content (children capacity b high))
+        still-inner = let o = once capacity b high number in let n = one capacity b high in p.frees.others number (omega (arith, o, n)) ∙ swept.others number (omega (arith, o, n)) ∙ (inner capacity b high).slot_is
+
+        pub back-asks : IsUsed last number × ((content : Content K V) × (slice_get last.nodes number ≡ Some content) × (¬ IsFree content) × (index < entry_count content))
+        back-asks = (
+          is_used last number _ still-inner (omega (arith, once capacity b high number, one capacity b high, swept-chain number, left-over number)),
+          (_, still-inner, (λ free. free), child-within capacity b high),
+        )
+
+        -- the node keeps its children from the path on
+        pub inner-behind : {new : Table K V} → ((content : Content K V) → slice_get last.nodes number ≡ Some content → new ≡ with_node last number (last_part index content)) →
+            LeavesBehind old new leaves lower place number
+        inner-behind {new} put =
+            let q = puts last new number _ _ still-inner (put _ still-inner) in
+            let other : (m : ℕ) → count m (numbers_under own-leaves own-rows) + count m (numbers_under left-leaves left-rows) ≡ 0 → slice_get last.nodes m ≡ slice_get old.nodes m =
+            λ m none. p.frees.others m (omega (arith, none)) ∙ swept.others m (omega (arith, none)) in
+            record {
+              rest = inner-rest number p.rest (λ m some. q.others m (omega (arith, some, once capacity b high m, left-over m)))
+                  (λ m some. q.others m (omega (arith, some, once capacity b high m)) ∙ other m (omega (arith, some, once capacity b high m)))
+                  (q.here ∙ ap Some (rest-is p.first ∙ ap (λ z. inner_content ((p.first, z) ∷ right-top)) is));
+              given = p.given ++ gone;
+              frees = frees-then (numbers_under leaves lower) (numbers_under (tail number p.rest) (above number p.rest))
+                  (λ m. omega (arith, parts-count capacity b high m, tail-count number p.rest m, count-append m (numbers_under left-leaves left-rows) (numbers_under own-leaves own-rows)))
+                  b.apart
+                  (frees-then (numbers_under left-leaves left-rows ++ numbers_under own-leaves own-rows) (numbers_under p.tail p.above)
+                  (λ m. omega (arith, count-append m (numbers_under left-leaves left-rows) (numbers_under own-leaves own-rows)))
+                  (λ m. omega (arith, once capacity b high m, count-append m (numbers_under left-leaves left-rows) (numbers_under own-leaves own-rows), count-append m (numbers_under left-leaves left-rows ++ numbers_under own-leaves own-rows) old.chain)) swept p.frees)
+                  q.frees;
+            }
 
     -- the node is parted, and nothing below the path's child is in front
     pub inner-severed : {new : Table K V} {behind : ℕ} → own ≡ 0 → index ≢ 0 → Severs old new number index index (inner_content (children capacity b high)) behind → Parts old new leaves lower place behind

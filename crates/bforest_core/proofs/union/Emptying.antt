@@ -1,15 +1,15 @@
--- Freeing what is below the children of a node from an index on.
-use Rattle.bforest_core.proofs.Words.{◌≡◌, ℕ, suc, ◌+◌, ◌-◌, ◌≤◌, [], ◌++◌, length, slice_get, Some, reverse, sym, subst, ◌∙◌, arith}
+-- Freeing what is below some children of a node.
+use Rattle.bforest_core.proofs.Words.{◌≡◌, ℕ, suc, ◌+◌, ◌-◌, ◌≤◌, ◌<◌, [], ◌++◌, length, slice_get, Some, reverse, sym, subst, ◌∙◌, arith}
 use Rattle.bforest_core.proofs.Words.{Heads, Row, Rows, IsLeafCapacity, Table, Frees, entry_items, flat_map, inner_content, numbers_down, numbers_under}
-use Rattle.bforest_core.proofs.{table.Lists.slice_get-append-add, table.Tables.count-append, union.Sweep.{Swept, Turn, item_at, sweep-first, sweep-last, sweep-next, sweep-turn}}
-use Rattle.bforest_core.specs.Cut.{Behind}
+use Rattle.bforest_core.proofs.{table.Lists.{slice_get-append-add, slice_get-left}, table.Tables.count-append, union.Sweep.{Swept, Turn, item_at, sweep-first, sweep-last, sweep-next, sweep-turn}}
+use Rattle.bforest_core.specs.Cut.{Between}
 
-module _ {K V : Type 0} {most : ℕ} {old : Table K V} {number from : ℕ} {leaves : Row K V} {lower : Rows K} {top : Heads K} (b : Behind most old number from leaves lower top) where
+module _ {K V : Type 0} {most : ℕ} {old : Table K V} {number from to : ℕ} {leaves : Row K V} {lower : Rows K} {top : Heads K} (b : Between most old number from to leaves lower top) where
   -- what is below the children up to an index is freed
   pub record Emptying (now : Table K V) (index : ℕ) : Type 0 where
     pub swept : Swept most old now leaves lower top (index - from)
     pub low : from ≤ index
-    pub slot_is : slice_get now.nodes number ≡ Some (inner_content (b.before ++ top))
+    pub slot_is : slice_get now.nodes number ≡ Some (inner_content (b.before ++ (top ++ b.after)))
 
   emptying : {now : Table K V} {index : ℕ} → Swept most old now leaves lower top (index - from) → from ≤ index → Emptying now index
   emptying s low = record { swept = s; low = low; slot_is = s.frees.others number (omega (arith, b.outside, s.split number, count-append)) ∙ b.slot_is }
@@ -18,11 +18,12 @@ module _ {K V : Type 0} {most : ℕ} {old : Table K V} {number from : ℕ} {leav
   emptying-first capacity = let none : 0 ≡ from - from = omega arith in emptying (subst (Swept most old old leaves lower top) none (sweep-first capacity old leaves lower top b.under)) (omega arith)
 
   -- the child at the index
-  pub emptying-turn : (capacity : IsLeafCapacity most) {now : Table K V} {index child : ℕ} → Emptying now index → slice_get (entry_items (b.before ++ top)) index ≡ Some child →
+  pub emptying-turn : (capacity : IsLeafCapacity most) {now : Table K V} {index child : ℕ} → index < to → Emptying now index → slice_get (entry_items (b.before ++ (top ++ b.after))) index ≡ Some child →
       (x : K × ℕ) × (x.1 ≡ child) × Turn capacity old leaves lower top now (index - from) x
-  emptying-turn capacity {now} {index} {child} s found = let i = item_at (b.before ++ top) index child found in
+  emptying-turn capacity {now} {index} {child} small s found = let i = item_at (b.before ++ (top ++ b.after)) index child found in
       let at : length b.before + (index - from) ≡ index = omega (arith, s.low, b.from_is) in
-      let here : slice_get top (index - from) ≡ Some i.0 = sym (slice_get-append-add b.before top (index - from)) ∙ subst (λ z. slice_get (b.before ++ top) z ≡ Some i.0) (sym at) i.1 in
+      let rest : slice_get (top ++ b.after) (index - from) ≡ Some i.0 = sym (slice_get-append-add b.before (top ++ b.after) (index - from)) ∙ subst (λ z. slice_get (b.before ++ (top ++ b.after)) z ≡ Some i.0) (sym at) i.1 in
+      let here : slice_get top (index - from) ≡ Some i.0 = sym (slice_get-left top b.after (index - from) (omega (arith, small, s.low, b.to_is))) ∙ rest in
       (i.0, i.2, sweep-turn capacity old leaves lower top now (index - from) i.0 b.apart s.swept here)
 
   pub emptying-next : (capacity : IsLeafCapacity most) {now new : Table K V} {index : ℕ} (x : K × ℕ) → Emptying now index → (t : Turn capacity old leaves lower top now (index - from) x) →

@@ -147,7 +147,7 @@ fn sever<K: Copy, V: Copy, const N: usize>(
 
 // Fills the first node of each level below a node, which is the first of its level, from its right neighbour, the highest level first. So each
 // parent has a second child, and one to spare.
-fn fill_edge<K: Copy, V: Copy, const N: usize>(
+pub(super) fn fill_edge<K: Copy, V: Copy, const N: usize>(
     pool: &mut NodePool<K, V, N>,
     node: Node,
     level: usize,

@@ -22,19 +22,23 @@ pub child-below-requires : goal.child-below-requires
 child-below-requires g t c = let b = c.requires.branch.3 in let one = c.requires.capacity in let high = c.if-level-eq0.false in
     (search rules, (_, _, (inner one b high).slot_is, child-within one b high))
 
-pub free_behind-requires : goal.free_behind-requires
-free_behind-requires g t c = let b = c.requires.branch.3 in let one = c.requires.capacity in let high = c.if-level-eq0.false in
-    (search rules, (one, (_, _, _, behind-asks one b high c.requires.low)))
+pub entries-requires : goal.entries-requires
+entries-requires g t c = let b = c.requires.branch.3 in let one = c.requires.capacity in let high = c.if-level-eq0.false in
+    (search rules, (_, (inner one b high).slot_is, λ free. free))
+
+pub free_children-requires : goal.free_children-requires
+free_children-requires g t c = let b = c.requires.branch.3 in let one = c.requires.capacity in let high = c.if-level-eq0.false in
+    (search rules, (one, (_, _, _, behind-asks one b high (c.entries.ensures.value _ (inner one b high).slot_is) c.requires.low)))
 
 pub cut_below-kept-requires : goal.cut_below-kept-requires
 cut_below-kept-requires g t c κs within = let b = c.requires.branch.3 in let one = c.requires.capacity in let high = c.if-level-eq0.false in
-    let swept = (c.free_behind.ensures _ _ _ (behind-asks one b high c.requires.low)).1 in
+    let swept = (c.free_children.ensures _ _ _ (behind-asks one b high (c.entries.ensures.value _ (inner one b high).slot_is) c.requires.low)).1 in
     let child = some_same (sym (child-is one b high) ∙ c.child-below.ensures _ _ (inner one b high).slot_is) in
     (omega arith, (within.0, (within.1, ((λ a m. search rules), (search rules, (search rules, (one, (omega (arith, c.requires.low), (_, _, _, child-asks one b high swept child)))))))))
 
 pub keep_front-requires-2 : goal.keep_front-requires-2
 keep_front-requires-2 g t c = let b = c.requires.branch.3 in let one = c.requires.capacity in let high = c.if-level-eq0.false in
-    let swept = (c.free_behind.ensures _ _ _ (behind-asks one b high c.requires.low)).1 in
+    let swept = (c.free_children.ensures _ _ _ (behind-asks one b high (c.entries.ensures.value _ (inner one b high).slot_is) c.requires.low)).1 in
     let child = some_same (sym (child-is one b high) ∙ c.child-below.ensures _ _ (inner one b high).slot_is) in
     let asks = child-asks one b high swept child in
     let cuts = c.cut_below-kept.ensures.left _ _ _ asks in
@@ -43,14 +47,14 @@ keep_front-requires-2 g t c = let b = c.requires.branch.3 in let one = c.require
 
 pub returns-clause-left : goal.returns-clause-left
 returns-clause-left g t c = λ leaves lower place b. let one = c.requires.capacity in let high = c.if-level-eq0.false in
-    let swept = (c.free_behind.ensures _ _ _ (behind-asks one b high c.requires.low)).1 in
+    let swept = (c.free_children.ensures _ _ _ (behind-asks one b high (c.entries.ensures.value _ (inner one b high).slot_is) c.requires.low)).1 in
     let child = some_same (sym (child-is one b high) ∙ c.child-below.ensures _ _ (inner one b high).slot_is) in
     let asks = child-asks one b high swept child in
     (inner-left one b high swept (c.cut_below-kept.ensures.left _ _ _ asks) c.cut_below-kept.result (c.cut_below-kept.ensures.none _ _ _ asks) c.cut_below-kept.ensures.one c.keep_front-2.result c.keep_front-2.ensures.none c.keep_front-2.ensures.some).0
 
 pub returns-clause-none : goal.returns-clause-none
 returns-clause-none g t c = λ leaves lower place b. let one = c.requires.capacity in let high = c.if-level-eq0.false in
-    let swept = (c.free_behind.ensures _ _ _ (behind-asks one b high c.requires.low)).1 in
+    let swept = (c.free_children.ensures _ _ _ (behind-asks one b high (c.entries.ensures.value _ (inner one b high).slot_is) c.requires.low)).1 in
     let child = some_same (sym (child-is one b high) ∙ c.child-below.ensures _ _ (inner one b high).slot_is) in
     let asks = child-asks one b high swept child in
     (inner-left one b high swept (c.cut_below-kept.ensures.left _ _ _ asks) c.cut_below-kept.result (c.cut_below-kept.ensures.none _ _ _ asks) c.cut_below-kept.ensures.one c.keep_front-2.result c.keep_front-2.ensures.none c.keep_front-2.ensures.some).1
