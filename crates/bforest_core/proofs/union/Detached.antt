@@ -6,11 +6,11 @@ use Rattle.bforest_core.proofs.union.{Backs.{back-in, back-length, back-on, back
 use Rattle.bforest_core.specs.{Detach.{row_sizes}, Packed.{Piled}, Sizes.{IsFitLevel, back, backs, filled, filled_above, filled_levels, least_size, lessened}}
 
 -- the sum of a level's sizes
-abbrev total : List ℕ → ℕ
+abbrev pub total : List ℕ → ℕ
 total level = sum_by (λ (size : ℕ). size) level
 
 -- the sum with one size in front
-total-cons : (size : ℕ) (after : List ℕ) → total (size ∷ after) ≡ size + total after
+pub total-cons : (size : ℕ) (after : List ℕ) → total (size ∷ after) ≡ size + total after
 total-cons size after = sum_by-cons (λ (n : ℕ). n) size after
 
 -- the least size of a node is one or more, and no node needs more than half
@@ -19,7 +19,7 @@ least-within half one [] = (omega arith, one)
 least-within half one (next ∷ rest) = (one, omega arith)
 
 -- the first node of the level is not empty and does not exceed its capacity, and those behind it fit
-abbrev Loose : ℕ → ℕ → List ℕ → Type 0
+abbrev pub Loose : ℕ → ℕ → List ℕ → Type 0
 Loose half most [] = Unit {0}
 Loose half most (size ∷ rest) = (1 ≤ size) × (size ≤ most) × IsFitLevel half most rest
 
@@ -40,7 +40,7 @@ module _ (half most : ℕ) (one : 1 ≤ half) where
   loose-some (size ∷ rest) loose = (loose.0, fit-some rest loose.2)
 
   -- what is behind the first entries of a fit level is loose
-  back-loose : (gone : ℕ) (level : List ℕ) → IsFitLevel half most level → Loose half most (back gone level)
+  pub back-loose : (gone : ℕ) (level : List ℕ) → IsFitLevel half most level → Loose half most (back gone level)
   back-loose zero [] fit = tt
   back-loose zero (size ∷ rest) fit = (omega (arith, fit.0, least-within half one rest), fit.1, fit.2)
   back-loose (suc gone) [] fit = tt
@@ -50,7 +50,7 @@ module _ (half most : ℕ) (one : 1 ≤ half) where
   ]
 
   -- A loose level whose first node is filled, and then has lost a child or none, fits: a node that is alone had more children than that.
-  lost-fit : (lost : ℕ) (level : List ℕ) → half ≤ most → 2 * half + lost ≤ most + 1 → lost ≤ 1 → lost < total level → Loose half most level →
+  pub lost-fit : (lost : ℕ) (level : List ℕ) → half ≤ most → 2 * half + lost ≤ most + 1 → lost ≤ 1 → lost < total level → Loose half most level →
       IsFitLevel half most (lessened lost (filled most level))
   lost-fit lost [] low wide few more loose = tt
   lost-fit lost (size ∷ []) low wide few more loose = (omega (arith, more, total-cons size []), omega (arith, loose.1), tt)
@@ -64,7 +64,7 @@ module _ (half most : ℕ) (one : 1 ≤ half) where
   ]
 
 -- the entries behind the first are as many less
-back-total : (gone : ℕ) (level : List ℕ) → gone ≤ total level → total (back gone level) + gone ≡ total level
+pub back-total : (gone : ℕ) (level : List ℕ) → gone ≤ total level → total (back gone level) + gone ≡ total level
 back-total zero level low = omega arith
 back-total (suc gone) [] low = absurd (omega (arith, low))
 back-total (suc gone) (size ∷ rest) low = let sum = total-cons size rest in elim (cases_lt (suc gone) size) [
@@ -73,7 +73,7 @@ back-total (suc gone) (size ∷ rest) low = let sum = total-cons size rest in el
 ]
 
 -- a level that is filled loses a node or none, and not all
-filled-lost : (most : ℕ) (level : List ℕ) → 0 < total level → (length level - length (filled most level) ≤ 1) × (length level - length (filled most level) < length level)
+pub filled-lost : (most : ℕ) (level : List ℕ) → 0 < total level → (length level - length (filled most level) ≤ 1) × (length level - length (filled most level) < length level)
 filled-lost most [] some = absurd (omega (arith, some))
 filled-lost most (size ∷ []) some = (omega arith, omega arith)
 filled-lost most (size ∷ next ∷ rest) some = let p = filled-pair most size next in
