@@ -42,7 +42,7 @@ module _ {K V : Type 0} {most : ℕ} {old : Table K V} {root place : ℕ} {path 
       apart = apart;
     }
 
-    -- its left edge was filled
+    -- the left edge of what is behind the place was filled
     module _ {next : Table K V} (f : FillsEdge most mid next behind q.tail q.above q.first []) where
       sizes-filled : row_sizes f.leaves' f.rows' ≡ filled_levels most (backs place (row_sizes whole-tree.leaves whole-tree.above))
       sizes-filled = f.sizes_are ∙ ap (filled_levels most) q.sizes_are
@@ -81,7 +81,7 @@ module _ {K V : Type 0} {most : ℕ} {old : Table K V} {root place : ℕ} {path 
         apart = λ m. omega (arith, one-each m, fills-count m, count-append m (flat_map numbers f.rows') next.chain);
       }
 
-      -- roots over it were discarded
+      -- roots with a single child were discarded over what is behind the place
       module _ {new : Table K V} {size' root' : ℕ} {gone : List ℕ} (u : Trimmed next new size size' f.rows' (heads f.leaves') behind root' gone) where
         abbrev pub behind-tree : Tree K V
         behind-tree = record { leaves = f.leaves'; above = u.rows' }

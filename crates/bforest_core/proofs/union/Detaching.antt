@@ -417,7 +417,7 @@ module _ {K V : Type 0} {most : ℕ} (capacity : IsLeafCapacity most) {old : Tab
       swept-branch = child-on capacity b high (under-same mid.nodes (λ m some. swept.others m (omega (arith, some, once capacity b high m))) (parts capacity b high).right)
           (λ m. omega (arith, once capacity b high m, swept-chain m, count-append m (numbers_under own-leaves own-rows) mid.chain))
 
-      -- and what is in front of it below the child
+      -- what is in front of the path below the child is freed too
       module _ {last : Table K V} {child : ℕ} (is : (here capacity b high).x.1 ≡ child) (p : LeavesBehind mid last own-leaves own-rows own child) where
         left-over : (m : ℕ) → (count m (numbers_under own-leaves own-rows) ≡ count m p.given + count m (numbers_under p.tail p.above)) × (count m last.chain ≡ count m p.given + count m mid.chain)
         left-over m = (omega (arith, p.frees.numbers_are m, count-append m p.given (numbers_under p.tail p.above)), omega (arith, ap (count m) p.frees.chain_is, count-append m p.given mid.chain))

@@ -36,12 +36,12 @@ impl<K: Copy, V: Copy, const N: usize> Path<K, V, N> {
         Some(top)
     }
 
-    /// Removes all entries in front of the one here, which is not the first, and returns the root of what is left. The path goes to the end.
-    /// Takes no memory.
+    /// Removes all entries in front of the one here, which is not the first, and returns the root of what is left. The path goes to the
+    /// end. Takes no memory.
     ///
     /// Whole subtrees are freed. On each level the nodes behind the path stay as they are, and the node on the path keeps what is there and
-    /// behind. Then the first node of each level is filled from its right neighbour, or merged into it, where it is at most half full. A root
-    /// with a single child is discarded.
+    /// behind. Then the first node of each level is filled from its right neighbour, or merged into it, where it is at most half full. A
+    /// root with a single child is discarded.
     pub fn cut_front(&mut self, pool: &mut NodePool<K, V, N>) -> Node
         requires union { IsUnion N pool.old }
         requires stands { (at : OnEntry pool.old self.old) × (0 < at.place) }
@@ -105,8 +105,8 @@ impl<K: Copy, V: Copy, const N: usize> Path<K, V, N> {
     }
 }
 
-// Keeps the first `count` children or entries of a node, or frees the node where that is none. Returns how many nodes are left: this one, or
-// none.
+// Keeps the first `count` children or entries of a node, or frees the node where that is none. Returns how many nodes are left: this one,
+// or none.
 fn keep_front<K: Copy, V: Copy, const N: usize>(
     pool: &mut NodePool<K, V, N>,
     node: Node,

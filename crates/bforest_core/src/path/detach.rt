@@ -84,8 +84,8 @@ impl<K: Copy, V: Copy, const N: usize> Path<K, V, N> {
         if below == 0 && at_first { 0 } else { below + 1 }
     }
 
-    // Detaches what is below the path's node on a level from the path on. Returns the node over it: this one where nothing is in front, else a
-    // new one.
+    // Detaches what is below the path's node on a level from the path on. Returns the node over it: this one where nothing is in front,
+    // else a new one.
     fn detach_below(&self, node: Node, level: usize, pool: &mut NodePool<K, V, N>) -> Node
         requires capacity { IsLeafCapacity N }
         requires low { level ≤ top_level }
@@ -119,8 +119,8 @@ impl<K: Copy, V: Copy, const N: usize> Path<K, V, N> {
     }
 }
 
-// Leaves the first `count` children or entries to a node, and moves those from the index `from` on to a new one, which is returned. Where none is
-// left to the node, it is returned itself, unchanged.
+// Leaves the first `count` children or entries to a node, and moves those from the index `from` on to a new one, which is returned. Where
+// none is left to the node, it is returned itself, unchanged.
 fn sever<K: Copy, V: Copy, const N: usize>(
     pool: &mut NodePool<K, V, N>,
     node: Node,
@@ -145,8 +145,8 @@ fn sever<K: Copy, V: Copy, const N: usize>(
     behind
 }
 
-// Fills the first node of each level below a node, which is the first of its level, from its right neighbour, the highest level first. So each
-// parent has a second child, and one to spare.
+// Fills the first node of each level below a node, which is the first of its level, from its right neighbour, the highest level first. So
+// each parent has a second child, and one to spare.
 pub(super) fn fill_edge<K: Copy, V: Copy, const N: usize>(
     pool: &mut NodePool<K, V, N>,
     node: Node,
@@ -176,8 +176,8 @@ fn half_capacity<const N: usize>(level: usize) -> usize
     if level == 0 { N / 2 } else { MIN_CHILDREN }
 }
 
-// Fills the first child of a node from the second, if there is one, where it has at most `half` entries or children. Merges it into that one
-// where everything fits there.
+// Fills the first child of a node from the second, if there is one, where it has at most `half` entries or children. Merges it into that
+// one where everything fits there.
 fn fill_child<K: Copy, V: Copy, const N: usize>(
     pool: &mut NodePool<K, V, N>,
     node: Node,
