@@ -175,6 +175,15 @@ impl MapPairs for OriginalMaps {
     }
 
     #[inline(never)]
+    fn drop_to(&mut self, map: u32, key: u32) {
+        let mut cursor = self.maps[map as usize].cursor_mut(&mut self.forest, &());
+        cursor.goto_first();
+        while cursor.key().is_some_and(|it| it < key) {
+            cursor.remove();
+        }
+    }
+
+    #[inline(never)]
     fn remove_between(&mut self, map: u32, start: u32, end: u32) {
         let mut cursor = self.maps[map as usize].cursor_mut(&mut self.forest, &());
         cursor.goto(start);

@@ -154,6 +154,11 @@ impl MapPairs for PackageMaps {
     }
 
     #[inline(never)]
+    fn drop_to(&mut self, map: u32, key: u32) {
+        self.maps[map as usize].remove_range(..key, &mut self.forest, &());
+    }
+
+    #[inline(never)]
     fn remove_between(&mut self, map: u32, start: u32, end: u32) {
         self.maps[map as usize].remove_range(start..end, &mut self.forest, &());
     }

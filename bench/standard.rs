@@ -144,6 +144,12 @@ impl MapPairs for StdMaps {
     }
 
     #[inline(never)]
+    fn drop_to(&mut self, map: u32, key: u32) {
+        let map = &mut self.maps[map as usize];
+        *map = map.split_off(&key);
+    }
+
+    #[inline(never)]
     fn remove_between(&mut self, map: u32, start: u32, end: u32) {
         self.maps[map as usize].retain(|key, _| !(start..end).contains(key));
     }

@@ -12,6 +12,7 @@ pub enum Call {
     MapsOne,   // the same where one is new
     MapsHalf,  // the same where half of them are
     Upper,     // the first map loses the upper half of its entries
+    Lower,     // it loses the lower half
     Middle,    // it loses the half of them in its middle
     Split,     // the upper half of them becomes a map of its own, which takes the place of the second map
     Compacted, // the first map has its entries in as few nodes as it can
@@ -29,7 +30,7 @@ use Call::*;
 impl Call {
     /// The call of this name.
     pub fn named(name: &str) -> Option<Call> {
-        let of_maps = [Length, MapsNone, MapsOne, MapsHalf, Upper, Middle, Split, Compacted];
+        let of_maps = [Length, MapsNone, MapsOne, MapsHalf, Upper, Lower, Middle, Split, Compacted];
         let of_sets = [SetsNone, SetsOne, SetsHalf, Subset, Disjoint, Intersect, Subtract];
         of_maps.into_iter().chain(of_sets).find(|it| format!("{it:?}") == name)
     }
@@ -55,7 +56,7 @@ impl Pairing {
 
     // Whether the second map has entries: it has none where a part of the first is taken out.
     fn has_second(self) -> bool {
-        !matches!(self.what, Upper | Middle | Split | Compacted)
+        !matches!(self.what, Upper | Lower | Middle | Split | Compacted)
     }
 
     // How many keys of the second map the first one does not have.
@@ -77,6 +78,8 @@ pub trait MapPairs: Many<u32> {
     fn unite(&mut self, map: u32, other: u32) -> bool;
     /// Removes the entries from a key on.
     fn drop_from(&mut self, map: u32, key: u32);
+    /// Removes the entries whose keys are less than `key`.
+    fn drop_to(&mut self, map: u32, key: u32);
     /// Removes the entries whose keys are between two keys, the first included.
     fn remove_between(&mut self, map: u32, start: u32, end: u32);
     /// Moves the entries from a key on to the other map, which loses its own.
@@ -167,6 +170,7 @@ pub fn call_on<M: MapPairs, S: SetPairs>(work: Pairing, is_kept: bool) -> (u64, 
             paired(work, is_kept, |maps: &mut M, map, other| maps.unite(map, other).into())
         }
         Upper => parted(work, is_kept, |maps: &mut M, map, _| maps.drop_from(map, 2 * QUARTER)),
+        Lower => parted(work, is_kept, |maps: &mut M, map, _| maps.drop_to(map, 2 * QUARTER)),
         Middle => parted(work, is_kept, |maps: &mut M, map, _| maps.remove_between(map, QUARTER, 3 * QUARTER)),
         Split => parted(work, is_kept, |maps: &mut M, map, other| maps.split_to(map, 2 * QUARTER, other)),
         Compacted => parted(work, is_kept, |maps: &mut M, map, _| maps.compact(map)),

@@ -234,7 +234,7 @@ EDITS = {
             1,
         ),
         (
-            r"^(?= *let mut path = Path::default\(\);\n *self\.goto_start\()",
+            r"^(?= *let mut path = Path::default\(\);\n *if let Bound::Unbounded = )",
             "        self.expect_order_at(*handle, bounds.0, comp);\n        self.expect_order_at(*handle, bounds.1, comp);\n",
             1,
         ),

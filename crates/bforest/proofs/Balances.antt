@@ -2,10 +2,11 @@
 -- slots, free slots and the tree's nodes balance.
 use Rattle.bforest.proofs.Growing.{growth-fits}
 use Rattle.bforest.proofs.Shrinking.{shrink-fits}
+use Rattle.bforest.proofs.BehindFits.{detached-fits}
 use Rattle.bforest.proofs.Truncating.{truncation-fits}
 pub use Rattle.bforest.proofs.Lengths.{length-written}
 use Rattle.bforest.specs.Bounds.{entries_between, is_between, is_from_start, is_past_end, start_place}
-use Rattle.bforest.specs.Calls.{Clears, Compacts, Filters, GetsOrInserts, Inserts, KeepsFrom, Pops, Removes, RemovesAt, RemovesBetween, Unites, Updates, fewest, need_of_union, removals, sizes_outside, truncation}
+use Rattle.bforest.specs.Calls.{Clears, Compacts, Filters, GetsOrInserts, Inserts, KeepsFrom, Pops, Removes, RemovesAt, RemovesBetween, Unites, Updates, fewest, need_of_union, removals, sizes_behind, sizes_outside, truncation}
 use Rattle.bforest.specs.Entries.{is_present, place, value_for}
 use Rattle.bforest.specs.Forest.{Becomes, Forest, Gives, IsFitFor, IsLive, Takes, growth, limit_of, list_of, need, need_of, room_of, shrink, sizes_of}
 use Rattle.bforest.specs.Refusal.{OutOfMemory}
@@ -116,11 +117,17 @@ module _ {K V : Type 0} where
         subst (λ k. IsFitFor most k (shrink most p (removals most p n sizes))) (let is : (len - n) - 1 ≡ len - suc n = omega arith in is)
         (shrink-fits most odd p (len - n) (removals most p n sizes) (removals-fit p n len sizes fit (omega (arith, low))) (omega (arith, low)))
 
+    -- the same of a range with a start, or of all entries in front of a place
+    behind-fit : (lo : Bound K) (p n len : ℕ) (sizes : List (List ℕ)) → IsFitFor most len sizes → p + n ≤ len → IsFitFor most (len - n) (sizes_behind most lo p n sizes)
+    behind-fit (Included k) p n len sizes fit low = removals-fit p n len sizes fit low
+    behind-fit (Excluded k) p n len sizes fit low = removals-fit p n len sizes fit low
+    behind-fit Unbounded p n len sizes fit low = detached-fits most n len sizes (omega (arith, odd)) fit (omega (arith, low))
+
     -- the same of a range with an end, or of all entries behind a place
-    outside-fit : (hi : Bound K) (p n len : ℕ) (sizes : List (List ℕ)) → IsFitFor most len sizes → p + n ≤ len → (hi ≡ Unbounded → p + n ≡ len) → IsFitFor most (len - n) (sizes_outside most hi p n sizes)
-    outside-fit (Included k) p n len sizes fit low all = removals-fit p n len sizes fit low
-    outside-fit (Excluded k) p n len sizes fit low all = removals-fit p n len sizes fit low
-    outside-fit Unbounded p n len sizes fit low all = let is = all refl in
+    outside-fit : (lo hi : Bound K) (p n len : ℕ) (sizes : List (List ℕ)) → IsFitFor most len sizes → p + n ≤ len → (hi ≡ Unbounded → p + n ≡ len) → IsFitFor most (len - n) (sizes_outside most lo hi p n sizes)
+    outside-fit lo (Included k) p n len sizes fit low all = behind-fit lo p n len sizes fit low
+    outside-fit lo (Excluded k) p n len sizes fit low all = behind-fit lo p n len sizes fit low
+    outside-fit lo Unbounded p n len sizes fit low all = let is = all refl in
         subst (λ k. IsFitFor most k (truncation p n sizes)) (let left : p ≡ len - n = omega (arith, is) in left)
         (truncation-fits most p n sizes (omega (arith, odd)) (subst (λ k. IsFitFor most k sizes) (sym is) fit))
 
@@ -130,7 +137,7 @@ module _ {K V : Type 0} where
         let n = length (entries_between cmp lo hi es) in
         let left : length (list_of f' h') ≡ length es - n = omega (arith, ap length r.removed.list, filter-halves (λ e. is_between cmp lo hi e.0) es) in
         given-balance most f f' h h'
-        (rw (left, r.sizes) (outside-fit hi (start_place cmp lo es) n (length es) (sizes_of f h) fit (filter-behind (λ e. is_from_start cmp lo e.0) (λ e. not (is_past_end cmp hi e.0)) es) (λ is. rw is (filter-from (λ e. is_from_start cmp lo e.0) es))))
+        (rw (left, r.sizes) (outside-fit lo hi (start_place cmp lo es) n (length es) (sizes_of f h) fit (filter-behind (λ e. is_from_start cmp lo e.0) (λ e. not (is_past_end cmp hi e.0)) es) (λ is. rw is (filter-from (λ e. is_from_start cmp lo e.0) es))))
         r.removed.limit r.account
 
     -- a packed tree took the place of the old one, within the limit

@@ -16,3 +16,4 @@ pub mod Shrinking
 pub mod Fewest
 pub mod Standard
 pub mod Truncating
+pub mod BehindFits

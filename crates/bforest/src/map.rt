@@ -428,10 +428,11 @@ impl<K: Copy, V: Copy> Map<K, V> {
 
     /// Removes the entries whose keys are within both bounds, and returns whether there was one.
     ///
-    /// At most one search, as in [`Map::get`], to the first of them. Up to an end bound they are removed one after another, in order, with
-    /// one comparison for each of them and one more, and each may rebalance or merge nodes, as in [`Map::remove`]. Without an end bound
-    /// nothing is compared: whole subtrees go, each node of which is read once, and of the nodes that stay only those on the path to the
-    /// first are written. No node and no memory is taken, so this can't be refused.
+    /// Where a bound is lacking, whole subtrees go, each node of which is read once, after at most one search, as in [`Map::get`]. Of the
+    /// nodes that stay, those on the path to where the rest begins or ends are written, and without a start bound the first node of each
+    /// level is filled from its right neighbour, or merged into it, where it is at most half full. Between two bounds they are removed one
+    /// after another, in order, after one search, with one comparison for each of them and one more, and each may rebalance or merge nodes,
+    /// as in [`Map::remove`]. No node and no memory is taken, so this can't be refused.
     pub fn remove_range<C: Comparator<K>>(
         &mut self,
         bounds: (Bound<K>, Bound<K>),

@@ -317,7 +317,7 @@ module _ {K V : Type 0} where
           → RemovesBetween most order lo hi other.forest other.number changed' other'.forest other'.number
           → (changed' ≡ changed) × Resembles one' other'
       between-alike lo hi changed changed' one' other' c c' =
-          let after = c'.sizes ∙ (λ z. sizes_outside most hi (start_place order lo (r.list z)) (length (entries_between order lo hi (r.list z))) (r.sizes z)) ∙ sym c.sizes in
+          let after = c'.sizes ∙ (λ z. sizes_outside most lo hi (start_place order lo (r.list z)) (length (entries_between order lo hi (r.list z))) (r.sizes z)) ∙ sym c.sizes in
           let given = gives-alike one other one' other' (sizes-in one') (sizes-in other') r after c.account c'.account in (
             c'.changed ∙ (λ z. nat_lt 0 (length (entries_between order lo hi (r.list z)))) ∙ sym c.changed,
             record {

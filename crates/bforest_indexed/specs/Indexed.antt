@@ -336,7 +336,7 @@ module _ {K X C : Type 0} where
       pub removed : entries m' i ≡ entries_outside cmp lo hi (entries m i)
       pub changed : result ≡ nat_lt 0 (length (entries_between cmp lo hi (entries m i)))
       pub found : (q : K) → value_for cmp (entries m' i) q ≡ (if is_between cmp lo hi q then None else value_for cmp (entries m i) q)
-      pub sizes : node_sizes m' i ≡ sizes_outside most hi (start_place cmp lo (entries m i)) (length (entries_between cmp lo hi (entries m i))) (node_sizes m i)
+      pub sizes : node_sizes m' i ≡ sizes_outside most lo hi (start_place cmp lo (entries m i)) (length (entries_between cmp lo hi (entries m i))) (node_sizes m i)
       pub beside : ChangesAt m i m'
       pub account : Gives (node_sizes m i) (node_sizes m' i) (table m) (table m')
       pub same : result ≡ false → m' ≡ m

@@ -29,7 +29,7 @@ pub truncation-some : (p n : ℕ) (sizes : List (List ℕ)) → 0 < n → trunca
 truncation-some p zero sizes some = absurd (omega (arith, some))
 truncation-some p (suc n) sizes some = refl
 
-ltb-none : (n : ℕ) → nat_lt n n ≡ false
+pub ltb-none : (n : ℕ) → nat_lt n n ≡ false
 ltb-none n = grind arith
 
 some_same : (n q : ℕ) → Some n ≡ Some q → n ≡ q

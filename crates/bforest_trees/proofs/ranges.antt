@@ -8,3 +8,4 @@ pub mod Narrowing
 pub mod Outside
 pub mod Parting
 pub mod Splitting
+pub mod Fronting

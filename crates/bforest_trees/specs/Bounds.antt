@@ -23,6 +23,12 @@ module _ {K : Type 0} (cmp : K → K → Ordering) where
   abbrev pub is_between : Bound K → Bound K → K → Bool
   is_between lo hi k = is_from_start lo k && not (is_past_end hi k)
 
+-- the start bound of what an end bound leaves out
+abbrev pub start_behind : {K : Type 0} → Bound K → Bound K
+start_behind (Included k) = Excluded k
+start_behind (Excluded k) = Included k
+start_behind Unbounded = Unbounded
+
 module _ {K X : Type 0} (cmp : K → K → Ordering) where
   -- the entries whose keys are within both bounds
   abbrev pub entries_between : Bound K → Bound K → List (K × X) → List (K × X)

@@ -29,11 +29,18 @@ abbrev pub truncation : ℕ → ℕ → List (List ℕ) → List (List ℕ)
 truncation place zero sizes = sizes
 truncation place (suc n) sizes = truncated place sizes
 
--- the sizes of a tree after n entries from a place on up to an end bound were removed: one after another, or all at once without an end
-abbrev pub sizes_outside : {K : Type 0} → ℕ → Bound K → ℕ → ℕ → List (List ℕ) → List (List ℕ)
-sizes_outside most (Included k) place n sizes = removals most place n sizes
-sizes_outside most (Excluded k) place n sizes = removals most place n sizes
-sizes_outside most Unbounded place n sizes = truncation place n sizes
+-- the sizes of a tree after n entries up to an end bound were removed, of which the first is at this place: all at once where the start has no
+-- bound, else one after another
+abbrev pub sizes_behind : {K : Type 0} → ℕ → Bound K → ℕ → ℕ → List (List ℕ) → List (List ℕ)
+sizes_behind most Unbounded place n sizes = detached most n sizes
+sizes_behind most (Included k) place n sizes = removals most place n sizes
+sizes_behind most (Excluded k) place n sizes = removals most place n sizes
+
+-- the sizes of a tree after n entries within two bounds were removed, of which the first is at this place: all at once where the end has no bound
+abbrev pub sizes_outside : {K : Type 0} → ℕ → Bound K → Bound K → ℕ → ℕ → List (List ℕ) → List (List ℕ)
+sizes_outside most lo Unbounded place n sizes = truncation place n sizes
+sizes_outside most lo (Included k) place n sizes = sizes_behind most lo place n sizes
+sizes_outside most lo (Excluded k) place n sizes = sizes_behind most lo place n sizes
 
 module _ {K X : Type 0} where
   -- the handle keeps its number exactly where the tree keeps its height
@@ -55,6 +62,17 @@ module _ {K X : Type 0} where
     pub removed : Becomes f h f' h' (take place (list_of f h))
     pub changed : result ≡ nat_lt place (length (list_of f h))
     pub sizes : sizes_of f' h' ≡ truncation place (length (list_of f h) - place) (sizes_of f h)
+    pub same_levels : length (sizes_of f' h') ≡ length (sizes_of f h) → h' ≡ h
+    pub account : Gives (sizes_of f h) (sizes_of f' h') f f'
+    pub same_forest : result ≡ false → f' ≡ f
+    pub same_handle : result ≡ false → h' ≡ h
+
+  -- The entries of h's list in front of a place were removed, with the nodes that are left over, and whether there was one is returned; where
+  -- there was none, nothing changed. No node was taken.
+  pub record CutsTo (most : ℕ) (f : Forest K X) (h : Option ℕ) (place : ℕ) (result : Bool) (f' : Forest K X) (h' : Option ℕ) : Type 0 where
+    pub removed : Becomes f h f' h' (drop place (list_of f h))
+    pub changed : result ≡ nat_lt 0 place
+    pub sizes : sizes_of f' h' ≡ detached most place (sizes_of f h)
     pub same_levels : length (sizes_of f' h') ≡ length (sizes_of f h) → h' ≡ h
     pub account : Gives (sizes_of f h) (sizes_of f' h') f f'
     pub same_forest : result ≡ false → f' ≡ f
@@ -324,7 +342,7 @@ module _ {K X : Type 0} (most : ℕ) (cmp : K → K → Ordering) where
     pub removed : Becomes f h f' h' (entries_outside cmp lo hi (list_of f h))
     pub changed : result ≡ nat_lt 0 (length (entries_between cmp lo hi (list_of f h)))
     pub found : (q : K) → value_for cmp (list_of f' h') q ≡ (if is_between cmp lo hi q then None else value_for cmp (list_of f h) q)
-    pub sizes : sizes_of f' h' ≡ sizes_outside most hi (start_place cmp lo (list_of f h)) (length (entries_between cmp lo hi (list_of f h))) (sizes_of f h)
+    pub sizes : sizes_of f' h' ≡ sizes_outside most lo hi (start_place cmp lo (list_of f h)) (length (entries_between cmp lo hi (list_of f h))) (sizes_of f h)
     pub same_levels : length (sizes_of f' h') ≡ length (sizes_of f h) → h' ≡ h
     pub account : Gives (sizes_of f h) (sizes_of f' h') f f'
     pub increasing : IsIncreasing cmp (list_of f' h')

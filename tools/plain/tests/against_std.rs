@@ -497,10 +497,22 @@ impl<'a, C: Order> Model<'a, C> {
         let within = self.within(at, low, high);
         if high == Bound::Unbounded {
             self.cut(at, &within);
+        } else if low == Bound::Unbounded {
+            self.cut_front(at, &within);
         } else {
             within.iter().for_each(|rank| _ = self.remove(at, *rank));
         }
         !within.is_empty()
+    }
+
+    /// The first entries go at once.
+    fn cut_front(&mut self, at: usize, ahead: &[i64]) {
+        let list = &mut self.lists[at];
+        let before = list.sizes.nodes();
+        ahead.iter().for_each(|rank| _ = list.entries.remove(rank));
+        list.ranks.drain(..ahead.len());
+        list.sizes = if list.ranks.is_empty() { Sizes::default() } else { list.sizes.detach(ahead.len(), self.leaf).0 };
+        self.free += before - list.sizes.nodes();
     }
 
     /// The last entries go at once.

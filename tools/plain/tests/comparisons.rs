@@ -651,7 +651,7 @@ fn evens_within(bounds: Bounds, last: u32) -> u32 {
 }
 
 /// Removes ranges whose bounds are keys up to `last`; `taken` removes one, and returns how often it compared: in one search, if there is a
-/// start, and once for each entry that goes and once more, if there is an end. Debug builds compare beside each bound too.
+/// bound, and between two bounds once for each entry that goes and once more. Debug builds compare beside each bound too.
 fn each_removal(last: u32, search: impl Fn(u32) -> u32, taken: impl Fn(Bounds) -> u32) {
     assert_eq!(taken((Unbounded, Unbounded)), 0);
     let of = |bound: Bound<u32>, cost: &dyn Fn(u32) -> u32| match bound {
@@ -659,9 +659,13 @@ fn each_removal(last: u32, search: impl Fn(u32) -> u32, taken: impl Fn(Bounds) -
         Unbounded => 0,
     };
     let within = |bounds: Bounds| {
-        let steps = if bounds.1 == Unbounded { 0 } else { evens_within(bounds, last) + 1 };
         let beside = |key| beside_bound(search(key));
-        of(bounds.0, &search) + steps + of(bounds.0, &beside) + of(bounds.1, &beside)
+        let found = match bounds {
+            (start, Unbounded) => of(start, &search),
+            (Unbounded, end) => of(end, &search),
+            (start, _) => of(start, &search) + evens_within(bounds, last) + 1,
+        };
+        found + of(bounds.0, &beside) + of(bounds.1, &beside)
     };
     for start in 0..=last {
         for bounds in with_one_bound(start) {

@@ -213,8 +213,8 @@ fn of_each_kind(start: u32, end: u32) -> impl Iterator<Item = Bounds> {
     starts.into_iter().flat_map(move |start| ends.into_iter().map(move |end| (start, end)))
 }
 
-/// A range that goes up to an end leaves what as many single removals leave, from the first key on. Without an end it leaves no more nodes
-/// than these. No range takes a node.
+/// A range between two bounds that goes leaves what as many single removals leave, from the first key on. Without an end it leaves no more
+/// nodes than these, and with an end alone what a split there gives away. No range takes a node.
 fn each_range<H: Handle>() {
     let mut random = Random(7);
     for round in 0..300 {
@@ -223,6 +223,7 @@ fn each_range<H: Handle>() {
         let mut forest = H::forest(u32::MAX);
         let (handle, beside): (H, H) = (made(keys.iter().copied(), &mut forest), made([1, 2, 3], &mut forest));
         for bounds in of_each_kind(start, end) {
+            let forest_before = forest.clone();
             let (mut ranged, mut forest, mut singly, mut other) = (handle.clone(), forest.clone(), handle.clone(), forest.clone());
             let (within, left): (Vec<u32>, Vec<u32>) = keys.iter().partition(|key| bounds.contains(key));
             assert_eq!(ranged.remove_range(bounds, &mut forest), !within.is_empty());
@@ -230,10 +231,15 @@ fn each_range<H: Handle>() {
             assert_eq!((ranged.keys(&forest), singly.keys(&other)), (left.clone(), left), "{bounds:?}");
             assert_eq!(H::slots(&forest).0, H::slots(&other).0);
             let (nodes, levels) = (nodes_of(&ranged, &forest), ranged.levels(&forest));
-            if bounds.1 == Unbounded {
-                assert!(nodes <= nodes_of(&singly, &other) && levels <= singly.levels(&other), "{bounds:?}");
-            } else {
-                assert_eq!((nodes, levels), (nodes_of(&singly, &other), singly.levels(&other)), "{bounds:?}");
+            let (mut front, mut split) = (handle.clone(), forest_before);
+            match bounds {
+                (_, Unbounded) => assert!(nodes <= nodes_of(&singly, &other) && levels <= singly.levels(&other), "{bounds:?}"),
+                (Unbounded, Included(end) | Excluded(end)) => {
+                    let first = if bounds.1 == Included(end) { end + 1 } else { end };
+                    let tail = front.split_off(first, &mut split).unwrap();
+                    assert_eq!((nodes, levels), (nodes_of(&tail, &split), tail.levels(&split)), "{bounds:?}");
+                }
+                _ => assert_eq!((nodes, levels), (nodes_of(&singly, &other), singly.levels(&other)), "{bounds:?}"),
             }
             assert_eq!(beside.keys(&forest), [1, 2, 3]);
         }

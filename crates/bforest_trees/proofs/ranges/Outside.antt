@@ -72,6 +72,24 @@ module _ {A : Type 0} where
       go true is rest = omega (arith, count-cons (λ e. not (s e)) e es false (ap not is), rest, ap (λ z. length (cond (z && true) (e ∷ filter (λ e. s e && true) es) (filter (λ e. s e && true) es))) is)
       go false is rest = omega (arith, count-cons (λ e. not (s e)) e es true (ap not is), rest, ap (λ z. length (cond (z && true) (e ∷ filter (λ e. s e && true) es) (filter (λ e. s e && true) es))) is)
 
+  module _ (t : A → Bool) where
+    abbrev passed : List A → List A
+    passed es = filter (λ y. not (true && not (t y))) es
+
+    all-passed : (es : List A) → AllByRecursion (λ y. t y ≡ true) es → passed es ≡ es
+    all-passed [] on = refl
+    all-passed (e ∷ es) on = ap (λ b. cond (not (true && not b)) (e ∷ passed es) (passed es)) on.0 ∙ ap (λ l. e ∷ l) (all-passed es on.1)
+
+    -- the elements of which t holds are those behind the others, where it holds of all from the first on
+    pub behind-is : (es : List A) → Rises t es → passed es ≡ drop (count_by (λ y. not (t y)) es) es
+    behind-is [] up = refl
+    behind-is (e ∷ es) up = go (t e) refl (behind-is es up.1)
+      where
+        go : (b : Bool) → t e ≡ b → passed es ≡ drop (count_by (λ y. not (t y)) es) es → passed (e ∷ es) ≡ drop (count_by (λ y. not (t y)) (e ∷ es)) (e ∷ es)
+        go true is rest = all-passed (e ∷ es) (is, up.0 is) ∙ sym (ap (λ n. drop n (e ∷ es)) (count-none t (e ∷ es) (is, up.0 is)))
+        go false is rest = let more : count_by (λ y. not (t y)) (e ∷ es) ≡ suc (count_by (λ y. not (t y)) es) = omega (arith, count-cons (λ y. not (t y)) e es true (ap not is)) in
+            ap (λ b. cond (not (true && not b)) (e ∷ passed es) (passed es)) is ∙ rest ∙ sym (ap (λ n. drop n (e ∷ es)) more)
+
   module _ (s t : A → Bool) where
     -- where t holds of an element, or there is none, it holds of all from there on
     pub past-behind : (es : List A) (i : ℕ) → Rises t es → ((e : A) → slice_get es i ≡ Some e → t e ≡ true) → AllByRecursion (λ y. t y ≡ true) (drop i es)

@@ -1,6 +1,6 @@
 -- What the loop of `remove_range` has done, and what it answers and leaves, as one record.
 use Rattle.bforest_core.proofs.table.Lists.{length_remove}
-use Rattle.bforest_core.specs.Sizes.{shrink}
+use Rattle.bforest_core.specs.Sizes.{detached, shrink}
 use Rattle.bforest_core.specs.declared.path.Path.{Path}
 use Rattle.bforest_nodes.specs.Entries.{IsIncreasing, value_for}
 use Rattle.bforest_trees.proofs.Becoming.{becomes-both}
@@ -8,10 +8,10 @@ use Rattle.bforest_trees.proofs.Cutting.{becomes-same}
 use Rattle.bforest_trees.proofs.Retaining.{IsIncreasing-kept}
 use Rattle.bforest_trees.proofs.Sifted.{shrink-fewer}
 use Rattle.bforest_trees.proofs.ranges.Between.{end-rises, start-rises}
-use Rattle.bforest_trees.proofs.ranges.Outside.{Parts, get-behind, none-out, outside-is, past-behind, remove-behind}
+use Rattle.bforest_trees.proofs.ranges.Outside.{Parts, behind-is, filter-halves, get-behind, none-out, outside-is, past-behind, remove-behind}
 use Rattle.bforest_trees.proofs.unions.Choosing.{passing-value}
-use Rattle.bforest_trees.specs.Bounds.{entries_between, entries_outside, is_between, is_from_start, is_past_end, start_place}
-use Rattle.bforest_trees.specs.Calls.{CutsFrom, RemovesBetween, SameLevels, removals, sizes_outside, truncation}
+use Rattle.bforest_trees.specs.Bounds.{end_place, entries_between, entries_outside, is_between, is_from_start, is_past_end, start_behind, start_place}
+use Rattle.bforest_trees.specs.Calls.{CutsFrom, CutsTo, RemovesBetween, SameLevels, removals, sizes_outside, truncation}
 use Rattle.bforest_trees.specs.Forest.{Becomes, Forest, Gives, IsLive, list_of, sizes_of}
 use Rattle.bforest_trees.specs.Place.{AtSpot, IsSpot, OnSpot}
 use Rattle.bforest_trees.specs.Retain.{kept_by}
@@ -19,7 +19,7 @@ use Rattle.std.proofs.Common.{Bool, List, None, Option, Some, [], ap, arith, dro
 use Rattle.std.proofs.lemmas.Bool.{cases_lt, lt-ltb, ltb-false}
 use Rattle.std.proofs.lemmas.Cmp.{alike_right}
 use Rattle.std.proofs.lemmas.List.Sums.{count_by-le-length}
-use Rattle.std.proofs.lemmas.List.{append-nil, drop_all}
+use Rattle.std.proofs.lemmas.List.{append-nil, drop_all, length-drop}
 use Rattle.std.proofs.lemmas.Option.{slice_get_within}
 use Rattle.std.specs.Cmp.{IsTotalOrder}
 use Rattle.std.specs.List.{AllByRecursion}
@@ -29,11 +29,26 @@ use Rattle.std.specs.declared.cmp.Ordering.{Ordering}
 use Rattle.std.specs.declared.ops.Bound.TheVariants.{Excluded, Included, Unbounded}
 use Rattle.std.specs.declared.ops.Bound.{Bound}
 
--- the sizes after a range with an end
-bounded : {K : Type 0} (most : ℕ) (hi : Bound K) (p n : ℕ) (sizes : List (List ℕ)) → (hi ≡ Unbounded → ⊥) → sizes_outside most hi p n sizes ≡ removals most p n sizes
-bounded most (Included k) p n sizes some = refl
-bounded most (Excluded k) p n sizes some = refl
-bounded most Unbounded p n sizes some = absurd (some refl)
+-- the sizes after a range with a start and an end
+bounded : {K : Type 0} (most : ℕ) (lo hi : Bound K) (p n : ℕ) (sizes : List (List ℕ)) → (lo ≡ Unbounded → ⊥) → (hi ≡ Unbounded → ⊥) → sizes_outside most lo hi p n sizes ≡ removals most p n sizes
+bounded most lo Unbounded p n sizes start end = absurd (end refl)
+bounded most (Included a) (Included k) p n sizes start end = refl
+bounded most (Included a) (Excluded k) p n sizes start end = refl
+bounded most (Excluded a) (Included k) p n sizes start end = refl
+bounded most (Excluded a) (Excluded k) p n sizes start end = refl
+bounded most Unbounded hi p n sizes start end = absurd (start refl)
+
+-- the sizes after a range with an end alone
+ended : {K : Type 0} (most : ℕ) (hi : Bound K) (p n : ℕ) (sizes : List (List ℕ)) → (hi ≡ Unbounded → ⊥) → sizes_outside most Unbounded hi p n sizes ≡ detached most n sizes
+ended most Unbounded p n sizes end = absurd (end refl)
+ended most (Included k) p n sizes end = refl
+ended most (Excluded k) p n sizes end = refl
+
+-- the start of what an end leaves out is the place of that end
+pub start-at-end : {K X : Type 0} (cmp : K → K → Ordering) (hi : Bound K) (es : List (K × X)) → (hi ≡ Unbounded → ⊥) → start_place cmp (start_behind hi) es ≡ end_place cmp hi es
+start-at-end cmp (Included k) es end = refl
+start-at-end cmp (Excluded k) es end = refl
+start-at-end cmp Unbounded es end = absurd (end refl)
 
 less-some : (p n m : ℕ) → p + m ≡ n → nat_lt p n ≡ nat_lt 0 m
 less-some p n zero is = sym (no (omega (arith, is)))
@@ -78,6 +93,10 @@ module _ {K X : Type 0} (cmp : K → K → Ordering) where
         turned : (b : Bool) → (if not b then value_for cmp es q else None) ≡ (if b then None else value_for cmp es q)
         turned true = refl
         turned false = refl
+
+  -- the place where the bounds end is in the list
+  end-low : (hi : Bound K) (es : List (K × X)) → end_place cmp hi es ≤ length es
+  end-low hi es = count_by-le-length (λ (e : K × X). not (is_past_end cmp hi e.0)) es
 
   -- the place where the bounds begin is in the list
   start-low : (lo : Bound K) (es : List (K × X)) → start_place cmp lo es ≤ length es
@@ -182,12 +201,12 @@ module _ {K X : Type 0} {most : ℕ} {cmp : K → K → Ordering} {lo hi : Bound
             }
 
     -- the loop ends in front of an entry that is past the end, or behind all
-    pub parting-end : (hi ≡ Unbounded → ⊥) → IsTotalOrder cmp → IsIncreasing cmp (list_of f₀ h₀) → ((at : AtSpot f h path) (e : K × X) → slice_get (list_of f h) at.place ≡ Some e → is_past_end cmp hi e.0 ≡ true) → RemovesBetween most cmp lo hi f₀ h₀ changed f h
-    parting-end some total up past = record {
+    pub parting-end : (lo ≡ Unbounded → ⊥) → (hi ≡ Unbounded → ⊥) → IsTotalOrder cmp → IsIncreasing cmp (list_of f₀ h₀) → ((at : AtSpot f h path) (e : K × X) → slice_get (list_of f h) at.place ≡ Some e → is_past_end cmp hi e.0 ≡ true) → RemovesBetween most cmp lo hi f₀ h₀ changed f h
+    parting-end start end total up past = record {
       removed = subst (Becomes f₀ h₀ f h) (sym parts.outside_is) s.becomes;
       changed = s.changed_is ∙ ap (nat_lt 0) (sym count);
       found = λ q. ap (λ l. value_for cmp l q) (s.becomes.list ∙ sym parts.outside_is) ∙ outside-value cmp lo hi total (list_of f₀ h₀) q up;
-      sizes = s.sizes ∙ ap (λ n. removals most (start_place cmp lo (list_of f₀ h₀)) n (sizes_of f₀ h₀)) (sym count) ∙ sym (bounded most hi (start_place cmp lo (list_of f₀ h₀)) (length (entries_between cmp lo hi (list_of f₀ h₀))) (sizes_of f₀ h₀) some);
+      sizes = s.sizes ∙ ap (λ n. removals most (start_place cmp lo (list_of f₀ h₀)) n (sizes_of f₀ h₀)) (sym count) ∙ sym (bounded most lo hi (start_place cmp lo (list_of f₀ h₀)) (length (entries_between cmp lo hi (list_of f₀ h₀))) (sizes_of f₀ h₀) start end);
       same_levels = s.same_levels;
       account = s.gives;
       increasing = subst (IsIncreasing cmp) (sym (s.becomes.list ∙ sym parts.outside_is)) (outside-up cmp lo hi (list_of f₀ h₀) up);
@@ -227,6 +246,31 @@ parting-cut {most = most} {cmp} {lo} {f = f} {f'} {h} {h'} is total up c = let p
       same_levels = c.same_levels;
       account = c.account;
       increasing = subst (IsIncreasing cmp) (sym (c.removed.list ∙ sym parts.0)) (outside-up cmp lo Unbounded (list_of f h) up);
+      same_forest = c.same_forest;
+      same_handle = c.same_handle;
+    })
+
+module _ {K X : Type 0} (cmp : K → K → Ordering) (total : IsTotalOrder cmp) (hi : Bound K) (es : List (K × X)) (up : IsIncreasing cmp es) where
+  -- the entries up to an end, and those behind it
+  pub front-parts : (entries_outside cmp Unbounded hi es ≡ drop (end_place cmp hi es) es) × (length (entries_between cmp Unbounded hi es) ≡ end_place cmp hi es)
+  front-parts = let left = behind-is (λ (e : K × X). is_past_end cmp hi e.0) es (end-rises cmp total hi es up) in
+      (left, omega (arith, ap length left, length-drop (end_place cmp hi es) es, end-low cmp hi es, filter-halves (λ (e : K × X). is_between cmp Unbounded hi e.0) es))
+
+-- all entries up to an end were removed at once
+pub parting-front : {K X : Type 0} {most : ℕ} {cmp : K → K → Ordering} {lo hi : Bound K} {f f' : Forest K X} {h h' : Option ℕ} {changed : Bool} → lo ≡ Unbounded → (hi ≡ Unbounded → ⊥) → IsTotalOrder cmp → IsIncreasing cmp (list_of f h) →
+    CutsTo most f h (start_place cmp (start_behind hi) (list_of f h)) changed f' h' → RemovesBetween most cmp lo hi f h changed f' h'
+parting-front {most = most} {cmp} {hi = hi} {f} {f'} {h} {h'} is end total up c = let parts = front-parts cmp total hi (list_of f h) up in
+    let at : start_place cmp (start_behind hi) (list_of f h) ≡ end_place cmp hi (list_of f h) = start-at-end cmp hi (list_of f h) end in
+    let left : drop (start_place cmp (start_behind hi) (list_of f h)) (list_of f h) ≡ entries_outside cmp Unbounded hi (list_of f h) = ap (λ n. drop n (list_of f h)) at ∙ sym parts.0 in
+    let count : start_place cmp (start_behind hi) (list_of f h) ≡ length (entries_between cmp Unbounded hi (list_of f h)) = at ∙ sym parts.1 in rw is (record {
+      removed = subst (Becomes f h f' h') left c.removed;
+      changed = c.changed ∙ ap (nat_lt 0) count;
+      found = λ q. ap (λ l. value_for cmp l q) (c.removed.list ∙ left) ∙ outside-value cmp Unbounded hi total (list_of f h) q up;
+      sizes = c.sizes ∙ ap (λ n. detached most n (sizes_of f h)) count
+          ∙ sym (ended most hi (start_place cmp Unbounded (list_of f h)) (length (entries_between cmp Unbounded hi (list_of f h))) (sizes_of f h) end);
+      same_levels = c.same_levels;
+      account = c.account;
+      increasing = subst (IsIncreasing cmp) (sym (c.removed.list ∙ left)) (outside-up cmp Unbounded hi (list_of f h) up);
       same_forest = c.same_forest;
       same_handle = c.same_handle;
     })

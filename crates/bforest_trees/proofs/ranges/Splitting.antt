@@ -20,9 +20,10 @@ use Rattle.bforest_trees.proofs.Spots.{spot-in, spot-on}
 use Rattle.bforest_trees.specs.Calls.{SameLevels, SplitsAt, truncation}
 use Rattle.bforest_trees.specs.Place.{AtSpot}
 use Rattle.bforest_trees.specs.Forest.{Forest, GrowsFor, Keeps, IsLive, IsTooMany, NeedsGrowth, free_of, list_at, list_of, sizes_at, sizes_of}
-use Rattle.std.proofs.Common.{inl, inr, Err, IsTrue, List, None, Ok, Option, Some, [], ap, arith, drop, length, length-append, map, refl, subst, suc, sym, take, zero, ◌+◌, ◌++◌, ◌-◌, ◌<◌, ◌≤◌, ◌↔◌, ◌∙◌, ◌∷◌, ◌≡◌, ◌≢◌, ℕ}
+use Rattle.std.proofs.Common.{inl, inr, Err, IsTrue, List, None, Ok, Option, Some, [], ap, arith, drop, length, length-append, map, refl, subst, suc, sym, take, zero, ◌+◌, ◌++◌, ◌-◌, ◌<◌, ◌≤◌, ◌↔◌, ◌∙◌, ◌∷◌, ◌≡◌, ◌≢◌, ℕ, Bool, false, not}
+use Rattle.std.specs.Option.{is_some}
 use Rattle.std.proofs.lemmas.List.Sums.{sum_by-cons}
-use Rattle.std.proofs.lemmas.Bool.{cases_lt}
+use Rattle.std.proofs.lemmas.Bool.{cases_lt, false≢true}
 use Rattle.std.proofs.lemmas.List.{drop_all, take_all}
 
 module _ {K X : Type 0} where
@@ -119,7 +120,7 @@ module _ {K X : Type 0} {most : ℕ} (f : Forest K X) (union : IsUnion most f) w
   whole-levels (Some n) live = (λ bad. absurd (cc), λ none. absurd (omega (arith, none, ap length (sizes-root f n (live-root f n live)))))
 
   -- at the end of a list nothing is to be split
-  end-sizes : (h : Option ℕ) → IsLive f h → (severed (length (list_of f h)) (sizes_of f h) ≡ 0) × (detached most (length (list_of f h)) (sizes_of f h) ≡ [])
+  pub end-sizes : (h : Option ℕ) → IsLive f h → (severed (length (list_of f h)) (sizes_of f h) ≡ 0) × (detached most (length (list_of f h)) (sizes_of f h) ≡ [])
   end-sizes None live = (refl, refl)
   end-sizes (Some n) live = let root = live-root f n live in let r = rooted most f n union root in let one = some_leaf union.1.capacity in
       rw (list-root f n root, sizes-root f n root) (
@@ -299,6 +300,10 @@ module _ {K X : Type 0} {most : ℕ} {f g f' : Forest K X} {n p need front behin
     refused_handle = tt;
   }
 
+-- a path of which a leaf is told is not at the end
+pub not-end : {A : Type 0} {end : Type 0} {leaf : Option A} {none : Bool} → (end → leaf ≡ None) → is_some leaf ≡ not none → none ≡ false → end → ⊥
+not-end ended told said at = false≢true (sym (ap is_some (ended at)) ∙ told ∙ ap not said)
+
 -- a path that stands on an entry
 module _ {K X : Type 0} {most : ℕ} {f : Forest K X} {h : Option ℕ} {path : Path K X most} (union : IsUnion most f) (live : IsLive f h) (at : AtSpot f h path) (on : IsAtEnd path → ⊥) where
   low-place : at.place < length (list_of f h)
@@ -328,7 +333,7 @@ module _ {K X : Type 0} {most : ℕ} {f : Forest K X} {h : Option ℕ} {path : P
         (omega (arith, need-here, few f union entry, ap length shape-here)) (subst (λ z. (refused ≡ Full) ↔ IsTooMany z f) (sym need-here) full) (λ e. subst (λ z. NeedsGrowth z f) (sym need-here) (memory e))
         (λ enough. scarce (omega (arith, need-here, enough)))
 
-    first-some : need ≢ 0 → 0 < at.place
+    pub first-some : need ≢ 0 → 0 < at.place
     first-some some = elim (cases_lt 0 at.place) [ inl more ↦ more | inr none ↦ absurd (some ((first f union entry).1 (omega arith))) ]
 
     -- they are free

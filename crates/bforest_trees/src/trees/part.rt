@@ -1,6 +1,6 @@
 //! Removing the entries within bounds, and moving those behind a key to a tree of their own.
-ghost use Rattle.bforest_trees.specs.Bounds.{is_past_end, start_place};
-ghost use Rattle.bforest_trees.specs.Calls.{CutsFrom, RemovesBetween, SplitsAt, SplitsOff};
+ghost use Rattle.bforest_trees.specs.Bounds.{is_past_end, start_behind, start_place};
+ghost use Rattle.bforest_trees.specs.Calls.{CutsFrom, CutsTo, RemovesBetween, SplitsAt, SplitsOff};
 ghost use Rattle.bforest_trees.specs.Forest.{IsLive, list_of};
 ghost use Rattle.bforest_trees.specs.Place.{AtSpot, IsSpot};
 ghost use Rattle.bforest_core.specs.Trees.{IsUnion};
@@ -12,8 +12,8 @@ use bforest_core::{Comparator, NodePool, OutOfMemory, PackedNode, Path};
 use std::ops::Bound;
 
 impl<K: Copy, V: Copy, const N: usize> Trees<K, V, N> {
-    /// Removes the entries whose keys are within bounds, and returns whether there was one. At most one search, and then one comparison for
-    /// each of them and one more. Without an end bound no more comparison, and whole subtrees go.
+    /// Removes the entries whose keys are within bounds, and returns whether there was one. Where a bound is lacking, at most one search,
+    /// and whole subtrees go. Else one search, and then one comparison for each of them and one more.
     pub fn remove_range<C: Comparator<K>>(
         &mut self,
         handle: &mut PackedNode,
@@ -26,10 +26,15 @@ impl<K: Copy, V: Copy, const N: usize> Trees<K, V, N> {
             self.new handle.new }
     {
         let mut path = Path::default();
-        self.goto_start(*handle, &mut path, bounds.0, comp);
         if let Bound::Unbounded = bounds.1 {
+            self.goto_start(*handle, &mut path, bounds.0, comp);
             return self.cut_at(handle, &mut path);
         }
+        if let Bound::Unbounded = bounds.0 {
+            self.goto_start(*handle, &mut path, behind(bounds.1), comp);
+            return cut_front_at(&mut self.pool, handle, &mut path);
+        }
+        self.goto_start(*handle, &mut path, bounds.0, comp);
         let mut changed = false;
         while self.is_within(*handle, &path, bounds.1, comp) {
             self.remove_at(handle, &mut path);
@@ -149,6 +154,42 @@ fn part_at<K: Copy, V: Copy, const N: usize>(
     pool.reserve(need)?;
     let (front, behind) = path.detach(pool);
     Ok((PackedNode::some(front), PackedNode::some(behind)))
+}
+
+// Removes the entries in front of a path, and returns whether there was one.
+fn cut_front_at<K: Copy, V: Copy, const N: usize>(
+    pool: &mut NodePool<K, V, N>,
+    handle: &mut PackedNode,
+    path: &mut Path<K, V, N>,
+) -> bool
+    requires union { IsUnion N pool.old }
+    requires live { IsLive pool.old handle.old }
+    requires stands { AtSpot pool.old handle.old path.old }
+    ensures union { IsUnion N pool.new }
+    ensures cuts { (at : AtSpot pool.old handle.old path.old) → CutsTo N pool.old handle.old at.place result
+        pool.new handle.new }
+{
+    if path.leaf_pos().is_none() {
+        let Some(root) = handle.take() else { return false };
+        pool.free_tree(root);
+        return true;
+    }
+    if path.nodes_to_detach() == 0 {
+        return false;
+    }
+    *handle = PackedNode::some(path.cut_front(pool));
+    true
+}
+
+// The start bound of what an end bound leaves out.
+fn behind<K>(end: Bound<K>) -> Bound<K>
+    ensures { result ≡ start_behind end }
+{
+    match end {
+        Bound::Included(last) => Bound::Excluded(last),
+        Bound::Excluded(first) => Bound::Included(first),
+        Bound::Unbounded => Bound::Unbounded,
+    }
 }
 
 // Whether a key is outside an end bound.

@@ -1,13 +1,11 @@
-use Rattle.bforest_trees.proofs.ranges.Parting.{parting-at, parting-cut, parting-end, parting-first, parting-live, parting-next, parting-on, parting-shorter}
+use Rattle.bforest_trees.proofs.ranges.Parting.{parting-at, parting-cut, parting-end, parting-first, parting-front, parting-live, parting-next, parting-on, parting-shorter}
 use Rattle.bforest_trees.proofs.Spots.{spot-end}
 use Rattle.bforest_trees.proofs.trees.Trees.remove_range.Goals as goal
-use Rattle.std.proofs.Common.{rules}
-
-pub loop-changed-init : goal.loop-changed-init
-loop-changed-init g c = parting-first c.requires.live c.goto_start.ensures.spot
-
-pub goto_start-requires : goal.goto_start-requires
-goto_start-requires g c = (search rules, (search rules, (c.requires.live, (c.requires.increasing, spot-end c.args.self.now c.default-path.result c.args.handle.now c.requires.live c.default-path.ensures))))
+use Rattle.bforest_trees.specs.Bounds.{start_place}
+use Rattle.bforest_trees.specs.Calls.{CutsTo}
+use Rattle.bforest_trees.specs.Forest.{Forest, list_of}
+use Rattle.bforest_trees.specs.Place.{IsSpot}
+use Rattle.std.proofs.Common.{rules, subst, sym}
 
 pub is_within-requires : goal.is_within-requires
 is_within-requires g c = (search rules, (search rules, (parting-live c.loop-changed.invariant, parting-at c.loop-changed.invariant)))
@@ -23,8 +21,29 @@ loop-changed-preserved g c =
     let e = c.remove_at.ensures in
     parting-next c.loop-changed.invariant (c.is_within.ensures.yes c.loop-changed-test.true) e.removed e.sizes e.same_levels e.account e.spot
 
+pub goto_start-requires : goal.goto_start-requires
+goto_start-requires g c = (search rules, (search rules, (c.requires.live, (c.requires.increasing, spot-end c.args.self.now c.default-path.result c.args.handle.now c.requires.live c.default-path.ensures))))
+
+pub goto_start-requires-in-Unbounded-0₀ : goal.goto_start-requires-in-Unbounded-0₀
+goto_start-requires-in-Unbounded-0₀ g c = (search rules, (search rules, (c.requires.live, (c.requires.increasing, spot-end c.args.self.now c.default-path.result c.args.handle.now c.requires.live c.default-path.ensures))))
+
+pub goto_start-requires-2 : goal.goto_start-requires-2
+goto_start-requires-2 g c = (search rules, (search rules, (c.requires.live, (c.requires.increasing, spot-end c.args.self.now c.default-path.result c.args.handle.now c.requires.live c.default-path.ensures))))
+
+pub loop-changed-init : goal.loop-changed-init
+loop-changed-init g c = parting-first c.requires.live c.goto_start-2.ensures.spot
+
 pub returns : goal.returns
-returns g c = parting-end c.loop-changed.invariant c.in_default.not-Unbounded (g.met.C.Comparator.total c.args.comp.now) c.requires.increasing (c.is_within.ensures.no c.loop-changed-test.false)
+returns g c = parting-end c.loop-changed.invariant c.in_default-0₀.not-Unbounded c.in_default.not-Unbounded (g.met.C.Comparator.total c.args.comp.now) c.requires.increasing (c.is_within.ensures.no c.loop-changed-test.false)
 
 pub returns-in-Unbounded : goal.returns-in-Unbounded
 returns-in-Unbounded g c = parting-cut c.in-Unbounded.is (g.met.C.Comparator.total c.args.comp.now) c.requires.increasing (c.cut_at.ensures (record { place = _; spot = c.goto_start.ensures.spot }))
+
+pub returns-in-Unbounded-0₀ : goal.returns-in-Unbounded-0₀
+returns-in-Unbounded-0₀ g c =
+    let h = c.args.handle.now in
+    let from = λ (f : Forest g.row.K.Denot g.row.V.Denot). start_place (g.C.Comparator.order c.args.comp.now) c.behind.result (list_of f h) in
+    let spot = subst (λ f. IsSpot f h c.goto_start-in-Unbounded-0₀.new.path (from f)) (sym c.self.view_is) c.goto_start-in-Unbounded-0₀.ensures.spot in
+    let cuts = subst (λ f. CutsTo g.row.N f h (from f) c.cut_front_at.result c.cut_front_at.new.pool c.cut_front_at.new.handle) c.self.view_is (c.cut_front_at.ensures.cuts (record { place = _; spot = spot })) in
+    parting-front c.in-Unbounded-0₀.is c.in_default.not-Unbounded (g.met.C.Comparator.total c.args.comp.now) c.requires.increasing
+    (subst (λ b. CutsTo g.row.N c.args.self.now h (start_place (g.C.Comparator.order c.args.comp.now) b (list_of c.args.self.now h)) c.cut_front_at.result c.cut_front_at.new.pool c.cut_front_at.new.handle) c.behind.ensures cuts)

@@ -1,9 +1,9 @@
 use Rattle.bforest_trees.proofs.After.{handed-on}
-use Rattle.bforest_trees.proofs.ranges.Splitting.{entry, entry-asks, entry-parted, entry-refused, entry-union, entry-whole, splits-end}
+use Rattle.bforest_trees.proofs.ranges.Splitting.{entry, entry-asks, entry-parted, entry-refused, entry-union, entry-whole, not-end, splits-end}
 use Rattle.bforest_trees.proofs.Spots.{spot-last}
 use Rattle.bforest_trees.proofs.trees.part.part_at.Goals as goal
 use Rattle.bforest_trees.specs.Calls.{SplitsAt}
-use Rattle.std.proofs.Common.{Err, Option, Bool, false, rules, arith, ap, subst, sym, ◌∙◌, ◌≡◌, inl, inr, not, None}
+use Rattle.std.proofs.Common.{Err, rules, arith, ap, subst, sym, ◌∙◌, ◌≡◌, inl, inr}
 use Rattle.std.proofs.lemmas.Bool.{cases_lt, false≢true}
 use Rattle.std.specs.Option.{is_some}
 
@@ -12,10 +12,6 @@ returns-then-is_none-clause-ok g c = λ at. elim (cases_lt 0 c.args.path.now.siz
   | inl some ↦ absurd (false≢true (sym c.if-is_none.ensures ∙ ap is_some (c.leaf_pos.ensures.place (λ end. omega (arith, end, some)))))
   | inr none ↦ rw c.none.ensures.none (splits-end c.args.pool.now c.requires.union c.args.handle at.place c.requires.live (spot-last c.args.pool.now c.args.path.now c.args.handle at.place at.spot (omega arith)))
 ]
-
--- a path of which a leaf is told is not at the end
-not-end : {A : Type 0} {end : Type 0} {leaf : Option A} {none : Bool} → (end → leaf ≡ None) → is_some leaf ≡ not none → none ≡ false → end → ⊥
-not-end ended told said at = false≢true (sym (ap is_some (ended at)) ∙ told ∙ ap not said)
 
 pub nodes_to_detach-need-requires : goal.nodes_to_detach-need-requires
 nodes_to_detach-need-requires g c = (search rules, (_, c.requires.union, entry c.requires.union c.requires.live c.requires.stands (not-end c.leaf_pos.ensures.end c.is_none.ensures c.if-is_none.false)))
