@@ -6,7 +6,7 @@ use Rattle.bforest_core.proofs.union.Filled.{filled-fewer, filled-half, filled-m
 use Rattle.bforest_core.specs.Levels.{half_of}
 use Rattle.bforest_core.specs.Sizes.{back, backs, detached, filled, filled_above, least_size, lessened, trimmed}
 use Rattle.bforest.specs.Forest.{IsFitAbove, IsFitFor, IsFitLevel}
-use Rattle.std.proofs.Common.{List, [], ap, arith, inl, inr, length, refl, subst, suc, sym, zero, ◌*◌, ◌+◌, ◌-◌, ◌/◌, ◌<◌, ◌∙◌, ◌∷◌, ◌≡◌, ◌≤◌, ℕ}
+use Rattle.std.proofs.Common.{List, [], ap, arith, inl, inr, length, refl, subst, suc, sym, zero, ◌*◌, ◌+◌, ◌-◌, ◌/◌, ◌<◌, ◌∷◌, ◌≡◌, ◌≤◌, ℕ}
 use Rattle.std.proofs.lemmas.Bool.{cases_lt}
 
 -- a level that is filled holds what it held
