@@ -170,7 +170,9 @@ fn cut_front_at<K: Copy, V: Copy, const N: usize>(
         pool.new handle.new }
 {
     if path.leaf_pos().is_none() {
-        let Some(root) = handle.take() else { return false };
+        let Some(root) = handle.take() else {
+            return false
+        };
         pool.free_tree(root);
         return true;
     }
