@@ -93,8 +93,11 @@ module _ {K X : Type 0} where
     pub fit : OnOk result (IsFitFor most (length (list_of f' h')) (sizes_of f' h'))
     pub tail_fit : IfOk result (λ t. IsFitFor most (length (list_of f' t)) (sizes_of f' t))
     pub leaves : IfOk result (λ t. h ≢ h' → h ≢ t → list_of f' h ≡ [])
+    pub leaves_sizes : IfOk result (λ t. h ≢ h' → h ≢ t → sizes_of f' h ≡ [])
     pub fresh : h' ≢ h → list_of f h' ≡ []
+    pub fresh_sizes : h' ≢ h → sizes_of f h' ≡ []
     pub tail_fresh : IfOk result (λ t. t ≢ h → list_of f t ≡ [])
+    pub tail_fresh_sizes : IfOk result (λ t. t ≢ h → sizes_of f t ≡ [])
     pub others : IfOk result (λ t. (n : ℕ) → Some n ≢ h → Some n ≢ h' → Some n ≢ t → list_at f' n ≡ list_at f n)
     pub others_sizes : IfOk result (λ t. (n : ℕ) → Some n ≢ h → Some n ≢ h' → Some n ≢ t → sizes_at f' n ≡ sizes_at f n)
     pub limit : limit_of f' ≡ limit_of f

@@ -13,7 +13,7 @@ use Rattle.bforest_core.specs.Table.{fresh_nodes, front_of, reserved}
 use Rattle.bforest_core.specs.Trees.{IsUnion, is_root, tree_of}
 use Rattle.bforest_core.specs.declared.pool.OutOfMemory.TheVariants.{Full, Memory}
 use Rattle.bforest_core.specs.declared.pool.OutOfMemory.{OutOfMemory}
-use Rattle.bforest_trees.proofs.Changed.{keeps, list-none, list-root, live-root, root-live, same_list, same_sizes, sizes-root}
+use Rattle.bforest_trees.proofs.Changed.{keeps, list-none, list-root, live-root, root-live, same_list, same_sizes, sizes-none, sizes-root}
 use Rattle.bforest_trees.proofs.Cutting.{truncation-some}
 use Rattle.bforest_trees.proofs.Fits.{fit-at}
 use Rattle.bforest_trees.proofs.Spots.{spot-in, spot-on}
@@ -142,8 +142,11 @@ module _ {K X : Type 0} {most : ℕ} (f : Forest K X) (union : IsUnion most f) w
     tail_fit = refl;
     apart = λ z. refl;
     leaves = λ ne ne'. absurd (ne refl);
+    leaves_sizes = λ ne ne'. absurd (ne refl);
     fresh = λ ne. absurd (ne refl);
+    fresh_sizes = λ ne. absurd (ne refl);
     tail_fresh = λ ne. refl;
+    tail_fresh_sizes = λ ne. refl;
     others = λ n a b c. refl;
     others_sizes = λ n a b c. refl;
     limit = refl;
@@ -175,8 +178,11 @@ module _ {K X : Type 0} {most : ℕ} (f : Forest K X) (union : IsUnion most f) w
     tail_fit = fits h;
     apart = λ z. z;
     leaves = λ ne ne'. absurd (ne' refl);
+    leaves_sizes = λ ne ne'. absurd (ne' refl);
     fresh = λ ne. refl;
+    fresh_sizes = λ ne. refl;
     tail_fresh = λ ne. absurd (ne refl);
+    tail_fresh_sizes = λ ne. absurd (ne refl);
     others = λ n a b c. refl;
     others_sizes = λ n a b c. refl;
     limit = refl;
@@ -209,8 +215,11 @@ module _ {K X : Type 0} {most : ℕ} (f : Forest K X) (union : IsUnion most f) w
     tail_fit = tt;
     apart = tt;
     leaves = tt;
+    leaves_sizes = tt;
     fresh = λ ne. absurd (ne refl);
+    fresh_sizes = λ ne. absurd (ne refl);
     tail_fresh = tt;
+    tail_fresh_sizes = tt;
     others = tt;
     others_sizes = tt;
     limit = refl;
@@ -265,8 +274,11 @@ module _ {K X : Type 0} {most : ℕ} {f g f' : Forest K X} {n p need front behin
     tail_fit = fit-at most f' d.union behind;
     apart = λ e. absurd (d.apart (cc));
     leaves = λ ne ne'. list-none f' n (d.old_gone (λ e. ne (ap Some e)));
+    leaves_sizes = λ ne ne'. sizes-none f' n (d.old_gone (λ e. ne (ap Some e)));
     fresh = λ ne. sym (stays.lists front) ∙ list-none g front (d.front_came (λ e. ne (ap Some (sym e))));
+    fresh_sizes = λ ne. sym (stays.sizes front) ∙ sizes-none g front (d.front_came (λ e. ne (ap Some (sym e))));
     tail_fresh = λ ne. sym (stays.lists behind) ∙ list-none g behind d.behind_came;
+    tail_fresh_sizes = λ ne. sym (stays.sizes behind) ∙ sizes-none g behind d.behind_came;
     others = λ m a b c. same_list g f' m (d.others m (λ e. a (ap Some e)) (λ e. b (ap Some e)) (λ e. c (ap Some e))) ∙ stays.lists m;
     others_sizes = λ m a b c. same_sizes g f' m (d.others m (λ e. a (ap Some e)) (λ e. b (ap Some e)) (λ e. c (ap Some e))) ∙ stays.sizes m;
     limit = d.limit_is ∙ ap (λ z. z.limit) is;
