@@ -311,7 +311,7 @@ MANY = ["new", "with_node_limit", "len", "slots", "free_slots", "node_limit"]
 SET_TELLING = [*(it for it in TELLING if it not in ("get", "increases")), "is_subset", "is_disjoint"]
 COUNTING = ["nodes_for", "fewest_nodes_for"]
 MUST_USE = {
-    "bforest/map.rt": ["new", "clone", "cursor", "cursor_mut", "len", *COUNTING, *(it for it in TELLING if it != "contains")],
+    "bforest/map.rt": ["new", "clone", "cursor", "cursor_mut", "len", "is_subset", "is_disjoint", *COUNTING, *(it for it in TELLING if it != "contains")],
     "bforest/set.rt": ["new", "clone", "cursor", "len", "is_subset", "is_disjoint", *COUNTING, *(it for it in TELLING if it != "get")],
     "bforest/forest.rt": ["slots", "nodes_in_use", "free_slots", "node_limit"],
     "bforest/map_forest.rt": ["new", "with_node_limit", "holds"],

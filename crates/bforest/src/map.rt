@@ -7,6 +7,7 @@ ghost use Rattle.bforest.specs.Forest.{Forest, IsFitFor, IsLive, IsSearchable, f
 ghost use Rattle.bforest.specs.Memory.{MapsFitInMemory};
 ghost use Rattle.bforest.specs.Retain.{Answers, MayAsk, MayAskEach};
 ghost use Rattle.bforest.specs.Room.{IsEnoughFor, IsMetBy, node_count};
+ghost use Rattle.bforest.specs.Union.{are_among, are_apart};
 ghost use Rattle.std.specs.Option.{option_map_or};
 ghost use Rattle.std.specs.declared.cmp.Ordering.{Ordering};
 ghost use Rattle.std.specs.Ordering.{is_lt};
@@ -355,6 +356,42 @@ impl<K: Copy, V: Copy> Map<K, V> {
             root: tree,
             mark: PhantomData,
         })
+    }
+
+    /// Returns whether each key of this map has an equal one in `other`. The values do not matter. An empty map is a subset of each map.
+    ///
+    /// Reads both maps side by side, up to the first key that is not in `other`: at most one comparison for each key of this map and of
+    /// `other`, and none where one of them is empty. No search.
+    pub fn is_subset<C: Comparator<K>>(
+        &self,
+        other: &Map<K, V>,
+        forest: &MapForest<K, V>,
+        comp: &C,
+    ) -> bool
+        requires searchable { IsSearchable (C.order comp.now) forest.now self.now }
+        requires other { IsSearchable (C.order comp.now) forest.now other.now }
+        ensures among { result ≡ are_among (C.order comp.now) (list_of forest.now self.now)
+            (list_of forest.now other.now) }
+    {
+        forest.trees.are_among(self.root, other.root, comp)
+    }
+
+    /// Returns whether no key of this map has an equal one in `other`. An empty map is disjoint from each map.
+    ///
+    /// Reads both maps side by side, up to the first key that both have: at most one comparison for each key of this map and of `other`,
+    /// and none where one of them is empty. No search.
+    pub fn is_disjoint<C: Comparator<K>>(
+        &self,
+        other: &Map<K, V>,
+        forest: &MapForest<K, V>,
+        comp: &C,
+    ) -> bool
+        requires searchable { IsSearchable (C.order comp.now) forest.now self.now }
+        requires other { IsSearchable (C.order comp.now) forest.now other.now }
+        ensures apart { result ≡ are_apart (C.order comp.now) (list_of forest.now self.now)
+            (list_of forest.now other.now) }
+    {
+        forest.trees.are_apart(self.root, other.root, comp)
     }
 
     /// Puts each entry of `other` whose key is absent into this map, and returns whether there was one. A present key keeps its own value.

@@ -1,16 +1,16 @@
 -- A call on a forest that adds up leaves one that does.
 use Rattle.bforest.proofs.Balances.{between-balance, clears-balance, compacts-balance, filters-balance, inserts-balance, keeps-balance, length-written, removes-at-balance, removes-balance, sizes-stay, unites-balance, updates-balance}
 use Rattle.bforest.specs.Bounds.{entries_outside}
-use Rattle.bforest.specs.Calls.{Clears, Clones, Compacts, Filters, GetsOrInserts, Inserts, KeepsFrom, Loads, Pops, Removes, RemovesAt, RemovesBetween, Shifts, Unites, Updates, UpdatesOrInserts}
+use Rattle.bforest.specs.Calls.{Clears, Clones, Compacts, Filters, GetsOrInserts, Inserts, KeepsFrom, Loads, Pops, Removes, RemovesAt, RemovesBetween, Shifts, SplitsAt, Unites, Updates, UpdatesOrInserts}
 use Rattle.bforest.specs.Forest.{Becomes, Forest, IsFitFor, IsTooMany, Takes, emptied, fewest, free_of, list_of, nodes_at, nodes_of, room_of, sizes_of, slots_of}
 use Rattle.bforest.specs.Room.{Balances}
 use Rattle.bforest.specs.Union.{kept_from, united}
 use Rattle.bforest_calls.proofs.Packing.{loaded-fits}
 use Rattle.bforest_calls.proofs.Updating.{got-or-inserted, shifted-length, updated-or-inserted}
-use Rattle.bforest_calls.proofs.Sums.{upto, upto-more, upto-one, upto-two}
+use Rattle.bforest_calls.proofs.Sums.{at, is-number, upto-more, upto-moved, upto-parted}
 use Rattle.bforest_calls.specs.State.{AddsUp, WritesAt}
 use Rattle.bforest_core.proofs.union.Forests.{used_within}
-use Rattle.bforest_core.specs.Change.{node_count}
+use Rattle.bforest_core.specs.Change.{node_count, severed}
 use Rattle.bforest_core.specs.Levels.{flat, sizes_of as tree_sizes}
 use Rattle.bforest_core.specs.Trees.{is_root, tree_of}
 use Rattle.bforest_core.specs.declared.pool.OutOfMemory.{OutOfMemory}
@@ -23,11 +23,6 @@ use Rattle.std.proofs.lemmas.Bool.Decides.{eqb_tells, leb_tells}
 use Rattle.std.specs.Fn.{Once}
 use Rattle.std.specs.declared.cmp.Ordering.{Ordering}
 use Rattle.std.specs.declared.ops.Bound.{Bound}
-
--- whether a handle has a number
-is-number : (n : ℕ) (h : Option ℕ) → (Some n ≡ h) ⊎ (Some n ≢ h)
-is-number n None = inr (λ e. absurd (cc))
-is-number n (Some m) = elim (eqb_tells n m) [ inl w ↦ inl (ap Some w.1) | inr w ↦ inr (λ e. w.1 (cc)) ]
 
 module _ {K V : Type 0} where
   -- the sizes of a handle fit its list
@@ -50,27 +45,10 @@ module _ {K V : Type 0} where
       ]
     ]
 
-  -- the nodes of all trees, where one tree changed
-  all-nodes : (f f' : Forest K V) (h h' : Option ℕ) (bound : ℕ) → ((n : ℕ) → bound ≤ n → nodes_at f n ≡ 0) → ((n : ℕ) → bound ≤ n → nodes_at f' n ≡ 0)
-      → (h' ≢ h → sizes_of f' h ≡ []) → (h' ≢ h → sizes_of f h' ≡ []) → ((n : ℕ) → Some n ≢ h → Some n ≢ h' → nodes_at f' n ≡ nodes_at f n)
-      → upto (nodes_at f') bound + node_count (sizes_of f h) ≡ upto (nodes_at f) bound + node_count (sizes_of f' h')
-  all-nodes f f' None None bound none none' leaves fresh same =
-      omega (arith, upto-one (nodes_at f) (nodes_at f') bound none none' 0 (λ n ne. same n (λ e. absurd (cc)) (λ e. absurd (cc))), same 0 (λ e. absurd (cc)) (λ e. absurd (cc)))
-  all-nodes f f' None (Some b) bound none none' leaves fresh same =
-      let zero-at = ap node_count (fresh (λ e. absurd (cc))) in
-      omega (arith, upto-one (nodes_at f) (nodes_at f') bound none none' b (λ n ne. same n (λ e. absurd (cc)) (λ e. ne (cc))), zero-at)
-  all-nodes f f' (Some a) None bound none none' leaves fresh same =
-      let zero-at = ap node_count (leaves (λ e. absurd (cc))) in
-      omega (arith, upto-one (nodes_at f) (nodes_at f') bound none none' a (λ n ne. same n (λ e. ne (cc)) (λ e. absurd (cc))), zero-at)
-  all-nodes f f' (Some a) (Some b) bound none none' leaves fresh same = elim (eqb_tells a b) [
-    | inl w ↦
-        let one = upto-one (nodes_at f) (nodes_at f') bound none none' a (λ n ne. same n (λ e. ne (cc)) (λ e. ne (let is : n ≡ b = cc in is ∙ sym w.1))) in
-        omega (arith, one, ap (nodes_at f') w.1)
-    | inr w ↦
-        let other : Some b ≢ Some a = λ e. w.1 (cc) in
-        let two = upto-two (nodes_at f) (nodes_at f') bound none none' a b w.1 (λ n ne ne'. same n (λ e. ne (cc)) (λ e. ne' (cc))) in
-        omega (arith, two, ap node_count (leaves other), ap node_count (fresh other))
-  ]
+  -- the nodes of a number's tree are those of the handle with this number
+  node-at : (f : Forest K V) (h : Option ℕ) → at (nodes_at f) h ≡ node_count (sizes_of f h)
+  node-at f None = refl
+  node-at f (Some n) = refl
 
 module _ {K V : Type 0} where
   -- no number from the number of slots on has a tree
@@ -99,10 +77,10 @@ module _ {K V : Type 0} where
   changed : (most : ℕ) (f f' : Forest K V) (h h' : Option ℕ) (es : List (K × V)) → AddsUp most f → Becomes f h f' h' es → Balances most f h f' h' → AddsUp most f'
   changed most f f' h h' es a b made =
       let past : (n : ℕ) → slots_of f' ≤ n → nodes_at f n ≡ 0 = λ n beyond. nodes-past f n (omega (arith, beyond, made.slots)) in
-      let same-nodes : (n : ℕ) → Some n ≢ h → Some n ≢ h' → nodes_at f' n ≡ nodes_at f n = λ n not-old not-new. ap node_count (b.others_sizes n not-old not-new) in
-      let all = all-nodes f f' h h' (slots_of f') past (λ n beyond. nodes-past f' n beyond) b.leaves_sizes b.fresh_sizes same-nodes in
+      let all = upto-moved (nodes_at f) (nodes_at f') h h' (slots_of f') past (λ n beyond. nodes-past f' n beyond) (λ ne. node-at f' h ∙ ap node_count (b.leaves_sizes ne)) (λ ne. node-at f h' ∙ ap node_count (b.fresh_sizes ne))
+      (λ n not-old not-new. ap node_count (b.others_sizes n not-old not-new)) in
       let same = upto-more (nodes_at f) (slots_of f) (slots_of f') (λ n beyond. nodes-past f n beyond) made.slots in
-      record { slots = omega (arith, all, same, made.nodes, a.slots); within = made.within a.within; fit = fit-at-new most f f' h h' es a b made }
+      record { slots = omega (arith, all, same, made.nodes, a.slots, node-at f h, node-at f' h'); within = made.within a.within; fit = fit-at-new most f f' h h' es a b made }
 
   pub still : (most : ℕ) (f f' : Forest K V) → f' ≡ f → AddsUp most f → AddsUp most f'
   still most f f' is a = subst (λ g. AddsUp most g) (sym is) a
@@ -144,6 +122,36 @@ module _ {K V : Type 0} where
     unites-add (Err e) u = still most f f' u.refused_forest a
     unites-add (Ok false) u = still most f f' (u.same_forest refl) a
     unites-add {cmp} {other} (Ok true) u = changed most f f' h h' (united cmp (list_of f h) (list_of f other)) a u.united (unites-balance most odd f f' h h' (fit-of most f a h) u)
+
+    -- a tree was parted in two
+    pub splits-add : {p : ℕ} (result : Result (Option ℕ) OutOfMemory) → SplitsAt most f h p result f' h' → AddsUp most f'
+    splits-add (Err e) s = still most f f' s.refused_forest a
+    splits-add {p} (Ok t) s =
+        let need = severed p (sizes_of f h) in
+        let past : (n : ℕ) → slots_of f' ≤ n → nodes_at f n ≡ 0 = λ n beyond. nodes-past f n (omega (arith, beyond, s.slots)) in
+        let all = upto-parted (nodes_at f) (nodes_at f') h h' t (slots_of f') past (λ n beyond. nodes-past f' n beyond) s.apart (λ ne ne'. node-at f' h ∙ ap node_count (s.leaves_sizes ne ne'))
+        (λ ne. node-at f h' ∙ ap node_count (s.fresh_sizes ne)) (λ ne. node-at f t ∙ ap node_count (s.tail_fresh_sizes ne)) (λ n ne ne' ne2. ap node_count (s.others_sizes n ne ne' ne2)) in
+        let same = upto-more (nodes_at f) (slots_of f) (slots_of f') (λ n beyond. nodes-past f n beyond) (omega (arith, s.slots)) in
+        let room : need ≤ room_of f = elim (leb_tells need (room_of f)) [ inl w ↦ w.1 | inr w ↦ absurd (let bad = s.full.1 (omega (arith, w.1)) in cc) ] in
+        record {
+          slots = omega (arith, all, same, s.slots, s.free, a.slots, node-at f h, node-at f' h', node-at f' t);
+          within = omega (arith, s.slots, s.limit, room, a.within);
+          fit = fit-parted s;
+        }
+      where
+        fit-parted : SplitsAt most f h p (Ok t) f' h' → (n : ℕ) → IsFitFor most (length (list_at f' n)) (sizes_at f' n)
+        fit-parted s n = elim (is-number n h') [
+          | inl e ↦ subst (λ o. IsFitFor most (length (list_of f' o)) (sizes_of f' o)) (sym e) s.fit
+          | inr ne ↦ elim (is-number n t) [
+            | inl e ↦ subst (λ o. IsFitFor most (length (list_of f' o)) (sizes_of f' o)) (sym e) s.tail_fit
+            | inr ne' ↦ elim (is-number n h) [
+              | inl e ↦
+                  let other : h ≢ h' = λ d. ne (e ∙ d) in let other' : h ≢ t = λ d. ne' (e ∙ d) in
+                  subst (λ o. IsFitFor most (length (list_of f' o)) (sizes_of f' o)) (sym e) (rw (s.leaves other other', s.leaves_sizes other other') refl)
+              | inr ne2 ↦ rw (s.others n ne2 ne ne', s.others_sizes n ne2 ne ne') (a.fit n)
+            ]
+          ]
+        ]
 
     pub pops-add : (p : ℕ) (entry : Option (K × V)) → Pops most f h p entry f' h' → AddsUp most f'
     pops-add p entry r = removes-at-add p r.removed

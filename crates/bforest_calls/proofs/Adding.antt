@@ -1,5 +1,5 @@
 -- Each step of a script, and each call of a list, leaves a forest that adds up where it began with one.
-use Rattle.bforest_calls.proofs.Accounts.{between-add, clears-add, clones-add, compacts-add, filters-add, gets-or-inserts-add, inserts-add, keeps-add, loads-add, none-adds, pops-add, removes-add, removes-at-add, shifts-add, still, unites-add, updates-add, updates-or-inserts-add, writes-add}
+use Rattle.bforest_calls.proofs.Accounts.{between-add, clears-add, clones-add, compacts-add, filters-add, gets-or-inserts-add, inserts-add, keeps-add, loads-add, none-adds, pops-add, removes-add, removes-at-add, shifts-add, splits-add, still, unites-add, updates-add, updates-or-inserts-add, writes-add}
 use Rattle.bforest_calls.specs.Machine.{Lacks, Orders, State, Step, held_at, number_at, order_at}
 use Rattle.bforest_calls.specs.State.{Acts, Held, KeepsIf, Script, StillAddsUp}
 use Rattle.bforest_calls.specs.declared.call.Act.TheVariants as act
@@ -102,6 +102,8 @@ module _ {K V : Type 0} (most : ℕ) (odd : most % 2 ≡ 1) where
     | inl w ↦ same-forest old new w.1 a
     | inr w ↦ keeps-add most odd old.forest new.forest (number_at old h) w.3.2.0 a w.3.2.2
   ]
+  step-adds reads orders old (call.IsSubset h other c) given new step a = elim step [ inl w ↦ same-forest old new w.1 a | inr w ↦ same-forest old new w.3.1 a ]
+  step-adds reads orders old (call.IsDisjoint h other c) given new step a = elim step [ inl w ↦ same-forest old new w.1 a | inr w ↦ same-forest old new w.3.1 a ]
   step-adds reads orders old (call.Clear h) given new step a = elim step [
     | inl w ↦ same-forest old new w.1 a
     | inr w ↦ clears-add most odd old.forest new.forest (number_at old h) w.3.1.0 a w.3.1.2
@@ -124,9 +126,12 @@ module _ {K V : Type 0} (most : ℕ) (odd : most % 2 ≡ 1) where
     | inl w ↦ same-forest old new w.1 a
     | inr w ↦ clones-add most odd old.forest new.forest (number_at old from) a w.3.0 w.3.3
   ]
-  step-adds true orders old (call.Load h entries) given new step a = elim step [
+  step-adds reads orders old (call.SplitOff h c k to) given new step a = elim step [
+    | inl w ↦ same-forest old new w.1 a
+    | inr w ↦ splits-add most odd old.forest new.forest (number_at old h) w.3.0 a w.3.1 w.3.4.parts
+  ]
+  step-adds reads orders old (call.Load h entries) given new step a = elim step [
     | inl w ↦ same-forest old new w.1 a
     | inr w ↦ loads-add most odd old.forest new.forest None a entries.items w.3.0 w.3.3
   ]
-  step-adds false orders old (call.Load h entries) given new step a = same-forest old new (lacks-same _ old given new step) a
   step-adds reads orders old call.ForestClear given new step a = still most _ new.forest (ap (λ s. s.forest) step.1) (none-adds most old.forest)

@@ -15,12 +15,16 @@ use Rattle.std.proofs.lemmas.List.{set-get_or}
 
 module _ {K V : Type 0} where
   -- a call with more to test is refused where one test less refuses it
+  pub refuses-too : {there all : Type 0} (live ordered : Type 0) (given : Answer K V) → (all → there) → (there → all) → Refuses there live (Unit {0}) given
+      → Refuses all live ordered given
+  refuses-too live ordered answer.NoIndex first more r = λ w. r (first w)
+  refuses-too live ordered answer.Dead first more r = (more r.0, r.1)
+  refuses-too live ordered answer.Unordered first more r = absurd (r.2 tt)
+  refuses-too live ordered given first more r = absurd r
+
   pub refuses-more : (there more live ordered : Type 0) (given : Answer K V) → more → Refuses there live (Unit {0}) given
       → Refuses (there × more) live ordered given
-  refuses-more there more live ordered answer.NoIndex m r = λ w. r w.0
-  refuses-more there more live ordered answer.Dead m r = ((r.0, m), r.1)
-  refuses-more there more live ordered answer.Unordered m r = absurd (r.2 tt)
-  refuses-more there more live ordered given m r = absurd r
+  refuses-more there more live ordered given m r = refuses-too live ordered given (λ w. w.0) (λ t. (t, m)) r
 
   -- what is made is told otherwise
   then : {there live ordered M N : Type 0} {old new : State K V} (given : Answer K V) → (M → N) → Tests there live ordered old given new M
@@ -124,4 +128,6 @@ module _ {K V : Type 0} (most : ℕ) (reads : Bool) (orders : Orders K) (h o c :
   step-beside (call.Unite a b d) is t = rw (is.0, is.1, is.2) (then given (changes (λ result held after. Unites most (order_at orders c) held.forest held.number (number_at old o) result after.forest after.number) h old new) t)
   step-beside (call.Intersect a b d) is t = rw (is.0, is.1, is.2) (then given (changes (λ changed held after. Intersects most (order_at orders c) held.forest held.number (number_at old o) changed after.forest after.number) h old new) t)
   step-beside (call.Subtract a b d) is t = rw (is.0, is.1, is.2) (then given (changes (λ changed held after. Subtracts most (order_at orders c) held.forest held.number (number_at old o) changed after.forest after.number) h old new) t)
+  step-beside (call.IsSubset a b d) is t = rw (is.0, is.1, is.2) (then given (looks h old new) t)
+  step-beside (call.IsDisjoint a b d) is t = rw (is.0, is.1, is.2) (then given (looks h old new) t)
   step-beside other is t = absurd is

@@ -51,8 +51,11 @@ module _ {K V : Type 0} where
   comparing-alone reads other w get less greater insert got update put shift remove read edit range out = absurd w.2
 
   pub beside-alone : (made : Call K V) → (h : ℕ) × (o : ℕ) × (c : ℕ) × IsBeside h o c made → ((h o c : ℕ) → made ≡ call.Unite h o c → ⊥)
-      → ((h o c : ℕ) → made ≡ call.Intersect h o c → ⊥) → ((h o c : ℕ) → made ≡ call.Subtract h o c → ⊥) → ⊥
-  beside-alone (call.Unite h o c) w unite intersect subtract = unite h o c refl
-  beside-alone (call.Intersect h o c) w unite intersect subtract = intersect h o c refl
-  beside-alone (call.Subtract h o c) w unite intersect subtract = subtract h o c refl
-  beside-alone other w unite intersect subtract = absurd w.3
+      → ((h o c : ℕ) → made ≡ call.Intersect h o c → ⊥) → ((h o c : ℕ) → made ≡ call.Subtract h o c → ⊥)
+      → ((h o c : ℕ) → made ≡ call.IsSubset h o c → ⊥) → ((h o c : ℕ) → made ≡ call.IsDisjoint h o c → ⊥) → ⊥
+  beside-alone (call.Unite h o c) w unite intersect subtract subset disjoint = unite h o c refl
+  beside-alone (call.Intersect h o c) w unite intersect subtract subset disjoint = intersect h o c refl
+  beside-alone (call.Subtract h o c) w unite intersect subtract subset disjoint = subtract h o c refl
+  beside-alone (call.IsSubset h o c) w unite intersect subtract subset disjoint = subset h o c refl
+  beside-alone (call.IsDisjoint h o c) w unite intersect subtract subset disjoint = disjoint h o c refl
+  beside-alone other w unite intersect subtract subset disjoint = absurd w.3

@@ -1,6 +1,8 @@
 -- A call that compares the keys of two lists: on one handle, with another one, where both are there and live, and all tests are passed.
 use Rattle.bforest.specs.Calls.{Intersects, Subtracts, Unites}
-use Rattle.bforest_calls.specs.State.{Held}
+use Rattle.bforest.specs.Forest.{list_of}
+use Rattle.bforest.specs.Union.{are_among, are_apart}
+use Rattle.bforest_calls.specs.State.{Held, entries}
 use Rattle.bforest_calls.specs.declared.call.Answer.TheVariants as answer
 use Rattle.bforest_calls.specs.declared.call.Answer.{Answer}
 use Rattle.bforest_calls.specs.declared.call.Call.TheVariants as call
@@ -15,6 +17,8 @@ module _ {K V : Type 0} where
   IsBeside h o c (call.Unite a b d) = (a ≡ h) × (b ≡ o) × (d ≡ c)
   IsBeside h o c (call.Intersect a b d) = (a ≡ h) × (b ≡ o) × (d ≡ c)
   IsBeside h o c (call.Subtract a b d) = (a ≡ h) × (b ≡ o) × (d ≡ c)
+  IsBeside h o c (call.IsSubset a b d) = (a ≡ h) × (b ≡ o) × (d ≡ c)
+  IsBeside h o c (call.IsDisjoint a b d) = (a ≡ h) × (b ≡ o) × (d ≡ c)
   IsBeside h o c other = ⊥
 
   -- what such a call answers and leaves, beside the handle with the number `theirs`; a leaf has at most `most` entries
@@ -26,4 +30,6 @@ module _ {K V : Type 0} where
         (changed : Bool) × (given ≡ answer.Changed changed) × Intersects most order old.forest old.number theirs changed new.forest new.number
     MakesBeside (call.Subtract h other c) old given new =
         (changed : Bool) × (given ≡ answer.Changed changed) × Subtracts most order old.forest old.number theirs changed new.forest new.number
+    MakesBeside (call.IsSubset h other c) old given new = (given ≡ answer.Holds (are_among order (entries old) (list_of old.forest theirs))) × (new ≡ old)
+    MakesBeside (call.IsDisjoint h other c) old given new = (given ≡ answer.Holds (are_apart order (entries old) (list_of old.forest theirs))) × (new ≡ old)
     MakesBeside other old given new = ⊥

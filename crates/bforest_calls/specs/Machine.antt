@@ -1,7 +1,8 @@
 -- The machine that a list of calls runs: what each call may answer, and what it leaves.
 use Rattle.bforest.specs.Bounds.{entries_between, entry_at_least, entry_at_most}
-use Rattle.bforest.specs.Calls.{Clears, Clones, Compacts, Inserts, Intersects, Loads, Removes, RemovesBetween, Subtracts, Unites}
+use Rattle.bforest.specs.Calls.{Clears, Clones, Compacts, Inserts, Intersects, Loads, Removes, RemovesBetween, SplitsOff, Subtracts, Unites}
 use Rattle.bforest.specs.Forest.{Forest, IsLive, emptied, list_of}
+use Rattle.bforest.specs.Union.{are_among, are_apart}
 use Rattle.bforest_calls.specs.Looks.{all_taken, sights_of}
 use Rattle.bforest_calls.specs.State.{Edits, FirstPopped, GotOrInserted, Held, LastPopped, Retained, Shifted, StillAddsUp, Updated, UpdatedOrInserted, as_had}
 use Rattle.bforest_calls.specs.declared.call.Answer.TheVariants as answer
@@ -13,7 +14,7 @@ use Rattle.bforest_core.specs.declared.pool.OutOfMemory.{OutOfMemory}
 use Rattle.bforest_nodes.specs.Entries.{IsIncreasing, value_for}
 use Rattle.std.proofs.Math.Logic.{◌⊎◌}
 use Rattle.std.specs.Global.{Global}
-use Rattle.std.specs.Prelude.{Bool, Err, List, None, Ok, Option, Result, Some, Vec, [], false, get_or, length, reverse, slice_get, slice_set, true, ◌-◌, ◌<◌, ◌≡◌, ◌∷◌, ℕ}
+use Rattle.std.specs.Prelude.{Bool, Err, List, None, Ok, Option, Result, Some, Vec, [], false, get_or, length, reverse, slice_get, slice_set, true, ◌-◌, ◌<◌, ◌≡◌, ◌≢◌, ◌∷◌, ℕ}
 use Rattle.std.specs.declared.cmp.Ordering.TheVariants.{Equal}
 use Rattle.std.specs.declared.cmp.Ordering.{Ordering}
 
@@ -89,6 +90,11 @@ module _ {K V : Type 0} where
   ComparesBoth orders h o c old =
       Tests ((h < length old.handles) × (o < length old.handles) × (c < length orders)) (Live old h × Live old o) (Ordered orders old h c × Ordered orders old o c) old
 
+  -- the tests of a call on handle h that compares keys by comparator c, and makes a tree for another handle
+  abbrev pub ComparesInto : Orders K → (h c to : ℕ) → State K V → Answer K V → State K V → Type 0 → Type 0
+  ComparesInto orders h c to old =
+      Tests ((h < length old.handles) × (c < length orders) × (to < length old.handles) × (to ≢ h)) (Live old h) (Ordered orders old h c) old
+
   -- a call that is not offered: only its indices are tested
   abbrev pub Lacks : (there : Type 0) → State K V → Answer K V → State K V → Type 0
   Lacks there old answer.NoIndex new = (there → ⊥) × (new ≡ old)
@@ -110,22 +116,29 @@ module _ {K V : Type 0} where
   MakesFor h old given new R =
       (result : Result (Option ℕ) OutOfMemory) × (given ≡ answer.Made (as_made result)) × (new.handles ≡ with_made h result old.handles) × R result new.forest
 
+  -- Handle h keeps a part of its tree, and a tree of the rest was made for handle `to`; or nodes for it were refused, and `to` stays.
+  abbrev pub PartsFor : (h to : ℕ) → State K V → Answer K V → State K V → (Result (Option ℕ) OutOfMemory → Held K V → Type 0) → Type 0
+  PartsFor h to old given new R =
+      (number : Option ℕ) × (result : Result (Option ℕ) OutOfMemory) × (given ≡ answer.Made (as_made result))
+      × (new.handles ≡ with_made to result (slice_set old.handles h number)) × R result (record { forest = new.forest; number = number })
+
   -- a call on handle h that compares keys by comparator c passes all tests
   abbrev pub Passes : Orders K → State K V → ℕ → ℕ → Type 0
   Passes orders state h c = (h < length state.handles) × (c < length orders) × Live state h × Ordered orders state h c
 
-  -- memory is requested for the answer of a call: it is a list, and the call is offered and passes its tests. `reads` is whether
-  -- the calls that only maps have are offered
+  -- Memory is requested: for the answer of a call, which is a list, where the call is offered and passes its tests; and for the keys of a
+  -- set that is loaded. `reads` is whether the calls that only maps have are offered.
   abbrev pub AsksRoom : (reads : Bool) → Orders K → State K V → Call K V → Type 0
   AsksRoom reads orders state (call.Iter h) = (h < length state.handles) × Live state h
   AsksRoom reads orders state (call.IterBack h) = (h < length state.handles) × Live state h
   AsksRoom reads orders state (call.Read h c steps) = (reads ≡ true) × Passes orders state h c
   AsksRoom reads orders state (call.Edit h c steps) = Passes orders state h c
   AsksRoom reads orders state (call.Range h c lo hi ends) = Passes orders state h c
+  AsksRoom reads orders state (call.Load h entries) = (reads ≡ false) × (h < length state.handles)
   AsksRoom reads orders state other = ⊥
 
-  -- a list of calls may end for want of memory after the first n, which left this state: before any call, or at a call for whose
-  -- answer memory is requested in this state
+  -- a list of calls may end for want of memory after the first n, which left this state: before any call, or at a call for which memory
+  -- is requested in this state
   abbrev pub MayStopAt : (reads : Bool) → Orders K → State K V → List (Call K V) → ℕ → Type 0
   MayStopAt reads orders state calls n = 0 < n → (call : Call K V) × (slice_get calls n ≡ Some call) × AsksRoom reads orders state call
 
@@ -180,6 +193,10 @@ module _ {K V : Type 0} where
     Step orders old (call.Subtract h other c) given new = ComparesBoth orders h other c old given new
         ((changed : Bool) × (given ≡ answer.Changed changed)
         × On h old new (λ held after. Subtracts most (order_at orders c) held.forest held.number (number_at old other) changed after.forest after.number))
+    Step orders old (call.IsSubset h other c) given new = ComparesBoth orders h other c old given new
+        ((given ≡ answer.Holds (are_among (order_at orders c) (list_in old h) (list_in old other))) × (new ≡ old))
+    Step orders old (call.IsDisjoint h other c) given new = ComparesBoth orders h other c old given new
+        ((given ≡ answer.Holds (are_apart (order_at orders c) (list_in old h) (list_in old other))) × (new ≡ old))
     Step orders old (call.Clear h) given new = Names h old given new
         ((given ≡ answer.Done) × On h old new (λ held after. Clears held.forest held.number after.forest after.number))
     Step orders old (call.Iter h) given new = Names h old given new
@@ -198,9 +215,10 @@ module _ {K V : Type 0} where
         ((given ≡ answer.Done) × (new ≡ record old { handles = slice_set old.handles to (number_at old from) }))
     Step orders old (call.DeepClone from to) given new = Tests ((from < length old.handles) × (to < length old.handles)) (Live old from) (Unit {0}) old given new
         (MakesFor to old given new (Clones old.forest (number_at old from)))
-    Step orders old (call.Load h entries) given new = Offered reads
-        (Tests (h < length old.handles) (Unit {0}) (Unit {0}) old given new (MakesFor h old given new (Loads most old.forest entries.items)))
-        (Lacks (h < length old.handles) old given new)
+    Step orders old (call.SplitOff h c k to) given new = ComparesInto orders h c to old given new
+        (PartsFor h to old given new (λ result after. SplitsOff most (order_at orders c) old.forest (number_at old h) k result after.forest after.number))
+    Step orders old (call.Load h entries) given new = Tests (h < length old.handles) (Unit {0}) (Unit {0}) old given new
+        (MakesFor h old given new (Loads most old.forest entries.items))
     Step orders old call.ForestClear given new = (given ≡ answer.Done) × (new ≡ record old { forest = emptied old.forest })
 
     -- the steps of a list of calls, each from the state that the call before it left

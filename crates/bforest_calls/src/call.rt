@@ -117,6 +117,18 @@ pub enum Call<K: Copy, V: Copy> {
         other: usize,
         c: usize,
     },
+    /// `is_subset` of the list of handle `other`, which may be `h`. Answers [`Answer::Holds`].
+    IsSubset {
+        h: usize,
+        other: usize,
+        c: usize,
+    },
+    /// `is_disjoint` from the list of handle `other`, which may be `h`. Answers [`Answer::Holds`].
+    IsDisjoint {
+        h: usize,
+        other: usize,
+        c: usize,
+    },
     /// `clear` of the map or set. Answers [`Answer::Done`].
     Clear {
         h: usize,
@@ -168,8 +180,16 @@ pub enum Call<K: Copy, V: Copy> {
         from: usize,
         to: usize,
     },
+    /// `split_off`: handle `to` becomes the handle of the entries whose keys are not less than `k`, where they are moved; the tree that `to`
+    /// named before stays. Answers [`Answer::Made`], and [`Answer::NoIndex`] where `to` is `h`.
+    SplitOff {
+        h: usize,
+        c: usize,
+        k: K,
+        to: usize,
+    },
     /// Handle `h` becomes a `load` of the entries, where one is made; the tree that it named before stays. Whether they increase is not
-    /// tested, as after a shift. Answers [`Answer::Made`], for sets [`Answer::NotOffered`].
+    /// tested, as after a shift. Answers [`Answer::Made`].
     Load {
         h: usize,
         entries: Vec<(K, V)>,
@@ -194,8 +214,10 @@ pub enum Answer<K: Copy, V: Copy> {
     Changed(bool),
     /// Whether an entry of the other list was new, or nodes for it were refused.
     United(Result<bool, OutOfMemory>),
+    /// Whether it is as was asked.
+    Holds(bool),
     Done,
-    /// An index is past the end of its slice.
+    /// An index is past the end of its slice, or both handles of a split are one.
     NoIndex,
     /// The handle is not live.
     Dead,

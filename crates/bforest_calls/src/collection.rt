@@ -1,12 +1,12 @@
 //! What the engine requires of a map or of a set.
-ghost use Rattle.bforest.specs.Calls.{Clears, Clones, Loads};
+ghost use Rattle.bforest.specs.Calls.{Clears, Clones, Loads, SplitsOff};
 ghost use Rattle.bforest.specs.Forest.{Forest, IsLive, emptied, list_of};
 ghost use Rattle.bforest_calls.specs.Beside.{IsBeside, MakesBeside};
 ghost use Rattle.bforest_calls.specs.Compared.{IsComparing, IsListed, Makes};
 ghost use Rattle.bforest_calls.specs.Alone.{IsAlone, MakesAlone};
 ghost use Rattle.bforest_calls.specs.State.{Retained};
 ghost use Rattle.bforest_nodes.specs.Entries.{IsIncreasing};
-ghost use Rattle.std.specs.Prelude.{Bool, Err, IfErr, IfOk, IfSome, IsTrue, List, None, Ok, OnErr, Option, get_or, is_some, length, reverse, slice_set, ◌%◌, ◌<◌, ◌↔◌, ◌≡◌, ℕ};
+ghost use Rattle.std.specs.Prelude.{Bool, Err, IfErr, IfOk, IsTrue, List, None, Ok, OnErr, Option, false, get_or, length, reverse, slice_set, ◌%◌, ◌<◌, ◌↔◌, ◌≡◌, ℕ};
 
 use crate::call::{Answer, Call};
 use bforest::{Comparator, OutOfMemory};
@@ -18,7 +18,7 @@ pub trait Collection<K: Copy, V: Copy>: Drop {
     /// The forest in which the handle's entries lie.
     type Forest;
 
-    /// Whether the calls that only maps have are offered: reading cursors, loads, and the calls that insert or update a value.
+    /// Whether the calls that only maps have are offered: reading cursors, and the calls that insert or update a value.
     const READS: bool;
 
     ghost READS: { Bool };
@@ -138,15 +138,34 @@ pub trait Collection<K: Copy, V: Copy>: Drop {
         ensures refused { IfErr result (λ why.
             Clones (trees forest.old) (number self.now) (Err why) (trees forest.new)) };
 
-    /// A handle to a tree of these entries; `None` where a load is not offered.
-    fn load(entries: &[(K, V)], forest: &mut Self::Forest) -> Option<Result<Self, OutOfMemory>>
+    /// A handle to a tree of the entries whose keys are not less than `key`, which are moved there.
+    fn split_off<C: Comparator<K>>(
+        &mut self,
+        key: K,
+        forest: &mut Self::Forest,
+        comp: &C,
+    ) -> Result<Self, OutOfMemory>
         requires fits { fits }
-        ensures offered { is_some result ≡ READS }
-        ensures made { IfSome result (λ loaded. IfOk loaded (λ tree.
+        requires live { IsLive (trees forest.old) (number self.old) }
+        requires increasing { IsIncreasing (C.order comp.now) (list_of (trees forest.old) (number self.old)) }
+        ensures made { IfOk result (λ tail. SplitsOff most (C.order comp.now) (trees forest.old)
+            (number self.old) key (Ok (number tail)) (trees forest.new) (number self.new)) }
+        ensures refused { IfErr result (λ why. SplitsOff most (C.order comp.now) (trees forest.old)
+            (number self.old) key (Err why) (trees forest.new) (number self.new)) };
+
+    /// A handle to a tree of these entries. For a list of keys alone, memory is requested before anything changes.
+    fn load(
+        alloc: Global,
+        entries: &[(K, V)],
+        forest: &mut Self::Forest,
+    ) -> Result<Result<Self, OutOfMemory>, AllocError>
+        requires fits { fits }
+        ensures made { IfOk result (λ loaded. IfOk loaded (λ tree.
             Loads most (trees forest.old) entries.now (Ok (number tree)) (trees forest.new))) }
-        ensures refused { IfSome result (λ loaded. IfErr loaded (λ why.
+        ensures refused { IfOk result (λ loaded. IfErr loaded (λ why.
             Loads most (trees forest.old) entries.now (Err why) (trees forest.new))) }
-        ensures left { result ≡ None → forest.new ≡ forest.old };
+        ensures room { OnErr result (READS ≡ false) }
+        ensures err_forest { OnErr result (forest.new ≡ forest.old) };
 
     /// A second handle to the same tree.
     fn alias(&self) -> Self

@@ -17,7 +17,7 @@ use std::alloc::{AllocError, Global};
 ///
 /// # Errors
 ///
-/// `AllocError` where memory for an answer that is a list was refused: then nothing has changed.
+/// `AllocError` where memory for an answer that is a list, or for the keys of a set that is loaded, was refused: then nothing has changed.
 pub fn make<K: Copy, V: Copy, C: Comparator<K>, T: Collection<K, V>>(
     alloc: Global,
     call: &Call<K, V>,
@@ -56,7 +56,9 @@ pub fn make<K: Copy, V: Copy, C: Comparator<K>, T: Collection<K, V>>(
         }
         Call::Unite { h, other, c }
         | Call::Intersect { h, other, c }
-        | Call::Subtract { h, other, c } => {
+        | Call::Subtract { h, other, c }
+        | Call::IsSubset { h, other, c }
+        | Call::IsDisjoint { h, other, c } => {
             Ok(beside(call, *h, *other, *c, comps, handles, forest))
         }
         Call::First { h }
@@ -71,7 +73,8 @@ pub fn make<K: Copy, V: Copy, C: Comparator<K>, T: Collection<K, V>>(
         Call::IterBack { h } => iter_back(alloc, *h, handles, forest),
         Call::Alias { from, to } => Ok(alias(*from, *to, handles)),
         Call::DeepClone { from, to } => Ok(deep_clone(*from, *to, handles, forest)),
-        Call::Load { h, entries } => Ok(load(*h, entries, handles, forest)),
+        Call::SplitOff { h, c, k, to } => Ok(split_off(*h, *c, *k, *to, comps, handles, forest)),
+        Call::Load { h, entries } => load(alloc, *h, entries, handles, forest),
         Call::ForestClear => {
             T::clear_all(forest);
             Ok(Answer::Done)
@@ -333,24 +336,55 @@ fn deep_clone<K: Copy, V: Copy, T: Collection<K, V>>(
     name(handles[from].deep_clone(forest), to, handles)
 }
 
-fn load<K: Copy, V: Copy, T: Collection<K, V>>(
+fn split_off<K: Copy, V: Copy, C: Comparator<K>, T: Collection<K, V>>(
     h: usize,
-    entries: &Vec<(K, V)>,
+    c: usize,
+    k: K,
+    to: usize,
+    comps: &[C],
     handles: &mut [T],
     forest: &mut T::Forest,
 ) -> Answer<K, V>
     requires fits { T.fits }
-    ensures { (orders : _) → Step T.most T.READS orders
-        (record { forest = T.trees forest.old; handles = T.numbers handles.old }) (call.Load h entries.now) result
+    ensures { Step T.most T.READS (map C.order comps.now)
+        (record { forest = T.trees forest.old; handles = T.numbers handles.old }) (call.SplitOff h c k to) result
         (record { forest = T.trees forest.new; handles = T.numbers handles.new }) }
 {
-    if h >= handles.len() {
+    if c >= comps.len() || to >= handles.len() || to == h {
         return Answer::NoIndex;
     }
-    match T::load(entries, forest) {
-        Some(loaded) => name(loaded, h, handles),
-        None => Answer::NotOffered,
+    if let Some(given) = unnamed(h, handles, forest) {
+        return given;
     }
+    let comp = &comps[c];
+    if !handles[h].increases(forest, comp) {
+        return Answer::Unordered;
+    }
+    let tail = handles[h].split_off(k, forest, comp);
+    name(tail, to, handles)
+}
+
+fn load<K: Copy, V: Copy, T: Collection<K, V>>(
+    alloc: Global,
+    h: usize,
+    entries: &Vec<(K, V)>,
+    handles: &mut [T],
+    forest: &mut T::Forest,
+) -> Result<Answer<K, V>, AllocError>
+    requires fits { T.fits }
+    ensures step { (orders : _) → IfOk result (λ given. Step T.most T.READS orders
+        (record { forest = T.trees forest.old; handles = T.numbers handles.old }) (call.Load h entries.now) given
+        (record { forest = T.trees forest.new; handles = T.numbers handles.new })) }
+    ensures room { (orders : _) → OnErr result (AsksRoom T.READS orders
+        (record { forest = T.trees forest.old; handles = T.numbers handles.old }) (call.Load h entries.now)) }
+    ensures err_forest { OnErr result (forest.new ≡ forest.old) }
+    ensures err_handles { OnErr result (handles.new ≡ handles.old) }
+{
+    if h >= handles.len() {
+        return Ok(Answer::NoIndex);
+    }
+    let loaded = T::load(alloc, entries, forest)?;
+    Ok(name(loaded, h, handles))
 }
 
 /// Handle `h` becomes the one of a tree that was made, and stays where none was.

@@ -151,6 +151,8 @@ impl<K: Copy, V: Copy> Collection<K, V> for Map<K, V> {
             Call::Unite { .. } => Answer::United(self.union_with(other, forest, comp)),
             Call::Intersect { .. } => Answer::Changed(self.intersect_with(other, forest, comp)),
             Call::Subtract { .. } => Answer::Changed(self.difference_with(other, forest, comp)),
+            Call::IsSubset { .. } => Answer::Holds(self.is_subset(other, forest, comp)),
+            Call::IsDisjoint { .. } => Answer::Holds(self.is_disjoint(other, forest, comp)),
             _ => unreachable!(),
         }
     }
@@ -179,11 +181,21 @@ impl<K: Copy, V: Copy> Collection<K, V> for Map<K, V> {
         self.deep_clone(forest)
     }
 
+    fn split_off<C: Comparator<K>>(
+        &mut self,
+        key: K,
+        forest: &mut MapForest<K, V>,
+        comp: &C,
+    ) -> Result<Map<K, V>, OutOfMemory> {
+        self.split_off(key, forest, comp)
+    }
+
     fn load(
+        _alloc: Global,
         entries: &[(K, V)],
         forest: &mut MapForest<K, V>,
-    ) -> Option<Result<Map<K, V>, OutOfMemory>> {
-        Some(Map::load(entries, forest))
+    ) -> Result<Result<Map<K, V>, OutOfMemory>, AllocError> {
+        Ok(Map::load(entries, forest))
     }
 
     fn alias(&self) -> Map<K, V> {

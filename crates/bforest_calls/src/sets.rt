@@ -22,14 +22,14 @@ use std::cmp::Ordering;
 
 /// Makes the calls in order, on sets, and returns one answer for each. The only value is the unit: [`Call::Get`] is
 /// `contains`, and an insertion answers the unit where the key was present. [`Call::Read`],
-/// [`Call::GetOrInsert`], [`Call::Update`], [`Call::UpdateOrInsert`] and [`Call::Load`] are not offered.
+/// [`Call::GetOrInsert`], [`Call::Update`] and [`Call::UpdateOrInsert`] are not offered.
 ///
 /// Room for all answers is taken first, and room for the answer of a call before that call changes anything.
 ///
 /// # Errors
 ///
 /// `AllocError` where memory for the answers was refused: then the first calls, up to some number, were made, each whole. It ends before
-/// the first call, or at a call that is answered by a list.
+/// the first call, or at a call that is answered by a list, or at a load, for which the keys are gathered in one.
 pub fn run_set<K: Copy, C: Comparator<K>>(
     alloc: Global,
     calls: &[Call<K, ()>],
@@ -156,6 +156,8 @@ impl<K: Copy> Collection<K, ()> for Set<K> {
             Call::Unite { .. } => Answer::United(self.union_with(other, forest, comp)),
             Call::Intersect { .. } => Answer::Changed(self.intersect_with(other, forest, comp)),
             Call::Subtract { .. } => Answer::Changed(self.difference_with(other, forest, comp)),
+            Call::IsSubset { .. } => Answer::Holds(self.is_subset(other, forest, comp)),
+            Call::IsDisjoint { .. } => Answer::Holds(self.is_disjoint(other, forest, comp)),
             _ => unreachable!(),
         }
     }
@@ -184,11 +186,22 @@ impl<K: Copy> Collection<K, ()> for Set<K> {
         self.deep_clone(forest)
     }
 
+    fn split_off<C: Comparator<K>>(
+        &mut self,
+        key: K,
+        forest: &mut SetForest<K>,
+        comp: &C,
+    ) -> Result<Set<K>, OutOfMemory> {
+        self.split_off(key, forest, comp)
+    }
+
     fn load(
-        _entries: &[(K, ())],
-        _forest: &mut SetForest<K>,
-    ) -> Option<Result<Set<K>, OutOfMemory>> {
-        None
+        alloc: Global,
+        entries: &[(K, ())],
+        forest: &mut SetForest<K>,
+    ) -> Result<Result<Set<K>, OutOfMemory>, AllocError> {
+        let keys = keys_of(alloc, entries)?;
+        Ok(Set::load(&keys, forest))
     }
 
     fn alias(&self) -> Set<K> {
@@ -206,6 +219,17 @@ impl<K: Copy> Collection<K, ()> for Set<K> {
     ghost at = { λ xs h x within is. is ∙ get_or_default xs h x None within };
 
     ghost written = { λ xs h x. refl };
+}
+
+/// The keys of the entries.
+fn keys_of<K: Copy>(alloc: Global, entries: &[(K, ())]) -> Result<Vec<K>, AllocError>
+    ensures keys { IfOk result (λ keys. with_each keys.items ≡ entries.now) }
+{
+    let mut keys = Vec::with_capacity(alloc, entries.len())?;
+    for entry in entries {
+        keys.push(entry.0)?;
+    }
+    Ok(keys)
 }
 
 /// Makes the listed new keys of those from a key on.

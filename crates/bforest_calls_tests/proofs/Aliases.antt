@@ -1,7 +1,8 @@
 -- A run with two handles exchanged.
-use Rattle.bforest.specs.Calls.{Clears, Clones, Compacts, Inserts, Intersects, Removes, RemovesBetween, Subtracts, Unites}
+use Rattle.bforest.specs.Calls.{Clears, Clones, Compacts, Inserts, Intersects, Removes, RemovesBetween, SplitsOff, Subtracts, Unites}
 use Rattle.bforest.specs.Forest.{IsLive, list_of}
 use Rattle.bforest.specs.Bounds.{entries_between, entry_at_least, entry_at_most}
+use Rattle.bforest.specs.Union.{are_among, are_apart}
 use Rattle.bforest_calls.specs.Looks.{all_taken, sights_of}
 use Rattle.bforest_calls.specs.Machine.{Compares, ComparesBoth, ComparesIf, Lacks, Names, NamesBoth, Offered, On, Orders, Refuses, Run, State, Step, Tests, list_in, number_at, order_at, with_made}
 use Rattle.bforest_calls.specs.State.{Edits, FirstPopped, GotOrInserted, Held, LastPopped, Retained, Shifted, Updated, UpdatedOrInserted}
@@ -9,12 +10,12 @@ use Rattle.bforest_calls.specs.declared.call.Answer.TheVariants as answer
 use Rattle.bforest_calls.specs.declared.call.Answer.{Answer}
 use Rattle.bforest_calls.specs.declared.call.Call.TheVariants as call
 use Rattle.bforest_calls.specs.declared.call.Call.{Call}
-use Rattle.bforest_calls_tests.proofs.Exchange.{at-exchange, exchange-within, swap-aliases, swap-set, within-exchange}
+use Rattle.bforest_calls_tests.proofs.Exchange.{at-exchange, exchange-twice, exchange-within, swap-aliases, swap-set, within-exchange}
 use Rattle.bforest_calls_tests.proofs.Sparing.{lacking, offered}
 use Rattle.bforest_calls_tests.specs.Exchange.{AreAliases, exchange, exchanged}
 use Rattle.bforest.specs.Refusal.{OutOfMemory}
 use Rattle.bforest.specs.Entries.{IsIncreasing, value_for}
-use Rattle.std.proofs.Common.{Bool, Err, List, None, Ok, Option, Result, [], ap, false, inl, inr, length, map, refl, reverse, slice_get, subst, sym, true, ◌-◌, ◌<◌, ◌∙◌, ◌∷◌, ◌≡◌, ℕ}
+use Rattle.std.proofs.Common.{Bool, Err, List, None, Ok, Option, Result, [], ap, false, inl, inr, length, map, refl, reverse, slice_get, subst, sym, true, ◌-◌, ◌<◌, ◌∙◌, ◌∷◌, ◌≡◌, ◌≢◌, ℕ}
 use Rattle.std.proofs.lemmas.List.{length-set}
 use Rattle.std.specs.Prelude.{slice_set, swap}
 
@@ -81,6 +82,15 @@ module _ {K V : Type 0} where
     told : {A : Type 0} (given : A) (h : ℕ) (F : List (K × V) → A) → given ≡ F (list_in old h) → given ≡ F (list_in (turned i j old) (exchange i j h))
     told given h F e = e ∙ ap (λ (n : Option ℕ). F (list_of old.forest n)) (sym (number h))
 
+    -- the same of the lists of two handles
+    told-both : {A : Type 0} (given : A) (h o : ℕ) (F : List (K × V) → List (K × V) → A) → given ≡ F (list_in old h) (list_in old o)
+        → given ≡ F (list_in (turned i j old) (exchange i j h)) (list_in (turned i j old) (exchange i j o))
+    told-both given h o F e = e ∙ (λ z. F (list_of old.forest (sym (number h) z)) (list_of old.forest (sym (number o) z)))
+
+    -- two indices are equal where the exchanged ones are
+    one-index : (a b : ℕ) → exchange i j a ≡ exchange i j b → a ≡ b
+    one-index a b e = sym (exchange-twice i j a) ∙ ap (exchange i j) e ∙ exchange-twice i j b
+
     module _ (orders : Orders K) (given : Answer K V) where
       names-too : (h : ℕ) (Made Made' : Type 0) → (h < length old.handles → Made → Made') → Names h old given new Made → Names (exchange i j h) (turned i j old) given (turned i j new) Made'
       names-too h Made Made' made s =
@@ -127,6 +137,15 @@ module _ {K V : Type 0} where
       with-exchanged h (Ok n) w e = ap (λ hs. swap hs i j) e ∙ swap-set old.handles i j within within' h n w
       with-exchanged h (Err why) w e = ap (λ hs. swap hs i j) e
 
+      -- the handles with a number written, and with a tree that was made, or not
+      parted-exchanged : (h to : ℕ) (own : Option ℕ) (result : Result (Option ℕ) OutOfMemory) → h < length old.handles → to < length old.handles
+          → new.handles ≡ with_made to result (slice_set old.handles h own) → swap new.handles i j ≡ with_made (exchange i j to) result (slice_set (swap old.handles i j) (exchange i j h) own)
+      parted-exchanged h to own (Ok n) w w' e =
+          let wide : (q : ℕ) → q < length old.handles → q < length (slice_set old.handles h own) = λ q. subst (λ n. q < n) (sym (length-set old.handles h own)) in
+          ap (λ hs. swap hs i j) e ∙ swap-set (slice_set old.handles h own) i j (wide i within) (wide j within') to n (wide to w')
+          ∙ ap (λ hs. slice_set hs (exchange i j to) n) (swap-set old.handles i j within within' h own w)
+      parted-exchanged h to own (Err why) w w' e = ap (λ hs. swap hs i j) e ∙ swap-set old.handles i j within within' h own w
+
       step-exchanged : (call : Call K V) (given : Answer K V) → Step most reads orders old call given new → Step most reads orders (turned i j old) (exchanged i j call) given (turned i j new)
       step-exchanged (call.Get h c k) given s = compares-too orders given h c _ _ (λ t m. (told given h (λ es. answer.Value (value_for (order_at orders c) es k)) m.0, stays m.1)) s
       step-exchanged (call.GetOrLess h c k) given s = compares-too orders given h c _ _ (λ t m. (told given h (λ es. answer.Pair (entry_at_most (order_at orders c) es k)) m.0, stays m.1)) s
@@ -151,6 +170,10 @@ module _ {K V : Type 0} where
           (λ t m. (m.0, m.1, beside-exchanged h o (λ n held after. Intersects most (order_at orders c) held.forest held.number n m.0 after.forest after.number) t m.2)) s
       step-exchanged (call.Subtract h o c) given s = compares-both-too orders given h o c _ _
           (λ t m. (m.0, m.1, beside-exchanged h o (λ n held after. Subtracts most (order_at orders c) held.forest held.number n m.0 after.forest after.number) t m.2)) s
+      step-exchanged (call.IsSubset h o c) given s = compares-both-too orders given h o c _ _
+          (λ t m. (told-both given h o (λ es others. answer.Holds (are_among (order_at orders c) es others)) m.0, stays m.1)) s
+      step-exchanged (call.IsDisjoint h o c) given s = compares-both-too orders given h o c _ _
+          (λ t m. (told-both given h o (λ es others. answer.Holds (are_apart (order_at orders c) es others)) m.0, stays m.1)) s
       step-exchanged (call.Clear h) given s = names-too orders given h _ _ (λ t m. (m.0, on-exchanged h (λ held after. Clears held.forest held.number after.forest after.number) t m.1)) s
       step-exchanged (call.Iter h) given s = names-too orders given h _ _ (λ t m. (m.0, m.1, told m.0.items h (λ es. es) m.2, stays m.3)) s
       step-exchanged (call.IterBack h) given s = names-too orders given h _ _ (λ t m. (m.0, m.1, told m.0.items h (λ es. reverse es) m.2, stays m.3)) s
@@ -173,10 +196,22 @@ module _ {K V : Type 0} where
           (λ n. IsLive old.forest n) (λ n. Unit {0}) (number_at old from) (number_at (turned i j old) (exchange i j from)) old new (turned i j old) (turned i j new) given _ _ (number from)
           (λ t. (here from t.0, here to t.1)) (λ t. (back from t.0, back to t.1)) stays
           (λ t m. (m.0, m.1, with-exchanged to m.0 t.1 m.2, subst (λ (n : Option ℕ). Clones old.forest n m.0 new.forest) (sym (number from)) m.3)) s
-      step-exchanged (call.Load h entries) given s = offered-too reads _ _ _ _
-          (tested-too {X = Option ℕ} (h < length old.handles) (exchange i j h < length (swap old.handles i j)) (λ n. Unit {0}) (λ n. Unit {0}) None None old new (turned i j old) (turned i j new) given _ _ refl
-          (here h) (back h) stays (λ t m. (m.0, m.1, with-exchanged h m.0 t m.2, m.3)))
-          (lacks-too (h < length old.handles) (exchange i j h < length (swap old.handles i j)) old new (turned i j old) (turned i j new) given (here h) (back h) stays) s
+      step-exchanged (call.SplitOff h c k to) given s =
+          tested-too ((h < length old.handles) × (c < length orders) × (to < length old.handles) × (to ≢ h))
+          ((exchange i j h < length (swap old.handles i j)) × (c < length orders) × (exchange i j to < length (swap old.handles i j)) × (exchange i j to ≢ exchange i j h))
+          (λ n. IsLive old.forest n) (λ n. IsIncreasing (order_at orders c) (list_of old.forest n))
+          (number_at old h) (number_at (turned i j old) (exchange i j h)) old new (turned i j old) (turned i j new) given _ _ (number h)
+          (λ t. (here h t.0, t.1, here to t.2, λ e. t.3 (one-index to h e))) (λ t. (back h t.0, t.1, back to t.2, λ e. t.3 (ap (exchange i j) e))) stays
+          (λ t m. (
+            m.0,
+            m.1,
+            m.2,
+            parted-exchanged h to m.0 m.1 t.0 t.2 m.3,
+            subst (λ (n : Option ℕ). SplitsOff most (order_at orders c) old.forest n k m.1 new.forest m.0) (sym (number h)) m.4,
+          )) s
+      step-exchanged (call.Load h entries) given s =
+          tested-too {X = Option ℕ} (h < length old.handles) (exchange i j h < length (swap old.handles i j)) (λ n. Unit {0}) (λ n. Unit {0}) None None old new (turned i j old) (turned i j new) given _ _ refl
+          (here h) (back h) stays (λ t m. (m.0, m.1, with-exchanged h m.0 t m.2, m.3)) s
       step-exchanged call.ForestClear given s = (s.0, ap (turned i j) s.1)
 
   module _ (most : ℕ) (reads : Bool) (orders : Orders K) where
@@ -189,6 +224,11 @@ module _ {K V : Type 0} where
     with-many : (old new : State K V) (h : ℕ) (result : Result (Option ℕ) OutOfMemory) → new.handles ≡ with_made h result old.handles → length new.handles ≡ length old.handles
     with-many old new h (Ok n) e = wrote old new h n e
     with-many old new h (Err why) e = ap (λ (hs : List (Option ℕ)). length hs) e
+
+    parted-many : (old new : State K V) (h to : ℕ) (number : Option ℕ) (result : Result (Option ℕ) OutOfMemory) → new.handles ≡ with_made to result (slice_set old.handles h number)
+        → length new.handles ≡ length old.handles
+    parted-many old new h to number (Ok n) e = ap (λ (hs : List (Option ℕ)). length hs) e ∙ length-set (slice_set old.handles h number) to n ∙ length-set old.handles h number
+    parted-many old new h to number (Err why) e = wrote old new h number e
 
     -- a step keeps the number of handles
     as-many : (old : State K V) (call : Call K V) (given : Answer K V) (new : State K V) → Step most reads orders old call given new → length new.handles ≡ length old.handles
@@ -214,6 +254,8 @@ module _ {K V : Type 0} where
     as-many old (call.Unite h o c) given new s = elim s [ inl r ↦ kept old new r.1 | inr r ↦ wrote old new h r.3.2.0 r.3.2.1 ]
     as-many old (call.Intersect h o c) given new s = elim s [ inl r ↦ kept old new r.1 | inr r ↦ wrote old new h r.3.2.0 r.3.2.1 ]
     as-many old (call.Subtract h o c) given new s = elim s [ inl r ↦ kept old new r.1 | inr r ↦ wrote old new h r.3.2.0 r.3.2.1 ]
+    as-many old (call.IsSubset h o c) given new s = elim s [ inl r ↦ kept old new r.1 | inr r ↦ kept old new r.3.1 ]
+    as-many old (call.IsDisjoint h o c) given new s = elim s [ inl r ↦ kept old new r.1 | inr r ↦ kept old new r.3.1 ]
     as-many old (call.Clear h) given new s = elim s [ inl r ↦ kept old new r.1 | inr r ↦ wrote old new h r.3.1.0 r.3.1.1 ]
     as-many old (call.Iter h) given new s = elim s [ inl r ↦ kept old new r.1 | inr r ↦ kept old new r.3.3 ]
     as-many old (call.IterBack h) given new s = elim s [ inl r ↦ kept old new r.1 | inr r ↦ kept old new r.3.3 ]
@@ -226,8 +268,8 @@ module _ {K V : Type 0} where
       | inr r ↦ wrote old new to (number_at old from) (ap (λ (t : State K V). t.handles) r.3.1)
     ]
     as-many old (call.DeepClone from to) given new s = elim s [ inl r ↦ kept old new r.1 | inr r ↦ with-many old new to r.3.0 r.3.2 ]
-    as-many old (call.Load h entries) given new s =
-        offered reads (λ t. elim t [ inl r ↦ kept old new r.1 | inr r ↦ with-many old new h r.3.0 r.3.2 ]) (λ l. kept old new (lacking _ old given new l)) s
+    as-many old (call.SplitOff h c k to) given new s = elim s [ inl r ↦ kept old new r.1 | inr r ↦ parted-many old new h to r.3.0 r.3.1 r.3.3 ]
+    as-many old (call.Load h entries) given new s = elim s [ inl r ↦ kept old new r.1 | inr r ↦ with-many old new h r.3.0 r.3.2 ]
     as-many old call.ForestClear given new s = ap (λ (t : State K V). length t.handles) s.1
 
     run-exchanged : (i j : ℕ) (old : State K V) (calls : List (Call K V)) (answers : List (Answer K V)) (new : State K V) → i < length old.handles → j < length old.handles

@@ -1,25 +1,26 @@
 -- Two runs of one list of calls that go in step.
 use Rattle.bforest.specs.Bounds.{entries_between, entry_at_least, entry_at_most}
-use Rattle.bforest.specs.Calls.{Compacts, KeepsFrom, RemovesBetween}
+use Rattle.bforest.specs.Calls.{Compacts, KeepsFrom, RemovesBetween, SplitsAt, SplitsOff}
 use Rattle.bforest.specs.Forest.{Becomes, Forest, IsLive, emptied, list_of, sizes_of}
+use Rattle.bforest.specs.Union.{are_among, are_apart}
 use Rattle.bforest_trees.specs.Forest.{list_at, sizes_at}
 use Rattle.bforest_calls.specs.Looks.{all_taken, sights_of}
-use Rattle.bforest_calls.specs.Machine.{Compares, ComparesBoth, ComparesIf, Lacks, MakesFor, Offered, On, Orders, Refuses, Run, State, Step, Tests, as_made, order_at, with_made}
+use Rattle.bforest_calls.specs.Machine.{Compares, ComparesBoth, ComparesIf, Lacks, MakesFor, Offered, On, Orders, PartsFor, Refuses, Run, State, Step, Tests, as_made, order_at, with_made}
 use Rattle.bforest_calls.specs.State.{FirstPopped, GotOrInserted, Held, LastPopped, Updated, UpdatedOrInserted, as_had}
 use Rattle.bforest_calls.specs.declared.call.Answer.TheVariants as answer
 use Rattle.bforest_calls.specs.declared.call.Answer.{Answer}
 use Rattle.bforest_calls.specs.declared.call.Call.TheVariants as call
 use Rattle.bforest_calls.specs.declared.call.Call.{Call}
 use Rattle.bforest_calls_tests.proofs.Changes.{compacted, got-inserted, inserted, retold, scripted, shifted, updated, updated-inserted, united-with}
-use Rattle.bforest_calls_tests.proofs.Resembling.{IsMade, Resembles, between-alike, clears-alike, clones-made, clones-sizes, compacts-alike, gets-or-inserts-alike, inserts-alike, keeps-alike, loads-made, loads-sizes, made-alike, pops-alike, removes-alike, retains-alike, scripts-alike, shifts-alike, unites-alike, updates-alike, updates-or-inserts-alike}
+use Rattle.bforest_calls_tests.proofs.Resembling.{IsMade, Resembles, between-alike, clears-alike, clones-made, clones-sizes, compacts-alike, gets-or-inserts-alike, inserts-alike, keeps-alike, loads-made, loads-sizes, made-alike, parts-alike, pops-alike, removes-alike, retains-alike, scripts-alike, shifts-alike, unites-alike, updates-alike, updates-or-inserts-alike}
 use Rattle.bforest_calls_tests.specs.Determined.{AreAlike, AreDetermined, GoInStep, HadMemory, IsSameAnswer, RunsThrough}
 use Rattle.bforest_core.specs.Change.{node_count}
 use Rattle.bforest.specs.Refusal.{Memory, OutOfMemory}
-use Rattle.bforest.specs.Entries.{IsIncreasing, value_for}
+use Rattle.bforest.specs.Entries.{IsIncreasing, place, value_for}
 use Rattle.std.proofs.Common.{Bool, Err, List, None, Ok, Option, Result, Some, [], ap, false, get_or, inl, inr, length, refl, reverse, slice_get, subst, sym, true, ◌%◌, ◌-◌, ◌<◌, ◌∙◌, ◌∷◌, ◌≡◌, ◌≢◌, ◌⊎◌, ℕ}
 use Rattle.std.proofs.lemmas.Bool.Decides.{eqb_tells}
 use Rattle.std.proofs.lemmas.List.Elements.{recursion_from_All}
-use Rattle.std.proofs.lemmas.List.{get_or-set_same}
+use Rattle.std.proofs.lemmas.List.{get_or-set_other, get_or-set_same, length-set, set-get_or}
 use Rattle.std.specs.List.{AllByRecursion, AllZip}
 use Rattle.std.specs.Prelude.{slice_set}
 use Rattle.std.specs.declared.cmp.Ordering.{Ordering}
@@ -45,6 +46,23 @@ at-alike one other one' other' none h k alike stays stays' leaves leaves' is n =
   ]
 ]
 
+-- the same where a tree was parted alike in both
+at-parted : {L : Type 0} (one other one' other' : ℕ → L) (none : L) (h k t : Option ℕ)
+    → ((n : ℕ) → other n ≡ one n)
+    → ((n : ℕ) → Some n ≢ h → Some n ≢ k → Some n ≢ t → one' n ≡ one n) → ((n : ℕ) → Some n ≢ h → Some n ≢ k → Some n ≢ t → other' n ≡ other n)
+    → ((n : ℕ) → Some n ≡ h → h ≢ k → h ≢ t → one' n ≡ none) → ((n : ℕ) → Some n ≡ h → h ≢ k → h ≢ t → other' n ≡ none)
+    → ((n : ℕ) → Some n ≡ k → other' n ≡ one' n) → ((n : ℕ) → Some n ≡ t → other' n ≡ one' n) → (n : ℕ) → other' n ≡ one' n
+at-parted one other one' other' none h k t alike stays stays' leaves leaves' is is-tail n = elim (same-or-not n k) [
+  | inl e ↦ is n e
+  | inr d ↦ elim (same-or-not n t) [
+    | inl e ↦ is-tail n e
+    | inr d2 ↦ elim (same-or-not n h) [
+      | inl e ↦ leaves' n e (λ x. d (e ∙ x)) (λ x. d2 (e ∙ x)) ∙ sym (leaves n e (λ x. d (e ∙ x)) (λ x. d2 (e ∙ x)))
+      | inr d3 ↦ stays' n d3 d d2 ∙ alike n ∙ sym (stays n d3 d d2)
+    ]
+  ]
+]
+
 -- two calls, both offered or both not
 offered-alike : {P : Type 0} (reads : Bool) (Made Lacking Made' Lacking' : Type 0) → (Made → Made' → P) → (Lacking → Lacking' → P) → Offered reads Made Lacking → Offered reads Made' Lacking' → P
 offered-alike true Made Lacking Made' Lacking' made lacks o o' = made o o'
@@ -54,6 +72,22 @@ offered-alike false Made Lacking Made' Lacking' made lacks o o' = lacks o o'
 numbers-alike : (handles after after' : List (Option ℕ)) (h : ℕ) (number number' : Option ℕ) → h < length handles → after ≡ slice_set handles h number → after' ≡ slice_set handles h number' → after' ≡ after → number' ≡ number
 numbers-alike handles after after' h number number' within e e' same =
     sym (get_or-set_same handles h number' None within) ∙ ap (λ xs. get_or xs h None) (sym e' ∙ same ∙ e) ∙ get_or-set_same handles h number None within
+
+-- two indices that are apart: what a list has there after both are written, and equal lists have the same there
+module _ (handles : List (Option ℕ)) {h to : ℕ} (within : h < length handles) (into : to < length handles) (apart : to ≢ h) where
+  at-own : (number tail : Option ℕ) → get_or (slice_set (slice_set handles h number) to tail) h None ≡ number
+  at-own number tail = get_or-set_other (slice_set handles h number) to h tail None (λ e. apart (sym e)) ∙ get_or-set_same handles h number None within
+
+  at-tail : (number tail : Option ℕ) → get_or (slice_set (slice_set handles h number) to tail) to None ≡ tail
+  at-tail number tail = get_or-set_same (slice_set handles h number) to tail None (subst (λ n. to < n) (sym (length-set handles h number)) into)
+
+  parted-numbers : (after after' : List (Option ℕ)) (number number' tail tail' : Option ℕ) → after ≡ slice_set (slice_set handles h number) to tail
+      → after' ≡ slice_set (slice_set handles h number') to tail' → after' ≡ after → (number' ≡ number) × (tail' ≡ tail)
+  parted-numbers after after' number number' tail tail' e e' same =
+      let both = sym e' ∙ same ∙ e in (
+        sym (at-own number' tail') ∙ ap (λ xs. get_or xs h None) both ∙ at-own number tail,
+        sym (at-tail number' tail') ∙ ap (λ xs. get_or xs to None) both ∙ at-tail number tail,
+      )
 
 -- forests without slots have the same lists, and trees of the same sizes
 cleared-lists : {K V : Type 0} (f g : Forest K V) (n : ℕ) → list_at (emptied g) n ≡ list_at (emptied f) n
@@ -115,6 +149,26 @@ module _ {K V : Type 0} where
     sizes = at-alike (sizes_at f) (sizes_at g) (sizes_at one'.forest) (sizes_at other'.forest) [] h k a.sizes b.others_sizes b'.others_sizes
         (λ n e ne. subst (λ (q : Option ℕ). sizes_of one'.forest q ≡ []) (sym e) (b.leaves_sizes ne)) (λ n e ne. subst (λ (q : Option ℕ). sizes_of other'.forest q ≡ []) (sym e) (b'.leaves_sizes ne))
         (λ n e. subst (λ (q : Option ℕ). sizes_of other'.forest q ≡ sizes_of one'.forest q) (sym e) r.sizes);
+    slots = r.slots;
+    free = r.free;
+    limit = r.limit;
+  }
+
+  -- a tree that is parted alike in two alike states leaves them alike
+  parted-alike : (most : ℕ) (f g : Forest K V) (handles : List (Option ℕ)) → AreAlike (at f handles) (at g handles) → (one' other' : State K V) (h k t : Option ℕ) (p p' : ℕ)
+      → other'.handles ≡ one'.handles → SplitsAt most f h p (Ok t) one'.forest k → SplitsAt most g h p' (Ok t) other'.forest k
+      → Resembles (held one'.forest k) (held other'.forest k) → Resembles (held one'.forest t) (held other'.forest t) → AreAlike one' other'
+  parted-alike most f g handles a one' other' h k t p p' same s s' r r' = record {
+    handles = same;
+    lists = at-parted (list_at f) (list_at g) (list_at one'.forest) (list_at other'.forest) [] h k t a.lists s.others s'.others
+        (λ n e ne ne'. subst (λ (q : Option ℕ). list_of one'.forest q ≡ []) (sym e) (s.leaves ne ne')) (λ n e ne ne'. subst (λ (q : Option ℕ). list_of other'.forest q ≡ []) (sym e) (s'.leaves ne ne'))
+        (λ n e. subst (λ (q : Option ℕ). list_of other'.forest q ≡ list_of one'.forest q) (sym e) r.list)
+        (λ n e. subst (λ (q : Option ℕ). list_of other'.forest q ≡ list_of one'.forest q) (sym e) r'.list);
+    sizes = at-parted (sizes_at f) (sizes_at g) (sizes_at one'.forest) (sizes_at other'.forest) [] h k t a.sizes s.others_sizes s'.others_sizes
+        (λ n e ne ne'. subst (λ (q : Option ℕ). sizes_of one'.forest q ≡ []) (sym e) (s.leaves_sizes ne ne'))
+        (λ n e ne ne'. subst (λ (q : Option ℕ). sizes_of other'.forest q ≡ []) (sym e) (s'.leaves_sizes ne ne'))
+        (λ n e. subst (λ (q : Option ℕ). sizes_of other'.forest q ≡ sizes_of one'.forest q) (sym e) r.sizes)
+        (λ n e. subst (λ (q : Option ℕ). sizes_of other'.forest q ≡ sizes_of one'.forest q) (sym e) r'.sizes);
     slots = r.slots;
     free = r.free;
     limit = r.limit;
@@ -255,6 +309,36 @@ module _ {K V : Type 0} where
             (λ e e' x x'. stays (m'.1 ∙ ap (λ y. answer.Made (as_made y)) (e' ∙ sym e) ∙ sym m.1)
             (λ z. record { forest = x z; handles = (m.2 ∙ ap (λ y. with_made h y handles) e) z }) (λ z. record { forest = x' z; handles = (m'.2 ∙ ap (λ y. with_made h y handles) e') z }))
 
+        -- a tree that was parted in both states, or in neither
+        parted : (h to c : ℕ) (k : K) → h < length handles → to < length handles → to ≢ h → new'.handles ≡ new.handles → HadMemory given → HadMemory given'
+            → PartsFor h to (at f handles) given new (λ result after. SplitsOff most (order c) f (number h) k result after.forest after.number)
+            → PartsFor h to (at g handles) given' new' (λ result after. SplitsOff most (order c) g (number h) k result after.forest after.number) → Agree
+        parted h to c k within into apart same had had' m m' =
+            parts-alike most (held-alike f g handles a (number h)) (λ z. place (order c) (lists h z) k) m.1 m'.1 (held new.forest m.0) (held new'.forest m'.0) m.4.parts m'.4.parts
+            (not-memory m.1 (memory-had given (answer.Made (as_made m.1)) m.2 had)) (not-memory m'.1 (memory-had given' (answer.Made (as_made m'.1)) m'.2 had'))
+            (λ n n' e e' r r'.
+            let handles-are = m.3 ∙ ap (λ x. with_made to x (slice_set handles h m.0)) e in let handles-are' = m'.3 ∙ ap (λ x. with_made to x (slice_set handles h m'.0)) e' in
+            let one = parted-numbers handles within into apart new.handles new'.handles m.0 m'.0 n n' handles-are handles-are' same in
+            let s = subst (λ x. SplitsAt most f (number h) at-one x new.forest m.0) e m.4.parts in
+            let s' = subst (λ x. SplitsAt most g (number h) at-other x new'.forest m'.0) e' m'.4.parts in (
+              answers-same given given' (m'.2 ∙ ap (λ x. answer.Made (as_made x)) (e' ∙ (λ z. Ok (one.1 z)) ∙ sym e) ∙ sym m.2),
+              parted-alike most f g handles a new new' (number h) m.0 n at-one at-other same s
+                  (subst (λ (q : Option ℕ). SplitsAt most g (number h) at-other (Ok n) new'.forest q) one.0 (subst (λ (q : Option ℕ). SplitsAt most g (number h) at-other (Ok q) new'.forest m'.0) one.1 s'))
+                  (subst (λ (q : Option ℕ). Resembles (held new.forest m.0) (held new'.forest q)) one.0 r)
+                  (subst (λ (q : Option ℕ). Resembles (held new.forest n) (held new'.forest q)) one.1 r'),
+            ))
+            (λ e e' x x'. stays (m'.2 ∙ ap (λ y. answer.Made (as_made y)) (e' ∙ sym e) ∙ sym m.2)
+            (unparted f new m.0 (m.3 ∙ ap (λ y. with_made to y (slice_set handles h m.0)) e) x) (unparted g new' m'.0 (m'.3 ∙ ap (λ y. with_made to y (slice_set handles h m'.0)) e') x'))
+          where
+            at-one : ℕ
+            at-one = place (order c) (list_of f (number h)) k
+
+            at-other : ℕ
+            at-other = place (order c) (list_of g (number h)) k
+
+            unparted : (q : Forest K V) (after : State K V) (own : Option ℕ) → after.handles ≡ slice_set handles h own → held after.forest own ≡ held q (number h) → after ≡ at q handles
+            unparted q after own e x = λ z. record { forest = (x z).forest; handles = (e ∙ ap (λ (s : Held K V). slice_set handles h s.number) x ∙ set-get_or handles h None) z }
+
         -- a change of handle h in both states, that answers alike and leaves alike
         altered : {X : Type 0} (shown : X → Answer K V) (R : X → Held K V → Held K V → Type 0) (h : ℕ) → h < length handles → new'.handles ≡ new.handles
             → ((x : X) (one one' : Held K V) → IsLive one.forest one.number → R x one one' → Becomes one.forest one.number one'.forest one'.number (list_of one'.forest one'.number))
@@ -353,6 +437,10 @@ module _ {K V : Type 0} where
           )) s s'
       step-alike (call.Intersect h o c) given given' new new' s s' same had had' = keeps-both true h o c given given' new new' same s s'
       step-alike (call.Subtract h o c) given given' new new' s s' same had had' = keeps-both false h o c given given' new new' same s s'
+      step-alike (call.IsSubset h o c) given given' new new' s s' same had had' = compares-both given given' new new' h o c _ _
+          (λ t l l' m m'. looked given given' new new' _ _ m.0 m'.0 (λ z. answer.Holds (are_among (order c) (lists h z) (lists o z))) m.1 m'.1) s s'
+      step-alike (call.IsDisjoint h o c) given given' new new' s s' same had had' = compares-both given given' new new' h o c _ _
+          (λ t l l' m m'. looked given given' new new' _ _ m.0 m'.0 (λ z. answer.Holds (are_apart (order c) (lists h z) (lists o z))) m.1 m'.1) s s'
       step-alike (call.Clear h) given given' new new' s s' same had had' = names given given' new new' (h < length handles) h _ _
           (λ t l l' m m'. (
             answers-alike given given' answer.Done answer.Done m.0 m'.0 refl,
@@ -397,11 +485,15 @@ module _ {K V : Type 0} where
           let r = held-alike f g handles a (number from) in
           made given given' new new' to _ _ (list_of f (number from)) (list_of g (number from)) t.1 same had had' (ap node_count r.sizes) r.list (m.0, m.1, m.2, clones-made m.3)
           (m'.0, m'.1, m'.2, clones-made m'.3) (clones-sizes (held f (number from)) (held g (number from)) r m.3 m'.3)) s s'
-      step-alike (call.Load h entries) given given' new new' s s' same had had' = offered-alike reads _ _ _ _
-          (tests-alike (h < length handles) (Unit {0}) (Unit {0}) (Unit {0}) (Unit {0}) (at f handles) new (at g handles) new' given given' _ _ (λ x. x) (λ x. x) (λ x. x) (λ x. x) (stays given given' new new')
+      step-alike (call.SplitOff h c k to) given given' new new' s s' same had had' =
+          tests-alike ((h < length handles) × (c < length orders) × (to < length handles) × (to ≢ h)) _ _ _ _ (at f handles) new (at g handles) new' given given' _ _
+          (live-alike f g a.lists (number h)) (live-alike g f (λ n. sym (a.lists n)) (number h))
+          (subst (λ es. IsIncreasing (order c) es) (sym (lists h))) (subst (λ es. IsIncreasing (order c) es) (lists h))
+          (stays given given' new new') (λ t l l' m m'. parted given given' new new' h to c k t.0 t.2 t.3 same had had' m m') s s'
+      step-alike (call.Load h entries) given given' new new' s s' same had had' =
+          tests-alike (h < length handles) (Unit {0}) (Unit {0}) (Unit {0}) (Unit {0}) (at f handles) new (at g handles) new' given given' _ _ (λ x. x) (λ x. x) (λ x. x) (λ x. x) (stays given given' new new')
           (λ t l l' m m'. made given given' new new' h _ _ entries.items entries.items t same had had' refl refl (m.0, m.1, m.2, loads-made m.3) (m'.0, m'.1, m'.2, loads-made m'.3)
-          (loads-sizes most odd m.3 m'.3)))
-          (λ l l'. let r = lacks-alike _ (at f handles) new (at g handles) new' given given' l l' in stays given given' new new' r.0 r.1 r.2) s s'
+          (loads-sizes most odd m.3 m'.3)) s s'
       step-alike call.ForestClear given given' new new' s s' same had had' = (
         answers-alike given given' answer.Done answer.Done s.0 s'.0 refl,
         alike-same (at (emptied f) handles) (at (emptied g) handles) new new'

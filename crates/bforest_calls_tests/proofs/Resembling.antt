@@ -1,6 +1,6 @@
 -- Changes of trees that resemble one another.
 use Rattle.bforest.specs.Bounds.{entries_between, entries_outside, start_place}
-use Rattle.bforest.specs.Calls.{Clears, Clones, Compacts, Inserts, KeepsFrom, Loads, Pops, Removes, RemovesAt, RemovesBetween, Unites, need_of_union, sizes_outside}
+use Rattle.bforest.specs.Calls.{Clears, Clones, Compacts, Inserts, KeepsFrom, Loads, Pops, Removes, RemovesAt, RemovesBetween, SplitsAt, Unites, need_of_union, sizes_outside, truncation}
 use Rattle.bforest.specs.Forest.{Becomes, Forest, Gives, IsFitFor, IsLive, IsTooMany, Takes, TakesAndGives, fewest, free_of, limit_of, list_of, need_of, nodes_of, sizes_of, slots_of}
 use Rattle.bforest.specs.Retain.{AsksEach, kept_by, sizes_by}
 use Rattle.bforest.specs.Union.{are_among, kept_from, kept_of, keeps_all, united}
@@ -14,8 +14,8 @@ use Rattle.bforest_calls.specs.declared.call.Look.TheVariants as look
 use Rattle.bforest_calls.specs.declared.call.Look.{Look}
 use Rattle.bforest_calls.specs.declared.call.Seen.TheVariants as seen
 use Rattle.bforest_calls.specs.declared.call.Seen.{Seen}
-use Rattle.bforest_core.specs.Change.{node_count}
-use Rattle.bforest_core.specs.Sizes.{growth, need, shrink}
+use Rattle.bforest_core.specs.Change.{node_count, severed}
+use Rattle.bforest_core.specs.Sizes.{detached, growth, need, shrink}
 use Rattle.bforest.specs.Refusal.{Full, Memory, OutOfMemory}
 use Rattle.bforest.specs.Entries.{cut, is_present, place, put, value_for, with_value}
 use Rattle.bforest_trees.specs.Calls.{as_inserted}
@@ -142,6 +142,34 @@ module _ {K V : Type 0} where
       let full = c'.full.1 (subst (λ (P : Type 0). P) (few-alike one other r e) (c.full.0 refl)) in absurd (cc)
   made-alike one other (Err Memory) result' f f' r e l c c' m m' sizes made refused = absurd (m refl)
   made-alike one other result (Err Memory) f f' r e l c c' m m' sizes made refused = absurd (m' refl)
+
+  -- two trees that are parted at one place: both are, or neither
+  module _ (most : ℕ) {one other : Held K V} (r : Resembles one other) {p p' : ℕ} (e : p' ≡ p) where
+    need-of-parts : severed p' (sizes_of other.forest other.number) ≡ severed p (sizes_of one.forest one.number)
+    need-of-parts = λ z. severed (e z) (r.sizes z)
+
+    pub parts-alike : {P : Type 0} (result result' : Result (Option ℕ) OutOfMemory) (one' other' : Held K V)
+        → SplitsAt most one.forest one.number p result one'.forest one'.number → SplitsAt most other.forest other.number p' result' other'.forest other'.number
+        → result ≢ Err Memory → result' ≢ Err Memory
+        → ((n n' : Option ℕ) → result ≡ Ok n → result' ≡ Ok n' → Resembles one' other' → Resembles (record { forest = one'.forest; number = n }) (record { forest = other'.forest; number = n' }) → P)
+        → (result ≡ Err Full → result' ≡ Err Full → one' ≡ one → other' ≡ other → P) → P
+    parts-alike (Ok n) (Ok n') one' other' s s' m m' made refused =
+        let front = s'.sizes ∙ (λ z. truncation (e z) (length (r.list z) - e z) (r.sizes z)) ∙ sym s.sizes in
+        let tail = s'.tail_sizes ∙ (λ z. detached most (e z) (r.sizes z)) ∙ sym s.tail_sizes in
+        let slots = s'.slots ∙ (λ z. r.slots z + (need-of-parts z - r.free z)) ∙ sym s.slots in
+        let limit = s'.limit ∙ r.limit ∙ sym s.limit in
+        let free : free_of other'.forest ≡ free_of one'.forest = omega (arith, s.free, s'.free, ap node_count front, ap node_count tail, r.free, need-of-parts, ap node_count r.sizes) in
+        made n n' refl refl
+        (record { list = s'.front ∙ (λ z. take (e z) (r.list z)) ∙ sym s.front; sizes = front; slots = slots; free = free; limit = limit })
+        (record { list = s'.tail ∙ (λ z. drop (e z) (r.list z)) ∙ sym s.tail; sizes = tail; slots = slots; free = free; limit = limit })
+    parts-alike (Err Full) (Err Full) one' other' s s' m m' made refused =
+        refused refl refl (held-same one one' s.refused_forest s.refused_handle) (held-same other other' s'.refused_forest s'.refused_handle)
+    parts-alike (Ok n) (Err Full) one' other' s s' m m' made refused =
+        let full = s.full.1 (subst (λ (P : Type 0). P) (sym (few-alike one other r need-of-parts)) (s'.full.0 refl)) in absurd (cc)
+    parts-alike (Err Full) (Ok n') one' other' s s' m m' made refused =
+        let full = s'.full.1 (subst (λ (P : Type 0). P) (few-alike one other r need-of-parts) (s.full.0 refl)) in absurd (cc)
+    parts-alike (Err Memory) result' one' other' s s' m m' made refused = absurd (m refl)
+    parts-alike result (Err Memory) one' other' s s' m m' made refused = absurd (m' refl)
 
   -- two compactions: both are made, or both refused
   pub compacts-alike : (most : ℕ) → most % 2 ≡ 1 → (one other : Held K V) → Resembles one other → (result result' : Result (Unit {0}) OutOfMemory) (one' other' : Held K V)

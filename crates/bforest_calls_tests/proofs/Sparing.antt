@@ -1,4 +1,5 @@
 -- A list of calls keeps each tree that it spares.
+use Rattle.bforest.specs.Calls.{SplitsAt}
 use Rattle.bforest.specs.Forest.{Becomes, list_at, list_of, sizes_at}
 use Rattle.bforest_calls.specs.Machine.{Lacks, MayStopAt, Offered, Orders, Run, State, Step, number_at, order_at, with_made}
 use Rattle.bforest_calls.specs.declared.call.Answer.TheVariants as answer
@@ -8,10 +9,10 @@ use Rattle.bforest_calls.specs.declared.call.Call.{Call}
 use Rattle.bforest_calls_tests.proofs.Changes.{compacted, got-inserted, inserted, scripted, shifted, updated, updated-inserted, united-with}
 use Rattle.bforest_calls_tests.specs.Sparing.{IsSpared, Spares}
 use Rattle.bforest.specs.Refusal.{OutOfMemory}
-use Rattle.std.proofs.Common.{Bool, Err, List, None, Ok, Option, Result, Some, [], ap, false, get_or, inl, inr, length, subst, suc, sym, take, true, zero, ◌<◌, ◌∙◌, ◌∷◌, ◌≡◌, ◌≢◌, ℕ}
+use Rattle.std.proofs.Common.{Bool, Err, List, None, Ok, Option, Result, Some, [], ap, false, get_or, inl, inr, length, refl, subst, suc, sym, take, true, zero, ◌<◌, ◌∙◌, ◌∷◌, ◌≡◌, ◌≢◌, ℕ}
 use Rattle.std.proofs.lemmas.Bool.{cases_eq}
 use Rattle.std.proofs.lemmas.List.Elements.{recursion_from_All}
-use Rattle.std.proofs.lemmas.List.{get_or-set_other, get_or-set_same}
+use Rattle.std.proofs.lemmas.List.{get_or-set_other, get_or-set_same, length-set}
 use Rattle.std.specs.List.{AllByRecursion}
 use Rattle.std.specs.Prelude.{All, IfOk, OnErr, slice_set}
 
@@ -64,6 +65,25 @@ module _ {K V : Type 0} where
         list = b.others m (λ e. absurd (cc)) (λ e. other (sym e));
         sizes = b.others_sizes m (λ e. absurd (cc)) (λ e. other (sym e));
         handles = written m old.handles new.handles h number within other handles;
+      }
+
+  -- a tree that was parted, or not, spares number m
+  parted : (most m : ℕ) (old new : State K V) (h to p : ℕ) (number : Option ℕ) (result : Result (Option ℕ) OutOfMemory) → h < length old.handles → to < length old.handles
+      → list_at old.forest m ≢ [] → number_at old h ≢ Some m → new.handles ≡ with_made to result (slice_set old.handles h number)
+      → SplitsAt most old.forest (number_at old h) p result new.forest number → IsSpared m old new
+  parted most m old new h to p number (Err e) within into here apart handles s = record {
+    list = ap (λ f. list_at f m) s.refused_forest;
+    sizes = ap (λ f. sizes_at f m) s.refused_forest;
+    handles = written m old.handles new.handles h number within (λ e. apart (sym s.refused_handle ∙ e)) handles;
+  }
+  parted most m old new h to p number (Ok tail) within into here apart handles s =
+      let front : number ≢ Some m = λ e. here (subst (λ (q : Option ℕ). list_of old.forest q ≡ []) e (s.fresh (λ d. apart (sym d ∙ e)))) in
+      let behind : tail ≢ Some m = λ e. here (subst (λ (q : Option ℕ). list_of old.forest q ≡ []) e (s.tail_fresh (λ d. apart (sym d ∙ e)))) in
+      let wide : to < length (slice_set old.handles h number) = subst (λ n. to < n) (sym (length-set old.handles h number)) into in
+      record {
+        list = s.others m (λ e. apart (sym e)) (λ e. front (sym e)) (λ e. behind (sym e));
+        sizes = s.others_sizes m (λ e. apart (sym e)) (λ e. front (sym e)) (λ e. behind (sym e));
+        handles = λ j has. written m old.handles (slice_set old.handles h number) h number within front refl j (written m (slice_set old.handles h number) new.handles to tail wide behind handles j has);
       }
 
   -- a call that is not offered changes nothing
@@ -133,6 +153,8 @@ module _ {K V : Type 0} where
       | inl r ↦ same m old new r.1
       | inr r ↦ changed m old new h r.3.2.0 _ r.0.0 here apart r.3.2.1 r.3.2.2.kept
     ]
+    spared-step m old (call.IsSubset h o c) given new here apart s = elim s [ inl r ↦ same m old new r.1 | inr r ↦ same m old new r.3.1 ]
+    spared-step m old (call.IsDisjoint h o c) given new here apart s = elim s [ inl r ↦ same m old new r.1 | inr r ↦ same m old new r.3.1 ]
     spared-step m old (call.Clear h) given new here apart s = elim s [
       | inl r ↦ same m old new r.1
       | inr r ↦ changed m old new h r.3.1.0 _ r.0 here apart r.3.1.1 r.3.1.2.cleared
@@ -162,10 +184,14 @@ module _ {K V : Type 0} where
       | inl r ↦ same m old new r.1
       | inr r ↦ made m old new to r.3.0 _ r.0.1 here r.3.2 r.3.3.copied r.3.3.refused
     ]
-    spared-step m old (call.Load h entries) given new here apart s = offered reads (λ t. elim t [
+    spared-step m old (call.SplitOff h c k to) given new here apart s = elim s [
+      | inl r ↦ same m old new r.1
+      | inr r ↦ parted most m old new h to _ r.3.0 r.3.1 r.0.0 r.0.2 here apart r.3.3 r.3.4.parts
+    ]
+    spared-step m old (call.Load h entries) given new here apart s = elim s [
       | inl r ↦ same m old new r.1
       | inr r ↦ made m old new h r.3.0 _ r.0 here r.3.2 r.3.3.loaded r.3.3.refused
-    ]) (λ l. same m old new (lacking _ old given new l)) s
+    ]
     spared-step m old call.ForestClear given new here apart s = absurd apart
 
     -- a call that spares a tree spares it in a later state too
@@ -187,6 +213,7 @@ module _ {K V : Type 0} where
     later m old mid a (call.Edit h c steps) apart = λ e. apart (a.handles h e)
     later m old mid a (call.Retain h c keys put) apart = λ e. apart (a.handles h e)
     later m old mid a (call.Alias from to) apart = λ e. apart (a.handles from e)
+    later m old mid a (call.SplitOff h c k to) apart = λ e. apart (a.handles h e)
     later m old mid a call apart = apart
 
     all-later : (m : ℕ) (old mid : State K V) → IsSpared m old mid → (calls : List (Call K V)) → AllByRecursion (Spares m old) calls → AllByRecursion (Spares m mid) calls

@@ -28,6 +28,8 @@ exchanged i j (call.RemoveRange h c lo hi) = call.RemoveRange (exchange i j h) c
 exchanged i j (call.Unite h other c) = call.Unite (exchange i j h) (exchange i j other) c
 exchanged i j (call.Intersect h other c) = call.Intersect (exchange i j h) (exchange i j other) c
 exchanged i j (call.Subtract h other c) = call.Subtract (exchange i j h) (exchange i j other) c
+exchanged i j (call.IsSubset h other c) = call.IsSubset (exchange i j h) (exchange i j other) c
+exchanged i j (call.IsDisjoint h other c) = call.IsDisjoint (exchange i j h) (exchange i j other) c
 exchanged i j (call.Clear h) = call.Clear (exchange i j h)
 exchanged i j (call.Iter h) = call.Iter (exchange i j h)
 exchanged i j (call.IterBack h) = call.IterBack (exchange i j h)
@@ -37,6 +39,7 @@ exchanged i j (call.Range h c lo hi ends) = call.Range (exchange i j h) c lo hi 
 exchanged i j (call.Retain h c keys put) = call.Retain (exchange i j h) c keys put
 exchanged i j (call.Alias from to) = call.Alias (exchange i j from) (exchange i j to)
 exchanged i j (call.DeepClone from to) = call.DeepClone (exchange i j from) (exchange i j to)
+exchanged i j (call.SplitOff h c k to) = call.SplitOff (exchange i j h) c k (exchange i j to)
 exchanged i j (call.Load h entries) = call.Load (exchange i j h) entries
 exchanged i j call.ForestClear = call.ForestClear
 

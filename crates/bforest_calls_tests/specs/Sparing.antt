@@ -27,6 +27,7 @@ module _ {K V : Type 0} where
   Spares m state (call.Edit h c steps) = number_at state h ≢ Some m
   Spares m state (call.Retain h c keys put) = number_at state h ≢ Some m
   Spares m state (call.Alias from to) = number_at state from ≢ Some m
+  Spares m state (call.SplitOff h c k to) = number_at state h ≢ Some m
   Spares m state call.ForestClear = ⊥
   Spares m state reading = Unit {0}
 

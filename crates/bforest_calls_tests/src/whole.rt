@@ -31,8 +31,22 @@ fn unite(h: usize, other: usize) -> Call<u32, ()> {
     Call::Unite { h, other, c: ORDER }
 }
 
-/// Calls on the keys 10, 20 and 30, and on a copy.
-fn calls() -> [Call<u32, ()>; 17] {
+fn is_subset(h: usize, other: usize) -> Call<u32, ()> {
+    Call::IsSubset { h, other, c: ORDER }
+}
+
+fn is_disjoint(h: usize, other: usize) -> Call<u32, ()> {
+    Call::IsDisjoint { h, other, c: ORDER }
+}
+
+/// The keys of the first set from 20 on go to another handle.
+fn split_off(to: usize) -> Call<u32, ()> {
+    let (h, c, k) = (FILLED, ORDER, 20);
+    Call::SplitOff { h, c, k, to }
+}
+
+/// Calls on the keys 10, 20 and 30, and on a copy. The load at the end is of `entries`.
+fn calls(entries: Vec<(u32, ())>) -> [Call<u32, ()>; 26] {
     [
         insert(10),
         insert(20),
@@ -69,13 +83,23 @@ fn calls() -> [Call<u32, ()>; 17] {
         Call::Compact { h: COPY },
         intersect(COPY, COPY),
         Call::Iter { h: TAIL },
+        is_subset(COPY, TAIL),
+        is_disjoint(COPY, TAIL),
+        // 10 is left in the first, and 20 and 30 are in the copy.
+        split_off(COPY),
+        split_off(FILLED),
+        is_disjoint(FILLED, COPY),
+        is_subset(COPY, TAIL),
+        is_subset(TAIL, COPY),
         subtract(TAIL, TAIL),
+        Call::Len { h: TAIL },
+        Call::Load { h: TAIL, entries },
         Call::Len { h: TAIL },
     ]
 }
 
 /// Their answers, where the entries of the third one are `tail`.
-fn wanted(tail: Vec<(u32, ())>) -> [Answer<u32, ()>; 17] {
+fn wanted(tail: Vec<(u32, ())>) -> [Answer<u32, ()>; 26] {
     [
         Answer::Put(Ok(None)),
         Answer::Put(Ok(None)),
@@ -92,8 +116,17 @@ fn wanted(tail: Vec<(u32, ())>) -> [Answer<u32, ()>; 17] {
         Answer::Made(Ok(())),
         Answer::Changed(false),
         Answer::Pairs(tail),
+        Answer::Holds(true),
+        Answer::Holds(false),
+        Answer::Made(Ok(())),
+        Answer::NoIndex,
+        Answer::Holds(true),
+        Answer::Holds(true),
+        Answer::Holds(true),
         Answer::Changed(true),
         Answer::Count(0),
+        Answer::Made(Ok(())),
+        Answer::Count(2),
     ]
 }
 
@@ -101,18 +134,23 @@ fn are(answers: &[Answer<u32, ()>], wanted: &[Answer<u32, ()>]) -> bool {
     answers == wanted
 }
 
-fn are_right(alloc: Global) -> Result<bool, AllocError> {
+/// The entries 20 and 30.
+fn tail(alloc: Global) -> Result<Vec<(u32, ())>, AllocError> {
     let mut tail = Vec::new(alloc);
     tail.push((20, ()))?;
     tail.push((30, ()))?;
+    Ok(tail)
+}
+
+fn are_right(alloc: Global) -> Result<bool, AllocError> {
     let answers = run_set(
         alloc,
-        &calls(),
+        &calls(tail(alloc)?),
         &[()],
         &mut [Set::new(), Set::new(), Set::new()],
         &mut SetForest::new(alloc),
     )?;
-    Ok(are(&answers, &wanted(tail)))
+    Ok(are(&answers, &wanted(tail(alloc)?)))
 }
 
 #[test]

@@ -69,6 +69,7 @@ module _ {V : Type 0} (value_text : Option V → List ℕ) (entry_text : ℕ × 
   answer_text (answer.Changed so) = truth_text so
   answer_text (answer.United (Ok so)) = truth_text so
   answer_text (answer.United (Err why)) = refusal_text why
+  answer_text (answer.Holds so) = truth_text so
   answer_text answer.Done = codes "ok"
   answer_text answer.NoIndex = codes "no index"
   answer_text answer.Dead = codes "dead"

@@ -120,7 +120,9 @@ impl<V: Shows> fmt::Display for Told<V> {
                 write!(f, "{}", Refusal(*why))
             }
             Told::Answer(Answer::Count(n)) => write!(f, "{n}"),
-            Told::Answer(Answer::Changed(so) | Answer::United(Ok(so))) => write!(f, "{so}"),
+            Told::Answer(Answer::Changed(so) | Answer::United(Ok(so)) | Answer::Holds(so)) => {
+                write!(f, "{so}")
+            }
             Told::Answer(Answer::NoIndex) => write!(f, "no index"),
             Told::Answer(Answer::Dead) => write!(f, "dead"),
             Told::Answer(Answer::Unordered) => write!(f, "unordered"),

@@ -221,6 +221,8 @@ fn of_two_maps_or_sets_only_a_union_calls_the_allocator() {
         (map, set)
     });
     let (map, set) = &mut all;
+    assert_eq!(calls_of(|| map.is_subset(&odd.0, &forest, &())), 0);
+    assert_eq!(calls_of(|| map.is_disjoint(&odd.0, &forest, &())), 0);
     assert_eq!(calls_of(|| set.is_subset(&odd.1, &set_forest, &())), 0);
     assert_eq!(calls_of(|| set.is_disjoint(&odd.1, &set_forest, &())), 0);
     // Where nothing is new there is no list.

@@ -367,7 +367,9 @@ fn insertions_far_from_a_cursor() {
 /// A call on two handles in a forest, by its name, with how often it compares at most for each entry of either.
 type OfTwo<H, F> = (&'static str, u32, fn(&mut H, &H, &mut F, &Counting));
 
-const OF_TWO_MAPS: [OfTwo<Map<u32, u32>, MapForest<u32, u32>>; 3] = [
+const OF_TWO_MAPS: [OfTwo<Map<u32, u32>, MapForest<u32, u32>>; 5] = [
+    ("is_subset", 1, |map, other, forest, comp| _ = map.is_subset(other, forest, comp)),
+    ("is_disjoint", 1, |map, other, forest, comp| _ = map.is_disjoint(other, forest, comp)),
     ("union_with", 2, |map, other, forest, comp| _ = map.union_with(other, forest, comp).unwrap()),
     ("intersect_with", 1, |map, other, forest, comp| _ = map.intersect_with(other, forest, comp)),
     ("difference_with", 1, |map, other, forest, comp| _ = map.difference_with(other, forest, comp)),

@@ -20,7 +20,7 @@ type NumbersForest = MapForest<u32, u32>;
 type MapCall = Call<Numbers, NumbersForest>;
 type SetCall = Call<Set<u32>, SetForest<u32>>;
 
-const OF_MAPS: [(&str, MapCall); 34] = [
+const OF_MAPS: [(&str, MapCall); 36] = [
     ("get", |map, forest| _ = map.get(1, forest, &())),
     ("update", |map, forest| _ = map.update(1, |value| value + 1, forest, &())),
     ("get_or_less", |map, forest| _ = map.get_or_less(1, forest, &())),
@@ -36,6 +36,8 @@ const OF_MAPS: [(&str, MapCall); 34] = [
     ("pop_last", |map, forest| _ = map.pop_last(forest)),
     ("clear", |map, forest| map.clear(forest)),
     ("deep_clone", |map, forest| _ = map.deep_clone(forest)),
+    ("is_subset", |map, forest| _ = map.is_subset(&map.clone(), forest, &())),
+    ("is_disjoint", |map, forest| _ = map.is_disjoint(&map.clone(), forest, &())),
     ("union_with", |map, forest| _ = map.union_with(&map.clone(), forest, &())),
     ("intersect_with", |map, forest| _ = map.intersect_with(&map.clone(), forest, &())),
     ("difference_with", |map, forest| _ = map.difference_with(&map.clone(), forest, &())),
@@ -417,7 +419,9 @@ fn a_second_clear_through_a_copy() {
 /// A call on a handle and another one in a forest.
 type CallOfTwo<H, F> = (&'static str, fn(&mut H, &H, &mut F));
 
-const OF_TWO_MAPS: [CallOfTwo<Numbers, NumbersForest>; 3] = [
+const OF_TWO_MAPS: [CallOfTwo<Numbers, NumbersForest>; 5] = [
+    ("is_subset", |map, other, forest| _ = map.is_subset(other, forest, &())),
+    ("is_disjoint", |map, other, forest| _ = map.is_disjoint(other, forest, &())),
     ("union_with", |map, other, forest| _ = map.union_with(other, forest, &())),
     ("intersect_with", |map, other, forest| _ = map.intersect_with(other, forest, &())),
     ("difference_with", |map, other, forest| _ = map.difference_with(other, forest, &())),

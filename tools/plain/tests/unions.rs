@@ -302,8 +302,11 @@ fn maps_keep_their_values() {
         let [mut mine, mut less] = [1, 2].map(|value| map_of(a.iter().copied(), value, &mut forest));
         let other = map_of(b.iter().copied(), 3, &mut forest);
         let common = a.intersection(&b).count();
+        assert_eq!(mine.is_subset(&other, &forest, &()), a.is_subset(&b));
+        assert_eq!(mine.is_disjoint(&other, &forest, &()), a.is_disjoint(&b));
         assert_eq!(mine.intersect_with(&other, &mut forest, &()), common < a.len());
         assert_eq!(less.difference_with(&other, &mut forest, &()), common > 0);
+        assert!(mine.is_subset(&other, &forest, &()) && less.is_disjoint(&other, &forest, &()) && mine.is_disjoint(&less, &forest, &()));
         assert!(mine.iter(&forest).eq(a.intersection(&b).map(|&key| (key, 1))));
         assert!(less.iter(&forest).eq(a.difference(&b).map(|&key| (key, 2))));
         assert!(other.iter(&forest).eq(b.iter().map(|&key| (key, 3))));

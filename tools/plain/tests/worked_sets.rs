@@ -88,7 +88,9 @@ fn two_maps_are_put_together() {
     }
     assert_eq!(map.update(5, |_| 'c', &mut forest, &()), Some('c'));
     assert_eq!(map.update(6, |_| 'd', &mut forest, &()), None);
+    assert_eq!((map.is_subset(&other, &forest, &()), map.is_disjoint(&other, &forest, &())), (false, false));
     assert_eq!(map.union_with(&other, &mut forest, &()), Ok(true));
+    assert!(other.is_subset(&map, &forest, &()));
     assert!(map.iter_back(&forest).eq([(7, 'b'), (5, 'c'), (3, 'a'), (1, 'a')]));
     assert!(map.intersect_with(&other, &mut forest, &()) && map.iter(&forest).eq([(3, 'a'), (5, 'c'), (7, 'b')]));
     assert!(map.difference_with(&other, &mut forest, &()) && map.is_empty());

@@ -72,7 +72,14 @@ pub(super) fn copies(map: &Map<u32, u32>, forest: &mut MapForest<u32, u32>) -> b
         return false;
     }
     let went = copy.remove_range((Bound::Included(2), Bound::Excluded(MIDDLE)), forest, &());
-    went && takes(&mut copy, map, forest)
+    if !forest.holds(&copy) || !copy.increases(forest, &()) {
+        return false;
+    }
+    if !forest.holds(map) || !map.increases(forest, &()) {
+        return false;
+    }
+    let within = copy.is_subset(map, forest, &());
+    went && within && !copy.is_disjoint(map, forest, &()) && takes(&mut copy, map, forest)
 }
 
 // Keeps what another map has, and then what it has not, which is nothing.

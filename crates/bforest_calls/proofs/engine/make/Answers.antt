@@ -34,4 +34,10 @@ pub returns-in-DeepClone-clause-step : goal.returns-in-DeepClone-clause-step
 returns-in-DeepClone-clause-step g c = rw c.in-DeepClone.is (c.deep_clone.ensures (map g.C.Comparator.order c.args.comps.now))
 
 pub returns-in-Load-clause-step : goal.returns-in-Load-clause-step
-returns-in-Load-clause-step g c = rw c.in-Load.is (c.load.ensures (map g.C.Comparator.order c.args.comps.now))
+returns-in-Load-clause-step g c = rw c.in-Load.is (c.load.ensures.step (map g.C.Comparator.order c.args.comps.now))
+
+pub returns-in-Load-clause-room : goal.returns-in-Load-clause-room
+returns-in-Load-clause-room g c = rw c.in-Load.is (c.load.ensures.room (map g.C.Comparator.order c.args.comps.now))
+
+pub returns-in-SplitOff-clause-step : goal.returns-in-SplitOff-clause-step
+returns-in-SplitOff-clause-step g c = rw c.in-SplitOff.is c.split_off.ensures

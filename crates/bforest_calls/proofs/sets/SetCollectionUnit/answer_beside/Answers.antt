@@ -3,7 +3,7 @@ use Rattle.bforest_calls.proofs.sets.SetCollectionUnit.answer_beside.Goals as go
 use Rattle.std.proofs.Common.{refl}
 
 pub unreachable-requires : goal.unreachable-requires
-unreachable-requires g c = let d = c.in_default in beside-alone c.args.call.now c.requires.beside d.not-Unite d.not-Intersect d.not-Subtract
+unreachable-requires g c = let d = c.in_default in beside-alone c.args.call.now c.requires.beside d.not-Unite d.not-Intersect d.not-Subtract d.not-IsSubset d.not-IsDisjoint
 
 pub returns-in-Intersect : goal.returns-in-Intersect
 returns-in-Intersect g c = record { makes = rw c.in-Intersect.is (c.intersect_with.result, refl, c.intersect_with.ensures) }
