@@ -17,9 +17,9 @@ use Rattle.bforest_core.specs.declared.pool.OutOfMemory.{OutOfMemory}
 use Rattle.bforest_nodes.specs.Entries.{cut, put, with_value}
 use Rattle.bforest_trees.specs.Calls.{as_inserted}
 use Rattle.bforest_trees.specs.Forest.{list_at, sizes_at}
-use Rattle.std.proofs.Common.{Bool, Err, List, None, Ok, Option, Result, Some, [], ap, arith, false, if◌then◌else◌, inl, inr, length, refl, remove, subst, sym, take, true, ◌%◌, ◌+◌, ◌++◌, ◌∙◌, ◌≡◌, ◌≢◌, ◌≤◌, ◌⊎◌, ℕ}
+use Rattle.std.proofs.Common.{Bool, Err, List, None, Ok, Option, Result, Some, [], ap, arith, false, if◌then◌else◌, inl, inr, length, refl, remove, subst, sym, take, true, ◌%◌, ◌++◌, ◌∙◌, ◌≡◌, ◌≢◌, ◌≤◌, ℕ}
 use Rattle.std.proofs.lemmas.Bool.{and_parts}
-use Rattle.std.proofs.lemmas.Bool.Decides.{eqb_tells, leb_tells}
+use Rattle.std.proofs.lemmas.Bool.Decides.{leb_tells}
 use Rattle.std.specs.Fn.{Once}
 use Rattle.std.specs.declared.cmp.Ordering.{Ordering}
 use Rattle.std.specs.declared.ops.Bound.{Bound}

@@ -14,17 +14,17 @@ use Rattle.std.proofs.Math.ListN.{set}
 use Rattle.std.proofs.lemmas.List.{set-get_or}
 
 module _ {K V : Type 0} where
-  -- a call with more to test is refused where one test less refuses it
-  pub refuses-too : {there all : Type 0} (live ordered : Type 0) (given : Answer K V) → (all → there) → (there → all) → Refuses there live (Unit {0}) given
-      → Refuses all live ordered given
-  refuses-too live ordered answer.NoIndex first more r = λ w. r (first w)
-  refuses-too live ordered answer.Dead first more r = (more r.0, r.1)
-  refuses-too live ordered answer.Unordered first more r = absurd (r.2 tt)
-  refuses-too live ordered given first more r = absurd r
+  -- a call with more to test is refused where fewer tests refuse it
+  pub refuses-too : {there all : Type 0} (live ordered ordered' : Type 0) (given : Answer K V) → (all → there) → (there → all) → (ordered' → ordered)
+      → Refuses there live ordered given → Refuses all live ordered' given
+  refuses-too live ordered ordered' answer.NoIndex first more up r = λ w. r (first w)
+  refuses-too live ordered ordered' answer.Dead first more up r = (more r.0, r.1)
+  refuses-too live ordered ordered' answer.Unordered first more up r = (more r.0, r.1, λ o. r.2 (up o))
+  refuses-too live ordered ordered' given first more up r = absurd r
 
   pub refuses-more : (there more live ordered : Type 0) (given : Answer K V) → more → Refuses there live (Unit {0}) given
       → Refuses (there × more) live ordered given
-  refuses-more there more live ordered given m r = refuses-too live ordered given (λ w. w.0) (λ t. (t, m)) r
+  refuses-more there more live ordered given m r = refuses-too live (Unit {0}) ordered given (λ w. w.0) (λ t. (t, m)) (λ o. tt) r
 
   -- what is made is told otherwise
   then : {there live ordered M N : Type 0} {old new : State K V} (given : Answer K V) → (M → N) → Tests there live ordered old given new M

@@ -11,5 +11,6 @@ pub mod Packing
 pub mod Pairing
 pub mod Runs
 pub mod Sums
+pub mod Telling
 pub mod Units
 pub mod Updating

@@ -33,6 +33,21 @@ module _ {K V : Type 0} where
   IsComparing reads h c (call.RemoveRange a b lo hi) = (a ≡ h) × (b ≡ c)
   IsComparing reads h c other = ⊥
 
+  -- the call is such a call, and leaves a list that increases under the comparator
+  abbrev pub IsKeeping : ℕ → ℕ → Call K V → Type 0
+  IsKeeping h c (call.Get a b k) = (a ≡ h) × (b ≡ c)
+  IsKeeping h c (call.GetOrLess a b k) = (a ≡ h) × (b ≡ c)
+  IsKeeping h c (call.GetOrGreater a b k) = (a ≡ h) × (b ≡ c)
+  IsKeeping h c (call.Insert a b k v) = (a ≡ h) × (b ≡ c)
+  IsKeeping h c (call.GetOrInsert a b k v) = (a ≡ h) × (b ≡ c)
+  IsKeeping h c (call.Update a b k v) = (a ≡ h) × (b ≡ c)
+  IsKeeping h c (call.UpdateOrInsert a b k v put) = (a ≡ h) × (b ≡ c)
+  IsKeeping h c (call.Remove a b k) = (a ≡ h) × (b ≡ c)
+  IsKeeping h c (call.Read a b steps) = (a ≡ h) × (b ≡ c)
+  IsKeeping h c (call.Range a b lo hi ends) = (a ≡ h) × (b ≡ c)
+  IsKeeping h c (call.RemoveRange a b lo hi) = (a ≡ h) × (b ≡ c)
+  IsKeeping h c other = ⊥
+
   -- the call is such a call, and only maps offer it
   abbrev pub IsOfMaps : ℕ → ℕ → Call K V → Type 0
   IsOfMaps h c (call.GetOrInsert a b k v) = (a ≡ h) × (b ≡ c)

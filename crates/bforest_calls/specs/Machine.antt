@@ -126,6 +126,11 @@ module _ {K V : Type 0} where
   abbrev pub Passes : Orders K → State K V → ℕ → ℕ → Type 0
   Passes orders state h c = (h < length state.handles) × (c < length orders) × Live state h × Ordered orders state h c
 
+  -- what is known of a state: nothing, or of a handle and a comparator, by their indices, that a call that compares keys passes all tests
+  abbrev pub IsKnown : Orders K → State K V → Option (ℕ × ℕ) → Type 0
+  IsKnown orders state None = Unit {0}
+  IsKnown orders state (Some known) = Passes orders state known.0 known.1
+
   -- Memory is requested: for the answer of a call, which is a list, where the call is offered and passes its tests; and for the keys of a
   -- set that is loaded. `reads` is whether the calls that only maps have are offered.
   abbrev pub AsksRoom : (reads : Bool) → Orders K → State K V → Call K V → Type 0

@@ -1,11 +1,11 @@
 //! One call, and the tests before it.
 ghost use Rattle.bforest_calls.specs.Beside.{IsBeside};
-ghost use Rattle.bforest_calls.specs.Compared.{IsComparing, IsOfMaps};
+ghost use Rattle.bforest_calls.specs.Compared.{IsComparing, IsKeeping, IsOfMaps};
 ghost use Rattle.bforest_calls.specs.Alone.{IsAlone};
-ghost use Rattle.bforest_calls.specs.Machine.{AsksRoom, Lacks, Live, Refuses, Step};
+ghost use Rattle.bforest_calls.specs.Machine.{AsksRoom, IsKnown, Lacks, Live, Ordered, Passes, Refuses, State, Step};
 ghost use Rattle.bforest_calls.specs.declared.call.Answer.TheVariants as answer;
 ghost use Rattle.bforest_calls.specs.declared.call.Call.TheVariants as call;
-ghost use Rattle.std.specs.Prelude.{Err, IfErr, IfOk, IfSome, None, Ok, OnErr, false, length, map, slice_set, ◌<◌, ◌≡◌, ℕ};
+ghost use Rattle.std.specs.Prelude.{Err, IfErr, IfOk, IfSome, None, Ok, Bool, OnErr, false, length, map, slice_set, ◌<◌, ◌≡◌, ℕ};
 
 use crate::call::{Answer, Call};
 use crate::collection::Collection;
@@ -14,6 +14,11 @@ use std::alloc::{AllocError, Global};
 
 /// Makes one call, on maps or on sets. Handles and orders may be any: the call tests them. Room for its answer is taken before anything
 /// changes.
+///
+/// `known` is a handle that is live, and a comparator under which its list increases, by their indices, or `None`. What it names is not
+/// tested again. Afterwards it is what the call tells: the handle and the comparator of a call that compared keys, if it was made and is
+/// no shift and no script of a writing cursor. So in a row of such calls on one handle by one comparator, the first alone reads the whole
+/// list.
 ///
 /// # Errors
 ///
@@ -24,8 +29,69 @@ pub fn make<K: Copy, V: Copy, C: Comparator<K>, T: Collection<K, V>>(
     comps: &[C],
     handles: &mut [T],
     forest: &mut T::Forest,
+    known: &mut Option<(usize, usize)>,
 ) -> Result<Answer<K, V>, AllocError>
     requires fits { T.fits }
+    requires known { IsKnown (map C.order comps.now)
+        (record { forest = T.trees forest.old; handles = T.numbers handles.old }) known.old }
+    ensures step { IfOk result (λ given. Step T.most T.READS (map C.order comps.now)
+        (record { forest = T.trees forest.old; handles = T.numbers handles.old }) call.now given
+        (record { forest = T.trees forest.new; handles = T.numbers handles.new })) }
+    ensures room { OnErr result (AsksRoom T.READS (map C.order comps.now)
+        (record { forest = T.trees forest.old; handles = T.numbers handles.old }) call.now) }
+    ensures err_forest { OnErr result (forest.new ≡ forest.old) }
+    ensures err_handles { OnErr result (handles.new ≡ handles.old) }
+    ensures known { IsKnown (map C.order comps.now)
+        (record { forest = T.trees forest.new; handles = T.numbers handles.new }) known.new }
+{
+    let given = make_by(alloc, call, comps, handles, forest, *known)?;
+    *known = known_by(call, &given);
+    Ok(given)
+}
+
+/// What an answer tells of the handle and the comparator of its call.
+fn known_by<K: Copy, V: Copy>(call: &Call<K, V>, given: &Answer<K, V>) -> Option<(usize, usize)>
+    ensures { (most : ℕ) (reads : Bool) (orders : _) (old new : State K V) → Step most reads orders old call.now given.now new
+        → IsKnown orders new result }
+{
+    match given {
+        Answer::NoIndex | Answer::Dead | Answer::Unordered | Answer::NotOffered => None,
+        _ => kept_by(call),
+    }
+}
+
+/// The handle and the comparator of a call that compares keys and keeps the list increasing.
+fn kept_by<K: Copy, V: Copy>(call: &Call<K, V>) -> Option<(usize, usize)>
+    ensures keeping { IfSome result (λ it. IsKeeping it.0 it.1 call.now) }
+{
+    match call {
+        Call::Get { h, c, .. }
+        | Call::GetOrLess { h, c, .. }
+        | Call::GetOrGreater { h, c, .. }
+        | Call::Insert { h, c, .. }
+        | Call::GetOrInsert { h, c, .. }
+        | Call::Update { h, c, .. }
+        | Call::UpdateOrInsert { h, c, .. }
+        | Call::Remove { h, c, .. }
+        | Call::Read { h, c, .. }
+        | Call::Range { h, c, .. }
+        | Call::RemoveRange { h, c, .. } => Some((*h, *c)),
+        _ => None,
+    }
+}
+
+/// Makes one call, and does not test what is known.
+fn make_by<K: Copy, V: Copy, C: Comparator<K>, T: Collection<K, V>>(
+    alloc: Global,
+    call: &Call<K, V>,
+    comps: &[C],
+    handles: &mut [T],
+    forest: &mut T::Forest,
+    known: Option<(usize, usize)>,
+) -> Result<Answer<K, V>, AllocError>
+    requires fits { T.fits }
+    requires known { IsKnown (map C.order comps.now)
+        (record { forest = T.trees forest.old; handles = T.numbers handles.old }) known }
     ensures step { IfOk result (λ given. Step T.most T.READS (map C.order comps.now)
         (record { forest = T.trees forest.old; handles = T.numbers handles.old }) call.now given
         (record { forest = T.trees forest.new; handles = T.numbers handles.new })) }
@@ -43,13 +109,15 @@ pub fn make<K: Copy, V: Copy, C: Comparator<K>, T: Collection<K, V>>(
         | Call::Shift { h, c, .. }
         | Call::Edit { h, c, .. }
         | Call::Range { h, c, .. }
-        | Call::RemoveRange { h, c, .. } => compare(alloc, call, *h, *c, comps, handles, forest),
+        | Call::RemoveRange { h, c, .. } => {
+            compare(alloc, call, *h, *c, known, comps, handles, forest)
+        }
         Call::GetOrInsert { h, c, .. }
         | Call::Update { h, c, .. }
         | Call::UpdateOrInsert { h, c, .. }
         | Call::Read { h, c, .. } => {
             if T::READS {
-                compare(alloc, call, *h, *c, comps, handles, forest)
+                compare(alloc, call, *h, *c, known, comps, handles, forest)
             } else {
                 Ok(not_offered(call, *h, *c, comps, handles))
             }
@@ -73,7 +141,9 @@ pub fn make<K: Copy, V: Copy, C: Comparator<K>, T: Collection<K, V>>(
         Call::IterBack { h } => iter_back(alloc, *h, handles, forest),
         Call::Alias { from, to } => Ok(alias(*from, *to, handles)),
         Call::DeepClone { from, to } => Ok(deep_clone(*from, *to, handles, forest)),
-        Call::SplitOff { h, c, k, to } => Ok(split_off(*h, *c, *k, *to, comps, handles, forest)),
+        Call::SplitOff { h, c, k, to } => {
+            Ok(split_off(*h, *c, *k, *to, known, comps, handles, forest))
+        }
         Call::Load { h, entries } => load(alloc, *h, entries, handles, forest),
         Call::ForestClear => {
             T::clear_all(forest);
@@ -103,17 +173,58 @@ fn unnamed<K: Copy, V: Copy, T: Collection<K, V>>(
     None
 }
 
+/// The answer to a call on handle `h` that compares keys by comparator `c` and cannot be made; `None` where it can.
+fn refusal<K: Copy, V: Copy, C: Comparator<K>, T: Collection<K, V>>(
+    h: usize,
+    c: usize,
+    known: Option<(usize, usize)>,
+    comps: &[C],
+    handles: &[T],
+    forest: &T::Forest,
+) -> Option<Answer<K, V>>
+    requires fits { T.fits }
+    requires known { IsKnown (map C.order comps.now)
+        (record { forest = T.trees forest.now; handles = T.numbers handles.now }) known }
+    ensures made { result ≡ None → Passes (map C.order comps.now)
+        (record { forest = T.trees forest.now; handles = T.numbers handles.now }) h c }
+    ensures refused { IfSome result (Refuses
+        ((h < length (T.numbers handles.now)) × (c < length (map C.order comps.now)))
+        (Live (record { forest = T.trees forest.now; handles = T.numbers handles.now }) h)
+        (Ordered (map C.order comps.now)
+        (record { forest = T.trees forest.now; handles = T.numbers handles.now }) h c)) }
+{
+    if let Some((handle, order)) = known
+        && handle == h
+        && order == c
+    {
+        return None;
+    }
+    if c >= comps.len() {
+        return Some(Answer::NoIndex);
+    }
+    if let Some(given) = unnamed(h, handles, forest) {
+        return Some(given);
+    }
+    if !handles[h].increases(forest, &comps[c]) {
+        return Some(Answer::Unordered);
+    }
+    None
+}
+
 /// Makes a call on handle `h` that compares keys by comparator `c`.
 fn compare<K: Copy, V: Copy, C: Comparator<K>, T: Collection<K, V>>(
     alloc: Global,
     call: &Call<K, V>,
     h: usize,
     c: usize,
+    known: Option<(usize, usize)>,
     comps: &[C],
     handles: &mut [T],
     forest: &mut T::Forest,
 ) -> Result<Answer<K, V>, AllocError>
     requires fits { T.fits }
+    requires known { IsKnown (map C.order comps.now)
+        (record { forest = T.trees forest.old; handles = T.numbers handles.old }) known }
     requires compares { IsComparing T.READS h c call.now }
     ensures step { IfOk result (λ given. Step T.most T.READS (map C.order comps.now)
         (record { forest = T.trees forest.old; handles = T.numbers handles.old }) call.now given
@@ -123,14 +234,8 @@ fn compare<K: Copy, V: Copy, C: Comparator<K>, T: Collection<K, V>>(
     ensures err_forest { OnErr result (forest.new ≡ forest.old) }
     ensures err_handles { OnErr result (handles.new ≡ handles.old) }
 {
-    if c >= comps.len() {
-        return Ok(Answer::NoIndex);
-    }
-    if let Some(given) = unnamed(h, handles, forest) {
-        return Ok(given);
-    }
-    if !handles[h].increases(forest, &comps[c]) {
-        return Ok(Answer::Unordered);
+    if let Some(refused) = refusal(h, c, known, comps, handles, forest) {
+        return Ok(refused);
     }
     let given = handles[h].answer(alloc, call, forest, &comps[c])?;
     Ok(given)
@@ -341,26 +446,25 @@ fn split_off<K: Copy, V: Copy, C: Comparator<K>, T: Collection<K, V>>(
     c: usize,
     k: K,
     to: usize,
+    known: Option<(usize, usize)>,
     comps: &[C],
     handles: &mut [T],
     forest: &mut T::Forest,
 ) -> Answer<K, V>
     requires fits { T.fits }
+    requires known { IsKnown (map C.order comps.now)
+        (record { forest = T.trees forest.old; handles = T.numbers handles.old }) known }
     ensures { Step T.most T.READS (map C.order comps.now)
         (record { forest = T.trees forest.old; handles = T.numbers handles.old }) (call.SplitOff h c k to) result
         (record { forest = T.trees forest.new; handles = T.numbers handles.new }) }
 {
-    if c >= comps.len() || to >= handles.len() || to == h {
+    if to >= handles.len() || to == h {
         return Answer::NoIndex;
     }
-    if let Some(given) = unnamed(h, handles, forest) {
-        return given;
+    if let Some(refused) = refusal(h, c, known, comps, handles, forest) {
+        return refused;
     }
-    let comp = &comps[c];
-    if !handles[h].increases(forest, comp) {
-        return Answer::Unordered;
-    }
-    let tail = handles[h].split_off(k, forest, comp);
+    let tail = handles[h].split_off(k, forest, &comps[c]);
     name(tail, to, handles)
 }
 

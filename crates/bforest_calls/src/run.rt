@@ -27,8 +27,9 @@ pub(crate) fn run<K: Copy, V: Copy, C: Comparator<K>, T: Collection<K, V>>(
         (record { forest = T.trees forest.new; handles = T.numbers handles.new }) calls.now n) }
 {
     let mut answers = Vec::with_capacity(alloc, calls.len())?;
+    let mut known = None;
     for call in calls {
-        let given = make(alloc, call, comps, handles, forest)?;
+        let given = make(alloc, call, comps, handles, forest, &mut known)?;
         answers.push(given).unwrap();
     }
     Ok(answers)

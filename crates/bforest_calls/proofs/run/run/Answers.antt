@@ -36,6 +36,7 @@ loop-call-preserved g c =
           (record { forest = t.trees c.make.new.forest; handles = t.numbers c.make.new.handles }) c.push.new.self.items
           l.invariant.run c.in_ok-given.ensures.step c.loop-call-test.true c.call-item.is
           (pushed (is_ok c.push.result) _ _ _ (ap is_ok c.unwrap.ensures) c.push.ensures.items);
+      known = c.make.ensures.known;
       told = pushed (is_ok c.push.result) _ _ _ (ap is_ok c.unwrap.ensures) c.push.ensures.len ∙ ap (λ n. n + 1) l.invariant.told;
       room = room-stays (length c.args.calls.now) _ _ l.invariant.room c.push.ensures.capacity;
     }

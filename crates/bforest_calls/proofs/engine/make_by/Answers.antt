@@ -1,4 +1,4 @@
-use Rattle.bforest_calls.proofs.engine.make.Goals as goal
+use Rattle.bforest_calls.proofs.engine.make_by.Goals as goal
 use Rattle.bforest_calls.specs.Machine.{State, Step}
 use Rattle.std.proofs.Common.{map, subst, sym, ◌∙◌}
 
