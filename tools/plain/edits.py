@@ -348,7 +348,7 @@ PROGRAM = [
     (r"\b_?alloc: Global(?:,\s*|(?=\)))", ""),
     (r"^use bforest_indexed::", "use bforest::"),
     (r"rt: HostRuntime|rt\.alloc\(\)(?:, )?", ""),
-    (r"\balloc, ", ""),
+    (r"\balloc,\s+", ""),
     (r"\.collect\(alloc\)", ".try_collected()"),
     (r"\(alloc\)", "()"),
     (r"\bformat!\(in alloc; (.*)\)(?=[?;,]|$)", r"crate::fallible::text(format_args!(\1))"),

@@ -1,6 +1,6 @@
 //! The handles that lines name, of maps or of sets, and their answers to lines.
 ghost use Rattle.bforest.specs.Forest.{IsLive, free_of, sizes_of, slots_of};
-ghost use Rattle.bforest_calls.specs.Machine.{Live, State, Step, number_at};
+ghost use Rattle.bforest_calls.specs.Machine.{IsKnown, Live, State, Step, number_at};
 ghost use Rattle.bforest_run.specs.Answers.{IsBadBy, Tells, TellsBy, all_orders};
 ghost use Rattle.bforest_run.specs.Grammar.{Says, Spells};
 ghost use Rattle.bforest_run.specs.Shown.{answer_text, told_text};
@@ -38,6 +38,8 @@ pub(crate) trait Handle<V: Spelled>: Collection<u32, V> {
 pub(crate) struct Handles<V: Spelled, T: Handle<V>> {
     pub(crate) forest: T::Forest,
     pub(crate) handles: [T; HANDLE_COUNT],
+    /// What the last call told: which handle is live, and an order under which its list increases, by their indices.
+    pub(crate) known: Option<(usize, usize)>,
 }
 
 impl<V: Spelled, T: Handle<V>> Model for Handles<V, T> {
@@ -45,7 +47,8 @@ impl<V: Spelled, T: Handle<V>> Model for Handles<V, T> {
 
     ghost view = { λ it. record { forest = T.trees it.forest; handles = T.numbers it.handles } };
 
-    ghost invariant = { λ it. T.fits };
+    ghost invariant = { λ it. T.fits × IsKnown all_orders
+        (record { forest = T.trees it.forest; handles = T.numbers it.handles }) it.known };
 }
 
 impl<V: Spelled, T: Handle<V>> Handles<V, T> {
@@ -65,7 +68,14 @@ impl<V: Spelled, T: Handle<V>> Handles<V, T> {
     fn make(&mut self, alloc: Global, call: Call<u32, V>) -> Result<Answer<u32, V>, AllocError>
         ensures { IfOk result (λ given. Step T.most T.READS all_orders self.old call given self.new) }
     {
-        make(alloc, &call, &ORDERS, &mut self.handles, &mut self.forest)
+        make(
+            alloc,
+            &call,
+            &ORDERS,
+            &mut self.handles,
+            &mut self.forest,
+            &mut self.known,
+        )
     }
 
     /// Whether a handle is live.

@@ -15,6 +15,7 @@ pub(crate) fn maps(alloc: Global, limit: u32) -> Handles<u32, Map<u32, u32>>
     Handles {
         forest: MapForest::with_node_limit(alloc, limit),
         handles: array::from_fn(|_| Map::new()),
+        known: None,
     }
 }
 

@@ -15,6 +15,7 @@ pub(crate) fn sets(alloc: Global, limit: u32) -> Handles<(), Set<u32>>
     Handles {
         forest: SetForest::with_node_limit(alloc, limit),
         handles: array::from_fn(|_| Set::new()),
+        known: None,
     }
 }
 
