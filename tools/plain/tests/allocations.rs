@@ -380,6 +380,10 @@ fn new_maps_and_sets_take_nothing() {
         assert!(maps.is_empty() && sets.is_empty());
         let (maps, sets): (Maps<u32, u32>, Sets<u32>) = (Maps::with_node_limit((), 9), Sets::with_node_limit((), 9));
         assert!(maps.is_empty() && sets.is_empty());
+        let (maps, sets): (Maps<u32, u32>, Sets<u32>) = (Maps::typed(()), Sets::typed(()));
+        assert!(maps.is_empty() && sets.is_empty());
+        let (maps, sets): (Maps<u32, u32>, Sets<u32>) = (Maps::typed_with_node_limit((), 9), Sets::typed_with_node_limit((), 9));
+        assert!(maps.is_empty() && sets.is_empty());
     });
     assert_eq!(calls, 0);
 }

@@ -541,6 +541,10 @@ fn calls_by_an_index_that_compare_nothing() {
     sets.clear_all();
     let (maps, sets): (Indexed, IndexedSets) = (Maps::with_node_limit(&order, 9), Sets::with_node_limit(&order, 9));
     assert!(maps.is_empty() && sets.is_empty());
+    let (maps, sets): (Indexed, IndexedSets) = (Maps::typed(&order), Sets::typed(&order));
+    assert!(maps.is_empty() && sets.is_empty());
+    let (maps, sets): (Indexed, IndexedSets) = (Maps::typed_with_node_limit(&order, 9), Sets::typed_with_node_limit(&order, 9));
+    assert!(maps.is_empty() && sets.is_empty());
     assert_eq!(order.taken(), 0);
 }
 

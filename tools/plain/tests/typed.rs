@@ -67,9 +67,21 @@ fn sets_by_blocks() -> Result<(), OutOfMemory> {
     it.successors.cursor(Block(1)).insert(8)?;
     assert!(it.successors.is_disjoint(Block(1), Block(2)) && it.successors.is_subset(Block(0), Block(1)));
     assert_eq!(format!("{:?} {:?}", it.successors.debug(Block(1)), it.successors), "{8} [{}, {8}, {7}]");
-    let mut few: Sets<u32, (), Block> = Sets::typed_with_node_limit((), 0);
+    let mut few: Sets<u32, (), Block> = Sets::typed(());
     few.grow_to(1)?;
-    assert_eq!(few.insert(Block(0), 1), Err(OutOfMemory::Full));
+    assert_eq!((few.insert(Block(0), 1), few.node_limit()), (Ok(true), u32::MAX));
+    Ok(())
+}
+
+#[test]
+fn a_limit_on_nodes() -> Result<(), OutOfMemory> {
+    let mut maps: Maps<u32, u32, (), Block> = Maps::typed_with_node_limit((), 1);
+    let mut sets: Sets<u32, (), Block> = Sets::typed_with_node_limit((), 1);
+    maps.grow_to(2)?;
+    sets.grow_to(2)?;
+    assert_eq!((maps.insert(Block(0), 1, 2), sets.insert(Block(0), 1)), (Ok(None), Ok(true)));
+    assert_eq!(maps.insert(Block(1), 1, 2), Err(OutOfMemory::Full));
+    assert_eq!(sets.insert(Block(1), 1), Err(OutOfMemory::Full));
     Ok(())
 }
 
