@@ -31,7 +31,10 @@ fn blocks_name_maps(rt: HostRuntime) {
     assert!(rt; 1 < maps.len());
     maps.swap(Block(0), Block(1));
     assert!(rt; 1 < maps.len());
-    assert_eq!(rt; (maps.get(Block(0), 7), maps.get(Block(1), 7)), (None, Some('a')));
+    assert_eq!(rt;
+        (maps.get(Block(0), 7), maps.get(Block(1), 7)),
+        (None, Some('a'))
+    );
 }
 
 #[test]
@@ -41,5 +44,8 @@ fn blocks_name_sets(rt: HostRuntime) {
     assert!(rt; 1 < sets.len());
     assert_eq!(rt; sets.insert(Block(1), 7), Ok(true));
     assert!(rt; 1 < sets.len());
-    assert_eq!(rt; (sets.contains(Block(0), 7), sets.contains(Block(1), 7)), (false, true));
+    assert_eq!(rt;
+        (sets.contains(Block(0), 7), sets.contains(Block(1), 7)),
+        (false, true)
+    );
 }
