@@ -312,7 +312,7 @@ CALLED_FROM = {
 
 # Functions that only tell something, so that a call whose result is dropped is a mistake.
 TELLING = ["is_empty", "contains", "get", "get_or_less", "get_or_greater", "first", "last", "levels", "increases"]
-MANY = ["new", "with_node_limit", "typed", "typed_with_node_limit", "len", "slots", "free_slots", "node_limit"]
+MANY = ["new", "with_node_limit", "typed", "typed_with_node_limit", "len", "slots", "nodes_in_use", "free_slots", "node_limit"]
 SET_TELLING = [*(it for it in TELLING if it not in ("get", "increases")), "is_subset", "is_disjoint"]
 COUNTING = ["nodes_for", "fewest_nodes_for"]
 MUST_USE = {

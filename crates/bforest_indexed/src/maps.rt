@@ -9,7 +9,7 @@ ghost use Rattle.bforest_indexed.specs.Edits.{EditsAt};
 ghost use Rattle.bforest_indexed.specs.Indexed.{CompactsAt, HoldsFor, RemovesBetweenAt, SplitsOffAt, ReservesFor};
 ghost use Rattle.bforest_indexed.specs.Loads.{LoadsAt};
 ghost use Rattle.bforest_indexed.specs.Indexed.{ClearsAll, ClearsAt, CopiesAt, FiltersAt, GetsOrInsertsAt, InsertsAt, IntersectsAt, SubtractsAt, UnitesAt, UpdatesAt, UpdatesOrInsertsAt};
-ghost use Rattle.bforest_indexed.specs.Indexed.{KeepsAll, PopsAt, RemovesAt, Swaps};
+ghost use Rattle.bforest_indexed.specs.Indexed.{KeepsAll, PopsAt, RemovesAt, Swaps, Truncates};
 ghost use Rattle.bforest.specs.declared.map_forest.TheConstants.{MAP_LEAF};
 ghost use Rattle.bforest_indexed.specs.Indexed.{comparator, count, entries, memory, node_sizes, nodes_in_use, table};
 ghost use Rattle.std.specs.Prelude.{IfOk, IsOk, IsTrue, OnErr, OnOk, Some, length, slice_get, ◌+◌, ◌-◌, ◌/◌, ◌<◌, ◌^◌, ◌↔◌, ◌≡◌, ◌≤◌, ℕ};
@@ -168,6 +168,29 @@ impl<K: Copy, V: Copy, C: Comparator<K>, I: Idx> Maps<K, V, C, I> {
         ensures refused { OnErr result (self.new ≡ self.old) }
     {
         add_empty(&mut self.maps, len)
+    }
+
+    /// Removes the last map, whose nodes are free then, and returns whether there was one. Each other map keeps its index. Visits each node
+    /// of its tree once. No comparison, no memory.
+    pub fn pop(&mut self) -> bool
+        ensures removed { IsTrue result ↔ (0 < count self.old) }
+        ensures rest { Truncates self.old (count self.old - 1) self.new }
+    {
+        let Some(mut last) = self.maps.pop() else {
+            return false;
+        };
+        last.clear(&mut self.forest);
+        true
+    }
+
+    /// Removes the maps from index `len` on, whose nodes are free then; where there are `len` or fewer, nothing changes. Each other map
+    /// keeps its index. Visits each node of their trees once. No comparison, no memory.
+    pub fn truncate(&mut self, len: usize)
+        ensures rest { Truncates self.old len self.new }
+    {
+        while len < self.maps.len() {
+            self.pop();
+        }
     }
 
     /// Removes all entries of all maps, whose number stays. The table has no slot then, and its limit stays; its memory is kept for later
@@ -584,6 +607,14 @@ impl<K: Copy, V: Copy, C: Comparator<K>, I: Idx> Maps<K, V, C, I> {
         self.forest.slots()
     }
 
+    /// Returns how many nodes the trees of all maps have. Constant time.
+    pub fn nodes_in_use(&self) -> u32
+        ensures count { result ≡ nodes_in_use self.now }
+        ensures within { slots_of (table self.now) ≤ limit_of (table self.now) }
+    {
+        self.slots() - self.free_slots()
+    }
+
     /// Returns how many slots are free. Constant time.
     pub fn free_slots(&self) -> u32
         ensures count { result ≡ free_of (table self.now) }
@@ -618,7 +649,7 @@ impl<K: Copy, V: Copy, C: Comparator<K>, I: Idx> Maps<K, V, C, I> {
     ///
     /// The table gets as many slots as such maps can have nodes, which is [`bforest::Map::nodes_for`] each, those in use included; and
     /// memory for the handles of so many maps is taken, so that [`Maps::grow_to`] of so many succeeds. Where there is room already, no slot
-    /// is added. [`Maps::clear_all`] gives the slots back.
+    /// is added. No map is added either: [`Maps::grow_to`] is still to be called. [`Maps::clear_all`] gives the slots back.
     ///
     /// # Errors
     ///
@@ -627,18 +658,10 @@ impl<K: Copy, V: Copy, C: Comparator<K>, I: Idx> Maps<K, V, C, I> {
     pub fn reserve_for(&mut self, maps: usize, entries: usize) -> Result<(), OutOfMemory>
         ensures { ReservesFor MAP_LEAF maps entries self.old result self.new }
     {
-        let used = self.used_slots();
+        let used = self.nodes_in_use();
         let most = Map::<K, V>::nodes_for(entries);
         let slots = slots_for(maps, most, self.node_limit())?;
         reserve_handles(&mut self.maps, maps)?;
         self.forest.reserve_nodes(slots.saturating_sub(used))
-    }
-
-    // Returns how many slots are in use.
-    fn used_slots(&self) -> u32
-        ensures count { result ≡ nodes_in_use self.now }
-        ensures within { slots_of (table self.now) ≤ limit_of (table self.now) }
-    {
-        self.slots() - self.free_slots()
     }
 }

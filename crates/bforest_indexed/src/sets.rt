@@ -9,7 +9,7 @@ ghost use Rattle.bforest.specs.Set.{AnswersKey, MayAskKey, as_popped, as_put, as
 ghost use Rattle.bforest.specs.Union.{are_among, are_apart};
 ghost use Rattle.bforest_indexed.specs.Indexed.{CompactsAt, HoldsFor, RemovesBetweenAt, SplitsOffAt, ReservesFor};
 ghost use Rattle.bforest_indexed.specs.Loads.{LoadsAt};
-ghost use Rattle.bforest_indexed.specs.Indexed.{ClearsAll, ClearsAt, CopiesAt, FiltersAt, InsertsAt, IntersectsAt, KeepsAll, PopsAt, RemovesAt, SubtractsAt, Swaps, UnitesAt};
+ghost use Rattle.bforest_indexed.specs.Indexed.{ClearsAll, ClearsAt, CopiesAt, FiltersAt, InsertsAt, IntersectsAt, KeepsAll, PopsAt, RemovesAt, SubtractsAt, Swaps, Truncates, UnitesAt};
 ghost use Rattle.bforest.specs.declared.set_forest.TheConstants.{SET_LEAF};
 ghost use Rattle.bforest_indexed.specs.Indexed.{comparator, count, entries, keys, memory, node_sizes, nodes_in_use, table};
 ghost use Rattle.std.specs.Map.{keys_of};
@@ -168,6 +168,29 @@ impl<K: Copy, C: Comparator<K>, I: Idx> Sets<K, C, I> {
         ensures refused { OnErr result (self.new ≡ self.old) }
     {
         add_empty(&mut self.sets, len)
+    }
+
+    /// Removes the last set, whose nodes are free then, and returns whether there was one. Each other set keeps its index. Visits each node
+    /// of its tree once. No comparison, no memory.
+    pub fn pop(&mut self) -> bool
+        ensures removed { IsTrue result ↔ (0 < count self.old) }
+        ensures rest { Truncates self.old (count self.old - 1) self.new }
+    {
+        let Some(mut last) = self.sets.pop() else {
+            return false;
+        };
+        last.clear(&mut self.forest);
+        true
+    }
+
+    /// Removes the sets from index `len` on, whose nodes are free then; where there are `len` or fewer, nothing changes. Each other set
+    /// keeps its index. Visits each node of their trees once. No comparison, no memory.
+    pub fn truncate(&mut self, len: usize)
+        ensures rest { Truncates self.old len self.new }
+    {
+        while len < self.sets.len() {
+            self.pop();
+        }
     }
 
     /// Removes all keys of all sets, whose number stays. The table has no slot then, and its limit stays; its memory is kept for later
@@ -535,6 +558,14 @@ impl<K: Copy, C: Comparator<K>, I: Idx> Sets<K, C, I> {
         self.forest.slots()
     }
 
+    /// Returns how many nodes the trees of all sets have. Constant time.
+    pub fn nodes_in_use(&self) -> u32
+        ensures count { result ≡ nodes_in_use self.now }
+        ensures within { slots_of (table self.now) ≤ limit_of (table self.now) }
+    {
+        self.slots() - self.free_slots()
+    }
+
     /// Returns how many slots are free. Constant time.
     pub fn free_slots(&self) -> u32
         ensures count { result ≡ free_of (table self.now) }
@@ -569,7 +600,7 @@ impl<K: Copy, C: Comparator<K>, I: Idx> Sets<K, C, I> {
     ///
     /// The table gets as many slots as such sets can have nodes, which is [`bforest::Set::nodes_for`] each, those in use included; and
     /// memory for the handles of so many sets is taken, so that [`Sets::grow_to`] of so many succeeds. Where there is room already, no slot
-    /// is added. [`Sets::clear_all`] gives the slots back.
+    /// is added. No set is added either: [`Sets::grow_to`] is still to be called. [`Sets::clear_all`] gives the slots back.
     ///
     /// # Errors
     ///
@@ -578,18 +609,10 @@ impl<K: Copy, C: Comparator<K>, I: Idx> Sets<K, C, I> {
     pub fn reserve_for(&mut self, sets: usize, keys: usize) -> Result<(), OutOfMemory>
         ensures { ReservesFor SET_LEAF sets keys self.old result self.new }
     {
-        let used = self.used_slots();
+        let used = self.nodes_in_use();
         let most = Set::<K>::nodes_for(keys);
         let slots = slots_for(sets, most, self.node_limit())?;
         reserve_handles(&mut self.sets, sets)?;
         self.forest.reserve_nodes(slots.saturating_sub(used))
-    }
-
-    // Returns how many slots are in use.
-    fn used_slots(&self) -> u32
-        ensures count { result ≡ nodes_in_use self.now }
-        ensures within { slots_of (table self.now) ≤ limit_of (table self.now) }
-    {
-        self.slots() - self.free_slots()
     }
 }
