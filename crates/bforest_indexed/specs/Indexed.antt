@@ -3,7 +3,7 @@
 use Rattle.bforest.specs.Bounds.{entries_between, entries_outside, is_between, start_place}
 use Rattle.bforest.specs.Calls.{fewest, need_of_union, sizes_outside, truncation}
 use Rattle.bforest.specs.Entries.{IsIncreasing, cut, is_present, place, put, value_for}
-use Rattle.bforest.specs.Forest.{ArePacked, Forest, Gives, GrowsFor, IsFitFor, IsLive, IsTooMany, NeedsGrowth, Takes, detached, emptied, free_of, limit_of, list_of, need_of, severed, shrink, sizes_of, sizes_with, sizes_without, slots_of}
+use Rattle.bforest.specs.Forest.{ArePacked, Forest, Gives, GrowsFor, IsFitFor, IsLive, IsTooMany, NeedsGrowth, Takes, detached, emptied, free_of, limit_of, list_of, memory_of, need_of, severed, shrink, sizes_of, sizes_with, sizes_without, slots_of}
 -- `TakesAndGives d sizes f f'`: d slots were taken, and then those of a tree of these sizes freed.
 pub use Rattle.bforest.specs.Forest.{TakesAndGives}
 use Rattle.bforest.specs.Refusal.{Full, Memory, OutOfMemory}
@@ -151,6 +151,7 @@ module _ {K X C : Type 0} where
     pub left : count m' ≡ min n (count m)
     pub slots : slots_of (table m') ≡ slots_of (table m)
     pub free : free_of (table m') + nodes_in_use m' ≡ free_of (table m) + nodes_in_use m
+    pub memory : memory_of (table m') ≡ memory_of (table m)
     pub same_comparator : comparator m' ≡ comparator m
     pub same_limit : limit_of (table m') ≡ limit_of (table m)
     pub same_memory : memory m' ≡ memory m
