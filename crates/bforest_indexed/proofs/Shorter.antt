@@ -7,14 +7,14 @@ use Rattle.bforest_indexed.specs.Indexed.{AreKept, ClearsAt, Indexed, Truncates,
 use Rattle.std.proofs.Common.{List, None, Option, [], ap, arith, get_or, inl, inr, length, refl, slice_set, subst, sym, ℕ, ◌++◌, ◌+◌, ◌-◌, ◌<◌, ◌∙◌, ◌∷◌, ◌≡◌, ◌≤◌, ◌≢◌}
 use Rattle.std.proofs.Math.Seq.{get_or-append_seam}
 use Rattle.std.proofs.lemmas.Bool.Decides.{leb_tells}
-use Rattle.std.proofs.lemmas.List.{get_or_past, length-append}
+use Rattle.std.proofs.lemmas.List.{append-nil, get_or_past, length-append}
 use Rattle.std.specs.declared.cmp.Ordering.{Ordering}
 
 set-end : {A : Type 0} (xs : List A) (x y : A) → slice_set (xs ++ x ∷ []) (length xs) y ≡ xs ++ y ∷ []
 set-end [] x y = refl
 set-end (z ∷ xs) x y = ap (λ zs. z ∷ zs) (set-end xs x y)
 
-module _ {K X C : Type 0} {most : ℕ} {cmp : K → K → Ordering} {m : Indexed K X C} (a : AreKept most cmp m) {qs : List (Option ℕ)} {h : Option ℕ} (items : m.handles ≡ qs ++ h ∷ []) where
+module _ {K X C : Type 0} {most : ℕ} {cmp : K → K → Ordering} {m : Indexed K X C} (a : AreKept most cmp m) (qs : List (Option ℕ)) (h : Option ℕ) (items : m.handles ≡ qs ++ h ∷ []) where
   abbrev last : ℕ
   last = length qs
 
@@ -51,7 +51,7 @@ module _ {K X C : Type 0} {most : ℕ} {cmp : K → K → Ordering} {m : Indexed
       left = omega (arith, one-more);
       slots = cleared.account.slots;
       free = omega (arith, cleared.account.slots, a.account, (end-kept {held = held}).account);
-      memory = cleared.account.memory;
+      table_memory = cleared.account.memory;
       same_comparator = refl;
       same_limit = cleared.beside.same_limit;
       same_memory = kept;
@@ -68,12 +68,18 @@ module _ {K X C : Type 0} (m : Indexed K X C) where
     left = omega (arith, few);
     slots = refl;
     free = refl;
-    memory = refl;
+    table_memory = refl;
     same_comparator = refl;
     same_limit = refl;
     same_memory = refl;
     same = λ f. refl;
   }
+
+  -- there was none to end, and the handles are the same
+  pub end-none : (qs : List (Option ℕ)) {held : ℕ} → m.handles ≡ qs ++ [] → count m ≡ 0 → held ≡ memory m → Truncates m (count m - 1) (record m { handles = qs; held = held })
+  end-none qs {held} items none kept =
+      let is : record m { handles = qs; held = held } ≡ m = λ j. record m { handles = sym (items ∙ append-nil qs) j; held = kept j } in
+      subst (Truncates m (count m - 1)) (sym is) (truncates-none (count m - 1) (omega (arith, none)))
 
   -- more than n lists are left, and one more ended
   pub truncates-more : {n : ℕ} {m1 m2 : Indexed K X C} → n < count m1 → Truncates m (count m1) m1 → Truncates m1 (count m1 - 1) m2 → Truncates m (count m2) m2
@@ -84,7 +90,7 @@ module _ {K X C : Type 0} (m : Indexed K X C) where
     left = omega (arith, s.left, t.left);
     slots = t.slots ∙ s.slots;
     free = t.free ∙ s.free;
-    memory = t.memory ∙ s.memory;
+    table_memory = t.table_memory ∙ s.table_memory;
     same_comparator = t.same_comparator ∙ s.same_comparator;
     same_limit = t.same_limit ∙ s.same_limit;
     same_memory = t.same_memory ∙ s.same_memory;

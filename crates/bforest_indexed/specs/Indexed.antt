@@ -151,7 +151,7 @@ module _ {K X C : Type 0} where
     pub left : count m' ≡ min n (count m)
     pub slots : slots_of (table m') ≡ slots_of (table m)
     pub free : free_of (table m') + nodes_in_use m' ≡ free_of (table m) + nodes_in_use m
-    pub memory : memory_of (table m') ≡ memory_of (table m)
+    pub table_memory : memory_of (table m') ≡ memory_of (table m)
     pub same_comparator : comparator m' ≡ comparator m
     pub same_limit : limit_of (table m') ≡ limit_of (table m)
     pub same_memory : memory m' ≡ memory m

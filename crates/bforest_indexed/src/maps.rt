@@ -188,7 +188,7 @@ impl<K: Copy, V: Copy, C: Comparator<K>, I: Idx> Maps<K, V, C, I> {
     pub fn truncate(&mut self, len: usize)
         ensures rest { Truncates self.old len self.new }
     {
-        while len < self.maps.len() {
+        while len < self.len() {
             self.pop();
         }
     }

@@ -188,7 +188,7 @@ impl<K: Copy, C: Comparator<K>, I: Idx> Sets<K, C, I> {
     pub fn truncate(&mut self, len: usize)
         ensures rest { Truncates self.old len self.new }
     {
-        while len < self.sets.len() {
+        while len < self.len() {
             self.pop();
         }
     }
