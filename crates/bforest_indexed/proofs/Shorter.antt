@@ -1,10 +1,10 @@
 -- What is left of all indices where the last one ends, or those from one on.
 use Rattle.bforest.specs.Calls.{Clears}
-use Rattle.bforest.specs.Forest.{Forest, IsLive, free_of, limit_of, list_of, memory_of, sizes_of, slots_of}
+use Rattle.bforest.specs.Forest.{Forest, IsLive, list_of, sizes_of}
 use Rattle.bforest_indexed.proofs.Adding.{pushed}
 use Rattle.bforest_indexed.proofs.Kept.{cleared-at, kept-same, live-read, with_tree}
-use Rattle.bforest_indexed.specs.Indexed.{AreKept, ClearsAt, Indexed, Truncates, count, entries, handle, memory, node_sizes, nodes_in_use, table}
-use Rattle.std.proofs.Common.{List, None, Option, [], ap, arith, get_or, inl, inr, length, refl, slice_set, subst, sym, ℕ, ◌++◌, ◌+◌, ◌-◌, ◌<◌, ◌∙◌, ◌∷◌, ◌≡◌, ◌≤◌, ◌≢◌}
+use Rattle.bforest_indexed.specs.Indexed.{AreKept, ClearsAt, Indexed, Truncates, count, handle, memory, table}
+use Rattle.std.proofs.Common.{List, None, Option, [], ap, arith, get_or, inl, inr, length, refl, slice_set, subst, sym, ℕ, ◌++◌, ◌+◌, ◌-◌, ◌<◌, ◌∙◌, ◌∷◌, ◌≡◌, ◌≤◌}
 use Rattle.std.proofs.Math.Seq.{get_or-append_seam}
 use Rattle.std.proofs.lemmas.Bool.Decides.{leb_tells}
 use Rattle.std.proofs.lemmas.List.{append-nil, get_or_past, length-append}
