@@ -64,9 +64,13 @@ pub fn push_and_get<V: Copy, I: Idx>(
     requires nameable { I.names (count maps.old) }
     ensures found { IfOk result (λ found. found ≡ Some value) }
 {
-    let index = maps.push().map_err(|_| OutOfMemory::Memory)?;
-    maps.insert(index, key, value)?;
-    Ok(maps.get(index, key))
+    match maps.push() {
+        Ok(index) => {
+            maps.insert(index, key, value)?;
+            Ok(maps.get(index, key))
+        }
+        Err(_) => Err(OutOfMemory::Memory),
+    }
 }
 
 /// Inserts a value and looks another key up: its value stays.
