@@ -27,6 +27,7 @@ fn blocks_name_maps(rt: HostRuntime) {
     let mut maps: Maps<u32, char, (), Block> = Maps::typed(rt.alloc(), ());
     assert_eq!(rt; maps.len(), 0);
     assert_eq!(rt; push_and_get(&mut maps, 7, 'a'), Ok(Some('a')));
+    assert!(rt; maps.len() < 2);
     assert_eq!(rt; maps.push().ok(), Some(Block(1)));
     assert!(rt; 1 < maps.len());
     maps.swap(Block(0), Block(1));
