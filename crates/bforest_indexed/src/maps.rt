@@ -30,6 +30,8 @@ use std::ops::Bound;
 ///
 /// Each call on a map names it by its index, which has to be less than [`Maps::len`]. In plain Rust an index that is not there panics, and
 /// the panic names it. The map of an index is found in constant time, and an empty map takes 4 bytes and no node.
+///
+/// An index is a `usize`, or of a type of your own that implements [`Idx`]: then [`Maps::typed`] makes them.
 #[derive(Drop)]
 pub struct Maps<K: Copy, V: Copy, C: Comparator<K>, I = usize> {
     forest: MapForest<K, V>,
@@ -132,7 +134,7 @@ impl<K: Copy, V: Copy, C: Comparator<K>, I: Idx> Maps<K, V, C, I> {
         self.maps.is_empty()
     }
 
-    /// Adds an empty map and returns its index, which is the number of maps before. It takes no node.
+    /// Adds an empty map and returns its index, whose number is that of the maps before. It takes no node.
     ///
     /// # Errors
     ///

@@ -30,6 +30,8 @@ use std::ops::Bound;
 ///
 /// Each call on a set names it by its index, which has to be less than [`Sets::len`]. In plain Rust an index that is not there panics, and
 /// the panic names it. The set of an index is found in constant time, and an empty set takes 4 bytes and no node.
+///
+/// An index is a `usize`, or of a type of your own that implements [`Idx`]: then [`Sets::typed`] makes them.
 #[derive(Drop)]
 pub struct Sets<K: Copy, C: Comparator<K>, I = usize> {
     forest: SetForest<K>,
@@ -132,7 +134,7 @@ impl<K: Copy, C: Comparator<K>, I: Idx> Sets<K, C, I> {
         self.sets.is_empty()
     }
 
-    /// Adds an empty set and returns its index, which is the number of sets before. It takes no node.
+    /// Adds an empty set and returns its index, whose number is that of the sets before. It takes no node.
     ///
     /// # Errors
     ///
