@@ -63,20 +63,25 @@ BOUNDS = (
 # Handles in a vector that asks for memory by Rust's names.
 INDEXED = [
     (r"^use std::alloc::\{AllocError, Global\};\n", "use alloc::collections::TryReserveError;\nuse alloc::vec::Vec;\n", 1),
-    (r"\balloc: Global, ", "", 2),
-    (r"with_node_limit\(alloc, ", "with_node_limit(", 2),
+    (r"\balloc: Global, ", "", 4),
+    (r"(typed|with_node_limit)\(alloc, ", r"\1(", 4),
     (r"Vec::new\(alloc\)", "Vec::new()", 1),
     (r"\bAllocError\b", "TryReserveError", 4),
     (r"^use std::ops::Bound;", "use std::ops::RangeBounds;", 1),
     (
-        r"pub fn (range|remove_range)\((&(?:mut )?self, index: usize), bounds: \(Bound<K>, Bound<K>\)\)",
+        r"pub fn (range|remove_range)\((&(?:mut )?self, index: I), bounds: \(Bound<K>, Bound<K>\)\)",
         r"pub fn \1<R: RangeBounds<K>>(\2, bounds: R)",
         2,
     ),
     (r"^(?=    pub fn (?:range|remove_range)<)", BOUNDS, 2),
     (
-        r"^(?=        let tail = self\.(maps|sets)\[from\]\.split_off\()",
-        r"        // An index that is not there panics before an entry moves.\n        _ = &self.\1[to];\n",
+        r"^(?=        let tail = self\.(maps|sets)\[from\.index\(\)\]\.split_off\()",
+        r"        // An index that is not there panics before an entry moves.\n        _ = &self.\1[to.index()];\n",
+        1,
+    ),
+    (
+        r"^        let index = I::new\(self\.(maps|sets)\.len\(\)\);\n",
+        "\\g<0>        assert!(index.index() == self.\\1.len(), \"this type of index has no value for {}\", self.\\1.len());\n",
         1,
     ),
 ]
@@ -139,12 +144,12 @@ EDITS = {
     "bforest_indexed/maps.rt": [
         *INDEXED,
         (r"^use crate::edit::\{Edit, lend\};\n", "", 1),
-        (r"^pub struct Maps<K: Copy, V: Copy, C: Comparator<K>>", "pub struct Maps<K: Copy, V: Copy, C: Comparator<K> = ()>", 1),
+        (r"^pub struct Maps<K: Copy, V: Copy, C: Comparator<K>,", "pub struct Maps<K: Copy, V: Copy, C: Comparator<K> = (),", 1),
         (r"\.push_reserved\(", ".push(", 1),
     ],
     "bforest_indexed/sets.rt": [
         *INDEXED,
-        (r"^pub struct Sets<K: Copy, C: Comparator<K>>", "pub struct Sets<K: Copy, C: Comparator<K> = ()>", 1),
+        (r"^pub struct Sets<K: Copy, C: Comparator<K>,", "pub struct Sets<K: Copy, C: Comparator<K> = (),", 1),
         (r"\.push_reserved\(", ".push(", 1),
     ],
     "bforest_nodes/lib.rt": [BEHIND_FIRST],
@@ -307,7 +312,7 @@ CALLED_FROM = {
 
 # Functions that only tell something, so that a call whose result is dropped is a mistake.
 TELLING = ["is_empty", "contains", "get", "get_or_less", "get_or_greater", "first", "last", "levels", "increases"]
-MANY = ["new", "with_node_limit", "len", "slots", "free_slots", "node_limit"]
+MANY = ["new", "with_node_limit", "typed", "typed_with_node_limit", "len", "slots", "nodes_in_use", "free_slots", "node_limit"]
 SET_TELLING = [*(it for it in TELLING if it not in ("get", "increases")), "is_subset", "is_disjoint"]
 COUNTING = ["nodes_for", "fewest_nodes_for"]
 MUST_USE = {

@@ -2,7 +2,7 @@
 
 use crate::bforest_core::Node;
 use crate::{
-    Comparator, LoadError, Map, MapCursor, MapCursorMut, MapForest, MapIntoIter, MapIter, MapIterBack, MapRange, Maps, OutOfMemory,
+    Comparator, Idx, LoadError, Map, MapCursor, MapCursorMut, MapForest, MapIntoIter, MapIter, MapIterBack, MapRange, Maps, OutOfMemory,
     Set, SetCursor, SetForest, SetIter, SetIterBack, SetRange, Sets,
 };
 use alloc::collections::TryReserveError;
@@ -55,21 +55,21 @@ impl<K: Copy> Default for SetForest<K> {
     }
 }
 
-impl<K: Copy, V: Copy, C: Comparator<K> + Default> Default for Maps<K, V, C> {
-    /// Returns no maps, as [`Maps::new`] does.
+impl<K: Copy, V: Copy, C: Comparator<K> + Default, I: Idx> Default for Maps<K, V, C, I> {
+    /// Returns no maps, as [`Maps::typed`] does.
     fn default() -> Self {
-        Maps::new(C::default())
+        Maps::typed(C::default())
     }
 }
 
-impl<K: Copy, C: Comparator<K> + Default> Default for Sets<K, C> {
-    /// Returns no sets, as [`Sets::new`] does.
+impl<K: Copy, C: Comparator<K> + Default, I: Idx> Default for Sets<K, C, I> {
+    /// Returns no sets, as [`Sets::typed`] does.
     fn default() -> Self {
-        Sets::new(C::default())
+        Sets::typed(C::default())
     }
 }
 
-impl<K: Copy, V: Copy, C: Comparator<K>> Maps<K, V, C> {
+impl<K: Copy, V: Copy, C: Comparator<K>, I: Idx> Maps<K, V, C, I> {
     /// Returns whether a key of a map compares equal to `key`. One search, as [`Map::get`] makes.
     ///
     /// This call is not among [what is proved](crate#what-is-proved); [`Maps::get`] is.
@@ -79,7 +79,7 @@ impl<K: Copy, V: Copy, C: Comparator<K>> Maps<K, V, C> {
     /// Where `index` is not less than `len`; the panic names it.
     #[must_use]
     #[track_caller]
-    pub fn contains_key(&self, index: usize, key: K) -> bool {
+    pub fn contains_key(&self, index: I, key: K) -> bool {
         self.get(index, key).is_some()
     }
 
@@ -90,8 +90,8 @@ impl<K: Copy, V: Copy, C: Comparator<K>> Maps<K, V, C> {
     /// Where `index` is not less than `len`; the panic names it.
     #[must_use]
     #[track_caller]
-    pub fn cursor_mut(&mut self, index: usize) -> MapCursorMut<'_, K, V, C> {
-        self.maps[index].cursor_mut(&mut self.forest, &self.order)
+    pub fn cursor_mut(&mut self, index: I) -> MapCursorMut<'_, K, V, C> {
+        self.maps[index.index()].cursor_mut(&mut self.forest, &self.order)
     }
 
     /// Returns a value whose `Debug` shows the entries of a map in order.
@@ -101,7 +101,7 @@ impl<K: Copy, V: Copy, C: Comparator<K>> Maps<K, V, C> {
     /// Where `index` is not less than `len`; the panic names it.
     #[must_use]
     #[track_caller]
-    pub fn debug(&self, index: usize) -> impl Debug + use<'_, K, V, C>
+    pub fn debug(&self, index: I) -> impl Debug + use<'_, K, V, C, I>
     where
         K: Debug,
         V: Debug,
@@ -110,7 +110,7 @@ impl<K: Copy, V: Copy, C: Comparator<K>> Maps<K, V, C> {
     }
 }
 
-impl<K: Copy, C: Comparator<K>> Sets<K, C> {
+impl<K: Copy, C: Comparator<K>, I: Idx> Sets<K, C, I> {
     /// Returns a cursor that reads and changes a set, as [`Set::cursor`] does. It stands at the end, behind the last key.
     ///
     /// # Panics
@@ -118,8 +118,8 @@ impl<K: Copy, C: Comparator<K>> Sets<K, C> {
     /// Where `index` is not less than `len`; the panic names it.
     #[must_use]
     #[track_caller]
-    pub fn cursor(&mut self, index: usize) -> SetCursor<'_, K, C> {
-        self.sets[index].cursor(&mut self.forest, &self.order)
+    pub fn cursor(&mut self, index: I) -> SetCursor<'_, K, C> {
+        self.sets[index.index()].cursor(&mut self.forest, &self.order)
     }
 
     /// Returns a value whose `Debug` shows the keys of a set in order.
@@ -129,7 +129,7 @@ impl<K: Copy, C: Comparator<K>> Sets<K, C> {
     /// Where `index` is not less than `len`; the panic names it.
     #[must_use]
     #[track_caller]
-    pub fn debug(&self, index: usize) -> impl Debug + use<'_, K, C>
+    pub fn debug(&self, index: I) -> impl Debug + use<'_, K, C, I>
     where
         K: Debug,
     {
@@ -138,15 +138,15 @@ impl<K: Copy, C: Comparator<K>> Sets<K, C> {
 }
 
 // All maps are shown in the order of their indices.
-impl<K: Copy + Debug, V: Copy + Debug, C: Comparator<K>> Debug for Maps<K, V, C> {
+impl<K: Copy + Debug, V: Copy + Debug, C: Comparator<K>, I> Debug for Maps<K, V, C, I> {
     fn fmt(&self, f: &mut Formatter<'_>) -> fmt::Result {
-        f.debug_list().entries((0..self.len()).map(|index| self.debug(index))).finish()
+        f.debug_list().entries(self.maps.iter().map(|map| map.debug(&self.forest))).finish()
     }
 }
 
-impl<K: Copy + Debug, C: Comparator<K>> Debug for Sets<K, C> {
+impl<K: Copy + Debug, C: Comparator<K>, I> Debug for Sets<K, C, I> {
     fn fmt(&self, f: &mut Formatter<'_>) -> fmt::Result {
-        f.debug_list().entries((0..self.len()).map(|index| self.debug(index))).finish()
+        f.debug_list().entries(self.sets.iter().map(|set| set.debug(&self.forest))).finish()
     }
 }
 

@@ -127,8 +127,10 @@ def with_marks(text):
 
 
 def bounded(contract):
-    """Where an index has to be there: the panic names it."""
-    indices = re.findall(r"requires \w+ \{ (\w+) < count ", contract)
+    """Where an index has to be there, or to be made: the panic names it."""
+    if "{ I.names (count " in contract:
+        return "Where the type of index has no value for `len`, as an own type may; the panic names it.", "track_caller", ""
+    indices = re.findall(r"requires \w+ \{ I\.number (\w+) < count ", contract)
     if not indices:
         return None
     return f"Where `{'` or `'.join(indices)}` is not less than `len`; the panic names it.", "track_caller", ""

@@ -2,5 +2,5 @@
 use Rattle.std.proofs.Common.{rules, ◌+◌, ◌<◌, ℕ}
 use prog.Memory.{up}
 
-pub first-field : (a b c d n y z m : ℕ) → up a (up b (up c (d + n) + y) + z) < m → n < m
-first-field a b c d n y z m h = search rules
+pub first-field : (a b c d e n x y z m : ℕ) → up a (up b (up c (up d (e + n) + x) + y) + z) < m → n < m
+first-field a b c d e n x y z m h = search rules

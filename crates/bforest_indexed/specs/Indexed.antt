@@ -3,7 +3,7 @@
 use Rattle.bforest.specs.Bounds.{entries_between, entries_outside, is_between, start_place}
 use Rattle.bforest.specs.Calls.{fewest, need_of_union, sizes_outside, truncation}
 use Rattle.bforest.specs.Entries.{IsIncreasing, cut, is_present, place, put, value_for}
-use Rattle.bforest.specs.Forest.{ArePacked, Forest, Gives, GrowsFor, IsFitFor, IsLive, IsTooMany, NeedsGrowth, Takes, detached, emptied, free_of, limit_of, list_of, need_of, severed, shrink, sizes_of, sizes_with, sizes_without, slots_of}
+use Rattle.bforest.specs.Forest.{ArePacked, Forest, Gives, GrowsFor, IsFitFor, IsLive, IsTooMany, NeedsGrowth, Takes, detached, emptied, free_of, limit_of, list_of, memory_of, need_of, severed, shrink, sizes_of, sizes_with, sizes_without, slots_of}
 -- `TakesAndGives d sizes f f'`: d slots were taken, and then those of a tree of these sizes freed.
 pub use Rattle.bforest.specs.Forest.{TakesAndGives}
 use Rattle.bforest.specs.Refusal.{Full, Memory, OutOfMemory}
@@ -16,7 +16,7 @@ use Rattle.std.specs.Cmp.{IsTotalOrder}
 use Rattle.std.specs.Fn.{FnOnceReturns, Once}
 use Rattle.std.specs.List.{sum_by}
 use Rattle.std.specs.Map.{keys_of}
-use Rattle.std.specs.Prelude.{Bool, Err, IfOk, IfSome, IsOk, IsSome, List, None, Ok, OnErr, OnOk, Option, Result, Some, [], drop, false, get_or, if◌then◌else◌, length, map, max, nat_eq, nat_lt, not, remove, slice_get, suc, take, true, unwrap_or, zero, ℕ, ◌%◌, ◌*◌, ◌+◌, ◌-◌, ◌<◌, ◌↔◌, ◌∷◌, ◌≡◌, ◌≢◌, ◌≤◌}
+use Rattle.std.specs.Prelude.{Bool, Err, IfOk, IfSome, IsOk, IsSome, List, None, Ok, OnErr, OnOk, Option, Result, Some, [], drop, false, get_or, if◌then◌else◌, length, map, max, min, nat_eq, nat_lt, not, remove, slice_get, suc, take, true, unwrap_or, zero, ℕ, ◌%◌, ◌*◌, ◌+◌, ◌-◌, ◌<◌, ◌↔◌, ◌∷◌, ◌≡◌, ◌≢◌, ◌≤◌}
 use Rattle.std.specs.Ordering.{is_eq}
 use Rattle.std.specs.declared.cmp.Ordering.{Ordering}
 use Rattle.std.specs.declared.ops.Bound.{Bound}
@@ -142,6 +142,20 @@ module _ {K X C : Type 0} where
     pub same_count : count m' ≡ count m
     pub same_comparator : comparator m' ≡ comparator m
     pub same_memory : memory m' ≡ memory m
+
+  -- the lists of the indices from n on ended, and so did these indices; the nodes that they had are free
+  pub record Truncates (m : Indexed K X C) (n : ℕ) (m' : Indexed K X C) : Type 0 where
+    pub lists : (i : ℕ) → i < n → entries m' i ≡ entries m i
+    pub sizes : (i : ℕ) → i < n → node_sizes m' i ≡ node_sizes m i
+    pub ended : (i : ℕ) → n ≤ i → entries m' i ≡ []
+    pub left : count m' ≡ min n (count m)
+    pub slots : slots_of (table m') ≡ slots_of (table m)
+    pub free : free_of (table m') + nodes_in_use m' ≡ free_of (table m) + nodes_in_use m
+    pub table_memory : memory_of (table m') ≡ memory_of (table m)
+    pub same_comparator : comparator m' ≡ comparator m
+    pub same_limit : limit_of (table m') ≡ limit_of (table m)
+    pub same_memory : memory m' ≡ memory m
+    pub same : count m ≤ n → m' ≡ m
 
   -- the list of i ended
   pub record ClearsAt (m : Indexed K X C) (i : ℕ) (m' : Indexed K X C) : Type 0 where

@@ -6,6 +6,7 @@
 
 mod edit;
 mod handles;
+mod idx;
 mod load_error;
 mod maps;
 mod room;
@@ -13,6 +14,7 @@ mod sets;
 
 pub use bforest::{Comparator, OutOfMemory};
 pub use edit::Edit;
+pub use idx::Idx;
 pub use load_error::LoadError;
 pub use maps::Maps;
 pub use sets::Sets;

@@ -9,19 +9,20 @@ ghost use Rattle.bforest_indexed.specs.Edits.{EditsAt};
 ghost use Rattle.bforest_indexed.specs.Indexed.{CompactsAt, HoldsFor, RemovesBetweenAt, SplitsOffAt, ReservesFor};
 ghost use Rattle.bforest_indexed.specs.Loads.{LoadsAt};
 ghost use Rattle.bforest_indexed.specs.Indexed.{ClearsAll, ClearsAt, CopiesAt, FiltersAt, GetsOrInsertsAt, InsertsAt, IntersectsAt, SubtractsAt, UnitesAt, UpdatesAt, UpdatesOrInsertsAt};
-ghost use Rattle.bforest_indexed.specs.Indexed.{KeepsAll, PopsAt, RemovesAt, Swaps};
+ghost use Rattle.bforest_indexed.specs.Indexed.{KeepsAll, PopsAt, RemovesAt, Swaps, Truncates};
 ghost use Rattle.bforest.specs.declared.map_forest.TheConstants.{MAP_LEAF};
 ghost use Rattle.bforest_indexed.specs.Indexed.{comparator, count, entries, memory, node_sizes, nodes_in_use, table};
 ghost use Rattle.std.specs.Prelude.{IfOk, IsOk, IsTrue, OnErr, OnOk, Some, length, slice_get, ◌+◌, ◌-◌, ◌/◌, ◌<◌, ◌^◌, ◌↔◌, ◌≡◌, ◌≤◌, ℕ};
 
 use crate::edit::{Edit, lend};
 use crate::handles::{add_empty, empty_all, hold};
+use crate::idx::Idx;
 use crate::load_error::LoadError;
 use crate::room::{reserve_handles, slots_for};
 use bforest::{Comparator, Map, MapCursor, MapForest, MapIter, MapRange, OutOfMemory};
 use bforest_trees::first_unordered;
 use std::alloc::{AllocError, Global};
-use std::marker::Model;
+use std::marker::{Model, PhantomData};
 use std::mem;
 use std::ops::Bound;
 
@@ -29,14 +30,17 @@ use std::ops::Bound;
 ///
 /// Each call on a map names it by its index, which has to be less than [`Maps::len`]. In plain Rust an index that is not there panics, and
 /// the panic names it. The map of an index is found in constant time, and an empty map takes 4 bytes and no node.
+///
+/// An index is a `usize`, or of a type of your own that implements [`Idx`]: then [`Maps::typed`] makes them.
 #[derive(Drop)]
-pub struct Maps<K: Copy, V: Copy, C: Comparator<K>> {
+pub struct Maps<K: Copy, V: Copy, C: Comparator<K>, I = usize> {
     forest: MapForest<K, V>,
     order: C,
     maps: Vec<Map<K, V>>,
+    index: PhantomData<I>,
 }
 
-impl<K: Copy, V: Copy, C: Comparator<K>> Model for Maps<K, V, C> {
+impl<K: Copy, V: Copy, C: Comparator<K>, I> Model for Maps<K, V, C, I> {
     ghost use Rattle.bforest.specs.declared.map_forest.TheConstants.{MAP_LEAF};
     ghost use Rattle.bforest_indexed.specs.Indexed.{AreKept, Indexed};
     ghost use Rattle.std.specs.Prelude.{vec_capacity};
@@ -61,17 +65,47 @@ impl<K: Copy, V: Copy, C: Comparator<K>> Model for Maps<K, V, C> {
 
 impl<K: Copy, V: Copy, C: Comparator<K>> Maps<K, V, C> {
     /// Returns a table of at most 4294967295 slots, with no map yet. No memory is taken.
+    ///
+    /// Each map is named by a `usize`; [`Maps::typed`] is for an index type of your own.
     pub fn new(alloc: Global, order: C) -> Self
         ensures none { count result ≡ 0 }
         ensures table { table result ≡ empty u32.MAX }
         ensures comparator { comparator result ≡ order }
         ensures memory { memory result ≡ 0 }
     {
-        Maps::with_node_limit(alloc, order, u32::MAX)
+        Maps::typed(alloc, order)
     }
 
     /// Returns a table of at most `limit` slots, with no map yet. No memory is taken.
+    ///
+    /// Each map is named by a `usize`; [`Maps::typed_with_node_limit`] is for an index type of your own.
     pub fn with_node_limit(alloc: Global, order: C, limit: u32) -> Self
+        ensures none { count result ≡ 0 }
+        ensures table { table result ≡ empty limit }
+        ensures comparator { comparator result ≡ order }
+        ensures memory { memory result ≡ 0 }
+    {
+        Maps::typed_with_node_limit(alloc, order, limit)
+    }
+}
+
+impl<K: Copy, V: Copy, C: Comparator<K>, I: Idx> Maps<K, V, C, I> {
+    /// Returns a table of at most 4294967295 slots, with no map yet. No memory is taken.
+    ///
+    /// As [`Maps::new`], for any type of index, which the call does not tell: write it in the type of the value.
+    pub fn typed(alloc: Global, order: C) -> Self
+        ensures none { count result ≡ 0 }
+        ensures table { table result ≡ empty u32.MAX }
+        ensures comparator { comparator result ≡ order }
+        ensures memory { memory result ≡ 0 }
+    {
+        Maps::typed_with_node_limit(alloc, order, u32::MAX)
+    }
+
+    /// Returns a table of at most `limit` slots, with no map yet. No memory is taken.
+    ///
+    /// As [`Maps::with_node_limit`], for any type of index, which the call does not tell: write it in the type of the value.
+    pub fn typed_with_node_limit(alloc: Global, order: C, limit: u32) -> Self
         ensures none { count result ≡ 0 }
         ensures table { table result ≡ empty limit }
         ensures comparator { comparator result ≡ order }
@@ -81,6 +115,7 @@ impl<K: Copy, V: Copy, C: Comparator<K>> Maps<K, V, C> {
             forest: MapForest::with_node_limit(alloc, limit),
             order,
             maps: Vec::new(alloc),
+            index: PhantomData,
         }
     }
 
@@ -99,13 +134,14 @@ impl<K: Copy, V: Copy, C: Comparator<K>> Maps<K, V, C> {
         self.maps.is_empty()
     }
 
-    /// Adds an empty map and returns its index, which is the number of maps before. It takes no node.
+    /// Adds an empty map and returns its index, whose number is that of the maps before. It takes no node.
     ///
     /// # Errors
     ///
     /// `AllocError` where there is no memory for the handle; nothing has changed then.
-    pub fn push(&mut self) -> Result<usize, AllocError>
-        ensures index { IfOk result (λ i. i ≡ count self.old) }
+    pub fn push(&mut self) -> Result<I, AllocError>
+        requires nameable { I.names (count self.old) }
+        ensures index { IfOk result (λ i. I.number i ≡ count self.old) }
         ensures count { OnOk result (count self.new ≡ count self.old + 1) }
         ensures keeps { KeepsAll self.old self.new }
         ensures table { table self.new ≡ table self.old }
@@ -113,7 +149,7 @@ impl<K: Copy, V: Copy, C: Comparator<K>> Maps<K, V, C> {
         ensures succeeds { count self.old < memory self.old → IsOk result }
         ensures refused { OnErr result (self.new ≡ self.old) }
     {
-        let index = self.maps.len();
+        let index = I::new(self.maps.len());
         hold(&mut self.maps, 1)?;
         self.maps.push_reserved(Map::new());
         Ok(index)
@@ -136,6 +172,29 @@ impl<K: Copy, V: Copy, C: Comparator<K>> Maps<K, V, C> {
         add_empty(&mut self.maps, len)
     }
 
+    /// Removes the last map, whose nodes are free then, and returns whether there was one. Each other map keeps its index. Visits each node
+    /// of its tree once. No comparison, no memory.
+    pub fn pop(&mut self) -> bool
+        ensures removed { IsTrue result ↔ (0 < count self.old) }
+        ensures rest { Truncates self.old (count self.old - 1) self.new }
+    {
+        let Some(mut last) = self.maps.pop() else {
+            return false;
+        };
+        last.clear(&mut self.forest);
+        true
+    }
+
+    /// Removes the maps from index `len` on, whose nodes are free then; where there are `len` or fewer, nothing changes. Each other map
+    /// keeps its index. Visits each node of their trees once. No comparison, no memory.
+    pub fn truncate(&mut self, len: usize)
+        ensures rest { Truncates self.old len self.new }
+    {
+        while len < self.len() {
+            self.pop();
+        }
+    }
+
     /// Removes all entries of all maps, whose number stays. The table has no slot then, and its limit stays; its memory is kept for later
     /// slots. Visits each handle once and no node.
     pub fn clear_all(&mut self)
@@ -146,55 +205,56 @@ impl<K: Copy, V: Copy, C: Comparator<K>> Maps<K, V, C> {
     }
 
     /// Exchanges two maps, which may be one. Constant time: no entry moves.
-    pub fn swap(&mut self, i: usize, j: usize)
-        requires first { i < count self.old }
-        requires second { j < count self.old }
-        ensures { Swaps self.old i j self.new }
+    pub fn swap(&mut self, i: I, j: I)
+        requires first { I.number i < count self.old }
+        requires second { I.number j < count self.old }
+        ensures { Swaps self.old (I.number i) (I.number j) self.new }
     {
-        self.maps.swap(i, j);
+        self.maps.swap(i.index(), j.index());
     }
 
     /// Returns the value of the entry whose key compares equal to `key`, or `None`. One search, as [`bforest::Map::get`] makes.
-    pub fn get(&self, index: usize, key: K) -> Option<V>
-        requires within { index < count self.now }
-        ensures value { result ≡ value_for (C.order (comparator self.now)) (entries self.now index) key }
+    pub fn get(&self, index: I, key: K) -> Option<V>
+        requires within { I.number index < count self.now }
+        ensures value { result
+            ≡ value_for (C.order (comparator self.now)) (entries self.now (I.number index)) key }
     {
-        self.maps[index].get(key, &self.forest, &self.order)
+        self.maps[index.index()].get(key, &self.forest, &self.order)
     }
 
     /// Returns the last entry whose key is not greater than `key`, or `None` where each key is greater. One search.
-    pub fn get_or_less(&self, index: usize, key: K) -> Option<(K, V)>
-        requires within { index < count self.now }
+    pub fn get_or_less(&self, index: I, key: K) -> Option<(K, V)>
+        requires within { I.number index < count self.now }
         ensures entry { result
-            ≡ entry_at_most (C.order (comparator self.now)) (entries self.now index) key }
+            ≡ entry_at_most (C.order (comparator self.now)) (entries self.now (I.number index)) key }
     {
-        self.maps[index].get_or_less(key, &self.forest, &self.order)
+        self.maps[index.index()].get_or_less(key, &self.forest, &self.order)
     }
 
     /// Returns the first entry whose key is not less than `key`, or `None` where each key is less. One search.
-    pub fn get_or_greater(&self, index: usize, key: K) -> Option<(K, V)>
-        requires within { index < count self.now }
+    pub fn get_or_greater(&self, index: I, key: K) -> Option<(K, V)>
+        requires within { I.number index < count self.now }
         ensures entry { result
-            ≡ entry_at_least (C.order (comparator self.now)) (entries self.now index) key }
+            ≡ entry_at_least (C.order (comparator self.now)) (entries self.now (I.number index)) key }
     {
-        self.maps[index].get_or_greater(key, &self.forest, &self.order)
+        self.maps[index.index()].get_or_greater(key, &self.forest, &self.order)
     }
 
     /// Returns the first entry of a map, or `None` where it is empty. Visits one node of each level. No comparison.
-    pub fn first(&self, index: usize) -> Option<(K, V)>
-        requires within { index < count self.now }
-        ensures entry { result ≡ slice_get (entries self.now index) 0 }
+    pub fn first(&self, index: I) -> Option<(K, V)>
+        requires within { I.number index < count self.now }
+        ensures entry { result ≡ slice_get (entries self.now (I.number index)) 0 }
     {
-        self.maps[index].first(&self.forest)
+        self.maps[index.index()].first(&self.forest)
     }
 
     /// Returns the last entry of a map, or `None` where it is empty. Visits one node of each level. No comparison.
-    pub fn last(&self, index: usize) -> Option<(K, V)>
-        requires within { index < count self.now }
+    pub fn last(&self, index: I) -> Option<(K, V)>
+        requires within { I.number index < count self.now }
         ensures entry { result
-            ≡ slice_get (entries self.now index) (length (entries self.now index) - 1) }
+            ≡ slice_get (entries self.now (I.number index)) (length (entries self.now (I.number index)) - 1) }
     {
-        self.maps[index].last(&self.forest)
+        self.maps[index.index()].last(&self.forest)
     }
 
     /// Inserts a value at a key and returns the value that was there, as [`bforest::Map::insert`] does: a stored key that compares equal
@@ -204,21 +264,22 @@ impl<K: Copy, V: Copy, C: Comparator<K>> Maps<K, V, C> {
     ///
     /// [`OutOfMemory`] where the key is absent and too few nodes are available; nothing has changed then. It does not come where there is
     /// room for the maps as they are then, by [`Maps::reserve_for`].
-    pub fn insert(&mut self, index: usize, key: K, value: V) -> Result<Option<V>, OutOfMemory>
-        requires within { index < count self.old }
-        ensures { InsertsAt MAP_LEAF (C.order (comparator self.old)) self.old index key value result
-            self.new }
+    pub fn insert(&mut self, index: I, key: K, value: V) -> Result<Option<V>, OutOfMemory>
+        requires within { I.number index < count self.old }
+        ensures { InsertsAt MAP_LEAF (C.order (comparator self.old)) self.old (I.number index) key value
+            result self.new }
     {
-        self.maps[index].insert(key, value, &mut self.forest, &self.order)
+        self.maps[index.index()].insert(key, value, &mut self.forest, &self.order)
     }
 
     /// Removes the entry whose key compares equal to `key` and returns its value, or returns `None` and changes nothing. One search, and
     /// no memory is taken.
-    pub fn remove(&mut self, index: usize, key: K) -> Option<V>
-        requires within { index < count self.old }
-        ensures { RemovesAt MAP_LEAF (C.order (comparator self.old)) self.old index key result self.new }
+    pub fn remove(&mut self, index: I, key: K) -> Option<V>
+        requires within { I.number index < count self.old }
+        ensures { RemovesAt MAP_LEAF (C.order (comparator self.old)) self.old (I.number index) key result
+            self.new }
     {
-        self.maps[index].remove(key, &mut self.forest, &self.order)
+        self.maps[index.index()].remove(key, &mut self.forest, &self.order)
     }
 
     /// Inserts a value at a key and returns the value that was there, exactly as [`Maps::insert`] does.
@@ -226,10 +287,10 @@ impl<K: Copy, V: Copy, C: Comparator<K>> Maps<K, V, C> {
     /// # Errors
     ///
     /// Those of [`Maps::insert`].
-    pub fn try_insert(&mut self, index: usize, key: K, value: V) -> Result<Option<V>, OutOfMemory>
-        requires within { index < count self.old }
-        ensures { InsertsAt MAP_LEAF (C.order (comparator self.old)) self.old index key value result
-            self.new }
+    pub fn try_insert(&mut self, index: I, key: K, value: V) -> Result<Option<V>, OutOfMemory>
+        requires within { I.number index < count self.old }
+        ensures { InsertsAt MAP_LEAF (C.order (comparator self.old)) self.old (I.number index) key value
+            result self.new }
     {
         self.insert(index, key, value)
     }
@@ -240,24 +301,24 @@ impl<K: Copy, V: Copy, C: Comparator<K>> Maps<K, V, C> {
     /// # Errors
     ///
     /// Those of [`Maps::insert`], where the key is absent; nothing has changed then.
-    pub fn get_or_insert(&mut self, index: usize, key: K, value: V) -> Result<V, OutOfMemory>
-        requires within { index < count self.old }
-        ensures { GetsOrInsertsAt MAP_LEAF (C.order (comparator self.old)) self.old index key value result
-            self.new }
+    pub fn get_or_insert(&mut self, index: I, key: K, value: V) -> Result<V, OutOfMemory>
+        requires within { I.number index < count self.old }
+        ensures { GetsOrInsertsAt MAP_LEAF (C.order (comparator self.old)) self.old (I.number index) key value
+            result self.new }
     {
-        self.maps[index].get_or_insert(key, value, &mut self.forest, &self.order)
+        self.maps[index.index()].get_or_insert(key, value, &mut self.forest, &self.order)
     }
 
     /// Replaces the value of the entry whose key compares equal to `key` by what `change` returns of it, and returns that, or `None` where
     /// there is no such entry. One search, as [`bforest::Map::update`] makes.
-    pub fn update<F: FnOnce(V) -> V>(&mut self, index: usize, key: K, change: F) -> Option<V>
-        requires within { index < count self.old }
-        requires callable { (v : V) → value_for (C.order (comparator self.old)) (entries self.old index) key
-            ≡ Some v → F.pre change v }
-        ensures { UpdatesAt F.FnOnce (C.order (comparator self.old)) self.old index key change result
-            self.new }
+    pub fn update<F: FnOnce(V) -> V>(&mut self, index: I, key: K, change: F) -> Option<V>
+        requires within { I.number index < count self.old }
+        requires callable { (v : V) → value_for (C.order (comparator self.old))
+            (entries self.old (I.number index)) key ≡ Some v → F.pre change v }
+        ensures { UpdatesAt F.FnOnce (C.order (comparator self.old)) self.old (I.number index) key change
+            result self.new }
     {
-        self.maps[index].update(key, change, &mut self.forest, &self.order)
+        self.maps[index.index()].update(key, change, &mut self.forest, &self.order)
     }
 
     /// Replaces the value of the entry whose key compares equal to `key` by what `change` returns of it. Where there is none, inserts
@@ -268,44 +329,45 @@ impl<K: Copy, V: Copy, C: Comparator<K>> Maps<K, V, C> {
     /// Those of [`Maps::insert`], where the key is absent; nothing has changed then.
     pub fn update_or_insert<F: FnOnce(V) -> V>(
         &mut self,
-        index: usize,
+        index: I,
         key: K,
         value: V,
         change: F,
     ) -> Result<V, OutOfMemory>
-        requires within { index < count self.old }
-        requires callable { (v : V) → value_for (C.order (comparator self.old)) (entries self.old index) key
-            ≡ Some v → F.pre change v }
-        ensures { UpdatesOrInsertsAt MAP_LEAF (C.order (comparator self.old)) F.FnOnce self.old index key
-            value change result self.new }
+        requires within { I.number index < count self.old }
+        requires callable { (v : V) → value_for (C.order (comparator self.old))
+            (entries self.old (I.number index)) key ≡ Some v → F.pre change v }
+        ensures { UpdatesOrInsertsAt MAP_LEAF (C.order (comparator self.old)) F.FnOnce self.old
+            (I.number index) key value change result self.new }
     {
-        self.maps[index].update_or_insert(key, value, change, &mut self.forest, &self.order)
+        self.maps[index.index()].update_or_insert(key, value, change, &mut self.forest, &self.order)
     }
 
     /// Removes the first entry of a map and returns it, or returns `None` and changes nothing where the map is empty. No comparison, and no
     /// memory is taken.
-    pub fn pop_first(&mut self, index: usize) -> Option<(K, V)>
-        requires within { index < count self.old }
-        ensures { PopsAt MAP_LEAF self.old index 0 result self.new }
+    pub fn pop_first(&mut self, index: I) -> Option<(K, V)>
+        requires within { I.number index < count self.old }
+        ensures { PopsAt MAP_LEAF self.old (I.number index) 0 result self.new }
     {
-        self.maps[index].pop_first(&mut self.forest)
+        self.maps[index.index()].pop_first(&mut self.forest)
     }
 
     /// Removes the last entry of a map and returns it, or returns `None` and changes nothing where the map is empty. No comparison, and no
     /// memory is taken.
-    pub fn pop_last(&mut self, index: usize) -> Option<(K, V)>
-        requires within { index < count self.old }
-        ensures { PopsAt MAP_LEAF self.old index (length (entries self.old index) - 1) result self.new }
+    pub fn pop_last(&mut self, index: I) -> Option<(K, V)>
+        requires within { I.number index < count self.old }
+        ensures { PopsAt MAP_LEAF self.old (I.number index) (length (entries self.old (I.number index)) - 1)
+            result self.new }
     {
-        self.maps[index].pop_last(&mut self.forest)
+        self.maps[index.index()].pop_last(&mut self.forest)
     }
 
     /// Removes all entries of a map, whose nodes are free then. Visits each node of its tree once. No comparison, no memory.
-    pub fn clear(&mut self, index: usize)
-        requires within { index < count self.old }
-        ensures { ClearsAt self.old index self.new }
+    pub fn clear(&mut self, index: I)
+        requires within { I.number index < count self.old }
+        ensures { ClearsAt self.old (I.number index) self.new }
     {
-        self.maps[index].clear(&mut self.forest);
+        self.maps[index.index()].clear(&mut self.forest);
     }
 
     /// Gives the map at `to` the entries of the map at `from`, in nodes of the same sizes; its own entries end. Where both are one, nothing
@@ -318,11 +380,12 @@ impl<K: Copy, V: Copy, C: Comparator<K>> Maps<K, V, C> {
     ///
     /// [`OutOfMemory`] where too few nodes are available; nothing has changed then. It does not come where there is room for one more map,
     /// by [`Maps::reserve_for`].
-    pub fn copy(&mut self, from: usize, to: usize) -> Result<(), OutOfMemory>
-        requires from { from < count self.old }
-        requires to { to < count self.old }
-        ensures { CopiesAt MAP_LEAF self.old from to result self.new }
+    pub fn copy(&mut self, from: I, to: I) -> Result<(), OutOfMemory>
+        requires from { I.number from < count self.old }
+        requires to { I.number to < count self.old }
+        ensures { CopiesAt MAP_LEAF self.old (I.number from) (I.number to) result self.new }
     {
+        let (from, to) = (from.index(), to.index());
         if from == to {
             return Ok(());
         }
@@ -342,9 +405,9 @@ impl<K: Copy, V: Copy, C: Comparator<K>> Maps<K, V, C> {
     /// [`LoadError::Unordered`] with the index in the slice of the first key that is not less than the next one. [`LoadError::Refused`]
     /// where too few nodes are available. It does not come where there is room for one more map, by [`Maps::reserve_for`]. Nothing has
     /// changed then.
-    pub fn load(&mut self, index: usize, entries: &[(K, V)]) -> Result<(), LoadError>
-        requires within { index < count self.old }
-        ensures { LoadsAt MAP_LEAF (C.order (comparator self.old)) self.old index entries.now
+    pub fn load(&mut self, index: I, entries: &[(K, V)]) -> Result<(), LoadError>
+        requires within { I.number index < count self.old }
+        ensures { LoadsAt MAP_LEAF (C.order (comparator self.old)) self.old (I.number index) entries.now
             result self.new }
     {
         if let Some(place) = first_unordered(entries, &self.order) {
@@ -352,7 +415,7 @@ impl<K: Copy, V: Copy, C: Comparator<K>> Maps<K, V, C> {
         }
         match Map::load(entries, &mut self.forest) {
             Ok(loaded) => {
-                let mut before = mem::replace(&mut self.maps[index], loaded);
+                let mut before = mem::replace(&mut self.maps[index.index()], loaded);
                 before.clear(&mut self.forest);
                 Ok(())
             }
@@ -370,13 +433,14 @@ impl<K: Copy, V: Copy, C: Comparator<K>> Maps<K, V, C> {
     ///
     /// [`OutOfMemory`] where a key is new and too few nodes are available beside the old ones, or there is no memory for a list of the
     /// union; nothing has changed then.
-    pub fn union_with(&mut self, index: usize, other: usize) -> Result<bool, OutOfMemory>
-        requires within { index < count self.old }
-        requires other { other < count self.old }
-        ensures { UnitesAt MAP_LEAF (C.order (comparator self.old)) self.old index other result self.new }
+    pub fn union_with(&mut self, index: I, other: I) -> Result<bool, OutOfMemory>
+        requires within { I.number index < count self.old }
+        requires other { I.number other < count self.old }
+        ensures { UnitesAt MAP_LEAF (C.order (comparator self.old)) self.old (I.number index) (I.number other)
+            result self.new }
     {
-        let theirs = self.maps[other].clone();
-        self.maps[index].union_with(&theirs, &mut self.forest, &self.order)
+        let theirs = self.maps[other.index()].clone();
+        self.maps[index.index()].union_with(&theirs, &mut self.forest, &self.order)
     }
 
     /// Removes each entry of the map at `index` whose key has no equal one in the map at `other`, and returns whether there was one. The
@@ -384,14 +448,14 @@ impl<K: Copy, V: Copy, C: Comparator<K>> Maps<K, V, C> {
     ///
     /// As [`bforest::Map::intersect_with`]: walks along both, with at most one comparison for each entry of either. It takes no node and no
     /// memory, so it can't be refused.
-    pub fn intersect_with(&mut self, index: usize, other: usize) -> bool
-        requires within { index < count self.old }
-        requires other { other < count self.old }
-        ensures { IntersectsAt MAP_LEAF (C.order (comparator self.old)) self.old index other result
-            self.new }
+    pub fn intersect_with(&mut self, index: I, other: I) -> bool
+        requires within { I.number index < count self.old }
+        requires other { I.number other < count self.old }
+        ensures { IntersectsAt MAP_LEAF (C.order (comparator self.old)) self.old (I.number index)
+            (I.number other) result self.new }
     {
-        let theirs = self.maps[other].clone();
-        self.maps[index].intersect_with(&theirs, &mut self.forest, &self.order)
+        let theirs = self.maps[other.index()].clone();
+        self.maps[index.index()].intersect_with(&theirs, &mut self.forest, &self.order)
     }
 
     /// Removes each entry of the map at `index` whose key has an equal one in the map at `other`, and returns whether there was one. The
@@ -399,14 +463,14 @@ impl<K: Copy, V: Copy, C: Comparator<K>> Maps<K, V, C> {
     ///
     /// As [`bforest::Map::difference_with`]: walks along both, with at most one comparison for each entry of either. It takes no node and
     /// no memory, so it can't be refused.
-    pub fn difference_with(&mut self, index: usize, other: usize) -> bool
-        requires within { index < count self.old }
-        requires other { other < count self.old }
-        ensures { SubtractsAt MAP_LEAF (C.order (comparator self.old)) self.old index other result
-            self.new }
+    pub fn difference_with(&mut self, index: I, other: I) -> bool
+        requires within { I.number index < count self.old }
+        requires other { I.number other < count self.old }
+        ensures { SubtractsAt MAP_LEAF (C.order (comparator self.old)) self.old (I.number index)
+            (I.number other) result self.new }
     {
-        let theirs = self.maps[other].clone();
-        self.maps[index].difference_with(&theirs, &mut self.forest, &self.order)
+        let theirs = self.maps[other.index()].clone();
+        self.maps[index.index()].difference_with(&theirs, &mut self.forest, &self.order)
     }
 
     /// Moves the entries of the map at `from` whose keys are not less than `key` to the map at `to`, whose own entries end. Those that are
@@ -419,13 +483,14 @@ impl<K: Copy, V: Copy, C: Comparator<K>> Maps<K, V, C> {
     ///
     /// [`OutOfMemory::Full`] where the limit does not allow the new nodes beside those that are there, and [`OutOfMemory::Memory`] where
     /// the table had to grow for them and could not; neither where so many nodes lie free. Nothing has changed then.
-    pub fn split_off(&mut self, from: usize, key: K, to: usize) -> Result<(), OutOfMemory>
-        requires from { from < count self.old }
-        requires to { to < count self.old }
-        ensures { SplitsOffAt MAP_LEAF (C.order (comparator self.old)) self.old from key to result self.new }
+    pub fn split_off(&mut self, from: I, key: K, to: I) -> Result<(), OutOfMemory>
+        requires from { I.number from < count self.old }
+        requires to { I.number to < count self.old }
+        ensures { SplitsOffAt MAP_LEAF (C.order (comparator self.old)) self.old (I.number from) key
+            (I.number to) result self.new }
     {
-        let tail = self.maps[from].split_off(key, &mut self.forest, &self.order)?;
-        let mut before = mem::replace(&mut self.maps[to], tail);
+        let tail = self.maps[from.index()].split_off(key, &mut self.forest, &self.order)?;
+        let mut before = mem::replace(&mut self.maps[to.index()], tail);
         before.clear(&mut self.forest);
         Ok(())
     }
@@ -434,12 +499,12 @@ impl<K: Copy, V: Copy, C: Comparator<K>> Maps<K, V, C> {
     ///
     /// As [`bforest::Map::remove_range`]: where a bound is lacking, at most one search, and whole subtrees go. Between two bounds one
     /// search, one comparison for each entry that goes, and one more. It takes no node and no memory, so it can't be refused.
-    pub fn remove_range(&mut self, index: usize, bounds: (Bound<K>, Bound<K>)) -> bool
-        requires within { index < count self.old }
-        ensures { RemovesBetweenAt MAP_LEAF (C.order (comparator self.old)) bounds.0 bounds.1 self.old index
-            result self.new }
+    pub fn remove_range(&mut self, index: I, bounds: (Bound<K>, Bound<K>)) -> bool
+        requires within { I.number index < count self.old }
+        ensures { RemovesBetweenAt MAP_LEAF (C.order (comparator self.old)) bounds.0 bounds.1 self.old
+            (I.number index) result self.new }
     {
-        self.maps[index].remove_range(bounds, &mut self.forest, &self.order)
+        self.maps[index.index()].remove_range(bounds, &mut self.forest, &self.order)
     }
 
     /// Makes the tree of a map anew, with the fewest nodes that so many entries can have. The entries stay.
@@ -450,82 +515,88 @@ impl<K: Copy, V: Copy, C: Comparator<K>> Maps<K, V, C> {
     ///
     /// [`OutOfMemory`] where too few nodes are available beside the old ones, or there is no memory for a list of the entries; nothing has
     /// changed then.
-    pub fn compact(&mut self, index: usize) -> Result<(), OutOfMemory>
-        requires within { index < count self.old }
-        ensures { CompactsAt MAP_LEAF self.old index result self.new }
+    pub fn compact(&mut self, index: I) -> Result<(), OutOfMemory>
+        requires within { I.number index < count self.old }
+        ensures { CompactsAt MAP_LEAF self.old (I.number index) result self.new }
     {
-        self.maps[index].compact(&mut self.forest)
+        self.maps[index.index()].compact(&mut self.forest)
     }
 
     /// Keeps the entries for which the predicate returns `true`, with the value as the predicate left it, and removes all others. It is
     /// called once for each entry, in order. No comparison, no memory.
-    pub fn retain<F: FnMut(K, &mut V) -> bool>(&mut self, index: usize, predicate: F)
-        requires within { index < count self.old }
-        requires callable { MayAskEach (Answers F.FnMut) (MayAsk F.FnMut) predicate (entries self.old index) }
-        ensures { FiltersAt MAP_LEAF (Answers F.FnMut) predicate self.old index self.new }
+    pub fn retain<F: FnMut(K, &mut V) -> bool>(&mut self, index: I, predicate: F)
+        requires within { I.number index < count self.old }
+        requires callable { MayAskEach (Answers F.FnMut) (MayAsk F.FnMut) predicate
+            (entries self.old (I.number index)) }
+        ensures { FiltersAt MAP_LEAF (Answers F.FnMut) predicate self.old (I.number index) self.new }
     {
-        self.maps[index].retain(&mut self.forest, predicate);
+        self.maps[index.index()].retain(&mut self.forest, predicate);
     }
 
     /// Returns how many entries a map has, as [`bforest::Map::len`] counts them. The number of maps is [`Maps::len`].
-    pub fn len_of(&self, index: usize) -> usize
-        requires within { index < count self.now }
-        ensures count { result ≡ length (entries self.now index) }
+    pub fn len_of(&self, index: I) -> usize
+        requires within { I.number index < count self.now }
+        ensures count { result ≡ length (entries self.now (I.number index)) }
     {
-        self.maps[index].len(&self.forest)
+        self.maps[index.index()].len(&self.forest)
     }
 
     /// Returns the height of a map's tree, in levels of nodes: 0 where it is empty, and never more than 17. Visits one node of each level.
-    pub fn levels(&self, index: usize) -> usize
-        requires within { index < count self.now }
-        ensures count { result ≡ length (node_sizes self.now index) }
+    pub fn levels(&self, index: I) -> usize
+        requires within { I.number index < count self.now }
+        ensures count { result ≡ length (node_sizes self.now (I.number index)) }
         ensures most { result ≤ 17 }
-        ensures depth { 2 ≤ result → 4 ^ (result - 1) < length (entries self.now index) }
-        ensures leaves { length (first_level (node_sizes self.now index))
-            ≤ (length (entries self.now index) + 3) / 4 }
+        ensures depth { 2 ≤ result → 4 ^ (result - 1) < length (entries self.now (I.number index)) }
+        ensures leaves { length (first_level (node_sizes self.now (I.number index)))
+            ≤ (length (entries self.now (I.number index)) + 3) / 4 }
     {
-        self.maps[index].levels(&self.forest)
+        self.maps[index.index()].levels(&self.forest)
     }
 
     /// Returns an iterator over the entries of a map, in order. Visits one node of each level, and then each leaf once. No comparison.
     #[inline(always)]
-    pub fn iter(&self, index: usize) -> MapIter<'_, K, V>
-        requires within { index < count self.now }
-        ensures entries { result ≡ entries self.now index }
+    pub fn iter(&self, index: I) -> MapIter<'_, K, V>
+        requires within { I.number index < count self.now }
+        ensures entries { result ≡ entries self.now (I.number index) }
         ensures fits { MapsFitInMemory K.row V.row }
     {
-        self.maps[index].iter(&self.forest)
+        self.maps[index.index()].iter(&self.forest)
     }
 
     /// Returns a double-ended iterator over the entries of a map within both bounds, in order. At most two searches and one comparison; the
     /// steps compare nothing.
-    pub fn range(&self, index: usize, bounds: (Bound<K>, Bound<K>)) -> MapRange<'_, K, V, C>
-        requires within { index < count self.now }
+    pub fn range(&self, index: I, bounds: (Bound<K>, Bound<K>)) -> MapRange<'_, K, V, C>
+        requires within { I.number index < count self.now }
         ensures entries { result ≡ entries_between (C.order (comparator self.now)) bounds.0 bounds.1
-            (entries self.now index) }
+            (entries self.now (I.number index)) }
         ensures fits { MapsFitInMemory K.row V.row }
     {
-        self.maps[index].range(bounds, &self.forest, &self.order)
+        self.maps[index.index()].range(bounds, &self.forest, &self.order)
     }
 
     /// Returns a cursor that reads a map. It stands at the end, behind the last entry. Constant time.
-    pub fn cursor(&self, index: usize) -> MapCursor<'_, K, V, C>
-        requires within { index < count self.now }
-        ensures entries { result.entries ≡ entries self.now index }
-        ensures spot { result.spot ≡ length (entries self.now index) }
+    pub fn cursor(&self, index: I) -> MapCursor<'_, K, V, C>
+        requires within { I.number index < count self.now }
+        ensures entries { result.entries ≡ entries self.now (I.number index) }
+        ensures spot { result.spot ≡ length (entries self.now (I.number index)) }
         ensures comparator { result.comparator ≡ comparator self.now }
         ensures fits { MapsFitInMemory K.row V.row }
     {
-        self.maps[index].cursor(&self.forest, &self.order)
+        self.maps[index.index()].cursor(&self.forest, &self.order)
     }
 
     /// Hands a writing cursor of a map to `edit`, and returns what that returns. The cursor stands at the end at first. What it does to the
     /// map is what its own calls do, at their cost; each other map stays.
-    pub fn edit<E: Edit<K, V, C>>(&mut self, index: usize, edit: E) -> E::Answer
-        requires within { index < count self.old }
-        ensures { EditsAt (E.leaves edit) self.old index result self.new }
+    pub fn edit<E: Edit<K, V, C>>(&mut self, index: I, edit: E) -> E::Answer
+        requires within { I.number index < count self.old }
+        ensures { EditsAt (E.leaves edit) self.old (I.number index) result self.new }
     {
-        lend(&mut self.maps[index], &mut self.forest, &self.order, edit)
+        lend(
+            &mut self.maps[index.index()],
+            &mut self.forest,
+            &self.order,
+            edit,
+        )
     }
 
     /// Returns how many slots the table has, which is the number of nodes in use and of free ones. Constant time.
@@ -536,6 +607,14 @@ impl<K: Copy, V: Copy, C: Comparator<K>> Maps<K, V, C> {
         ensures fit { (i : ℕ) → IsFitFor MAP_LEAF (length (entries self.now i)) (node_sizes self.now i) }
     {
         self.forest.slots()
+    }
+
+    /// Returns how many nodes the trees of all maps have. Constant time.
+    pub fn nodes_in_use(&self) -> u32
+        ensures count { result ≡ nodes_in_use self.now }
+        ensures within { slots_of (table self.now) ≤ limit_of (table self.now) }
+    {
+        self.slots() - self.free_slots()
     }
 
     /// Returns how many slots are free. Constant time.
@@ -572,7 +651,7 @@ impl<K: Copy, V: Copy, C: Comparator<K>> Maps<K, V, C> {
     ///
     /// The table gets as many slots as such maps can have nodes, which is [`bforest::Map::nodes_for`] each, those in use included; and
     /// memory for the handles of so many maps is taken, so that [`Maps::grow_to`] of so many succeeds. Where there is room already, no slot
-    /// is added. [`Maps::clear_all`] gives the slots back.
+    /// is added. No map is added either: [`Maps::grow_to`] is still to be called. [`Maps::clear_all`] gives the slots back.
     ///
     /// # Errors
     ///
@@ -581,18 +660,10 @@ impl<K: Copy, V: Copy, C: Comparator<K>> Maps<K, V, C> {
     pub fn reserve_for(&mut self, maps: usize, entries: usize) -> Result<(), OutOfMemory>
         ensures { ReservesFor MAP_LEAF maps entries self.old result self.new }
     {
-        let used = self.used_slots();
+        let used = self.nodes_in_use();
         let most = Map::<K, V>::nodes_for(entries);
         let slots = slots_for(maps, most, self.node_limit())?;
         reserve_handles(&mut self.maps, maps)?;
         self.forest.reserve_nodes(slots.saturating_sub(used))
-    }
-
-    // Returns how many slots are in use.
-    fn used_slots(&self) -> u32
-        ensures count { result ≡ nodes_in_use self.now }
-        ensures within { slots_of (table self.now) ≤ limit_of (table self.now) }
-    {
-        self.slots() - self.free_slots()
     }
 }

@@ -9,19 +9,20 @@ ghost use Rattle.bforest.specs.Set.{AnswersKey, MayAskKey, as_popped, as_put, as
 ghost use Rattle.bforest.specs.Union.{are_among, are_apart};
 ghost use Rattle.bforest_indexed.specs.Indexed.{CompactsAt, HoldsFor, RemovesBetweenAt, SplitsOffAt, ReservesFor};
 ghost use Rattle.bforest_indexed.specs.Loads.{LoadsAt};
-ghost use Rattle.bforest_indexed.specs.Indexed.{ClearsAll, ClearsAt, CopiesAt, FiltersAt, InsertsAt, IntersectsAt, KeepsAll, PopsAt, RemovesAt, SubtractsAt, Swaps, UnitesAt};
+ghost use Rattle.bforest_indexed.specs.Indexed.{ClearsAll, ClearsAt, CopiesAt, FiltersAt, InsertsAt, IntersectsAt, KeepsAll, PopsAt, RemovesAt, SubtractsAt, Swaps, Truncates, UnitesAt};
 ghost use Rattle.bforest.specs.declared.set_forest.TheConstants.{SET_LEAF};
 ghost use Rattle.bforest_indexed.specs.Indexed.{comparator, count, entries, keys, memory, node_sizes, nodes_in_use, table};
 ghost use Rattle.std.specs.Map.{keys_of};
 ghost use Rattle.std.specs.Prelude.{IfOk, IsOk, IsTrue, OnErr, OnOk, is_some, length, option_map, slice_get, ◌*◌, ◌+◌, ◌-◌, ◌/◌, ◌<◌, ◌^◌, ◌↔◌, ◌≡◌, ◌≤◌, ℕ};
 
 use crate::handles::{add_empty, empty_all, hold};
+use crate::idx::Idx;
 use crate::load_error::LoadError;
 use crate::room::{reserve_handles, slots_for};
 use bforest::{Comparator, OutOfMemory, Set, SetForest, SetIter, SetRange};
 use bforest_trees::first_unordered;
 use std::alloc::{AllocError, Global};
-use std::marker::Model;
+use std::marker::{Model, PhantomData};
 use std::mem;
 use std::ops::Bound;
 
@@ -29,14 +30,17 @@ use std::ops::Bound;
 ///
 /// Each call on a set names it by its index, which has to be less than [`Sets::len`]. In plain Rust an index that is not there panics, and
 /// the panic names it. The set of an index is found in constant time, and an empty set takes 4 bytes and no node.
+///
+/// An index is a `usize`, or of a type of your own that implements [`Idx`]: then [`Sets::typed`] makes them.
 #[derive(Drop)]
-pub struct Sets<K: Copy, C: Comparator<K>> {
+pub struct Sets<K: Copy, C: Comparator<K>, I = usize> {
     forest: SetForest<K>,
     order: C,
     sets: Vec<Set<K>>,
+    index: PhantomData<I>,
 }
 
-impl<K: Copy, C: Comparator<K>> Model for Sets<K, C> {
+impl<K: Copy, C: Comparator<K>, I> Model for Sets<K, C, I> {
     ghost use Rattle.bforest.specs.declared.set_forest.TheConstants.{SET_LEAF};
     ghost use Rattle.bforest_indexed.specs.Indexed.{AreKept, Indexed};
     ghost use Rattle.std.specs.Prelude.{vec_capacity};
@@ -61,17 +65,47 @@ impl<K: Copy, C: Comparator<K>> Model for Sets<K, C> {
 
 impl<K: Copy, C: Comparator<K>> Sets<K, C> {
     /// Returns no sets, whose table has at most 4294967295 slots. No memory is taken.
+    ///
+    /// Each set is named by a `usize`; [`Sets::typed`] is for an index type of your own.
     pub fn new(alloc: Global, order: C) -> Self
         ensures none { count result ≡ 0 }
         ensures table { table result ≡ empty u32.MAX }
         ensures comparator { comparator result ≡ order }
         ensures memory { memory result ≡ 0 }
     {
-        Sets::with_node_limit(alloc, order, u32::MAX)
+        Sets::typed(alloc, order)
     }
 
     /// Returns no sets, whose table has at most `limit` slots. No memory is taken.
+    ///
+    /// Each set is named by a `usize`; [`Sets::typed_with_node_limit`] is for an index type of your own.
     pub fn with_node_limit(alloc: Global, order: C, limit: u32) -> Self
+        ensures none { count result ≡ 0 }
+        ensures table { table result ≡ empty limit }
+        ensures comparator { comparator result ≡ order }
+        ensures memory { memory result ≡ 0 }
+    {
+        Sets::typed_with_node_limit(alloc, order, limit)
+    }
+}
+
+impl<K: Copy, C: Comparator<K>, I: Idx> Sets<K, C, I> {
+    /// Returns no sets, whose table has at most 4294967295 slots. No memory is taken.
+    ///
+    /// As [`Sets::new`], for any type of index, which the call does not tell: write it in the type of the value.
+    pub fn typed(alloc: Global, order: C) -> Self
+        ensures none { count result ≡ 0 }
+        ensures table { table result ≡ empty u32.MAX }
+        ensures comparator { comparator result ≡ order }
+        ensures memory { memory result ≡ 0 }
+    {
+        Sets::typed_with_node_limit(alloc, order, u32::MAX)
+    }
+
+    /// Returns no sets, whose table has at most `limit` slots. No memory is taken.
+    ///
+    /// As [`Sets::with_node_limit`], for any type of index, which the call does not tell: write it in the type of the value.
+    pub fn typed_with_node_limit(alloc: Global, order: C, limit: u32) -> Self
         ensures none { count result ≡ 0 }
         ensures table { table result ≡ empty limit }
         ensures comparator { comparator result ≡ order }
@@ -81,6 +115,7 @@ impl<K: Copy, C: Comparator<K>> Sets<K, C> {
             forest: SetForest::with_node_limit(alloc, limit),
             order,
             sets: Vec::new(alloc),
+            index: PhantomData,
         }
     }
 
@@ -99,13 +134,14 @@ impl<K: Copy, C: Comparator<K>> Sets<K, C> {
         self.sets.is_empty()
     }
 
-    /// Adds an empty set and returns its index, which is the number of sets before. It takes no node.
+    /// Adds an empty set and returns its index, whose number is that of the sets before. It takes no node.
     ///
     /// # Errors
     ///
     /// `AllocError` where there is no memory for the handle; nothing has changed then.
-    pub fn push(&mut self) -> Result<usize, AllocError>
-        ensures index { IfOk result (λ i. i ≡ count self.old) }
+    pub fn push(&mut self) -> Result<I, AllocError>
+        requires nameable { I.names (count self.old) }
+        ensures index { IfOk result (λ i. I.number i ≡ count self.old) }
         ensures count { OnOk result (count self.new ≡ count self.old + 1) }
         ensures keeps { KeepsAll self.old self.new }
         ensures table { table self.new ≡ table self.old }
@@ -113,7 +149,7 @@ impl<K: Copy, C: Comparator<K>> Sets<K, C> {
         ensures succeeds { count self.old < memory self.old → IsOk result }
         ensures refused { OnErr result (self.new ≡ self.old) }
     {
-        let index = self.sets.len();
+        let index = I::new(self.sets.len());
         hold(&mut self.sets, 1)?;
         self.sets.push_reserved(Set::new());
         Ok(index)
@@ -136,6 +172,29 @@ impl<K: Copy, C: Comparator<K>> Sets<K, C> {
         add_empty(&mut self.sets, len)
     }
 
+    /// Removes the last set, whose nodes are free then, and returns whether there was one. Each other set keeps its index. Visits each node
+    /// of its tree once. No comparison, no memory.
+    pub fn pop(&mut self) -> bool
+        ensures removed { IsTrue result ↔ (0 < count self.old) }
+        ensures rest { Truncates self.old (count self.old - 1) self.new }
+    {
+        let Some(mut last) = self.sets.pop() else {
+            return false;
+        };
+        last.clear(&mut self.forest);
+        true
+    }
+
+    /// Removes the sets from index `len` on, whose nodes are free then; where there are `len` or fewer, nothing changes. Each other set
+    /// keeps its index. Visits each node of their trees once. No comparison, no memory.
+    pub fn truncate(&mut self, len: usize)
+        ensures rest { Truncates self.old len self.new }
+    {
+        while len < self.len() {
+            self.pop();
+        }
+    }
+
     /// Removes all keys of all sets, whose number stays. The table has no slot then, and its limit stays; its memory is kept for later
     /// slots. Visits each handle once and no node.
     pub fn clear_all(&mut self)
@@ -146,56 +205,58 @@ impl<K: Copy, C: Comparator<K>> Sets<K, C> {
     }
 
     /// Exchanges two sets, which may be one. Constant time: no key moves.
-    pub fn swap(&mut self, i: usize, j: usize)
-        requires first { i < count self.old }
-        requires second { j < count self.old }
-        ensures { Swaps self.old i j self.new }
+    pub fn swap(&mut self, i: I, j: I)
+        requires first { I.number i < count self.old }
+        requires second { I.number j < count self.old }
+        ensures { Swaps self.old (I.number i) (I.number j) self.new }
     {
-        self.sets.swap(i, j);
+        self.sets.swap(i.index(), j.index());
     }
 
     /// Returns whether a set has a key that compares equal to `key`. One search, as [`bforest::Set::contains`] makes.
-    pub fn contains(&self, index: usize, key: K) -> bool
-        requires within { index < count self.now }
-        ensures present { result ≡ is_present (C.order (comparator self.now)) (entries self.now index) key }
+    pub fn contains(&self, index: I, key: K) -> bool
+        requires within { I.number index < count self.now }
+        ensures present { result
+            ≡ is_present (C.order (comparator self.now)) (entries self.now (I.number index)) key }
         ensures value { result
-            ≡ is_some (value_for (C.order (comparator self.now)) (entries self.now index) key) }
+            ≡ is_some (value_for (C.order (comparator self.now)) (entries self.now (I.number index)) key) }
     {
-        self.sets[index].contains(key, &self.forest, &self.order)
+        self.sets[index.index()].contains(key, &self.forest, &self.order)
     }
 
     /// Returns the last key that is not greater than `key`, as it is stored, or `None` where each key is greater. One search.
-    pub fn get_or_less(&self, index: usize, key: K) -> Option<K>
-        requires within { index < count self.now }
+    pub fn get_or_less(&self, index: I, key: K) -> Option<K>
+        requires within { I.number index < count self.now }
         ensures key { result ≡ option_map (λ e. e.0)
-            (entry_at_most (C.order (comparator self.now)) (entries self.now index) key) }
+            (entry_at_most (C.order (comparator self.now)) (entries self.now (I.number index)) key) }
     {
-        self.sets[index].get_or_less(key, &self.forest, &self.order)
+        self.sets[index.index()].get_or_less(key, &self.forest, &self.order)
     }
 
     /// Returns the first key that is not less than `key`, as it is stored, or `None` where each key is less. One search.
-    pub fn get_or_greater(&self, index: usize, key: K) -> Option<K>
-        requires within { index < count self.now }
+    pub fn get_or_greater(&self, index: I, key: K) -> Option<K>
+        requires within { I.number index < count self.now }
         ensures key { result ≡ option_map (λ e. e.0)
-            (entry_at_least (C.order (comparator self.now)) (entries self.now index) key) }
+            (entry_at_least (C.order (comparator self.now)) (entries self.now (I.number index)) key) }
     {
-        self.sets[index].get_or_greater(key, &self.forest, &self.order)
+        self.sets[index.index()].get_or_greater(key, &self.forest, &self.order)
     }
 
     /// Returns the first key of a set, or `None` where it is empty. Visits one node of each level. No comparison.
-    pub fn first(&self, index: usize) -> Option<K>
-        requires within { index < count self.now }
-        ensures key { result ≡ slice_get (keys self.now index) 0 }
+    pub fn first(&self, index: I) -> Option<K>
+        requires within { I.number index < count self.now }
+        ensures key { result ≡ slice_get (keys self.now (I.number index)) 0 }
     {
-        self.sets[index].first(&self.forest)
+        self.sets[index.index()].first(&self.forest)
     }
 
     /// Returns the last key of a set, or `None` where it is empty. Visits one node of each level. No comparison.
-    pub fn last(&self, index: usize) -> Option<K>
-        requires within { index < count self.now }
-        ensures key { result ≡ slice_get (keys self.now index) (length (keys self.now index) - 1) }
+    pub fn last(&self, index: I) -> Option<K>
+        requires within { I.number index < count self.now }
+        ensures key { result
+            ≡ slice_get (keys self.now (I.number index)) (length (keys self.now (I.number index)) - 1) }
     {
-        self.sets[index].last(&self.forest)
+        self.sets[index.index()].last(&self.forest)
     }
 
     /// Inserts a key and returns whether it was absent, as [`bforest::Set::insert`] does: a stored key that compares equal stays. One
@@ -205,12 +266,12 @@ impl<K: Copy, C: Comparator<K>> Sets<K, C> {
     ///
     /// [`OutOfMemory`] where the key is absent and too few nodes are available; nothing has changed then. It does not come where there is
     /// room for the sets as they are then, by [`Sets::reserve_for`].
-    pub fn insert(&mut self, index: usize, key: K) -> Result<bool, OutOfMemory>
-        requires within { index < count self.old }
-        ensures { InsertsAt SET_LEAF (C.order (comparator self.old)) self.old index key the_value
+    pub fn insert(&mut self, index: I, key: K) -> Result<bool, OutOfMemory>
+        requires within { I.number index < count self.old }
+        ensures { InsertsAt SET_LEAF (C.order (comparator self.old)) self.old (I.number index) key the_value
             (as_put result) self.new }
     {
-        self.sets[index].insert(key, &mut self.forest, &self.order)
+        self.sets[index.index()].insert(key, &mut self.forest, &self.order)
     }
 
     /// Inserts a key and returns whether it was absent, exactly as [`Sets::insert`] does.
@@ -218,9 +279,9 @@ impl<K: Copy, C: Comparator<K>> Sets<K, C> {
     /// # Errors
     ///
     /// Those of [`Sets::insert`].
-    pub fn try_insert(&mut self, index: usize, key: K) -> Result<bool, OutOfMemory>
-        requires within { index < count self.old }
-        ensures { InsertsAt SET_LEAF (C.order (comparator self.old)) self.old index key the_value
+    pub fn try_insert(&mut self, index: I, key: K) -> Result<bool, OutOfMemory>
+        requires within { I.number index < count self.old }
+        ensures { InsertsAt SET_LEAF (C.order (comparator self.old)) self.old (I.number index) key the_value
             (as_put result) self.new }
     {
         self.insert(index, key)
@@ -228,39 +289,39 @@ impl<K: Copy, C: Comparator<K>> Sets<K, C> {
 
     /// Removes the key that compares equal to `key` and returns whether there was one; where there was none, nothing changes. One search,
     /// and no memory is taken.
-    pub fn remove(&mut self, index: usize, key: K) -> bool
-        requires within { index < count self.old }
-        ensures { RemovesAt SET_LEAF (C.order (comparator self.old)) self.old index key (as_removed result)
-            self.new }
+    pub fn remove(&mut self, index: I, key: K) -> bool
+        requires within { I.number index < count self.old }
+        ensures { RemovesAt SET_LEAF (C.order (comparator self.old)) self.old (I.number index) key
+            (as_removed result) self.new }
     {
-        self.sets[index].remove(key, &mut self.forest, &self.order)
+        self.sets[index.index()].remove(key, &mut self.forest, &self.order)
     }
 
     /// Removes the first key of a set and returns it, or returns `None` and changes nothing where the set is empty. No comparison, and no
     /// memory is taken.
-    pub fn pop_first(&mut self, index: usize) -> Option<K>
-        requires within { index < count self.old }
-        ensures { PopsAt SET_LEAF self.old index 0 (as_popped result) self.new }
+    pub fn pop_first(&mut self, index: I) -> Option<K>
+        requires within { I.number index < count self.old }
+        ensures { PopsAt SET_LEAF self.old (I.number index) 0 (as_popped result) self.new }
     {
-        self.sets[index].pop_first(&mut self.forest)
+        self.sets[index.index()].pop_first(&mut self.forest)
     }
 
     /// Removes the last key of a set and returns it, or returns `None` and changes nothing where the set is empty. No comparison, and no
     /// memory is taken.
-    pub fn pop_last(&mut self, index: usize) -> Option<K>
-        requires within { index < count self.old }
-        ensures { PopsAt SET_LEAF self.old index (length (entries self.old index) - 1)
+    pub fn pop_last(&mut self, index: I) -> Option<K>
+        requires within { I.number index < count self.old }
+        ensures { PopsAt SET_LEAF self.old (I.number index) (length (entries self.old (I.number index)) - 1)
             (as_popped result) self.new }
     {
-        self.sets[index].pop_last(&mut self.forest)
+        self.sets[index.index()].pop_last(&mut self.forest)
     }
 
     /// Removes all keys of a set, whose nodes are free then. Visits each node of its tree once. No comparison, no memory.
-    pub fn clear(&mut self, index: usize)
-        requires within { index < count self.old }
-        ensures { ClearsAt self.old index self.new }
+    pub fn clear(&mut self, index: I)
+        requires within { I.number index < count self.old }
+        ensures { ClearsAt self.old (I.number index) self.new }
     {
-        self.sets[index].clear(&mut self.forest);
+        self.sets[index.index()].clear(&mut self.forest);
     }
 
     /// Gives the set at `to` the keys of the set at `from`, in nodes of the same sizes; its own keys end. Where both are one, nothing
@@ -273,11 +334,12 @@ impl<K: Copy, C: Comparator<K>> Sets<K, C> {
     ///
     /// [`OutOfMemory`] where too few nodes are available; nothing has changed then. It does not come where there is room for one more set,
     /// by [`Sets::reserve_for`].
-    pub fn copy(&mut self, from: usize, to: usize) -> Result<(), OutOfMemory>
-        requires from { from < count self.old }
-        requires to { to < count self.old }
-        ensures { CopiesAt SET_LEAF self.old from to result self.new }
+    pub fn copy(&mut self, from: I, to: I) -> Result<(), OutOfMemory>
+        requires from { I.number from < count self.old }
+        requires to { I.number to < count self.old }
+        ensures { CopiesAt SET_LEAF self.old (I.number from) (I.number to) result self.new }
     {
+        let (from, to) = (from.index(), to.index());
         if from == to {
             return Ok(());
         }
@@ -297,17 +359,17 @@ impl<K: Copy, C: Comparator<K>> Sets<K, C> {
     /// [`LoadError::Unordered`] with the index in the slice of the first key that is not less than the next one. [`LoadError::Refused`]
     /// where too few nodes are available. It does not come where there is room for one more set, by [`Sets::reserve_for`]. Nothing has
     /// changed then.
-    pub fn load(&mut self, index: usize, keys: &[K]) -> Result<(), LoadError>
-        requires within { index < count self.old }
-        ensures { LoadsAt SET_LEAF (C.order (comparator self.old)) self.old index (with_unit keys.now)
-            result self.new }
+    pub fn load(&mut self, index: I, keys: &[K]) -> Result<(), LoadError>
+        requires within { I.number index < count self.old }
+        ensures { LoadsAt SET_LEAF (C.order (comparator self.old)) self.old (I.number index)
+            (with_unit keys.now) result self.new }
     {
         if let Some(place) = first_unordered(keys, &self.order) {
             return Err(LoadError::Unordered(place));
         }
         match Set::load(keys, &mut self.forest) {
             Ok(loaded) => {
-                let mut before = mem::replace(&mut self.sets[index], loaded);
+                let mut before = mem::replace(&mut self.sets[index.index()], loaded);
                 before.clear(&mut self.forest);
                 Ok(())
             }
@@ -317,24 +379,24 @@ impl<K: Copy, C: Comparator<K>> Sets<K, C> {
 
     /// Returns whether each key of the set at `index` has an equal one in the set at `other`, which may be the same. An empty set is a
     /// subset of each set. Reads both side by side, up to the first key that is not there: at most one comparison for each key of either.
-    pub fn is_subset(&self, index: usize, other: usize) -> bool
-        requires within { index < count self.now }
-        requires other { other < count self.now }
-        ensures among { result ≡ are_among (C.order (comparator self.now)) (entries self.now index)
-            (entries self.now other) }
+    pub fn is_subset(&self, index: I, other: I) -> bool
+        requires within { I.number index < count self.now }
+        requires other { I.number other < count self.now }
+        ensures among { result ≡ are_among (C.order (comparator self.now)) (entries self.now (I.number index))
+            (entries self.now (I.number other)) }
     {
-        self.sets[index].is_subset(&self.sets[other], &self.forest, &self.order)
+        self.sets[index.index()].is_subset(&self.sets[other.index()], &self.forest, &self.order)
     }
 
     /// Returns whether no key of the set at `index` has an equal one in the set at `other`, which may be the same. An empty set is disjoint
     /// from each set. Reads both side by side, up to the first key that both have: at most one comparison for each key of either.
-    pub fn is_disjoint(&self, index: usize, other: usize) -> bool
-        requires within { index < count self.now }
-        requires other { other < count self.now }
-        ensures apart { result ≡ are_apart (C.order (comparator self.now)) (entries self.now index)
-            (entries self.now other) }
+    pub fn is_disjoint(&self, index: I, other: I) -> bool
+        requires within { I.number index < count self.now }
+        requires other { I.number other < count self.now }
+        ensures apart { result ≡ are_apart (C.order (comparator self.now)) (entries self.now (I.number index))
+            (entries self.now (I.number other)) }
     {
-        self.sets[index].is_disjoint(&self.sets[other], &self.forest, &self.order)
+        self.sets[index.index()].is_disjoint(&self.sets[other.index()], &self.forest, &self.order)
     }
 
     /// Puts each key of the set at `other` that is absent into the set at `index`, and returns whether there was one. A stored key that
@@ -347,13 +409,14 @@ impl<K: Copy, C: Comparator<K>> Sets<K, C> {
     ///
     /// [`OutOfMemory`] where a key is new and too few nodes are available beside the old ones, or there is no memory for a list of the
     /// union; nothing has changed then.
-    pub fn union_with(&mut self, index: usize, other: usize) -> Result<bool, OutOfMemory>
-        requires within { index < count self.old }
-        requires other { other < count self.old }
-        ensures { UnitesAt SET_LEAF (C.order (comparator self.old)) self.old index other result self.new }
+    pub fn union_with(&mut self, index: I, other: I) -> Result<bool, OutOfMemory>
+        requires within { I.number index < count self.old }
+        requires other { I.number other < count self.old }
+        ensures { UnitesAt SET_LEAF (C.order (comparator self.old)) self.old (I.number index) (I.number other)
+            result self.new }
     {
-        let theirs = self.sets[other].clone();
-        self.sets[index].union_with(&theirs, &mut self.forest, &self.order)
+        let theirs = self.sets[other.index()].clone();
+        self.sets[index.index()].union_with(&theirs, &mut self.forest, &self.order)
     }
 
     /// Removes each key of the set at `index` that has no equal one in the set at `other`, and returns whether there was one. The keys that
@@ -361,14 +424,14 @@ impl<K: Copy, C: Comparator<K>> Sets<K, C> {
     ///
     /// As [`bforest::Set::intersect_with`]: walks along both, with at most one comparison for each key of either. It takes no node and no
     /// memory, so it can't be refused.
-    pub fn intersect_with(&mut self, index: usize, other: usize) -> bool
-        requires within { index < count self.old }
-        requires other { other < count self.old }
-        ensures { IntersectsAt SET_LEAF (C.order (comparator self.old)) self.old index other result
-            self.new }
+    pub fn intersect_with(&mut self, index: I, other: I) -> bool
+        requires within { I.number index < count self.old }
+        requires other { I.number other < count self.old }
+        ensures { IntersectsAt SET_LEAF (C.order (comparator self.old)) self.old (I.number index)
+            (I.number other) result self.new }
     {
-        let theirs = self.sets[other].clone();
-        self.sets[index].intersect_with(&theirs, &mut self.forest, &self.order)
+        let theirs = self.sets[other.index()].clone();
+        self.sets[index.index()].intersect_with(&theirs, &mut self.forest, &self.order)
     }
 
     /// Removes each key of the set at `index` that has an equal one in the set at `other`, and returns whether there was one. Where both
@@ -376,14 +439,14 @@ impl<K: Copy, C: Comparator<K>> Sets<K, C> {
     ///
     /// As [`bforest::Set::difference_with`]: walks along both, with at most one comparison for each key of either. It takes no node and no
     /// memory, so it can't be refused.
-    pub fn difference_with(&mut self, index: usize, other: usize) -> bool
-        requires within { index < count self.old }
-        requires other { other < count self.old }
-        ensures { SubtractsAt SET_LEAF (C.order (comparator self.old)) self.old index other result
-            self.new }
+    pub fn difference_with(&mut self, index: I, other: I) -> bool
+        requires within { I.number index < count self.old }
+        requires other { I.number other < count self.old }
+        ensures { SubtractsAt SET_LEAF (C.order (comparator self.old)) self.old (I.number index)
+            (I.number other) result self.new }
     {
-        let theirs = self.sets[other].clone();
-        self.sets[index].difference_with(&theirs, &mut self.forest, &self.order)
+        let theirs = self.sets[other.index()].clone();
+        self.sets[index.index()].difference_with(&theirs, &mut self.forest, &self.order)
     }
 
     /// Moves the keys of the set at `from` that are not less than `key` to the set at `to`, whose own keys end. Those that are less stay
@@ -396,13 +459,14 @@ impl<K: Copy, C: Comparator<K>> Sets<K, C> {
     ///
     /// [`OutOfMemory::Full`] where the limit does not allow the new nodes beside those that are there, and [`OutOfMemory::Memory`] where
     /// the table had to grow for them and could not; neither where so many nodes lie free. Nothing has changed then.
-    pub fn split_off(&mut self, from: usize, key: K, to: usize) -> Result<(), OutOfMemory>
-        requires from { from < count self.old }
-        requires to { to < count self.old }
-        ensures { SplitsOffAt SET_LEAF (C.order (comparator self.old)) self.old from key to result self.new }
+    pub fn split_off(&mut self, from: I, key: K, to: I) -> Result<(), OutOfMemory>
+        requires from { I.number from < count self.old }
+        requires to { I.number to < count self.old }
+        ensures { SplitsOffAt SET_LEAF (C.order (comparator self.old)) self.old (I.number from) key
+            (I.number to) result self.new }
     {
-        let tail = self.sets[from].split_off(key, &mut self.forest, &self.order)?;
-        let mut before = mem::replace(&mut self.sets[to], tail);
+        let tail = self.sets[from.index()].split_off(key, &mut self.forest, &self.order)?;
+        let mut before = mem::replace(&mut self.sets[to.index()], tail);
         before.clear(&mut self.forest);
         Ok(())
     }
@@ -411,12 +475,12 @@ impl<K: Copy, C: Comparator<K>> Sets<K, C> {
     ///
     /// As [`bforest::Set::remove_range`]: where a bound is lacking, at most one search, and whole subtrees go. Between two bounds one
     /// search, one comparison for each key that goes, and one more. It takes no node and no memory, so it can't be refused.
-    pub fn remove_range(&mut self, index: usize, bounds: (Bound<K>, Bound<K>)) -> bool
-        requires within { index < count self.old }
-        ensures { RemovesBetweenAt SET_LEAF (C.order (comparator self.old)) bounds.0 bounds.1 self.old index
-            result self.new }
+    pub fn remove_range(&mut self, index: I, bounds: (Bound<K>, Bound<K>)) -> bool
+        requires within { I.number index < count self.old }
+        ensures { RemovesBetweenAt SET_LEAF (C.order (comparator self.old)) bounds.0 bounds.1 self.old
+            (I.number index) result self.new }
     {
-        self.sets[index].remove_range(bounds, &mut self.forest, &self.order)
+        self.sets[index.index()].remove_range(bounds, &mut self.forest, &self.order)
     }
 
     /// Makes the tree of a set anew, with the fewest nodes that so many keys can have. The keys stay.
@@ -427,63 +491,63 @@ impl<K: Copy, C: Comparator<K>> Sets<K, C> {
     ///
     /// [`OutOfMemory`] where too few nodes are available beside the old ones, or there is no memory for a list of the keys; nothing has
     /// changed then.
-    pub fn compact(&mut self, index: usize) -> Result<(), OutOfMemory>
-        requires within { index < count self.old }
-        ensures { CompactsAt SET_LEAF self.old index result self.new }
+    pub fn compact(&mut self, index: I) -> Result<(), OutOfMemory>
+        requires within { I.number index < count self.old }
+        ensures { CompactsAt SET_LEAF self.old (I.number index) result self.new }
     {
-        self.sets[index].compact(&mut self.forest)
+        self.sets[index.index()].compact(&mut self.forest)
     }
 
     /// Keeps the keys for which the predicate returns `true`, and removes all others. It is called once for each key, in order. No
     /// comparison, no memory.
-    pub fn retain<F: FnMut(K) -> bool>(&mut self, index: usize, predicate: F)
-        requires within { index < count self.old }
+    pub fn retain<F: FnMut(K) -> bool>(&mut self, index: I, predicate: F)
+        requires within { I.number index < count self.old }
         requires callable { MayAskEach (AnswersKey F.FnMut) (MayAskKey F.FnMut) predicate
-            (entries self.old index) }
-        ensures { FiltersAt SET_LEAF (AnswersKey F.FnMut) predicate self.old index self.new }
+            (entries self.old (I.number index)) }
+        ensures { FiltersAt SET_LEAF (AnswersKey F.FnMut) predicate self.old (I.number index) self.new }
     {
-        self.sets[index].retain(&mut self.forest, predicate);
+        self.sets[index.index()].retain(&mut self.forest, predicate);
     }
 
     /// Returns how many keys a set has, as [`bforest::Set::len`] counts them. The number of sets is [`Sets::len`].
-    pub fn len_of(&self, index: usize) -> usize
-        requires within { index < count self.now }
-        ensures count { result ≡ length (entries self.now index) }
+    pub fn len_of(&self, index: I) -> usize
+        requires within { I.number index < count self.now }
+        ensures count { result ≡ length (entries self.now (I.number index)) }
     {
-        self.sets[index].len(&self.forest)
+        self.sets[index.index()].len(&self.forest)
     }
 
     /// Returns the height of a set's tree, in levels of nodes: 0 where it is empty, and never more than 17. Visits one node of each level.
-    pub fn levels(&self, index: usize) -> usize
-        requires within { index < count self.now }
-        ensures count { result ≡ length (node_sizes self.now index) }
+    pub fn levels(&self, index: I) -> usize
+        requires within { I.number index < count self.now }
+        ensures count { result ≡ length (node_sizes self.now (I.number index)) }
         ensures most { result ≤ 17 }
-        ensures depth { 2 ≤ result → 2 * 4 ^ (result - 1) < length (entries self.now index) }
-        ensures leaves { length (first_level (node_sizes self.now index))
-            ≤ (length (entries self.now index) + 7) / 8 }
+        ensures depth { 2 ≤ result → 2 * 4 ^ (result - 1) < length (entries self.now (I.number index)) }
+        ensures leaves { length (first_level (node_sizes self.now (I.number index)))
+            ≤ (length (entries self.now (I.number index)) + 7) / 8 }
     {
-        self.sets[index].levels(&self.forest)
+        self.sets[index.index()].levels(&self.forest)
     }
 
     /// Returns an iterator over the keys of a set, in order. Visits one node of each level, and then each leaf once. No comparison.
     #[inline(always)]
-    pub fn iter(&self, index: usize) -> SetIter<'_, K>
-        requires within { index < count self.now }
-        ensures keys { result ≡ keys self.now index }
+    pub fn iter(&self, index: I) -> SetIter<'_, K>
+        requires within { I.number index < count self.now }
+        ensures keys { result ≡ keys self.now (I.number index) }
         ensures fits { SetsFitInMemory K.row }
     {
-        self.sets[index].iter(&self.forest)
+        self.sets[index.index()].iter(&self.forest)
     }
 
     /// Returns a double-ended iterator over the keys of a set within both bounds, in order. At most two searches and one comparison; the
     /// steps compare nothing.
-    pub fn range(&self, index: usize, bounds: (Bound<K>, Bound<K>)) -> SetRange<'_, K, C>
-        requires within { index < count self.now }
+    pub fn range(&self, index: I, bounds: (Bound<K>, Bound<K>)) -> SetRange<'_, K, C>
+        requires within { I.number index < count self.now }
         ensures keys { result ≡ keys_of (entries_between (C.order (comparator self.now)) bounds.0 bounds.1
-            (entries self.now index)) }
+            (entries self.now (I.number index))) }
         ensures fits { SetsFitInMemory K.row }
     {
-        self.sets[index].range(bounds, &self.forest, &self.order)
+        self.sets[index.index()].range(bounds, &self.forest, &self.order)
     }
 
     /// Returns how many slots the table has, which is the number of nodes in use and of free ones. Constant time.
@@ -494,6 +558,14 @@ impl<K: Copy, C: Comparator<K>> Sets<K, C> {
         ensures fit { (i : ℕ) → IsFitFor SET_LEAF (length (entries self.now i)) (node_sizes self.now i) }
     {
         self.forest.slots()
+    }
+
+    /// Returns how many nodes the trees of all sets have. Constant time.
+    pub fn nodes_in_use(&self) -> u32
+        ensures count { result ≡ nodes_in_use self.now }
+        ensures within { slots_of (table self.now) ≤ limit_of (table self.now) }
+    {
+        self.slots() - self.free_slots()
     }
 
     /// Returns how many slots are free. Constant time.
@@ -530,7 +602,7 @@ impl<K: Copy, C: Comparator<K>> Sets<K, C> {
     ///
     /// The table gets as many slots as such sets can have nodes, which is [`bforest::Set::nodes_for`] each, those in use included; and
     /// memory for the handles of so many sets is taken, so that [`Sets::grow_to`] of so many succeeds. Where there is room already, no slot
-    /// is added. [`Sets::clear_all`] gives the slots back.
+    /// is added. No set is added either: [`Sets::grow_to`] is still to be called. [`Sets::clear_all`] gives the slots back.
     ///
     /// # Errors
     ///
@@ -539,18 +611,10 @@ impl<K: Copy, C: Comparator<K>> Sets<K, C> {
     pub fn reserve_for(&mut self, sets: usize, keys: usize) -> Result<(), OutOfMemory>
         ensures { ReservesFor SET_LEAF sets keys self.old result self.new }
     {
-        let used = self.used_slots();
+        let used = self.nodes_in_use();
         let most = Set::<K>::nodes_for(keys);
         let slots = slots_for(sets, most, self.node_limit())?;
         reserve_handles(&mut self.sets, sets)?;
         self.forest.reserve_nodes(slots.saturating_sub(used))
-    }
-
-    // Returns how many slots are in use.
-    fn used_slots(&self) -> u32
-        ensures count { result ≡ nodes_in_use self.now }
-        ensures within { slots_of (table self.now) ≤ limit_of (table self.now) }
-    {
-        self.slots() - self.free_slots()
     }
 }

@@ -8,7 +8,7 @@ ghost use Rattle.std.specs.Ordering.{is_eq, nat_cmp};
 ghost use Rattle.std.specs.Prelude.{IfOk, IsOk, Some, false, is_some, length, true, ◌-◌, ◌<◌, ◌≡◌};
 
 use bforest::MapCursorMut;
-use bforest_indexed::{Comparator, Edit, Maps, OutOfMemory, Sets};
+use bforest_indexed::{Comparator, Edit, Idx, Maps, OutOfMemory, Sets};
 use std::alloc::AllocError;
 
 /// Inserts an entry where there is room for `room.0` maps of `room.1` entries each, and stays within these numbers: that never fails.
@@ -53,6 +53,24 @@ pub fn insert_and_get<V: Copy>(
 {
     maps.insert(index, key, value)?;
     Ok(maps.get(index, key))
+}
+
+/// Adds a map and inserts a value into it, by an index of any type: a lookup by the index that the addition returned finds it.
+pub fn push_and_get<V: Copy, I: Idx>(
+    maps: &mut Maps<u32, V, (), I>,
+    key: u32,
+    value: V,
+) -> Result<Option<V>, OutOfMemory>
+    requires nameable { I.names (count maps.old) }
+    ensures found { IfOk result (λ found. found ≡ Some value) }
+{
+    match maps.push() {
+        Ok(index) => {
+            maps.insert(index, key, value)?;
+            Ok(maps.get(index, key))
+        }
+        Err(_) => Err(OutOfMemory::Memory),
+    }
 }
 
 /// Inserts a value and looks another key up: its value stays.

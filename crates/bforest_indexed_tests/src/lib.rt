@@ -5,4 +5,6 @@ pub mod callers;
 #[cfg(test)]
 mod room;
 #[cfg(test)]
+mod typed;
+#[cfg(test)]
 mod updates;

@@ -382,6 +382,10 @@ fn new_maps_and_sets_take_nothing() {
         assert!(maps.is_empty() && sets.is_empty());
         let (maps, sets): (Maps<u32, u32>, Sets<u32>) = (Maps::with_node_limit((), 9), Sets::with_node_limit((), 9));
         assert!(maps.is_empty() && sets.is_empty());
+        let (maps, sets): (Maps<u32, u32>, Sets<u32>) = (Maps::typed(()), Sets::typed(()));
+        assert!(maps.is_empty() && sets.is_empty());
+        let (maps, sets): (Maps<u32, u32>, Sets<u32>) = (Maps::typed_with_node_limit((), 9), Sets::typed_with_node_limit((), 9));
+        assert!(maps.is_empty() && sets.is_empty());
     });
     assert_eq!(calls, 0);
 }
@@ -412,4 +416,25 @@ fn pushing_one_map_or_set_takes_room_for_few() {
         }
     }
     assert_eq!((maps.len(), sets.len()), (5000, 5000));
+}
+
+/// Maps and sets that are removed take nothing, and the memory for their handles is kept.
+#[test]
+fn removing_the_last_maps_or_sets_takes_nothing() {
+    let mut maps: Maps<u32, u32> = Maps::new(());
+    let mut sets: Sets<u32> = Sets::new(());
+    for _ in 0..2 {
+        maps.grow_to(100).unwrap();
+        sets.grow_to(100).unwrap();
+        (0..5000).for_each(|key| assert!(maps.insert(key as usize % 100, key, key).is_ok() && sets.insert(key as usize % 100, key).is_ok()));
+        let calls = calls_of(|| {
+            assert!(maps.pop() && sets.pop());
+            maps.truncate(0);
+            sets.truncate(0);
+            maps.grow_to(100).unwrap();
+            sets.grow_to(100).unwrap();
+            assert_eq!((maps.nodes_in_use(), sets.nodes_in_use()), (0, 0));
+        });
+        assert_eq!(calls, 0);
+    }
 }

@@ -539,9 +539,17 @@ fn calls_by_an_index_that_compare_nothing() {
     assert_eq!((maps.node_limit(), sets.node_limit()), (u32::MAX, u32::MAX));
     maps.clear(0);
     sets.clear(0);
+    assert!(maps.nodes_in_use() < maps.slots() && sets.nodes_in_use() < sets.slots());
+    assert!(maps.pop() && sets.pop());
+    maps.truncate(1);
+    sets.truncate(1);
     maps.clear_all();
     sets.clear_all();
     let (maps, sets): (Indexed, IndexedSets) = (Maps::with_node_limit(&order, 9), Sets::with_node_limit(&order, 9));
+    assert!(maps.is_empty() && sets.is_empty());
+    let (maps, sets): (Indexed, IndexedSets) = (Maps::typed(&order), Sets::typed(&order));
+    assert!(maps.is_empty() && sets.is_empty());
+    let (maps, sets): (Indexed, IndexedSets) = (Maps::typed_with_node_limit(&order, 9), Sets::typed_with_node_limit(&order, 9));
     assert!(maps.is_empty() && sets.is_empty());
     assert_eq!(order.taken(), 0);
 }

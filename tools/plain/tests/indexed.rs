@@ -306,6 +306,42 @@ fn loads_by_an_index_answer_as_their_entries_say() {
     }
 }
 
+/// Maps and sets are removed from the back, beside a vector, and others are added.
+#[test]
+fn the_last_maps_and_sets_go() {
+    let mut random = Random(0x0f1e_2d3c_4b5a_6978);
+    let (mut maps, mut sets): (Maps<u32, u32>, Sets<u32>) = (Maps::new(()), Sets::new(()));
+    let (mut model, mut of_sets): (Model, Vec<BTreeSet<u32>>) = (Vec::new(), Vec::new());
+    assert!(!maps.pop() && !sets.pop());
+    for turn in 0..2000 {
+        match random.below(8) {
+            0 => {
+                assert_eq!((maps.pop(), sets.pop()), (model.pop().is_some(), of_sets.pop().is_some()));
+            }
+            1 => {
+                let len = random.below(12) as usize;
+                maps.truncate(len);
+                sets.truncate(len);
+                model.truncate(len);
+                of_sets.truncate(len);
+            }
+            _ => {
+                assert_eq!((maps.push(), sets.push()), (Ok(model.len()), Ok(model.len())));
+                let keys: BTreeSet<u32> = (0..random.below(60)).map(|_| random.below(100)).collect();
+                model.push(keys.iter().map(|key| (*key, turn)).collect());
+                keys.iter().for_each(|key| assert!(maps.insert(of_sets.len(), *key, turn).is_ok() && sets.insert(of_sets.len(), *key).is_ok()));
+                of_sets.push(keys);
+            }
+        }
+        assert_eq!((format!("{maps:?}"), format!("{sets:?}")), (format!("{model:?}"), format!("{of_sets:?}")));
+        assert_eq!(maps.nodes_in_use() + maps.free_slots(), maps.slots());
+        assert_eq!(sets.nodes_in_use() + sets.free_slots(), sets.slots());
+        if model.iter().all(BTreeMap::is_empty) {
+            assert_eq!((maps.nodes_in_use(), sets.nodes_in_use()), (0, 0));
+        }
+    }
+}
+
 /// The text of the panic of a call.
 fn panic_of<T>(call: impl FnOnce() -> T) -> String {
     let Err(met) = catch_unwind(AssertUnwindSafe(call)) else {

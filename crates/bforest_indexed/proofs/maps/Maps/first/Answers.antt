@@ -4,7 +4,7 @@ use Rattle.bforest_indexed.proofs.maps.Maps.first.Goals as goal
 use Rattle.std.proofs.Common.{ap, slice_get, ◌∙◌}
 
 pub first-requires : goal.first-requires
-first-requires g c = (search first-field, live-read c.self.invariant (rw (← c.self.view_is) at c.requires.within) c.index.ensures)
+first-requires g c = (search first-field, live-read c.self.invariant (rw (← c.self.view_is, ← c.index.ensures.number) at c.requires.within) c.index-2.ensures)
 
 pub returns : goal.returns
-returns g c = record { entry = rw (← c.self.view_is) (c.first.ensures.entry ∙ ap (λ es. slice_get es 0) (same-list c.self.invariant (rw (← c.self.view_is) at c.requires.within) c.index.ensures)) }
+returns g c = record { entry = rw (← c.self.view_is, ← c.index.ensures.number) (c.first.ensures.entry ∙ ap (λ es. slice_get es 0) (same-list c.self.invariant (rw (← c.self.view_is, ← c.index.ensures.number) at c.requires.within) c.index-2.ensures)) }

@@ -4,7 +4,7 @@ use Rattle.bforest_indexed.proofs.maps.Maps.last.Goals as goal
 use Rattle.std.proofs.Common.{ap, length, slice_get, ◌-◌, ◌∙◌}
 
 pub last-requires : goal.last-requires
-last-requires g c = (search first-field, live-read c.self.invariant (rw (← c.self.view_is) at c.requires.within) c.index.ensures)
+last-requires g c = (search first-field, live-read c.self.invariant (rw (← c.self.view_is, ← c.index.ensures.number) at c.requires.within) c.index-2.ensures)
 
 pub returns : goal.returns
-returns g c = record { entry = rw (← c.self.view_is) (c.last.ensures.entry ∙ ap (λ es. slice_get es (length es - 1)) (same-list c.self.invariant (rw (← c.self.view_is) at c.requires.within) c.index.ensures)) }
+returns g c = record { entry = rw (← c.self.view_is, ← c.index.ensures.number) (c.last.ensures.entry ∙ ap (λ es. slice_get es (length es - 1)) (same-list c.self.invariant (rw (← c.self.view_is, ← c.index.ensures.number) at c.requires.within) c.index-2.ensures)) }

@@ -5,13 +5,13 @@ use Rattle.bforest_indexed.proofs.maps.Maps.levels.Goals as goal
 use Rattle.std.proofs.Common.{ap, length, ◌+◌, ◌-◌, ◌/◌, ◌<◌, ◌^◌, ◌∙◌, ◌≤◌}
 
 pub levels-requires : goal.levels-requires
-levels-requires g c = (search first-field, live-read c.self.invariant (rw (← c.self.view_is) at c.requires.within) c.index.ensures)
+levels-requires g c = (search first-field, live-read c.self.invariant (rw (← c.self.view_is, ← c.index.ensures.number) at c.requires.within) c.index-2.ensures)
 
 pub returns-clause-count : goal.returns-clause-count
-returns-clause-count g c = rw (← c.self.view_is) (c.levels.ensures.count ∙ ap length (same-sizes c.self.invariant (rw (← c.self.view_is) at c.requires.within) c.index.ensures))
+returns-clause-count g c = rw (← c.self.view_is, ← c.index.ensures.number) (c.levels.ensures.count ∙ ap length (same-sizes c.self.invariant (rw (← c.self.view_is, ← c.index.ensures.number) at c.requires.within) c.index-2.ensures))
 
 pub returns-clause-depth : goal.returns-clause-depth
-returns-clause-depth g c = rw (← c.self.view_is) (on-list c.self.invariant (rw (← c.self.view_is) at c.requires.within) c.index.ensures (λ es. 2 ≤ c.levels.result → 4 ^ (c.levels.result - 1) < length es) c.levels.ensures.depth)
+returns-clause-depth g c = rw (← c.self.view_is, ← c.index.ensures.number) (on-list c.self.invariant (rw (← c.self.view_is, ← c.index.ensures.number) at c.requires.within) c.index-2.ensures (λ es. 2 ≤ c.levels.result → 4 ^ (c.levels.result - 1) < length es) c.levels.ensures.depth)
 
 pub returns-clause-leaves : goal.returns-clause-leaves
-returns-clause-leaves g c = rw (← c.self.view_is) (of-index c.self.invariant (rw (← c.self.view_is) at c.requires.within) c.index.ensures (λ q. length (first_level (sizes_of c.self.inside.forest q)) ≤ (length (list_of c.self.inside.forest q) + 3) / 4) c.levels.ensures.leaves)
+returns-clause-leaves g c = rw (← c.self.view_is, ← c.index.ensures.number) (of-index c.self.invariant (rw (← c.self.view_is, ← c.index.ensures.number) at c.requires.within) c.index-2.ensures (λ q. length (first_level (sizes_of c.self.inside.forest q)) ≤ (length (list_of c.self.inside.forest q) + 3) / 4) c.levels.ensures.leaves)

@@ -13,4 +13,4 @@ pub returns-in_err-hold-clause-keeps : goal.returns-in_err-hold-clause-keeps
 returns-in_err-hold-clause-keeps g c = rw (← c.self.view_is) (keeps-same _ _ (λ i. ap (λ (qs : List (Option ℕ)). get_or qs i None) c.hold.ensures.items))
 
 pub returns-clause-index : goal.returns-clause-index
-returns-clause-index g c = rw (← c.self.view_is) (c.len-index.ensures ∙ c.self.inside.maps.ok.0)
+returns-clause-index g c = rw (← c.self.view_is) (c.new-index.ensures.number ∙ c.len.ensures ∙ c.self.inside.maps.ok.0)

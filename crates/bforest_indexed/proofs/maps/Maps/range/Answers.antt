@@ -4,7 +4,7 @@ use Rattle.bforest_indexed.proofs.maps.Maps.range.Goals as goal
 use Rattle.std.proofs.Common.{◌∙◌}
 
 pub range-requires : goal.range-requires
-range-requires g c = (search first-field, ordered-read c.self.invariant (rw (← c.self.view_is) at c.requires.within) c.index.ensures)
+range-requires g c = (search first-field, ordered-read c.self.invariant (rw (← c.self.view_is, ← c.index.ensures.number) at c.requires.within) c.index-2.ensures)
 
 pub returns : goal.returns
-returns g c = record { entries = rw (← c.self.view_is) (c.range.ensures.entries ∙ between-read c.self.invariant (rw (← c.self.view_is) at c.requires.within) c.index.ensures _ _); fits = c.range.ensures.fits }
+returns g c = record { entries = rw (← c.self.view_is, ← c.index.ensures.number) (c.range.ensures.entries ∙ between-read c.self.invariant (rw (← c.self.view_is, ← c.index.ensures.number) at c.requires.within) c.index-2.ensures _ _); fits = c.range.ensures.fits }

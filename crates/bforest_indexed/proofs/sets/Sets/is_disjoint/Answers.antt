@@ -8,10 +8,10 @@ pub is_disjoint-requires : goal.is_disjoint-requires
 is_disjoint-requires g c = (
   search first-field,
   (
-    ordered-read c.self.invariant (rw (← c.self.view_is) at c.requires.within) c.index.ensures,
-    ordered-read c.self.invariant (rw (← c.self.view_is) at c.requires.other) c.index-2.ensures,
+    ordered-read c.self.invariant (rw (← c.self.view_is, ← c.index.ensures.number) at c.requires.within) c.index-2.ensures,
+    ordered-read c.self.invariant (rw (← c.self.view_is, ← c.index-3.ensures.number) at c.requires.other) c.index-4.ensures,
   ),
 )
 
 pub returns : goal.returns
-returns g c = record { apart = rw (← c.self.view_is) (c.is_disjoint.ensures.apart ∙ apart-read c.args.other c.self.invariant (rw (← c.self.view_is) at c.requires.within) c.index.ensures (rw (← c.self.view_is) at c.requires.other) c.index-2.ensures) }
+returns g c = record { apart = rw (← c.self.view_is, ← c.index.ensures.number, ← c.index-3.ensures.number) (c.is_disjoint.ensures.apart ∙ apart-read c.index-3.result c.self.invariant (rw (← c.self.view_is, ← c.index.ensures.number) at c.requires.within) c.index-2.ensures (rw (← c.self.view_is, ← c.index-3.ensures.number) at c.requires.other) c.index-4.ensures) }

@@ -5,7 +5,7 @@ use Rattle.std.proofs.Common.{ap, ◌∙◌}
 use Rattle.std.specs.Map.{keys_of}
 
 pub iter-requires : goal.iter-requires
-iter-requires g c = (search first-field, live-read c.self.invariant (rw (← c.self.view_is) at c.requires.within) c.index.ensures)
+iter-requires g c = (search first-field, live-read c.self.invariant (rw (← c.self.view_is, ← c.index.ensures.number) at c.requires.within) c.index-2.ensures)
 
 pub returns : goal.returns
-returns g c = record { keys = rw (← c.self.view_is) (c.iter.ensures.keys ∙ ap keys_of (same-list c.self.invariant (rw (← c.self.view_is) at c.requires.within) c.index.ensures)); fits = c.iter.ensures.fits }
+returns g c = record { keys = rw (← c.self.view_is, ← c.index.ensures.number) (c.iter.ensures.keys ∙ ap keys_of (same-list c.self.invariant (rw (← c.self.view_is, ← c.index.ensures.number) at c.requires.within) c.index-2.ensures)); fits = c.iter.ensures.fits }

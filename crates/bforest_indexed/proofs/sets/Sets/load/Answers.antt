@@ -8,13 +8,13 @@ pub returns-in-Some : goal.returns-in-Some
 returns-in-Some g c = rw (← c.self.view_is) (loads-unordered c.self.invariant (with_unit c.args.keys.now) (g.met.C.Comparator.total c.self.inside.order) c.in-Some.ensures.some)
 
 pub clear-requires : goal.clear-requires
-clear-requires g c = (search first-field, rw c.replace-before.ensures.value (load-live c.self.invariant (with_unit c.args.keys.now) (c.in_default.ensures.none refl) (rw (← c.self.view_is) at c.requires.within) c.index_mut.ensures.value c.in-Ok.ensures))
+clear-requires g c = (search first-field, rw c.replace-before.ensures.value (load-live c.self.invariant (with_unit c.args.keys.now) (c.in_default.ensures.none refl) (rw (← c.self.view_is, ← c.index.ensures.number) at c.requires.within) c.index_mut.ensures.value c.in-Ok.ensures))
 
 pub invariant_of-self : goal.invariant_of-self
-invariant_of-self g c = rw c.replace-before.ensures.after ((loaded-read c.self.invariant (with_unit c.args.keys.now) (c.in_default.ensures.none refl) (rw (← c.self.view_is) at c.requires.within) c.index_mut.ensures.value c.in-Ok.ensures (rw c.replace-before.ensures.value at c.clear.ensures)).0)
+invariant_of-self g c = rw c.replace-before.ensures.after ((loaded-read c.self.invariant (with_unit c.args.keys.now) (c.in_default.ensures.none refl) (rw (← c.self.view_is, ← c.index.ensures.number) at c.requires.within) c.index_mut.ensures.value c.in-Ok.ensures (rw c.replace-before.ensures.value at c.clear.ensures)).0)
 
 pub returns-in-Ok : goal.returns-in-Ok
-returns-in-Ok g c = rw (← c.self.view_is, c.replace-before.ensures.after) ((loaded-read c.self.invariant (with_unit c.args.keys.now) (c.in_default.ensures.none refl) (rw (← c.self.view_is) at c.requires.within) c.index_mut.ensures.value c.in-Ok.ensures (rw c.replace-before.ensures.value at c.clear.ensures)).1)
+returns-in-Ok g c = rw (← c.self.view_is, ← c.index.ensures.number, c.replace-before.ensures.after) ((loaded-read c.self.invariant (with_unit c.args.keys.now) (c.in_default.ensures.none refl) (rw (← c.self.view_is, ← c.index.ensures.number) at c.requires.within) c.index_mut.ensures.value c.in-Ok.ensures (rw c.replace-before.ensures.value at c.clear.ensures)).1)
 
 pub returns-in-Err : goal.returns-in-Err
 returns-in-Err g c = rw (← c.self.view_is) (refused-load c.self.invariant (with_unit c.args.keys.now) (c.in_default.ensures.none refl) c.in-Err.ensures)

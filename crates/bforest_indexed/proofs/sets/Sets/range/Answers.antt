@@ -5,7 +5,7 @@ use Rattle.std.proofs.Common.{ap, ◌∙◌}
 use Rattle.std.specs.Map.{keys_of}
 
 pub range-requires : goal.range-requires
-range-requires g c = (search first-field, ordered-read c.self.invariant (rw (← c.self.view_is) at c.requires.within) c.index.ensures)
+range-requires g c = (search first-field, ordered-read c.self.invariant (rw (← c.self.view_is, ← c.index.ensures.number) at c.requires.within) c.index-2.ensures)
 
 pub returns : goal.returns
-returns g c = record { keys = rw (← c.self.view_is) (c.range.ensures.keys ∙ ap keys_of (between-read c.self.invariant (rw (← c.self.view_is) at c.requires.within) c.index.ensures _ _)); fits = c.range.ensures.fits }
+returns g c = record { keys = rw (← c.self.view_is, ← c.index.ensures.number) (c.range.ensures.keys ∙ ap keys_of (between-read c.self.invariant (rw (← c.self.view_is, ← c.index.ensures.number) at c.requires.within) c.index-2.ensures _ _)); fits = c.range.ensures.fits }

@@ -1,4 +1,0 @@
-use Rattle.bforest_indexed.proofs.maps.Maps.new.Goals as goal
-
-pub returns-clause-table : goal.returns-clause-table
-returns-clause-table g c = c.with_node_limit.ensures.table
