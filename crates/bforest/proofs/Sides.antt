@@ -192,3 +192,21 @@ module _ {K C : Type 0} (order : C → K → K → Ordering) (s : Sides K C) whe
       go : (first : List K) → (first ≢ [] → IsTrue false) → in_first order (record { first = first; second = s.second; comparator = s.comparator }) ≡ []
       go [] ended = refl
       go (k ∷ first) ended = absurd (let bad : false ≡ true = ended (λ n. cc) in cc)
+
+-- the entries of a set's keys are its own
+whole-unit : {K : Type 0} (es : List (K × Unit {0})) → with_unit (keys_of es) ≡ es
+whole-unit [] = refl
+whole-unit (e ∷ es) = ap (λ z. e ∷ z) (whole-unit es)
+
+module _ {K C : Type 0} (order : C → K → K → Ordering) (es others : List (K × Unit {0})) {c : C} where
+  -- two sets that increase, before a key is taken off
+  pub increase : {first second : List K} → first ≡ keys_of es → second ≡ keys_of others → IsIncreasing (order c) es → IsIncreasing (order c) others → Increase order (record { first = first; second = second; comparator = c })
+  increase is second_is up others_up = record {
+    up = subst (IsIncreasing (order c)) (sym (ap with_unit is ∙ whole-unit es)) up;
+    second_up = subst (IsIncreasing (order c)) (sym (ap with_unit second_is ∙ whole-unit others)) others_up;
+  }
+
+  -- what is made of all keys of two sets is made of their lists
+  pub all-keys : {s : Sides K C} → s ≡ record { first = keys_of es; second = keys_of others; comparator = c } → (f : (K → K → Ordering) → List (K × Unit {0}) → List (K × Unit {0}) → List (K × Unit {0}))
+      → keys_of (f (order s.comparator) (with_unit s.first) (with_unit s.second)) ≡ keys_of (f (order c) es others)
+  all-keys {s} is f = ap (λ (z : Sides K C). keys_of (f (order z.comparator) (with_unit z.first) (with_unit z.second))) is ∙ ap (λ z. keys_of (f (order c) z (with_unit (keys_of others)))) (whole-unit es) ∙ ap (λ z. keys_of (f (order c) es z)) (whole-unit others)

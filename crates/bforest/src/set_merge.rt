@@ -161,7 +161,7 @@ impl<'a, K: Copy, C: Comparator<K>> Merge<'a, K, C> {
 
 /// The keys of a set that are left, of which the first was read already.
 #[derive(Drop)]
-struct Ahead<'a, K: Copy> {
+pub(crate) struct Ahead<'a, K: Copy> {
     key: Option<K>,
     behind: SetIter<'a, K>,
 }
