@@ -1,5 +1,5 @@
--- Two sets that are read side by side: the keys that are left of each, and those that each iterator over them has left. No public clause cites
--- this module.
+-- Two sets that are read side by side: the keys that are left of each, and those that each iterator over them has left. No public clause
+-- cites this module.
 use Rattle.bforest.specs.Set.{with_unit}
 use Rattle.bforest.specs.Union.{kept_from, united, unshared}
 use Rattle.bforest_nodes.specs.Entries.{IsIncreasing}

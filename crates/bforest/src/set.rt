@@ -591,9 +591,10 @@ impl<K: Copy> Set<K> {
 
     /// Returns an iterator over the keys of this set that have an equal one in `other`, in order.
     ///
-    /// Reads both sets side by side, as [`Set::union`] does, up to the end of the one that ends first. All steps compare at most `n + m - 1`
-    /// times for sets of `n` and `m` keys, and not at all where one of them is empty. No search, and no memory is taken. Where this set has
-    /// few keys and `other` very many, [`Set::contains`] for each key costs less. [`Set::intersect_with`] removes the other keys.
+    /// Reads both sets side by side, as [`Set::union`] does, up to the end of the one that ends first. All steps compare at most
+    /// `n + m - 1` times for sets of `n` and `m` keys, and not at all where one of them is empty. No search, and no memory is taken. Where
+    /// this set has few keys and `other` very many, [`Set::contains`] for each key costs less. [`Set::intersect_with`] removes the other
+    /// keys.
     #[inline(always)]
     pub fn intersection<'a, C: Comparator<K>>(
         &self,
@@ -615,9 +616,9 @@ impl<K: Copy> Set<K> {
 
     /// Returns an iterator over the keys of this set that have no equal one in `other`, in order.
     ///
-    /// Reads both sets side by side, as [`Set::union`] does, up to the end of this set. All steps compare at most `n + m - 1` times for sets
-    /// of `n` and `m` keys, and not at all where one of them is empty. No search, and no memory is taken. Where this set has few keys and
-    /// `other` very many, [`Set::contains`] for each key costs less. [`Set::difference_with`] removes the other keys.
+    /// Reads both sets side by side, as [`Set::union`] does, up to the end of this set. All steps compare at most `n + m - 1` times for
+    /// sets of `n` and `m` keys, and not at all where one of them is empty. No search, and no memory is taken. Where this set has few keys
+    /// and `other` very many, [`Set::contains`] for each key costs less. [`Set::difference_with`] removes the other keys.
     #[inline(always)]
     pub fn difference<'a, C: Comparator<K>>(
         &self,
@@ -637,7 +638,8 @@ impl<K: Copy> Set<K> {
         }
     }
 
-    /// Returns an iterator over the keys of this set that have no equal one in `other`, and of `other` that have none in this set, in order.
+    /// Returns an iterator over the keys of this set that have no equal one in `other`, and those of `other` that have none in this set, in
+    /// order.
     ///
     /// Reads both sets side by side, as [`Set::union`] does. All steps compare at most `n + m - 1` times for sets of `n` and `m` keys, and
     /// not at all where one of them is empty. No search, and no memory is taken.

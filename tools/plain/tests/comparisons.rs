@@ -566,6 +566,12 @@ fn calls_on_whole_maps_and_sets_by_an_index() {
         within(2 * count);
         _ = sets.is_disjoint(1, 0);
         within(2 * count);
+        _ = sets.union(1, 0).count();
+        within(2 * count);
+        _ = (sets.intersection(1, 0).count(), sets.difference(1, 0).count());
+        within(4 * count);
+        _ = sets.symmetric_difference(1, 0).count();
+        within(2 * count);
         assert_eq!((maps.copy(1, 2), sets.copy(1, 2)), (Ok(()), Ok(())));
         within(0);
         assert_eq!((maps.union_with(2, 0), sets.union_with(2, 0)), (Ok(true), Ok(true)));

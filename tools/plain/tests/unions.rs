@@ -241,6 +241,11 @@ fn unions_by_index() {
     assert!(!sets.is_subset(1, 0) && !sets.is_disjoint(0, 1));
     assert_eq!((sets.union_with(0, 1), sets.union_with(0, 1), sets.union_with(2, 2)), (Ok(true), Ok(false), Ok(false)));
     assert!(sets.is_subset(1, 0) && sets.iter(0).eq([1, 2, 3]) && sets.iter(1).eq([2, 3]));
+    // 0 has 1, 2 and 3, 1 has 2 and 3, and 2 has nothing.
+    assert!(sets.union(0, 1).eq([1, 2, 3]) && sets.union(2, 1).eq([2, 3]) && sets.union(0, 0).eq([1, 2, 3]));
+    assert!(sets.intersection(0, 1).eq([2, 3]) && sets.intersection(0, 2).next().is_none());
+    assert!(sets.difference(0, 1).eq([1]) && sets.difference(1, 0).next().is_none() && sets.difference(0, 2).eq([1, 2, 3]));
+    assert!(sets.symmetric_difference(1, 0).eq([1]) && sets.symmetric_difference(0, 0).next().is_none());
 }
 
 // Beside the standard library.
