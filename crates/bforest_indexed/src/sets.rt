@@ -19,8 +19,10 @@ ghost use Rattle.std.specs.Prelude.{IfOk, IsOk, IsTrue, OnErr, OnOk, false, is_s
 use crate::handles::{add_empty, empty_all, hold};
 use crate::load_error::LoadError;
 use crate::room::{reserve_handles, slots_for};
-use bforest::{Comparator, OutOfMemory, Set, SetForest, SetIter, SetRange};
-use bforest::{SetDifference, SetIntersection, SetSymmetricDifference, SetUnion};
+use bforest::{
+    Comparator, OutOfMemory, Set, SetDifference, SetForest, SetIntersection, SetIter, SetRange,
+    SetSymmetricDifference, SetUnion,
+};
 use bforest_trees::first_unordered;
 use std::alloc::{AllocError, Global};
 use std::marker::Model;
@@ -523,7 +525,11 @@ impl<K: Copy, C: Comparator<K>> Sets<K, C> {
     /// Returns an iterator over the keys that one of the sets at `index` and at `other` has alone, in order; both may be one. As
     /// [`bforest::Set::symmetric_difference`]: reads both side by side, with at most `n + m - 1` comparisons in all.
     #[inline(always)]
-    pub fn symmetric_difference(&self, index: usize, other: usize) -> SetSymmetricDifference<'_, K, C>
+    pub fn symmetric_difference(
+        &self,
+        index: usize,
+        other: usize,
+    ) -> SetSymmetricDifference<'_, K, C>
         requires within { index < count self.now }
         requires other { other < count self.now }
         ensures keys { result ≡ keys_of (unshared (C.order (comparator self.now)) (entries self.now index)
