@@ -73,10 +73,16 @@ fn pairs(copy: &Set<u32>, set: &Set<u32>, forest: &SetForest<u32>) -> bool {
     if !forest.holds(set) || !set.increases(forest, &()) {
         return false;
     }
-    let (mut either, mut both) = (copy.union(set, forest, &()), copy.intersection(set, forest, &()));
+    let (mut either, mut both) = (
+        copy.union(set, forest, &()),
+        copy.intersection(set, forest, &()),
+    );
     let mut own = copy.difference(set, forest, &());
     let mut one = copy.symmetric_difference(set, forest, &());
-    either.next() == Some(1) && both.next() == Some(1) && own.next().is_none() && one.next() == Some(2)
+    either.next() == Some(1)
+        && both.next() == Some(1)
+        && own.next().is_none()
+        && one.next() == Some(2)
 }
 
 // Keeps what another set has, and then what it has not, which is nothing.
