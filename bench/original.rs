@@ -294,12 +294,6 @@ impl SetPairs for OriginalSets {
     }
 
     #[inline(never)]
-    fn read_shared(&self, set: u32, other: u32) -> u64 {
-        let mut is_there = among(self.maps[other as usize].iter(&self.forest));
-        self.maps[set as usize].iter(&self.forest).filter(|key| is_there(*key)).fold(0, added)
-    }
-
-    #[inline(never)]
     fn read_alone(&self, set: u32, other: u32) -> u64 {
         let mut is_there = among(self.maps[other as usize].iter(&self.forest));
         self.maps[set as usize].iter(&self.forest).filter(|key| !is_there(*key)).fold(0, added)

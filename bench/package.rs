@@ -211,11 +211,6 @@ impl SetPairs for PackageSets {
     }
 
     #[inline(never)]
-    fn read_shared(&self, set: u32, other: u32) -> u64 {
-        self.maps[set as usize].intersection(&self.maps[other as usize], &self.forest, &()).fold(0, added)
-    }
-
-    #[inline(never)]
     fn read_alone(&self, set: u32, other: u32) -> u64 {
         self.maps[set as usize].difference(&self.maps[other as usize], &self.forest, &()).fold(0, added)
     }

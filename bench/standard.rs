@@ -218,11 +218,6 @@ impl SetPairs for StdSets {
     }
 
     #[inline(never)]
-    fn read_shared(&self, set: u32, other: u32) -> u64 {
-        self.maps[set as usize].intersection(&self.maps[other as usize]).copied().fold(0, added)
-    }
-
-    #[inline(never)]
     fn read_alone(&self, set: u32, other: u32) -> u64 {
         self.maps[set as usize].difference(&self.maps[other as usize]).copied().fold(0, added)
     }

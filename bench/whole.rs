@@ -24,7 +24,6 @@ pub enum Call {
     Intersect, // the first set keeps the keys that the second has: half of its own
     Subtract,  // the first set loses these
     Either,    // the keys of both sets are read in order: half of the first set's are in the second
-    Shared,    // those that both sets have are read
     Alone,     // those that the first set alone has are read
 }
 
@@ -34,7 +33,7 @@ impl Call {
     /// The call of this name.
     pub fn named(name: &str) -> Option<Call> {
         let of_maps = [Length, MapsNone, MapsOne, MapsHalf, Upper, Lower, Middle, Split, Compacted];
-        let of_sets = [SetsNone, SetsOne, SetsHalf, Subset, Disjoint, Intersect, Subtract, Either, Shared, Alone];
+        let of_sets = [SetsNone, SetsOne, SetsHalf, Subset, Disjoint, Intersect, Subtract, Either, Alone];
         of_maps.into_iter().chain(of_sets).find(|it| format!("{it:?}") == name)
     }
 }
@@ -66,7 +65,7 @@ impl Pairing {
     fn new_keys(self) -> u32 {
         match self.what {
             MapsOne | SetsOne => 1,
-            MapsHalf | SetsHalf | Intersect | Subtract | Either | Shared | Alone => self.entries / 2,
+            MapsHalf | SetsHalf | Intersect | Subtract | Either | Alone => self.entries / 2,
             Disjoint => self.entries,
             _ => 0,
         }
@@ -105,8 +104,6 @@ pub trait SetPairs: Many<()> {
     fn subtract(&mut self, set: u32, other: u32) -> bool;
     /// A checksum of the keys of both sets, in order.
     fn read_either(&self, set: u32, other: u32) -> u64;
-    /// A checksum of the keys that both sets have.
-    fn read_shared(&self, set: u32, other: u32) -> u64;
     /// A checksum of the keys that this set has and the other one does not.
     fn read_alone(&self, set: u32, other: u32) -> u64;
 }
@@ -191,7 +188,6 @@ pub fn call_on<M: MapPairs, S: SetPairs>(work: Pairing, is_kept: bool) -> (u64, 
         Intersect => paired(work, is_kept, |sets: &mut S, set, other| sets.intersect(set, other).into()),
         Subtract => paired(work, is_kept, |sets: &mut S, set, other| sets.subtract(set, other).into()),
         Either => paired(work, is_kept, |sets: &mut S, set, other| sets.read_either(set, other)),
-        Shared => paired(work, is_kept, |sets: &mut S, set, other| sets.read_shared(set, other)),
         Alone => paired(work, is_kept, |sets: &mut S, set, other| sets.read_alone(set, other)),
     }
 }
