@@ -275,6 +275,29 @@ impl SetPairs for OriginalSets {
     fn subtract(&mut self, set: u32, other: u32) -> bool {
         self.keep(set, other, false)
     }
+
+    #[inline(never)]
+    fn read_either(&self, set: u32, other: u32) -> u64 {
+        let mut keys = self.maps[set as usize].iter(&self.forest).peekable();
+        let mut others = self.maps[other as usize].iter(&self.forest).peekable();
+        let mut sum = 0;
+        loop {
+            let key = match (keys.peek(), others.peek()) {
+                (Some(key), Some(other)) => *key.min(other),
+                (Some(key), None) | (None, Some(key)) => *key,
+                (None, None) => return sum,
+            };
+            keys.next_if_eq(&key);
+            others.next_if_eq(&key);
+            sum = added(sum, key);
+        }
+    }
+
+    #[inline(never)]
+    fn read_alone(&self, set: u32, other: u32) -> u64 {
+        let mut is_there = among(self.maps[other as usize].iter(&self.forest));
+        self.maps[set as usize].iter(&self.forest).filter(|key| !is_there(*key)).fold(0, added)
+    }
 }
 
 pub struct OriginalSide;

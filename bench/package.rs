@@ -204,6 +204,16 @@ impl SetPairs for PackageSets {
         let (set, other) = two(&mut self.maps, set, other);
         set.difference_with(other, &mut self.forest, &())
     }
+
+    #[inline(never)]
+    fn read_either(&self, set: u32, other: u32) -> u64 {
+        self.maps[set as usize].union(&self.maps[other as usize], &self.forest, &()).fold(0, added)
+    }
+
+    #[inline(never)]
+    fn read_alone(&self, set: u32, other: u32) -> u64 {
+        self.maps[set as usize].difference(&self.maps[other as usize], &self.forest, &()).fold(0, added)
+    }
 }
 
 pub struct PackageSide;

@@ -211,6 +211,16 @@ impl SetPairs for StdSets {
         let (set, other) = two(&mut self.maps, set, other);
         keep(set, other, false)
     }
+
+    #[inline(never)]
+    fn read_either(&self, set: u32, other: u32) -> u64 {
+        self.maps[set as usize].union(&self.maps[other as usize]).copied().fold(0, added)
+    }
+
+    #[inline(never)]
+    fn read_alone(&self, set: u32, other: u32) -> u64 {
+        self.maps[set as usize].difference(&self.maps[other as usize]).copied().fold(0, added)
+    }
 }
 
 pub struct StdSide;

@@ -23,6 +23,8 @@ pub enum Call {
     Disjoint,  // whether it has none of them: so it is
     Intersect, // the first set keeps the keys that the second has: half of its own
     Subtract,  // the first set loses these
+    Either,    // the keys of both sets are read in order: half of the first set's are in the second
+    Alone,     // those that the first set alone has are read
 }
 
 use Call::*;
@@ -31,7 +33,7 @@ impl Call {
     /// The call of this name.
     pub fn named(name: &str) -> Option<Call> {
         let of_maps = [Length, MapsNone, MapsOne, MapsHalf, Upper, Lower, Middle, Split, Compacted];
-        let of_sets = [SetsNone, SetsOne, SetsHalf, Subset, Disjoint, Intersect, Subtract];
+        let of_sets = [SetsNone, SetsOne, SetsHalf, Subset, Disjoint, Intersect, Subtract, Either, Alone];
         of_maps.into_iter().chain(of_sets).find(|it| format!("{it:?}") == name)
     }
 }
@@ -63,7 +65,7 @@ impl Pairing {
     fn new_keys(self) -> u32 {
         match self.what {
             MapsOne | SetsOne => 1,
-            MapsHalf | SetsHalf | Intersect | Subtract => self.entries / 2,
+            MapsHalf | SetsHalf | Intersect | Subtract | Either | Alone => self.entries / 2,
             Disjoint => self.entries,
             _ => 0,
         }
@@ -100,6 +102,10 @@ pub trait SetPairs: Many<()> {
     fn intersect(&mut self, set: u32, other: u32) -> bool;
     /// Removes the keys that the other set has, and tells whether there was one.
     fn subtract(&mut self, set: u32, other: u32) -> bool;
+    /// A checksum of the keys of both sets, in order.
+    fn read_either(&self, set: u32, other: u32) -> u64;
+    /// A checksum of the keys that this set has and the other one does not.
+    fn read_alone(&self, set: u32, other: u32) -> u64;
 }
 
 /// Two maps that are changed, of which one is behind the other.
@@ -181,5 +187,7 @@ pub fn call_on<M: MapPairs, S: SetPairs>(work: Pairing, is_kept: bool) -> (u64, 
         Disjoint => paired(work, is_kept, |sets: &mut S, set, other| sets.is_disjoint(set, other).into()),
         Intersect => paired(work, is_kept, |sets: &mut S, set, other| sets.intersect(set, other).into()),
         Subtract => paired(work, is_kept, |sets: &mut S, set, other| sets.subtract(set, other).into()),
+        Either => paired(work, is_kept, |sets: &mut S, set, other| sets.read_either(set, other)),
+        Alone => paired(work, is_kept, |sets: &mut S, set, other| sets.read_alone(set, other)),
     }
 }

@@ -274,6 +274,7 @@ CLONED = {
     "bforest/map_into_iter.rt": ["MapIntoIter"],
     "bforest/set_iter.rt": ["SetIter"],
     "bforest/set_iter_back.rt": ["SetIterBack"],
+    "bforest/set_merge.rt": ["Ahead"],
     "bforest_indexed/maps.rt": ["Maps"],
     "bforest_indexed/sets.rt": ["Sets"],
 }
@@ -281,6 +282,7 @@ CLONED = {
 # Types whose fields `rust.rs` reads.
 OPENED = {
     "bforest/map_cursor.rt": ["MapCursor"],
+    "bforest/set_merge.rt": ["Merge"],
     "bforest_indexed/maps.rt": ["Maps"],
     "bforest_indexed/sets.rt": ["Sets"],
 }

@@ -1,9 +1,10 @@
 //! What Rust's users expect beside the calls of the forest. Nothing in this file is proved.
 
 use crate::bforest_core::Node;
+use crate::set_merge::Merge;
 use crate::{
     Comparator, Idx, LoadError, Map, MapCursor, MapCursorMut, MapForest, MapIntoIter, MapIter, MapIterBack, MapRange, Maps, OutOfMemory,
-    Set, SetCursor, SetForest, SetIter, SetIterBack, SetRange, Sets,
+    Set, SetCursor, SetDifference, SetForest, SetIntersection, SetIter, SetIterBack, SetRange, SetSymmetricDifference, SetUnion, Sets,
 };
 use alloc::collections::TryReserveError;
 use core::cmp::{Ordering, Reverse};
@@ -199,6 +200,38 @@ impl<K: Copy, C: Comparator<K>> Clone for SetRange<'_, K, C> {
         }
     }
 }
+
+impl<K: Copy, C: Comparator<K>> Clone for Merge<'_, K, C> {
+    fn clone(&self) -> Self {
+        Merge {
+            first: self.first.clone(),
+            second: self.second.clone(),
+            comp: self.comp,
+        }
+    }
+}
+
+// What the iterators over two sets have beside their steps.
+macro_rules! over_two_sets {
+    ($($name:ident)*) => {$(
+        impl<K: Copy, C: Comparator<K>> Clone for $name<'_, K, C> {
+            /// Returns an iterator over the keys that are left. No key is copied.
+            fn clone(&self) -> Self {
+                $name { merge: self.merge.clone() }
+            }
+        }
+
+        impl<K: Copy, C: Comparator<K>> FusedIterator for $name<'_, K, C> {}
+
+        impl<K: Copy, C: Comparator<K>> Debug for $name<'_, K, C> {
+            fn fmt(&self, f: &mut Formatter<'_>) -> fmt::Result {
+                f.debug_struct(stringify!($name)).finish_non_exhaustive()
+            }
+        }
+    )*};
+}
+
+over_two_sets! { SetUnion SetIntersection SetDifference SetSymmetricDifference }
 
 /// A comparator that is lent, also as `&dyn Comparator<K>`.
 impl<K: Copy, C: Comparator<K> + ?Sized> Comparator<K> for &C {

@@ -10,7 +10,7 @@ from sources import behind
 BY_NAME = {"map": "Map", "set": "Set", "maps": "Maps", "sets": "Sets"}
 # Calls of the standard library that hand their subject on.
 PASSING = ("unwrap", "expect", "clone", "as_ref", "as_mut", "by_ref", "unwrap_or_default")
-ITERATORS = re.compile(r"(?:Map|Set)(?:IntoIter|IterBack|Iter|Range)")
+ITERATORS = re.compile(r"(?:Map|Set)(?:IntoIter|IterBack|Iter|Range|Union|Intersection|(?:Symmetric)?Difference)")
 ROOT = re.compile(r"(?<![\w.])(?:(?P<type>[A-Z]\w*)(?:::<[^()]*?>)?::(?P<made>\w+)|(?P<name>[a-z_]\w*))")
 STEP = re.compile(r"\s*(?:(?P<index>\[)|(?P<pass>\?)|\.(?P<part>\w+)(?:::<[^()]*?>)?(?P<call>\()?)")
 DECLARED = re.compile(r"\b([a-z_]\w*)\s*:\s*&?\s*(?:'\w+\s+)?(?:mut\s+)?(Vec<)?(\w+)")

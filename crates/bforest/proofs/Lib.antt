@@ -12,6 +12,7 @@ pub mod Lengths
 pub mod Loops
 pub mod SetCursors
 pub mod Sets
+pub mod Sides
 pub mod Shrinking
 pub mod Fewest
 pub mod Standard

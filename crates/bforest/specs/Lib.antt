@@ -11,4 +11,5 @@ pub mod Retain
 pub mod Room
 pub mod Set
 pub mod SetCursor
+pub mod Sides
 pub mod Union

@@ -7,20 +7,23 @@ ghost use Rattle.bforest.specs.Memory.{SetsFitInMemory};
 ghost use Rattle.bforest.specs.Retain.{MayAskEach};
 ghost use Rattle.bforest.specs.Room.{IsEnoughFor, IsMetBy, node_count};
 ghost use Rattle.bforest.specs.Set.{AnswersKey, MayAskKey, as_popped, as_put, as_removed, elements, the_value, with_unit};
-ghost use Rattle.bforest.specs.Union.{are_among, are_apart};
+ghost use Rattle.bforest.specs.Union.{are_among, are_apart, kept_from, united, unshared};
 ghost use Rattle.bforest.specs.SetCursor.{IsCursor, comparator, forest_loan, forest_now, set_loan, set_now, spot};
+ghost use Rattle.std.specs.List.Sorted.{IsStrictlySortedBy};
 ghost use Rattle.std.specs.Map.{keys_of};
 ghost use Rattle.std.specs.declared.cmp.Ordering.{Ordering};
-ghost use Rattle.std.specs.Prelude.{IsTrue, List, ℕ, None, [], is_some, length, reverse, option_map, slice_get, ◌*◌, ◌+◌, ◌-◌, ◌/◌, ◌<◌, ◌^◌, ◌≡◌, ◌≤◌, ◌↔◌};
+ghost use Rattle.std.specs.Prelude.{IsTrue, List, ℕ, None, [], false, is_some, length, reverse, option_map, slice_get, true, ◌*◌, ◌+◌, ◌-◌, ◌/◌, ◌<◌, ◌^◌, ◌≡◌, ◌≤◌, ◌↔◌};
 
 use crate::asked_key::AskedKey;
 use crate::entry::key_of;
 use crate::map::follows;
 use crate::room::{fewest_nodes, most_nodes};
+use crate::set_algebra::{SetDifference, SetIntersection, SetSymmetricDifference, SetUnion};
 use crate::set_cursor::SetCursor;
 use crate::set_forest::{SET_LEAF, SetForest};
 use crate::set_iter::SetIter;
 use crate::set_iter_back::SetIterBack;
+use crate::set_merge::Merge;
 use crate::set_range::SetRange;
 use bforest_core::{Comparator, OutOfMemory, PackedNode, Path, SetValue};
 use std::default::Default;
@@ -560,6 +563,103 @@ impl<K: Copy> Set<K> {
         ensures fits { SetsFitInMemory K.row }
     {
         SetIterBack::new(self, forest)
+    }
+
+    /// Returns an iterator over the keys of this set and of `other`, in order. Of two keys that compare equal it gives this set's.
+    ///
+    /// Reads both sets side by side: one node of each level of either, and then, as far as it is read, each leaf once. A step compares at
+    /// most once. All steps compare at most `n + m - 1` times for sets of `n` and `m` keys, and not at all where one of them is empty. No
+    /// search, and no memory is taken. [`Set::union_with`] puts the keys of `other` into this set.
+    #[inline(always)]
+    pub fn union<'a, C: Comparator<K>>(
+        &self,
+        other: &Set<K>,
+        forest: &'a SetForest<K>,
+        comp: &'a C,
+    ) -> SetUnion<'a, K, C>
+        requires searchable { IsSearchable (C.order comp.now) forest.now self.now }
+        requires other { IsSearchable (C.order comp.now) forest.now other.now }
+        ensures keys { result ≡ keys_of (united (C.order comp.now) (list_of forest.now self.now)
+            (list_of forest.now other.now)) }
+        ensures increasing { IsStrictlySortedBy (C.order comp.now) result }
+        ensures fits { SetsFitInMemory K.row }
+    {
+        SetUnion {
+            merge: Merge::new(self, other, forest, comp),
+        }
+    }
+
+    /// Returns an iterator over the keys of this set that have an equal one in `other`, in order.
+    ///
+    /// Reads both sets side by side, as [`Set::union`] does, up to the end of the one that ends first. All steps compare at most
+    /// `n + m - 1` times for sets of `n` and `m` keys, and not at all where one of them is empty. No search, and no memory is taken. Where
+    /// this set has few keys and `other` very many, [`Set::contains`] for each key costs less. [`Set::intersect_with`] removes the other
+    /// keys.
+    #[inline(always)]
+    pub fn intersection<'a, C: Comparator<K>>(
+        &self,
+        other: &Set<K>,
+        forest: &'a SetForest<K>,
+        comp: &'a C,
+    ) -> SetIntersection<'a, K, C>
+        requires searchable { IsSearchable (C.order comp.now) forest.now self.now }
+        requires other { IsSearchable (C.order comp.now) forest.now other.now }
+        ensures keys { result ≡ keys_of (kept_from (C.order comp.now) true (list_of forest.now self.now)
+            (list_of forest.now other.now)) }
+        ensures increasing { IsStrictlySortedBy (C.order comp.now) result }
+        ensures fits { SetsFitInMemory K.row }
+    {
+        SetIntersection {
+            merge: Merge::new(self, other, forest, comp),
+        }
+    }
+
+    /// Returns an iterator over the keys of this set that have no equal one in `other`, in order.
+    ///
+    /// Reads both sets side by side, as [`Set::union`] does, up to the end of this set. All steps compare at most `n + m - 1` times for
+    /// sets of `n` and `m` keys, and not at all where one of them is empty. No search, and no memory is taken. Where this set has few keys
+    /// and `other` very many, [`Set::contains`] for each key costs less. [`Set::difference_with`] removes the other keys.
+    #[inline(always)]
+    pub fn difference<'a, C: Comparator<K>>(
+        &self,
+        other: &Set<K>,
+        forest: &'a SetForest<K>,
+        comp: &'a C,
+    ) -> SetDifference<'a, K, C>
+        requires searchable { IsSearchable (C.order comp.now) forest.now self.now }
+        requires other { IsSearchable (C.order comp.now) forest.now other.now }
+        ensures keys { result ≡ keys_of (kept_from (C.order comp.now) false (list_of forest.now self.now)
+            (list_of forest.now other.now)) }
+        ensures increasing { IsStrictlySortedBy (C.order comp.now) result }
+        ensures fits { SetsFitInMemory K.row }
+    {
+        SetDifference {
+            merge: Merge::new(self, other, forest, comp),
+        }
+    }
+
+    /// Returns an iterator over the keys of this set that have no equal one in `other`, and those of `other` that have none in this set, in
+    /// order.
+    ///
+    /// Reads both sets side by side, as [`Set::union`] does. All steps compare at most `n + m - 1` times for sets of `n` and `m` keys, and
+    /// not at all where one of them is empty. No search, and no memory is taken.
+    #[inline(always)]
+    pub fn symmetric_difference<'a, C: Comparator<K>>(
+        &self,
+        other: &Set<K>,
+        forest: &'a SetForest<K>,
+        comp: &'a C,
+    ) -> SetSymmetricDifference<'a, K, C>
+        requires searchable { IsSearchable (C.order comp.now) forest.now self.now }
+        requires other { IsSearchable (C.order comp.now) forest.now other.now }
+        ensures keys { result ≡ keys_of (unshared (C.order comp.now) (list_of forest.now self.now)
+            (list_of forest.now other.now)) }
+        ensures increasing { IsStrictlySortedBy (C.order comp.now) result }
+        ensures fits { SetsFitInMemory K.row }
+    {
+        SetSymmetricDifference {
+            merge: Merge::new(self, other, forest, comp),
+        }
     }
 
     /// Returns a double-ended iterator over the keys within both bounds, in order.

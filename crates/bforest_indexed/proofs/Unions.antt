@@ -9,6 +9,7 @@ use Rattle.bforest.specs.Union.{are_among, are_apart, fits}
 use Rattle.bforest_indexed.proofs.Kept.{changes, changes-not, here, kept-set, list-here, read, same-list, unchanged, with_tree}
 use Rattle.bforest_indexed.specs.Indexed.{AreKept, Indexed, KeepsFromAt, UnitesAt, count, entries, handle, node_sizes, table}
 use Rattle.std.proofs.Common.{Bool, Err, List, None, Ok, Option, Result, ap, false, get_or, if◌then◌else◌, length, refl, subst, sym, true, ◌<◌, ◌∙◌, ◌≡◌, ℕ}
+use Rattle.std.specs.Map.{keys_of}
 use Rattle.std.specs.declared.cmp.Ordering.{Ordering}
 
 module _ {K X C : Type 0} {most : ℕ} {cmp : K → K → Ordering} {m : Indexed K X C} {i : ℕ} (j : ℕ) (a : AreKept most cmp m) (within : i < count m) where
@@ -100,3 +101,7 @@ module _ {K X C : Type 0} {most : ℕ} {cmp : K → K → Ordering} {m : Indexed
 
     pub apart-read : are_apart cmp (list_of (table m) h) (list_of (table m) q) ≡ are_apart cmp (entries m i) (entries m j)
     apart-read = λ n. are_apart cmp (same-list a within is n) (same-list a other_within other_is n)
+
+    -- what is made of both lists
+    pub made-read : (f : List (K × X) → List (K × X) → List (K × X)) → keys_of (f (list_of (table m) h) (list_of (table m) q)) ≡ keys_of (f (entries m i) (entries m j))
+    made-read f = λ n. keys_of (f (same-list a within is n) (same-list a other_within other_is n))

@@ -6,20 +6,24 @@ ghost use Rattle.bforest.specs.Forest.{IsFitFor, empty, first_level, free_of, li
 ghost use Rattle.bforest.specs.Memory.{SetsFitInMemory};
 ghost use Rattle.bforest.specs.Retain.{MayAskEach};
 ghost use Rattle.bforest.specs.Set.{AnswersKey, MayAskKey, as_popped, as_put, as_removed, the_value, with_unit};
-ghost use Rattle.bforest.specs.Union.{are_among, are_apart};
+ghost use Rattle.bforest.specs.Union.{are_among, are_apart, kept_from, united, unshared};
 ghost use Rattle.bforest_indexed.specs.Indexed.{CompactsAt, HoldsFor, RemovesBetweenAt, SplitsOffAt, ReservesFor};
 ghost use Rattle.bforest_indexed.specs.Loads.{LoadsAt};
 ghost use Rattle.bforest_indexed.specs.Indexed.{ClearsAll, ClearsAt, CopiesAt, FiltersAt, InsertsAt, IntersectsAt, KeepsAll, PopsAt, RemovesAt, SubtractsAt, Swaps, Truncates, UnitesAt};
 ghost use Rattle.bforest.specs.declared.set_forest.TheConstants.{SET_LEAF};
 ghost use Rattle.bforest_indexed.specs.Indexed.{comparator, count, entries, keys, memory, node_sizes, nodes_in_use, table};
+ghost use Rattle.std.specs.List.Sorted.{IsStrictlySortedBy};
 ghost use Rattle.std.specs.Map.{keys_of};
-ghost use Rattle.std.specs.Prelude.{IfOk, IsOk, IsTrue, OnErr, OnOk, is_some, length, option_map, slice_get, ◌*◌, ◌+◌, ◌-◌, ◌/◌, ◌<◌, ◌^◌, ◌↔◌, ◌≡◌, ◌≤◌, ℕ};
+ghost use Rattle.std.specs.Prelude.{IfOk, IsOk, IsTrue, OnErr, OnOk, false, is_some, length, option_map, slice_get, true, ◌*◌, ◌+◌, ◌-◌, ◌/◌, ◌<◌, ◌^◌, ◌↔◌, ◌≡◌, ◌≤◌, ℕ};
 
 use crate::handles::{add_empty, empty_all, hold};
 use crate::idx::Idx;
 use crate::load_error::LoadError;
 use crate::room::{reserve_handles, slots_for};
-use bforest::{Comparator, OutOfMemory, Set, SetForest, SetIter, SetRange};
+use bforest::{
+    Comparator, OutOfMemory, Set, SetDifference, SetForest, SetIntersection, SetIter, SetRange,
+    SetSymmetricDifference, SetUnion,
+};
 use bforest_trees::first_unordered;
 use std::alloc::{AllocError, Global};
 use std::marker::{Model, PhantomData};
@@ -537,6 +541,67 @@ impl<K: Copy, C: Comparator<K>, I: Idx> Sets<K, C, I> {
         ensures fits { SetsFitInMemory K.row }
     {
         self.sets[index.index()].iter(&self.forest)
+    }
+
+    /// Returns an iterator over the keys of the sets at `index` and at `other`, in order; both may be one. Of two keys that compare equal
+    /// it gives that of the set at `index`. As [`bforest::Set::union`]: reads both side by side, with at most `n + m - 1` comparisons in
+    /// all.
+    #[inline(always)]
+    pub fn union(&self, index: usize, other: usize) -> SetUnion<'_, K, C>
+        requires within { index < count self.now }
+        requires other { other < count self.now }
+        ensures keys { result ≡ keys_of (united (C.order (comparator self.now)) (entries self.now index)
+            (entries self.now other)) }
+        ensures increasing { IsStrictlySortedBy (C.order (comparator self.now)) result }
+        ensures fits { SetsFitInMemory K.row }
+    {
+        self.sets[index].union(&self.sets[other], &self.forest, &self.order)
+    }
+
+    /// Returns an iterator over the keys of the set at `index` that have an equal one in the set at `other`, in order; both may be one. As
+    /// [`bforest::Set::intersection`]: reads both side by side, with at most `n + m - 1` comparisons in all.
+    #[inline(always)]
+    pub fn intersection(&self, index: usize, other: usize) -> SetIntersection<'_, K, C>
+        requires within { index < count self.now }
+        requires other { other < count self.now }
+        ensures keys { result ≡ keys_of (kept_from (C.order (comparator self.now)) true (entries self.now index)
+            (entries self.now other)) }
+        ensures increasing { IsStrictlySortedBy (C.order (comparator self.now)) result }
+        ensures fits { SetsFitInMemory K.row }
+    {
+        self.sets[index].intersection(&self.sets[other], &self.forest, &self.order)
+    }
+
+    /// Returns an iterator over the keys of the set at `index` that have no equal one in the set at `other`, in order; both may be one. As
+    /// [`bforest::Set::difference`]: reads both side by side, with at most `n + m - 1` comparisons in all.
+    #[inline(always)]
+    pub fn difference(&self, index: usize, other: usize) -> SetDifference<'_, K, C>
+        requires within { index < count self.now }
+        requires other { other < count self.now }
+        ensures keys { result ≡ keys_of (kept_from (C.order (comparator self.now)) false (entries self.now index)
+            (entries self.now other)) }
+        ensures increasing { IsStrictlySortedBy (C.order (comparator self.now)) result }
+        ensures fits { SetsFitInMemory K.row }
+    {
+        self.sets[index].difference(&self.sets[other], &self.forest, &self.order)
+    }
+
+    /// Returns an iterator over the keys that one of the sets at `index` and at `other` has alone, in order; both may be one. As
+    /// [`bforest::Set::symmetric_difference`]: reads both side by side, with at most `n + m - 1` comparisons in all.
+    #[inline(always)]
+    pub fn symmetric_difference(
+        &self,
+        index: usize,
+        other: usize,
+    ) -> SetSymmetricDifference<'_, K, C>
+        requires within { index < count self.now }
+        requires other { other < count self.now }
+        ensures keys { result ≡ keys_of (unshared (C.order (comparator self.now)) (entries self.now index)
+            (entries self.now other)) }
+        ensures increasing { IsStrictlySortedBy (C.order (comparator self.now)) result }
+        ensures fits { SetsFitInMemory K.row }
+    {
+        self.sets[index].symmetric_difference(&self.sets[other], &self.forest, &self.order)
     }
 
     /// Returns a double-ended iterator over the keys of a set within both bounds, in order. At most two searches and one comparison; the

@@ -225,6 +225,10 @@ fn of_two_maps_or_sets_only_a_union_calls_the_allocator() {
     assert_eq!(calls_of(|| map.is_disjoint(&odd.0, &forest, &())), 0);
     assert_eq!(calls_of(|| set.is_subset(&odd.1, &set_forest, &())), 0);
     assert_eq!(calls_of(|| set.is_disjoint(&odd.1, &set_forest, &())), 0);
+    assert_eq!(calls_of(|| set.union(&odd.1, &set_forest, &()).count()), 0);
+    assert_eq!(calls_of(|| set.intersection(&odd.1, &set_forest, &()).count()), 0);
+    assert_eq!(calls_of(|| set.difference(&odd.1, &set_forest, &()).count()), 0);
+    assert_eq!(calls_of(|| set.symmetric_difference(&odd.1, &set_forest, &()).count()), 0);
     // Where nothing is new there is no list.
     assert_eq!(calls_of(|| map.union_with(&odd.0, &mut forest, &()).unwrap()), 0);
     assert_eq!(calls_of(|| set.union_with(&odd.1, &mut set_forest, &()).unwrap()), 0);

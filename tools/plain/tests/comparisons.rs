@@ -375,12 +375,16 @@ const OF_TWO_MAPS: [OfTwo<Map<u32, u32>, MapForest<u32, u32>>; 5] = [
     ("difference_with", 1, |map, other, forest, comp| _ = map.difference_with(other, forest, comp)),
 ];
 
-const OF_TWO_SETS: [OfTwo<Set<u32>, SetForest<u32>>; 5] = [
+const OF_TWO_SETS: [OfTwo<Set<u32>, SetForest<u32>>; 9] = [
     ("is_subset", 1, |set, other, forest, comp| _ = set.is_subset(other, forest, comp)),
     ("is_disjoint", 1, |set, other, forest, comp| _ = set.is_disjoint(other, forest, comp)),
     ("union_with", 2, |set, other, forest, comp| _ = set.union_with(other, forest, comp).unwrap()),
     ("intersect_with", 1, |set, other, forest, comp| _ = set.intersect_with(other, forest, comp)),
     ("difference_with", 1, |set, other, forest, comp| _ = set.difference_with(other, forest, comp)),
+    ("union", 1, |set, other, forest, comp| _ = set.union(other, forest, comp).count()),
+    ("intersection", 1, |set, other, forest, comp| _ = set.intersection(other, forest, comp).count()),
+    ("difference", 1, |set, other, forest, comp| _ = set.difference(other, forest, comp).count()),
+    ("symmetric_difference", 1, |set, other, forest, comp| _ = set.symmetric_difference(other, forest, comp).count()),
 ];
 
 /// Makes each call of the table on two handles of so many entries in all, each in a forest as it was. An empty one has nothing to compare.
@@ -571,6 +575,12 @@ fn calls_on_whole_maps_and_sets_by_an_index() {
         _ = sets.is_subset(1, 0);
         within(2 * count);
         _ = sets.is_disjoint(1, 0);
+        within(2 * count);
+        _ = sets.union(1, 0).count();
+        within(2 * count);
+        _ = (sets.intersection(1, 0).count(), sets.difference(1, 0).count());
+        within(4 * count);
+        _ = sets.symmetric_difference(1, 0).count();
         within(2 * count);
         assert_eq!((maps.copy(1, 2), sets.copy(1, 2)), (Ok(()), Ok(())));
         within(0);

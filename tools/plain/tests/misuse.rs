@@ -59,7 +59,7 @@ const OF_MAPS: [(&str, MapCall); 36] = [
     ("debug", |map, forest| _ = format!("{:?}", map.debug(forest))),
 ];
 
-const OF_SETS: [(&str, SetCall); 30] = [
+const OF_SETS: [(&str, SetCall); 34] = [
     ("contains", |set, forest| _ = set.contains(1, forest, &())),
     ("get_or_less", |set, forest| _ = set.get_or_less(1, forest, &())),
     ("get_or_greater", |set, forest| _ = set.get_or_greater(1, forest, &())),
@@ -86,6 +86,10 @@ const OF_SETS: [(&str, SetCall); 30] = [
     ("levels", |set, forest| _ = set.levels(forest)),
     ("iter", |set, forest| _ = set.iter(forest).count()),
     ("iter_back", |set, forest| _ = set.iter_back(forest).count()),
+    ("union", |set, forest| _ = set.union(&set.clone(), forest, &()).count()),
+    ("intersection", |set, forest| _ = set.intersection(&set.clone(), forest, &()).count()),
+    ("difference", |set, forest| _ = set.difference(&set.clone(), forest, &()).count()),
+    ("symmetric_difference", |set, forest| _ = set.symmetric_difference(&set.clone(), forest, &()).count()),
     ("range", |set, forest| _ = set.range(..=1, forest, &()).rev().count()),
     ("cursor", |set, forest| _ = set.cursor(forest, &()).goto(1)),
     ("increases", |set, forest| _ = set.increases(forest, &())),
@@ -427,12 +431,16 @@ const OF_TWO_MAPS: [CallOfTwo<Numbers, NumbersForest>; 5] = [
     ("difference_with", |map, other, forest| _ = map.difference_with(other, forest, &())),
 ];
 
-const OF_TWO_SETS: [CallOfTwo<Set<u32>, SetForest<u32>>; 5] = [
+const OF_TWO_SETS: [CallOfTwo<Set<u32>, SetForest<u32>>; 9] = [
     ("is_subset", |set, other, forest| _ = set.is_subset(other, forest, &())),
     ("is_disjoint", |set, other, forest| _ = set.is_disjoint(other, forest, &())),
     ("union_with", |set, other, forest| _ = set.union_with(other, forest, &())),
     ("intersect_with", |set, other, forest| _ = set.intersect_with(other, forest, &())),
     ("difference_with", |set, other, forest| _ = set.difference_with(other, forest, &())),
+    ("union", |set, other, forest| _ = set.union(other, forest, &()).count()),
+    ("intersection", |set, other, forest| _ = set.intersection(other, forest, &()).count()),
+    ("difference", |set, other, forest| _ = set.difference(other, forest, &()).count()),
+    ("symmetric_difference", |set, other, forest| _ = set.symmetric_difference(other, forest, &()).count()),
 ];
 
 /// The handle that is lent is tested as the one on which the call is made.

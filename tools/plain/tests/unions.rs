@@ -88,6 +88,76 @@ fn questions_compare_each_key_once() {
     assert_eq!(order.0.take(), 101);
 }
 
+/// What is left of two sets in each iterator over them, key by key.
+#[test]
+fn two_sets_are_read_side_by_side() {
+    let mut forest = SetForest::new();
+    let (odd, few, none) = (set_of([1, 3, 5], &mut forest), set_of([0, 3, 4, 9], &mut forest), Set::new());
+    assert!(odd.union(&few, &forest, &()).eq([0, 1, 3, 4, 5, 9]));
+    assert!(odd.intersection(&few, &forest, &()).eq([3]));
+    assert!(odd.difference(&few, &forest, &()).eq([1, 5]) && few.difference(&odd, &forest, &()).eq([0, 4, 9]));
+    assert!(odd.symmetric_difference(&few, &forest, &()).eq([0, 1, 4, 5, 9]));
+    assert!(odd.union(&none, &forest, &()).eq([1, 3, 5]) && none.union(&odd, &forest, &()).eq([1, 3, 5]));
+    assert!(odd.intersection(&none, &forest, &()).chain(none.intersection(&odd, &forest, &())).next().is_none());
+    assert!(odd.difference(&none, &forest, &()).eq([1, 3, 5]) && none.difference(&odd, &forest, &()).next().is_none());
+    assert!(odd.symmetric_difference(&none, &forest, &()).eq([1, 3, 5]));
+    // Both may be one set.
+    assert!(odd.union(&odd, &forest, &()).eq([1, 3, 5]) && odd.intersection(&odd, &forest, &()).eq([1, 3, 5]));
+    assert!(odd.difference(&odd, &forest, &()).next().is_none() && odd.symmetric_difference(&odd, &forest, &()).next().is_none());
+    // A copy goes on from where it was made, and the end stays.
+    let mut keys = odd.union(&few, &forest, &());
+    assert_eq!((keys.next(), keys.next()), (Some(0), Some(1)));
+    assert!(keys.clone().eq([3, 4, 5, 9]) && keys.by_ref().eq([3, 4, 5, 9]));
+    assert_eq!((keys.next(), keys.next()), (None, None));
+}
+
+/// Of two keys that compare equal it is the first set's that is read.
+#[test]
+fn equal_keys_of_two_sets_are_read_of_the_first() {
+    let mut forest = SetForest::new();
+    let (mut set, mut other) = (Set::new(), Set::new());
+    for key in [11, 35, 52] {
+        set.insert(key, &mut forest, &Tens).unwrap();
+    }
+    for key in [17, 23, 39, 41] {
+        other.insert(key, &mut forest, &Tens).unwrap();
+    }
+    assert!(set.union(&other, &forest, &Tens).eq([11, 23, 35, 41, 52]));
+    assert!(other.union(&set, &forest, &Tens).eq([17, 23, 39, 41, 52]));
+    assert!(set.intersection(&other, &forest, &Tens).eq([11, 35]) && other.intersection(&set, &forest, &Tens).eq([17, 39]));
+    assert!(set.difference(&other, &forest, &Tens).eq([52]) && other.difference(&set, &forest, &Tens).eq([23, 41]));
+    assert!(set.symmetric_difference(&other, &forest, &Tens).eq([23, 41, 52]));
+}
+
+/// Sets of `n` and `m` keys are read with `n + m - 1` comparisons at most, and none before the first step. Reading ends with what tells no more.
+#[test]
+fn reading_two_sets_compares_each_key_once() {
+    let mut forest = SetForest::new();
+    let (few, many) = (set_of([100, 300], &mut forest), set_of(0..200, &mut forest));
+    let order = Counting::default();
+    let (either, both) = (few.union(&many, &forest, &order), few.intersection(&many, &forest, &order));
+    let (own, one) = (few.difference(&many, &forest, &order), few.symmetric_difference(&many, &forest, &order));
+    assert_eq!(order.0.take(), 0);
+    let mut steps = either.clone();
+    assert_eq!((steps.next(), order.0.take()), (Some(0), 1));
+    // 100 is found behind 100 keys, and 300 is greater than the 99 behind it.
+    assert_eq!((either.count(), order.0.take()), (201, 200));
+    assert_eq!((both.count(), order.0.take()), (1, 200));
+    assert_eq!((own.count(), order.0.take()), (1, 200));
+    assert_eq!((one.count(), order.0.take()), (200, 200));
+    // The lesser set ends at once.
+    let start = set_of([0], &mut forest);
+    assert_eq!((start.intersection(&many, &forest, &order).count(), order.0.take()), (1, 1));
+    assert_eq!((start.difference(&many, &forest, &order).count(), order.0.take()), (0, 1));
+    // Odd keys among even ones: all but the last are compared.
+    let (odd, even) = (set_of((1..20).step_by(2), &mut forest), set_of((0..20).step_by(2), &mut forest));
+    assert_eq!((odd.union(&even, &forest, &order).count(), order.0.take()), (20, 19));
+    let none = Set::new();
+    assert_eq!((odd.union(&none, &forest, &order).count(), none.union(&odd, &forest, &order).count()), (10, 10));
+    assert_eq!((odd.difference(&none, &forest, &order).count(), odd.intersection(&none, &forest, &order).count()), (10, 0));
+    assert_eq!(order.0.take(), 0);
+}
+
 #[test]
 fn unions_of_two_maps() {
     let mut forest = MapForest::new();
@@ -171,6 +241,11 @@ fn unions_by_index() {
     assert!(!sets.is_subset(1, 0) && !sets.is_disjoint(0, 1));
     assert_eq!((sets.union_with(0, 1), sets.union_with(0, 1), sets.union_with(2, 2)), (Ok(true), Ok(false), Ok(false)));
     assert!(sets.is_subset(1, 0) && sets.iter(0).eq([1, 2, 3]) && sets.iter(1).eq([2, 3]));
+    // 0 has 1, 2 and 3, 1 has 2 and 3, and 2 has nothing.
+    assert!(sets.union(0, 1).eq([1, 2, 3]) && sets.union(2, 1).eq([2, 3]) && sets.union(0, 0).eq([1, 2, 3]));
+    assert!(sets.intersection(0, 1).eq([2, 3]) && sets.intersection(0, 2).next().is_none());
+    assert!(sets.difference(0, 1).eq([1]) && sets.difference(1, 0).next().is_none() && sets.difference(0, 2).eq([1, 2, 3]));
+    assert!(sets.symmetric_difference(1, 0).eq([1]) && sets.symmetric_difference(0, 0).next().is_none());
 }
 
 // Beside the standard library.
@@ -202,6 +277,10 @@ fn sets_beside_btreeset() {
         let (mut forest, [mut mine, other]) = made(u32::MAX);
         assert_eq!(mine.is_subset(&other, &forest, &()), a.is_subset(&b));
         assert_eq!(mine.is_disjoint(&other, &forest, &()), a.is_disjoint(&b));
+        assert!(mine.union(&other, &forest, &()).eq(a.union(&b).copied()));
+        assert!(mine.intersection(&other, &forest, &()).eq(a.intersection(&b).copied()));
+        assert!(mine.difference(&other, &forest, &()).eq(a.difference(&b).copied()));
+        assert!(mine.symmetric_difference(&other, &forest, &()).eq(a.symmetric_difference(&b).copied()));
         let union: BTreeSet<u32> = a.union(&b).copied().collect();
         let changes = union.len() > a.len();
         let need = if changes { fewest(union.len(), 15) as u32 } else { 0 };

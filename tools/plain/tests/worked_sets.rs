@@ -72,6 +72,8 @@ fn two_sets_are_asked_and_put_together() {
     let mut forest = SetForest::new();
     let (mut odd, few) = (set_of([1, 3, 5], &mut forest), set_of([3, 4], &mut forest));
     assert_eq!((few.is_subset(&odd, &forest, &()), few.is_disjoint(&odd, &forest, &())), (false, false));
+    assert!(odd.union(&few, &forest, &()).eq([1, 3, 4, 5]) && odd.intersection(&few, &forest, &()).eq([3]));
+    assert!(odd.difference(&few, &forest, &()).eq([1, 5]) && odd.symmetric_difference(&few, &forest, &()).eq([1, 4, 5]));
     assert_eq!((odd.union_with(&few, &mut forest, &()), few.is_subset(&odd, &forest, &())), (Ok(true), true));
     assert!(odd.iter(&forest).eq([1, 3, 4, 5]));
     assert!(odd.difference_with(&few, &mut forest, &()) && odd.iter(&forest).eq([1, 5]));

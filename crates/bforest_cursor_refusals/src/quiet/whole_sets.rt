@@ -61,8 +61,28 @@ pub(super) fn copies(set: &Set<u32>, forest: &mut SetForest<u32>) -> bool {
     if !forest.holds(set) || !set.increases(forest, &()) {
         return false;
     }
-    let within = copy.is_subset(set, forest, &());
-    went && within && !copy.is_disjoint(set, forest, &()) && takes(&mut copy, set, forest)
+    let within = copy.is_subset(set, forest, &()) && !copy.is_disjoint(set, forest, &());
+    went && within && pairs(&copy, set, forest) && takes(&mut copy, set, forest)
+}
+
+// Reads the set of the key 1 beside that of the keys 1 and 2.
+fn pairs(copy: &Set<u32>, set: &Set<u32>, forest: &SetForest<u32>) -> bool {
+    if !forest.holds(copy) || !copy.increases(forest, &()) {
+        return false;
+    }
+    if !forest.holds(set) || !set.increases(forest, &()) {
+        return false;
+    }
+    let (mut either, mut both) = (
+        copy.union(set, forest, &()),
+        copy.intersection(set, forest, &()),
+    );
+    let mut own = copy.difference(set, forest, &());
+    let mut one = copy.symmetric_difference(set, forest, &());
+    either.next() == Some(1)
+        && both.next() == Some(1)
+        && own.next().is_none()
+        && one.next() == Some(2)
 }
 
 // Keeps what another set has, and then what it has not, which is nothing.

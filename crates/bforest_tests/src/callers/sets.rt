@@ -1,7 +1,10 @@
 //! What a caller can prove of sets from their contracts alone.
 ghost use Rattle.bforest.specs.Entries.{IsIncreasing, is_present, value_for};
-ghost use Rattle.bforest.specs.Forest.{IsLive, limit_of, list_of, need_of};
+ghost use Rattle.bforest.specs.Forest.{IsLive, IsSearchable, limit_of, list_of, need_of};
+ghost use Rattle.bforest.specs.Union.{united};
 ghost use Rattle.bforest.specs.declared.set_forest.TheConstants.{SET_LEAF};
+ghost use Rattle.std.specs.List.{list_any};
+ghost use Rattle.std.specs.Map.{keys_of};
 ghost use Rattle.std.specs.Ordering.{is_eq};
 ghost use Rattle.std.specs.Prelude.{IfOk, IsOk, None, false, is_some, true, ◌≡◌, ◌≤◌};
 
@@ -89,6 +92,27 @@ pub fn insert_reserved<K: Copy, C: Comparator<K>>(
 {
     forest.reserve_nodes(nodes)?;
     Ok(set.insert(key, forest, comp))
+}
+
+/// Whether a key compares equal to one of two sets' keys, by a loop over their union.
+pub fn is_in_either<K: Copy, C: Comparator<K>>(
+    set: &Set<K>,
+    other: &Set<K>,
+    key: K,
+    forest: &SetForest<K>,
+    comp: &C,
+) -> bool
+    requires searchable { IsSearchable (C.order comp.now) forest.now set.now }
+    requires other { IsSearchable (C.order comp.now) forest.now other.now }
+    ensures { result ≡ list_any (λ k. is_eq (C.order comp.now k key))
+        (keys_of (united (C.order comp.now) (list_of forest.now set.now) (list_of forest.now other.now))) }
+{
+    'keys: for each in set.union(other, forest, comp) {
+        if comp.cmp(each, key).is_eq() {
+            return true;
+        }
+    }
+    false
 }
 
 /// Makes an empty set, and tests whether it is empty.

@@ -1,0 +1,22 @@
+use Rattle.bforest_indexed.proofs.Kept.{ordered-read}
+use Rattle.bforest_indexed.proofs.Sizes.{first-field}
+use Rattle.bforest_indexed.proofs.Unions.{made-read}
+use Rattle.bforest_indexed.proofs.sets.Sets.difference.Goals as goal
+use Rattle.bforest.specs.Union.{kept_from}
+use Rattle.std.proofs.Common.{false, ◌∙◌}
+
+pub difference-requires : goal.difference-requires
+difference-requires g c = (
+  search first-field,
+  (
+    ordered-read c.self.invariant (rw (← c.self.view_is) at c.requires.within) c.index.ensures,
+    ordered-read c.self.invariant (rw (← c.self.view_is) at c.requires.other) c.index-2.ensures,
+  ),
+)
+
+pub returns : goal.returns
+returns g c = rw (← c.self.view_is) (record {
+  keys = c.difference.ensures.keys ∙ made-read c.args.other c.self.invariant (rw (← c.self.view_is) at c.requires.within) c.index.ensures (rw (← c.self.view_is) at c.requires.other) c.index-2.ensures (kept_from (g.C.Comparator.order c.self.inside.order) false);
+  increasing = c.difference.ensures.increasing;
+  fits = c.difference.ensures.fits;
+})
