@@ -314,7 +314,7 @@ MUST_USE = {
     "bforest/map.rt": ["new", "clone", "cursor", "cursor_mut", "len", *COUNTING, *(it for it in TELLING if it != "contains")],
     "bforest/set.rt": ["new", "clone", "cursor", "len", "is_subset", "is_disjoint", *COUNTING, *(it for it in TELLING if it != "get")],
     "bforest/forest.rt": ["slots", "nodes_in_use", "free_slots", "node_limit"],
-    "bforest/map_forest.rt": ["new", "with_node_limit", "holds"],
+    "bforest/map_forest.rt": ["new", "with_node_limit", "holds", "get_mut"],
     "bforest/set_forest.rt": ["new", "with_node_limit", "holds"],
     "bforest_indexed/maps.rt": [*MANY, "cursor", "len_of", *(it for it in TELLING if it not in ("contains", "increases"))],
     "bforest_indexed/sets.rt": [*MANY, "len_of", *SET_TELLING],

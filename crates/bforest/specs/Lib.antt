@@ -12,3 +12,4 @@ pub mod Room
 pub mod Set
 pub mod SetCursor
 pub mod Union
+pub mod Written

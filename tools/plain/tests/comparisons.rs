@@ -204,9 +204,10 @@ type Search<H, F> = fn(&mut H, u32, &mut F, &Counting);
 type MapSearch = Search<Map<u32, u32>, MapForest<u32, u32>>;
 type SetSearch = Search<Set<u32>, SetForest<u32>>;
 
-const OF_MAPS: [(&str, MapSearch); 13] = [
+const OF_MAPS: [(&str, MapSearch); 14] = [
     ("get", |map, key, forest, comp| _ = map.get(key, forest, comp)),
     ("update", |map, key, forest, comp| _ = map.update(key, |value| value, forest, comp)),
+    ("get_mut", |map, key, forest, comp| _ = forest.get_mut(map, key, comp)),
     ("get_or_less", |map, key, forest, comp| _ = map.get_or_less(key, forest, comp)),
     ("get_or_greater", |map, key, forest, comp| _ = map.get_or_greater(key, forest, comp)),
     ("get_or_insert", |map, key, forest, comp| _ = map.get_or_insert(key, 0, forest, comp).unwrap()),
