@@ -57,12 +57,7 @@ impl<K: Copy, V: Copy> MapForest<K, V> {
     /// and no key and no node.
     ///
     /// One search, as in [`Map::get`], which first counts the levels. The reference ends before the next call on the forest.
-    pub fn get_mut<C: Comparator<K>>(
-        &mut self,
-        map: &Map<K, V>,
-        key: K,
-        comp: &C,
-    ) -> Option<&mut V>
+    pub fn get_mut<C: Comparator<K>>(&mut self, map: &Map<K, V>, key: K, comp: &C) -> Option<&mut V>
         requires { IsSearchable (C.order comp.now) self.old map.now }
         ensures* writes_back { sem 𝓛
             (lends_value_for K.row V.row (C.order comp.now) self.entry map.now key result) }
@@ -78,12 +73,7 @@ impl<K: Copy, V: Copy> MapForest<K, V> {
     }
 
     // The leaf of a key's entry and its index there, or `None` where the key is absent.
-    fn entry_of<C: Comparator<K>>(
-        &self,
-        map: &Map<K, V>,
-        key: K,
-        comp: &C,
-    ) -> Option<(Node, usize)>
+    fn entry_of<C: Comparator<K>>(&self, map: &Map<K, V>, key: K, comp: &C) -> Option<(Node, usize)>
         requires { IsSearchable (C.order comp.now) self.now map.now }
         ensures stands { IfSome result (λ at. (path : Path K V MAP_LEAF)
             × StandsFor (C.order comp.now) self.now map.now key at.0 at.1 path) }

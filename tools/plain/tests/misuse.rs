@@ -55,7 +55,7 @@ const OF_MAPS: [(&str, MapCall); 35] = [
     ("increases", |map, forest| _ = map.increases(forest, &())),
     ("contains_key", |map, forest| _ = map.contains_key(1, forest, &())),
     ("debug", |map, forest| _ = format!("{:?}", map.debug(forest))),
-    ("get_mut", |map, forest| _ = forest.get_mut(map, 1, &())),
+    ("get_mut", |map, forest: &mut NumbersForest| _ = forest.get_mut(map, 1, &())),
 ];
 
 const OF_SETS: [(&str, SetCall); 30] = [
