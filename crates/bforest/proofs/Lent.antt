@@ -6,6 +6,7 @@ use Rattle.bforest_core.specs.Levels.{LevelNode, flat, node}
 use Rattle.bforest_core.specs.Paths.{IsAtEnd, index_of, leaf_of}
 use Rattle.bforest_core.specs.Place.{IsAt}
 use Rattle.bforest_core.specs.Table.{with_value_at}
+use Rattle.bforest_core.specs.Trees.{tree_of}
 use Rattle.bforest_core.specs.declared.path.Path.{Path}
 use Rattle.bforest_nodes.proofs.Found.{place-present, put-present, value_for-present}
 use Rattle.bforest_nodes.specs.Entries.{IsIncreasing, is_present, place, put, value_at_place, value_for, with_value}
@@ -39,36 +40,34 @@ module _ {K X : Type 0} where
   lies-at : {row : List (LevelNode K X)} {number index place : ℕ} → IsAt row number index place → lies_in row place ≡ (number, index)
   lies-at {place = place} at = rw at.row_is (lies-behind at.before _ _ at.entries at.after place at.within at.place_is)
 
-module _ {K X : Type 0} {n : ℕ} {cmp : K → K → Ordering} {f : Forest K X} {h : Option ℕ} {k : K} where
+module _ {K X : Type 0} (cmp : K → K → Ordering) (f : Forest K X) (h : Option ℕ) (k : K) where
+  there : {v : X} → value_for cmp (list_of f h) k ≡ Some v → is_present cmp (list_of f h) k ≡ true
+  there is = sym (some-mapped (λ (e : K × X). e.1) _) ∙ ap is_some is
+
   -- a path at the place of a key that has a value
-  module _ (path : Path K X n) (spot : IsSpot f h path (place cmp (list_of f h) k)) {v : X} (is : value_for cmp (list_of f h) k ≡ Some v) where
-    there : is_present cmp (list_of f h) k ≡ true
-    there = sym (some-mapped (λ (e : K × X). e.1) _) ∙ ap is_some is
-
-    within : place cmp (list_of f h) k < length (list_of f h)
-    within = place-present cmp (list_of f h) k there
-
+  module _ {n : ℕ} (path : Path K X n) (spot : IsSpot f h path (place cmp (list_of f h) k)) {v : X} (is : value_for cmp (list_of f h) k ≡ Some v) where
     -- is not at the end
     pub on-entry : ¬ IsAtEnd path
-    on-entry end = omega (arith, within, spot-last f path h _ spot end)
+    on-entry end = omega (arith, place-present cmp (list_of f h) k (there is), spot-last f path h _ spot end)
 
     -- and stands on the key's entry
     pub stands-for : StandsFor cmp f h k (leaf_of path) (index_of path) path
     stands-for = record {
-      on = record { place = place cmp (list_of f h) k; spot = spot; within = within };
+      on = record { place = place cmp (list_of f h) k; spot = spot; within = place-present cmp (list_of f h) k (there is) };
       place_is = refl;
       leaf_is = refl;
       index_is = refl;
-      present = there;
+      present = there is;
     }
 
+module _ {K X : Type 0} {n : ℕ} {cmp : K → K → Ordering} {f : Forest K X} {h : Option ℕ} {k : K} where
   module _ {leaf index : ℕ} {path : Path K X n} (s : StandsFor cmp f h k leaf index path) where
     -- the entry lies where the path stands
     lies-there : lies_at f h (place cmp (list_of f h) k) ≡ (leaf, index)
     lies-there =
         let t = spot-on f path h s.on.place s.on.spot s.on.within in
-        let lies = lies-at t.2.stands.leaf in
-        rw (t.1, ← s.place_is, s.leaf_is, s.index_is) lies
+        ap (λ z. lies_at f z (place cmp (list_of f h) k)) t.1 ∙ ap (lies_in (tree_of f.nodes t.0).leaves) (sym s.place_is) ∙ lies-at t.2.stands.leaf
+        ∙ (λ j. (sym s.leaf_is j, sym s.index_is j))
 
     -- the value where the path stands is the key's
     pub value-there : {v : X} → value_at_place (list_of f h) s.on.place ≡ Some v → Some v ≡ value_for cmp (list_of f h) k

@@ -8,7 +8,7 @@ use Rattle.bforest_nodes.specs.Entries.{IsIncreasing, is_present, place, put, va
 use Rattle.bforest_trees.specs.Forest.{Becomes, Forest, IsLive, free_of, list_of, memory_of, sizes_of, slots_of}
 use Rattle.bforest_trees.specs.Place.{OnSpot}
 use Rattle.std.specs.Ordering.{is_eq}
-use Rattle.std.specs.Prelude.{List, None, Option, Some, [], if◌then◌else◌, length, nat_lt, true, ◌-◌, ◌∷◌, ◌≡◌, ℕ}
+use Rattle.std.specs.Prelude.{List, None, Option, Some, [], false, if◌then◌else◌, length, nat_lt, true, ◌-◌, ◌∷◌, ◌≡◌, ℕ}
 use Rattle.std.specs.declared.cmp.Ordering.{Ordering}
 
 module _ {K X : Type 0} where
