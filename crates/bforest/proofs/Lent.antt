@@ -14,7 +14,7 @@ use Rattle.bforest_trees.proofs.LookedUp.{found-put, others-put}
 use Rattle.bforest_trees.proofs.Spots.{spot-last, spot-on}
 use Rattle.bforest_trees.specs.Forest.{Becomes, Forest, list_of}
 use Rattle.bforest_trees.specs.Place.{IsSpot, IsWritten}
-use Rattle.std.proofs.Common.{Bool, List, Option, Some, [], ap, arith, false, if◌then◌else◌, length, length-append, nat_lt, refl, subst, sym, true, ◌+◌, ◌++◌, ◌-◌, ◌<◌, ◌∙◌, ◌∷◌, ◌≡◌, ◌≤◌, ℕ}
+use Rattle.std.proofs.Common.{Bool, List, None, Option, Some, [], ap, arith, false, if◌then◌else◌, length, length-append, nat_lt, refl, subst, sym, true, ◌+◌, ◌++◌, ◌-◌, ◌<◌, ◌∙◌, ◌∷◌, ◌≡◌, ◌≤◌, ℕ}
 use Rattle.std.proofs.lemmas.Bool.{ltb-false, ltb-true}
 use Rattle.std.specs.Cmp.{IsTotalOrder}
 use Rattle.std.specs.Option.{is_some}
@@ -60,6 +60,13 @@ module _ {K X : Type 0} (cmp : K → K → Ordering) (f : Forest K X) (h : Optio
       present = there is;
     }
 
+-- where a key has no value, nothing is written
+pub with-value-nowhere : {K X : Type 0} (cmp : K → K → Ordering) (f : Forest K X) (h : Option ℕ) (k : K) → None ≡ value_for cmp (list_of f h) k → (w : X) → with_value_for cmp f h k w ≡ f
+with-value-nowhere cmp f h k none w =
+    let at = lies_at f h (place cmp (list_of f h) k) in
+    let absent : is_present cmp (list_of f h) k ≡ false = sym (some-mapped (λ e. e.1) _) ∙ sym (ap is_some none) in
+    λ j. if absent j then with_value_at f at.0 at.1 w else f
+
 module _ {K X : Type 0} {n : ℕ} {cmp : K → K → Ordering} {f : Forest K X} {h : Option ℕ} {k : K} where
   module _ {leaf index : ℕ} {path : Path K X n} (s : StandsFor cmp f h k leaf index path) where
     -- the entry lies where the path stands
@@ -75,7 +82,9 @@ module _ {K X : Type 0} {n : ℕ} {cmp : K → K → Ordering} {f : Forest K X} 
 
     -- the forest with a value at the leaf and the index has it at the key
     pub with-value-there : (w : X) → with_value_at f leaf index w ≡ with_value_for cmp f h k w
-    with-value-there w = ap (λ at. with_value_at f at.0 at.1 w) (sym lies-there)
+    with-value-there w =
+        let at = lies_at f h (place cmp (list_of f h) k) in
+        ap (λ z. with_value_at f z.0 z.1 w) (sym lies-there) ∙ sym (λ j. if s.present j then with_value_at f at.0 at.1 w else f)
 
     -- what a write where the path stands leaves
     pub writes-there : IsTotalOrder cmp → IsIncreasing cmp (list_of f h) → (w : X) → IsWritten f (with_value_at f leaf index w) h path s.on.place w → WritesFor cmp f h k w (with_value_for cmp f h k w)

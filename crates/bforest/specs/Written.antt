@@ -23,9 +23,10 @@ module _ {K X : Type 0} where
   lies_at f (Some root) p = lies_in (tree_of f.nodes root).leaves p
 
   module _ (cmp : K → K → Ordering) where
-    -- the forest with w as the value of the key k of h, which is there
+    -- the forest with w as the value of the key k of h; where the key is absent, nothing is written
     abbrev pub with_value_for : Forest K X → Option ℕ → K → X → Forest K X
-    with_value_for f h k w = with_value_at f (lies_at f h (place cmp (list_of f h) k)).0 (lies_at f h (place cmp (list_of f h) k)).1 w
+    with_value_for f h k w =
+        if is_present cmp (list_of f h) k then with_value_at f (lies_at f h (place cmp (list_of f h) k)).0 (lies_at f h (place cmp (list_of f h) k)).1 w else f
 
     -- w was written as the value of the key k of h: no key changed and no node, and no other list
     pub record WritesFor (f : Forest K X) (h : Option ℕ) (k : K) (w : X) (f' : Forest K X) : Type 0 where

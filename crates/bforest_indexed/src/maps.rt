@@ -257,7 +257,7 @@ impl<K: Copy, V: Copy, C: Comparator<K>> Maps<K, V, C> {
     pub fn get_mut(&mut self, index: usize, key: K) -> Option<&mut V>
         requires within { index < count self.old }
         ensures* writes_back { sem 𝓛
-            (lends_value_at K.row V.row C.row C.order self.entry index key result) }
+            (lends_value_at K.row V.row C.row C.Comparator self.entry index key result) }
         ensures value { option_copied_mut result
             ≡ value_for (C.order (comparator self.old)) (entries self.old index) key }
         ensures written { OnSome result ((w : V) → WritesAt (C.order (comparator self.old)) self.old index key w
