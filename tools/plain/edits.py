@@ -238,6 +238,12 @@ EDITS = {
             "        self.expect_order_at(*handle, bounds.0, comp);\n        self.expect_order_at(*handle, bounds.1, comp);\n",
             1,
         ),
+        # A function without the trees, which keep the marks, writes the handle.
+        (
+            r"^( *)return (cut_front_at\(&mut self\.pool, )handle(, &mut path\));\n",
+            r"\1let mut left = *handle;\n\1let changed = \2&mut left\3;\n\1self.rename(handle, left);\n\1return changed;\n",
+            1,
+        ),
     ],
     "bforest_trees/trees/get_or_insert.rt": [LOOKED_UP],
     "bforest_trees/trees/unite.rt": [
