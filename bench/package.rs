@@ -101,6 +101,13 @@ impl Uses for PackageMaps {
     }
 
     #[inline(never)]
+    fn lend(&mut self, map: u32, key: u32) {
+        if let Some(value) = self.forest.get_mut(&self.maps[map as usize], key, &()) {
+            *value += 1;
+        }
+    }
+
+    #[inline(never)]
     fn entry(&mut self, map: u32, key: u32, value: u32) -> u32 {
         self.maps[map as usize].get_or_insert(key, value, &mut self.forest, &()).expect(ROOM)
     }

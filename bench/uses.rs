@@ -13,6 +13,7 @@ pub enum Use {
     Walk,       // an iteration
     Remove,     // all entries, in the order in which they came
     Update,     // one is added to a value in its place
+    Lend,       // the same, through a reference
     Entry,      // an entry, made where its key is absent
     First,      // the first entry of a range from a key on
     Three,      // the first three of such a range
@@ -32,7 +33,7 @@ use Use::*;
 impl Use {
     /// The use of this name.
     pub fn named(name: &str) -> Option<Use> {
-        let single = [Load, Fill, Get, Walk, Remove, Update, Entry, First, Three, AtOrAfter, Back, Copied, Reads];
+        let single = [Load, Fill, Get, Walk, Remove, Update, Lend, Entry, First, Three, AtOrAfter, Back, Copied, Reads];
         let others = [FillWide, GetWide, FillRanked, GetRanked, Forests];
         single.into_iter().chain(others).find(|it| format!("{it:?}") == name)
     }
@@ -64,6 +65,10 @@ pub trait Uses: Many<u32> {
     fn load(&mut self, map: u32, entries: &[(u32, u32)]);
     /// Adds one to the value of a key.
     fn update(&mut self, map: u32, key: u32);
+    /// The same, through a reference to the value, where there is a call that lends one.
+    fn lend(&mut self, map: u32, key: u32) {
+        self.update(map, key);
+    }
     /// The value of a key, which is inserted with `value` where it is absent.
     fn entry(&mut self, map: u32, key: u32, value: u32) -> u32;
     /// The first entry of the range from a key on.
@@ -156,6 +161,10 @@ fn rounds<M: Uses>(maps: &mut M, job: Job) -> u64 {
         }),
         Update => each(maps, job, |maps, map, index| {
             maps.update(map, key(map, index));
+            0
+        }),
+        Lend => each(maps, job, |maps, map, index| {
+            maps.lend(map, key(map, index));
             0
         }),
         Entry => each(maps, job, |maps, map, index| u64::from(maps.entry(map, key(map, index + job.entries), index))),

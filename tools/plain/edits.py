@@ -243,6 +243,12 @@ EDITS = {
             "        self.expect_order_at(*handle, bounds.0, comp);\n        self.expect_order_at(*handle, bounds.1, comp);\n",
             1,
         ),
+        # A function without the trees, which keep the marks, writes the handle.
+        (
+            r"^( *)return (cut_front_at\(&mut self\.pool, )handle(, &mut path\));\n",
+            r"\1let mut left = *handle;\n\1let changed = \2&mut left\3;\n\1self.rename(handle, left);\n\1return changed;\n",
+            1,
+        ),
     ],
     "bforest_trees/trees/get_or_insert.rt": [LOOKED_UP],
     "bforest_trees/trees/unite.rt": [
@@ -321,9 +327,9 @@ MUST_USE = {
     "bforest/map.rt": ["new", "clone", "cursor", "cursor_mut", "len", "is_subset", "is_disjoint", *COUNTING, *(it for it in TELLING if it != "contains")],
     "bforest/set.rt": ["new", "clone", "cursor", "len", "is_subset", "is_disjoint", *COUNTING, *(it for it in TELLING if it != "get")],
     "bforest/forest.rt": ["slots", "nodes_in_use", "free_slots", "node_limit"],
-    "bforest/map_forest.rt": ["new", "with_node_limit", "holds"],
+    "bforest/map_forest.rt": ["new", "with_node_limit", "holds", "get_mut"],
     "bforest/set_forest.rt": ["new", "with_node_limit", "holds"],
-    "bforest_indexed/maps.rt": [*MANY, "cursor", "len_of", *(it for it in TELLING if it not in ("contains", "increases"))],
+    "bforest_indexed/maps.rt": [*MANY, "cursor", "get_mut", "len_of", *(it for it in TELLING if it not in ("contains", "increases"))],
     "bforest_indexed/sets.rt": [*MANY, "len_of", *SET_TELLING],
     "bforest/map_cursor.rt": ["is_empty", "entry", "key", "value"],
     "bforest/map_cursor_mut.rt": ["is_empty", "entry", "key", "value", "value_mut"],

@@ -19,6 +19,8 @@ ARE_LIVE, ARE_ORDERED = "The call requires that both handles are live", " and th
 PANICS = "Else it may panic; debug builds often do so at once: [what a call requires](crate#what-a-call-requires)."
 LIVE_TOO = r"requires other \{ IsSearchable "
 GUARD, GUARD_TOO = "forest.trees.expect_live(self.root);", "forest.trees.expect_live(other.root);"
+# The same in a call on the forest.
+OF_FOREST, GUARD_OF_FOREST = r"requires \{ IsSearchable \(C\.order comp\.now\) self\.", "self.trees.expect_live(map.root);"
 TRACKED = "cfg_attr(debug_assertions, track_caller)"
 
 
@@ -116,7 +118,8 @@ def guard(contract):
     if re.search(LIVE_TOO, contract):
         return f"{ARE_LIVE}{ARE_ORDERED}. {PANICS}", TRACKED, f"\n        {GUARD}\n        {GUARD_TOO}"
     asked = IS_LIVE + (IS_ORDERED if re.search(SEARCHABLE, contract) else "")
-    return f"{asked}. {PANICS}", TRACKED, f"\n        {GUARD}"
+    test = GUARD_OF_FOREST if re.search(OF_FOREST, contract) else GUARD
+    return f"{asked}. {PANICS}", TRACKED, f"\n        {test}"
 
 
 def with_marks(text):

@@ -18,3 +18,4 @@ pub mod Fewest
 pub mod Standard
 pub mod Truncating
 pub mod BehindFits
+pub mod Lent

@@ -13,3 +13,4 @@ pub mod Set
 pub mod SetCursor
 pub mod Sides
 pub mod Union
+pub mod Written

@@ -1,4 +1,6 @@
 pub mod Edits
 pub mod Handles
 pub mod Indexed
+pub mod Lending
 pub mod Loads
+pub mod Written

@@ -7,12 +7,16 @@ ghost use Rattle.bforest.specs.Memory.{MapsFitInMemory};
 ghost use Rattle.bforest.specs.Retain.{Answers, MayAsk, MayAskEach};
 ghost use Rattle.bforest_indexed.specs.Edits.{EditsAt};
 ghost use Rattle.bforest_indexed.specs.Indexed.{CompactsAt, HoldsFor, RemovesBetweenAt, SplitsOffAt, ReservesFor};
+ghost use Rattle.bforest_indexed.specs.Lending.{lends_value_at};
 ghost use Rattle.bforest_indexed.specs.Loads.{LoadsAt};
+ghost use Rattle.bforest_indexed.specs.Written.{WritesAt, with_value_at};
 ghost use Rattle.bforest_indexed.specs.Indexed.{ClearsAll, ClearsAt, CopiesAt, FiltersAt, GetsOrInsertsAt, InsertsAt, IntersectsAt, SubtractsAt, UnitesAt, UpdatesAt, UpdatesOrInsertsAt};
 ghost use Rattle.bforest_indexed.specs.Indexed.{KeepsAll, PopsAt, RemovesAt, Swaps, Truncates};
 ghost use Rattle.bforest.specs.declared.map_forest.TheConstants.{MAP_LEAF};
 ghost use Rattle.bforest_indexed.specs.Indexed.{comparator, count, entries, memory, node_sizes, nodes_in_use, table};
-ghost use Rattle.std.specs.Prelude.{IfOk, IsOk, IsTrue, OnErr, OnOk, Some, length, slice_get, ◌+◌, ◌-◌, ◌/◌, ◌<◌, ◌^◌, ◌↔◌, ◌≡◌, ◌≤◌, ℕ};
+ghost use Rattle.std.specs.Borrow.{sem};
+ghost use Rattle.std.specs.Option.{option_copied_mut};
+ghost use Rattle.std.specs.Prelude.{IfOk, IsOk, IsTrue, OnErr, OnOk, OnSome, Some, length, slice_get, ◌+◌, ◌-◌, ◌/◌, ◌<◌, ◌^◌, ◌↔◌, ◌≡◌, ◌≤◌, ℕ};
 
 use crate::edit::{Edit, lend};
 use crate::handles::{add_empty, empty_all, hold};
@@ -307,6 +311,20 @@ impl<K: Copy, V: Copy, C: Comparator<K>, I: Idx> Maps<K, V, C, I> {
             result self.new }
     {
         self.maps[index.index()].get_or_insert(key, value, &mut self.forest, &self.order)
+    }
+
+    /// Returns a mutable reference to the value of the entry whose key compares equal to `key`, or `None`. No other entry changes, and no
+    /// key and no node. One search, as [`bforest::MapForest::get_mut`] makes.
+    pub fn get_mut(&mut self, index: usize, key: K) -> Option<&mut V>
+        requires within { index < count self.old }
+        ensures* writes_back { sem 𝓛
+            (lends_value_at K.row V.row C.row C.Comparator self.entry index key result) }
+        ensures value { option_copied_mut result
+            ≡ value_for (C.order (comparator self.old)) (entries self.old index) key }
+        ensures written { OnSome result ((w : V) → WritesAt (C.order (comparator self.old)) self.old index key w
+            (with_value_at (C.order (comparator self.old)) self.old index key w)) }
+    {
+        self.forest.get_mut(&self.maps[index], key, &self.order)
     }
 
     /// Replaces the value of the entry whose key compares equal to `key` by what `change` returns of it, and returns that, or `None` where

@@ -22,3 +22,19 @@ fn an_update_changes_one_map(rt: HostRuntime) {
     assert!(rt; 1 < maps.len());
     assert_eq!(rt; (maps.get(0, 5), maps.get(1, 5)), (None, Some(12)));
 }
+
+#[test]
+fn a_loan_writes_the_value_of_one_map(rt: HostRuntime) {
+    let mut maps: Maps<u32, u32, ()> = Maps::with_node_limit(rt.alloc(), (), 1);
+    assert!(rt; maps.grow_to(2).is_ok());
+    assert!(rt; 1 < maps.len());
+    assert!(rt; maps.get_mut(1, 5).is_none());
+    assert!(rt; 1 < maps.len());
+    assert_eq!(rt; maps.insert(1, 5, 50), Ok(None));
+    assert!(rt; 1 < maps.len());
+    if let Some(value) = maps.get_mut(1, 5) {
+        *value /= 2;
+    }
+    assert!(rt; 1 < maps.len());
+    assert_eq!(rt; (maps.get(0, 5), maps.get(1, 5)), (None, Some(25)));
+}

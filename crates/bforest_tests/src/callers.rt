@@ -175,3 +175,41 @@ pub fn insert_both<K: Copy, V: Copy, C: Comparator<K>>(
     map.insert(second.0, second.1, forest, comp)?;
     Ok(())
 }
+
+/// Writes the value of a key that is present through a loan, and looks the key up again: the lookup finds it.
+pub fn write_and_get<K: Copy, V: Copy, C: Comparator<K>>(
+    map: &Map<K, V>,
+    key: K,
+    value: V,
+    forest: &mut MapForest<K, V>,
+    comp: &C,
+) -> Option<V>
+    requires live { IsLive forest.old map.now }
+    requires increasing { IsIncreasing (C.order comp.now) (list_of forest.old map.now) }
+    requires present { is_present (C.order comp.now) (list_of forest.old map.now) key ≡ true }
+    ensures { result ≡ Some value }
+{
+    if let Some(place) = forest.get_mut(map, key, comp) {
+        *place = value;
+    }
+    map.get(key, forest, comp)
+}
+
+/// Writes the value of a key through a loan, where it is present, and looks another key up: its value stays.
+pub fn write_and_get_other<K: Copy, V: Copy, C: Comparator<K>>(
+    map: &Map<K, V>,
+    entry: (K, V),
+    other: K,
+    forest: &mut MapForest<K, V>,
+    comp: &C,
+) -> Option<V>
+    requires live { IsLive forest.old map.now }
+    requires increasing { IsIncreasing (C.order comp.now) (list_of forest.old map.now) }
+    requires apart { is_eq (C.order comp.now entry.0 other) ≡ false }
+    ensures { result ≡ value_for (C.order comp.now) (list_of forest.old map.now) other }
+{
+    if let Some(place) = forest.get_mut(map, entry.0, comp) {
+        *place = entry.1;
+    }
+    map.get(other, forest, comp)
+}

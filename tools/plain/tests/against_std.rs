@@ -784,7 +784,14 @@ impl<C: Order> Subject for Maps<'_, C> {
             Call::PopFirst => vec![Answer::Entry(map.pop_first(forest))],
             Call::PopLast => vec![Answer::Entry(map.pop_last(forest))],
             Call::GetOrInsert((key, value)) => vec![Answer::Put(map.get_or_insert(*key, *value, forest, order).map(Some))],
-            Call::Update((key, bits)) => vec![Answer::Value(map.update(*key, |it| it ^ bits, forest, order))],
+            Call::Update((key, bits)) if key % 2 == 0 => vec![Answer::Value(map.update(*key, |it| it ^ bits, forest, order))],
+            Call::Update((key, bits)) => {
+                let changed = forest.get_mut(map, *key, order).map(|it| {
+                    *it ^= bits;
+                    *it
+                });
+                vec![Answer::Value(changed)]
+            }
             Call::UpdateOrInsert((key, value)) => {
                 vec![Answer::Put(map.update_or_insert(*key, *value, |it| it ^ value, forest, order).map(Some))]
             }

@@ -84,6 +84,9 @@ fn change_map(call: u32, key: u32, map: &mut Map<u32, u32>, forest: &mut MapFore
         1 if key % 2 == 0 => drop(map.get_or_insert(key, key, forest, &())),
         1 if key % 3 == 0 => {
             _ = map.update(key / 3, |it| it + 1, forest, &());
+            if let Some(value) = forest.get_mut(map, key / 3, &()) {
+                *value += 1;
+            }
             _ = map.update_or_insert(key, key, |it| it + 1, forest, &());
         }
         1 => drop(map.try_insert(key, key, forest, &())),

@@ -204,9 +204,10 @@ type Search<H, F> = fn(&mut H, u32, &mut F, &Counting);
 type MapSearch = Search<Map<u32, u32>, MapForest<u32, u32>>;
 type SetSearch = Search<Set<u32>, SetForest<u32>>;
 
-const OF_MAPS: [(&str, MapSearch); 13] = [
+const OF_MAPS: [(&str, MapSearch); 14] = [
     ("get", |map, key, forest, comp| _ = map.get(key, forest, comp)),
     ("update", |map, key, forest, comp| _ = map.update(key, |value| value, forest, comp)),
+    ("get_mut", |map, key, forest: &mut MapForest<u32, u32>, comp| _ = forest.get_mut(map, key, comp)),
     ("get_or_less", |map, key, forest, comp| _ = map.get_or_less(key, forest, comp)),
     ("get_or_greater", |map, key, forest, comp| _ = map.get_or_greater(key, forest, comp)),
     ("get_or_insert", |map, key, forest, comp| _ = map.get_or_insert(key, 0, forest, comp).unwrap()),
@@ -425,7 +426,7 @@ type IndexedSets<'a> = Sets<u32, &'a Counting>;
 /// A call by the index 1, which searches for a key once.
 type IndexedCall<T> = fn(&mut T, u32);
 
-fn of_indexed_maps<'a>() -> [(&'static str, IndexedCall<Indexed<'a>>); 13] {
+fn of_indexed_maps<'a>() -> [(&'static str, IndexedCall<Indexed<'a>>); 14] {
     [
         ("get", |maps, key| _ = maps.get(1, key)),
         ("contains_key", |maps, key| _ = maps.contains_key(1, key)),
@@ -433,6 +434,7 @@ fn of_indexed_maps<'a>() -> [(&'static str, IndexedCall<Indexed<'a>>); 13] {
         ("get_or_greater", |maps, key| _ = maps.get_or_greater(1, key)),
         ("get_or_insert", |maps, key| _ = maps.get_or_insert(1, key, 0).unwrap()),
         ("update", |maps, key| _ = maps.update(1, key, |value| value)),
+        ("get_mut", |maps, key| _ = maps.get_mut(1, key)),
         ("update_or_insert", |maps, key| _ = maps.update_or_insert(1, key, 0, |value| value).unwrap()),
         ("insert", |maps, key| _ = maps.insert(1, key, 0).unwrap()),
         ("try_insert", |maps, key| _ = maps.try_insert(1, key, 0).unwrap()),

@@ -47,6 +47,13 @@ fn change(maps: &mut Maps<u32, u32>, model: &mut Model, call: u32, at: usize, ke
                 *it ^= value;
                 *it
             });
+            let lent = maps.get_mut(at, key).map(|it| {
+                *it ^= value;
+                *it
+            });
+            assert_eq!(lent, changed);
+            // Twice is not at all.
+            assert_eq!(maps.update(at, key, |it| it ^ value), changed.map(|it| it ^ value));
             assert_eq!(maps.update(at, key, |it| it ^ value), changed);
         }
         12..14 => match maps.update_or_insert(at, key, value, |it| it ^ value) {
@@ -363,6 +370,7 @@ fn an_index_that_is_not_there_panics_and_is_named() {
         panic_of(|| maps.insert(7, 0, 0)),
         panic_of(|| maps.swap(7, 0)),
         panic_of(|| maps.update(7, 0, |value| value)),
+        panic_of(|| maps.get_mut(7, 0).is_some()),
         panic_of(|| maps.update_or_insert(7, 0, 0, |value| value)),
         panic_of(|| maps.copy(7, 0)),
         panic_of(|| maps.copy(0, 7)),

@@ -20,7 +20,7 @@ type NumbersForest = MapForest<u32, u32>;
 type MapCall = Call<Numbers, NumbersForest>;
 type SetCall = Call<Set<u32>, SetForest<u32>>;
 
-const OF_MAPS: [(&str, MapCall); 36] = [
+const OF_MAPS: [(&str, MapCall); 37] = [
     ("get", |map, forest| _ = map.get(1, forest, &())),
     ("update", |map, forest| _ = map.update(1, |value| value + 1, forest, &())),
     ("get_or_less", |map, forest| _ = map.get_or_less(1, forest, &())),
@@ -57,6 +57,7 @@ const OF_MAPS: [(&str, MapCall); 36] = [
     ("increases", |map, forest| _ = map.increases(forest, &())),
     ("contains_key", |map, forest| _ = map.contains_key(1, forest, &())),
     ("debug", |map, forest| _ = format!("{:?}", map.debug(forest))),
+    ("get_mut", |map, forest: &mut NumbersForest| _ = forest.get_mut(map, 1, &())),
 ];
 
 const OF_SETS: [(&str, SetCall); 34] = [
@@ -99,6 +100,9 @@ const OF_SETS: [(&str, SetCall); 34] = [
 /// The calls in the tables above that stand in `rust.rs`.
 const OF_THE_PACKAGE: [&str; 2] = ["contains_key", "debug"];
 
+/// The call in the tables above that is made on a forest.
+const OF_THE_FOREST: &str = "get_mut";
+
 /// The calls of a source on a handle that are handed a forest.
 fn handed_forest(source: &str) -> Vec<&str> {
     let heads = source.split("\n    pub fn ").skip(1).map(|it| it.split(" {\n").next().unwrap_or(it));
@@ -109,7 +113,8 @@ fn handed_forest(source: &str) -> Vec<&str> {
 #[test]
 fn no_call_is_missing() {
     let maps = handed_forest(include_str!("../src/map.rs"));
-    assert!(maps.iter().eq(OF_MAPS.iter().map(|(name, _)| name).filter(|it| !OF_THE_PACKAGE.contains(it))), "{maps:?}");
+    let on_handles = OF_MAPS.iter().map(|(name, _)| name).filter(|it| !OF_THE_PACKAGE.contains(it) && **it != OF_THE_FOREST);
+    assert!(maps.iter().eq(on_handles), "{maps:?}");
     let sets = handed_forest(include_str!("../src/set.rs"));
     assert!(sets.iter().eq(OF_SETS.iter().map(|(name, _)| name).filter(|it| !OF_THE_PACKAGE.contains(it))), "{sets:?}");
 }

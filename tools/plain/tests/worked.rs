@@ -121,6 +121,7 @@ with_both_searches!(
     a_key_behind_its_leaf_has_the_next_leaf_s_first_entry,
     get_or_insert_keeps_what_is_there,
     update_or_insert_changes_what_is_there,
+    a_value_is_written_where_it_lies,
     a_map_is_emptied_from_both_ends,
     a_cursor_goes_to_the_next_greater_key_and_back,
     a_new_cursor_stands_at_the_end,
@@ -251,6 +252,21 @@ fn update_or_insert_changes_what_is_there<C: Comparator<u32>>(comp: &C) {
     let mut other = Numbers::new();
     assert_eq!(other.update_or_insert(5, 50, |value| value + 1, &mut forest, comp), Err(OutOfMemory::Full));
     assert!(other.is_empty() && map.get(5, &forest, comp) == Some(51));
+}
+
+/// 8 keys lie in two leaves of 4. The key 4 ends the first, and 5 begins the second.
+fn a_value_is_written_where_it_lies<C: Comparator<u32>>(comp: &C) {
+    let mut forest = Forest::new();
+    let (map, other) = (filled(1..=8, &mut forest, comp), filled(1..=8, &mut forest, comp));
+    let before = sizes(&map, &forest);
+    for key in [4, 5] {
+        let value = forest.get_mut(&map, key, comp).unwrap();
+        assert_eq!(*value, 10 * key);
+        *value += 1;
+    }
+    assert!([0, 9].iter().all(|&key| forest.get_mut(&map, key, comp).is_none()) && forest.get_mut(&Map::new(), 4, comp).is_none());
+    assert_eq!(entries(&map, &forest), [(1, 10), (2, 20), (3, 30), (4, 41), (5, 51), (6, 60), (7, 70), (8, 80)]);
+    assert_eq!((entries(&other, &forest), sizes(&map, &forest)), (tenfold(1..=8), before));
 }
 
 fn a_map_is_emptied_from_both_ends<C: Comparator<u32>>(comp: &C) {

@@ -27,12 +27,21 @@ pub(super) fn values(map: &mut Map<u32, u32>, forest: &mut MapForest<u32, u32>) 
     if !forest.holds(map) || !map.increases(forest, &()) {
         return false;
     }
+    let lent = if let Some(value) = forest.get_mut(map, MIDDLE, &()) {
+        *value = MIDDLE;
+        true
+    } else {
+        false
+    };
+    if !forest.holds(map) || !map.increases(forest, &()) {
+        return false;
+    }
     let found = map.get_or_insert(MIDDLE, 0, forest, &());
     if !forest.holds(map) || !map.increases(forest, &()) {
         return false;
     }
     let put = map.update_or_insert(MIDDLE, 0, |value| value, forest, &());
-    updated == Some(MIDDLE) && found == Ok(MIDDLE) && put == Ok(MIDDLE)
+    lent && updated == Some(MIDDLE) && found == Ok(MIDDLE) && put == Ok(MIDDLE)
 }
 
 // Takes the entries at both ends out, and puts them in again.
