@@ -278,11 +278,9 @@ pub mod package {
 
         fn cancel(&mut self, own: Place, price: u32, order: u32, orders: &mut [Order]) {
             let levels = &mut self.books[own.book][usize::from(own.is_buy)];
-            let unlink = |mut level: Level| {
-                level.unlink(order, orders);
-                level
-            };
-            if levels.update(price, unlink, &mut self.forest, &()).is_some_and(|level| level.is_empty()) {
+            let Some(level) = self.forest.get_mut(levels, price, &()) else { return };
+            level.unlink(order, orders);
+            if level.is_empty() {
                 levels.remove(price, &mut self.forest, &());
             }
         }

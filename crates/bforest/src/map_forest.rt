@@ -1,7 +1,7 @@
 //! Forests of maps.
 ghost use Rattle.bforest.specs.Forest.{IsLive, IsSearchable, empty, list_of};
 ghost use Rattle.bforest.specs.Lending.{lends_value_for, lends_value_of};
-ghost use Rattle.bforest.specs.Written.{StandsFor, WritesFor, with_value_for};
+ghost use Rattle.bforest.specs.Written.{WritesFor, with_value_for};
 ghost use Rattle.bforest_core.specs.Paths.{index_of, leaf_of};
 ghost use Rattle.bforest_core.specs.Table.{with_value_at};
 ghost use Rattle.bforest_core.specs.declared.path.Path.{Path};
@@ -9,11 +9,11 @@ ghost use Rattle.bforest_nodes.specs.Entries.{value_at_place, value_for};
 ghost use Rattle.bforest_trees.specs.Place.{IsWritten, OnSpot};
 ghost use Rattle.std.specs.Borrow.{sem};
 ghost use Rattle.std.specs.Option.{option_copied_mut};
-ghost use Rattle.std.specs.Prelude.{IfSome, IsTrue, None, OnSome, Option, Some, ◌↔◌, ◌≡◌, ℕ};
+ghost use Rattle.std.specs.Prelude.{IsTrue, OnSome, Option, Some, ◌↔◌, ◌≡◌, ℕ};
 
 use crate::forest::Forest;
 use crate::map::Map;
-use bforest_core::{Comparator, Node, Path};
+use bforest_core::{Comparator, Node};
 use bforest_trees::Trees;
 use std::alloc::Global;
 
@@ -56,7 +56,7 @@ impl<K: Copy, V: Copy> MapForest<K, V> {
     /// Returns a mutable reference to the value of the entry of `map` whose key compares equal to `key`, or `None`. No other entry changes,
     /// and no key and no node.
     ///
-    /// One search, as in [`Map::get`], which first counts the levels. The reference ends before the next call on the forest.
+    /// One search, as in [`Map::get`]. The reference ends before the next call on the forest.
     pub fn get_mut<C: Comparator<K>>(&mut self, map: &Map<K, V>, key: K, comp: &C) -> Option<&mut V>
         requires { IsSearchable (C.order comp.now) self.old map.now }
         ensures* writes_back { sem 𝓛
@@ -66,23 +66,7 @@ impl<K: Copy, V: Copy> MapForest<K, V> {
         ensures written { OnSome result ((w : V) → WritesFor (C.order comp.now) self.old map.now key w
             (with_value_for (C.order comp.now) self.old map.now key w)) }
     {
-        match self.entry_of(map, key, comp) {
-            Some((leaf, index)) => Some(self.value_at(leaf, index)),
-            None => None,
-        }
-    }
-
-    // The leaf of a key's entry and its index there, or `None` where the key is absent.
-    fn entry_of<C: Comparator<K>>(&self, map: &Map<K, V>, key: K, comp: &C) -> Option<(Node, usize)>
-        requires { IsSearchable (C.order comp.now) self.now map.now }
-        ensures stands { IfSome result (λ at. (path : Path K V MAP_LEAF)
-            × StandsFor (C.order comp.now) self.now map.now key at.0 at.1 path) }
-        ensures absent { result ≡ None
-            → value_for (C.order comp.now) (list_of self.now map.now) key ≡ None }
-    {
-        let mut path = Path::default();
-        let _value = self.trees.goto(map.root, &mut path, key, comp)?;
-        path.leaf_pos()
+        self.trees.get_mut(map.root, key, comp)
     }
 
     /// The value of the entry where a path stands, by the path's leaf and its index there, for writing.

@@ -315,16 +315,17 @@ impl<K: Copy, V: Copy, C: Comparator<K>, I: Idx> Maps<K, V, C, I> {
 
     /// Returns a mutable reference to the value of the entry whose key compares equal to `key`, or `None`. No other entry changes, and no
     /// key and no node. One search, as [`bforest::MapForest::get_mut`] makes.
-    pub fn get_mut(&mut self, index: usize, key: K) -> Option<&mut V>
-        requires within { index < count self.old }
+    pub fn get_mut(&mut self, index: I, key: K) -> Option<&mut V>
+        requires within { I.number index < count self.old }
         ensures* writes_back { sem 𝓛
-            (lends_value_at K.row V.row C.row C.Comparator self.entry index key result) }
+            (lends_value_at K.row V.row C.row I.row C.Comparator self.entry (I.number index) key result) }
         ensures value { option_copied_mut result
-            ≡ value_for (C.order (comparator self.old)) (entries self.old index) key }
-        ensures written { OnSome result ((w : V) → WritesAt (C.order (comparator self.old)) self.old index key w
-            (with_value_at (C.order (comparator self.old)) self.old index key w)) }
+            ≡ value_for (C.order (comparator self.old)) (entries self.old (I.number index)) key }
+        ensures written { OnSome result ((w : V) → WritesAt (C.order (comparator self.old)) self.old
+            (I.number index) key w (with_value_at (C.order (comparator self.old)) self.old (I.number index) key w)) }
     {
-        self.forest.get_mut(&self.maps[index], key, &self.order)
+        self.forest
+            .get_mut(&self.maps[index.index()], key, &self.order)
     }
 
     /// Replaces the value of the entry whose key compares equal to `key` by what `change` returns of it, and returns that, or `None` where

@@ -12,3 +12,4 @@ pub mod Retain
 pub mod Shift
 pub mod Order
 pub mod Union
+pub mod Written
