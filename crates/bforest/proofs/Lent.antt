@@ -1,5 +1,5 @@
 -- Lending the value of a key, as `bforest_trees` proves it.
-use Rattle.bforest_trees.proofs.Lent as lent
+use Rattle.bforest_trees.proofs.values.Lent as lent
 use Rattle.bforest_trees.specs.Forest.{Forest, list_of}
 use Rattle.bforest.specs.Written.{with_value_for}
 use Rattle.bforest_nodes.specs.Entries.{value_for}

@@ -51,8 +51,8 @@ pub fn make<K: Copy, V: Copy, C: Comparator<K>, T: Collection<K, V>>(
 
 /// What an answer tells of the handle and the comparator of its call.
 fn known_by<K: Copy, V: Copy>(call: &Call<K, V>, given: &Answer<K, V>) -> Option<(usize, usize)>
-    ensures { (most : ℕ) (reads : Bool) (orders : _) (old new : State K V) → Step most reads orders old call.now given.now new
-        → IsKnown orders new result }
+    ensures { (most : ℕ) (reads : Bool) (orders : _) (old new : State K V)
+        → Step most reads orders old call.now given.now new → IsKnown orders new result }
 {
     match given {
         Answer::NoIndex | Answer::Dead | Answer::Unordered | Answer::NotOffered => None,

@@ -69,6 +69,6 @@ module _ {K X C : Type 0} {most : ℕ} {cmp : K → K → Ordering} {m : Indexed
     pub lent-value : option_copied_mut r ≡ value_for cmp (entries m i) k
     lent-value = value ∙ ap (λ (q : Option ℕ). value_for cmp (list_of (table m) q) k) read
 
-    -- and what is written becomes its value
+    -- what is written through the loan is the value of the key
     pub lent-writes : OnSome r ((w : X) → WritesAt cmp m i k w (with_value_at cmp m i k w))
     lent-writes = lent-told r (subst (Lent cmp (table m) k r) read (value, written))

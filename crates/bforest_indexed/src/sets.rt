@@ -547,61 +547,61 @@ impl<K: Copy, C: Comparator<K>, I: Idx> Sets<K, C, I> {
     /// it gives that of the set at `index`. As [`bforest::Set::union`]: reads both side by side, with at most `n + m - 1` comparisons in
     /// all.
     #[inline(always)]
-    pub fn union(&self, index: usize, other: usize) -> SetUnion<'_, K, C>
-        requires within { index < count self.now }
-        requires other { other < count self.now }
-        ensures keys { result ≡ keys_of (united (C.order (comparator self.now)) (entries self.now index)
-            (entries self.now other)) }
+    pub fn union(&self, index: I, other: I) -> SetUnion<'_, K, C>
+        requires within { I.number index < count self.now }
+        requires other { I.number other < count self.now }
+        ensures keys { result ≡ keys_of (united (C.order (comparator self.now))
+            (entries self.now (I.number index)) (entries self.now (I.number other))) }
         ensures increasing { IsStrictlySortedBy (C.order (comparator self.now)) result }
         ensures fits { SetsFitInMemory K.row }
     {
-        self.sets[index].union(&self.sets[other], &self.forest, &self.order)
+        self.sets[index.index()].union(&self.sets[other.index()], &self.forest, &self.order)
     }
 
     /// Returns an iterator over the keys of the set at `index` that have an equal one in the set at `other`, in order; both may be one. As
     /// [`bforest::Set::intersection`]: reads both side by side, with at most `n + m - 1` comparisons in all.
     #[inline(always)]
-    pub fn intersection(&self, index: usize, other: usize) -> SetIntersection<'_, K, C>
-        requires within { index < count self.now }
-        requires other { other < count self.now }
-        ensures keys { result ≡ keys_of (kept_from (C.order (comparator self.now)) true (entries self.now index)
-            (entries self.now other)) }
+    pub fn intersection(&self, index: I, other: I) -> SetIntersection<'_, K, C>
+        requires within { I.number index < count self.now }
+        requires other { I.number other < count self.now }
+        ensures keys { result ≡ keys_of (kept_from (C.order (comparator self.now)) true
+            (entries self.now (I.number index)) (entries self.now (I.number other))) }
         ensures increasing { IsStrictlySortedBy (C.order (comparator self.now)) result }
         ensures fits { SetsFitInMemory K.row }
     {
-        self.sets[index].intersection(&self.sets[other], &self.forest, &self.order)
+        self.sets[index.index()].intersection(&self.sets[other.index()], &self.forest, &self.order)
     }
 
     /// Returns an iterator over the keys of the set at `index` that have no equal one in the set at `other`, in order; both may be one. As
     /// [`bforest::Set::difference`]: reads both side by side, with at most `n + m - 1` comparisons in all.
     #[inline(always)]
-    pub fn difference(&self, index: usize, other: usize) -> SetDifference<'_, K, C>
-        requires within { index < count self.now }
-        requires other { other < count self.now }
-        ensures keys { result ≡ keys_of (kept_from (C.order (comparator self.now)) false (entries self.now index)
-            (entries self.now other)) }
+    pub fn difference(&self, index: I, other: I) -> SetDifference<'_, K, C>
+        requires within { I.number index < count self.now }
+        requires other { I.number other < count self.now }
+        ensures keys { result ≡ keys_of (kept_from (C.order (comparator self.now)) false
+            (entries self.now (I.number index)) (entries self.now (I.number other))) }
         ensures increasing { IsStrictlySortedBy (C.order (comparator self.now)) result }
         ensures fits { SetsFitInMemory K.row }
     {
-        self.sets[index].difference(&self.sets[other], &self.forest, &self.order)
+        self.sets[index.index()].difference(&self.sets[other.index()], &self.forest, &self.order)
     }
 
     /// Returns an iterator over the keys that one of the sets at `index` and at `other` has alone, in order; both may be one. As
     /// [`bforest::Set::symmetric_difference`]: reads both side by side, with at most `n + m - 1` comparisons in all.
     #[inline(always)]
-    pub fn symmetric_difference(
-        &self,
-        index: usize,
-        other: usize,
-    ) -> SetSymmetricDifference<'_, K, C>
-        requires within { index < count self.now }
-        requires other { other < count self.now }
-        ensures keys { result ≡ keys_of (unshared (C.order (comparator self.now)) (entries self.now index)
-            (entries self.now other)) }
+    pub fn symmetric_difference(&self, index: I, other: I) -> SetSymmetricDifference<'_, K, C>
+        requires within { I.number index < count self.now }
+        requires other { I.number other < count self.now }
+        ensures keys { result ≡ keys_of (unshared (C.order (comparator self.now))
+            (entries self.now (I.number index)) (entries self.now (I.number other))) }
         ensures increasing { IsStrictlySortedBy (C.order (comparator self.now)) result }
         ensures fits { SetsFitInMemory K.row }
     {
-        self.sets[index].symmetric_difference(&self.sets[other], &self.forest, &self.order)
+        self.sets[index.index()].symmetric_difference(
+            &self.sets[other.index()],
+            &self.forest,
+            &self.order,
+        )
     }
 
     /// Returns a double-ended iterator over the keys of a set within both bounds, in order. At most two searches and one comparison; the

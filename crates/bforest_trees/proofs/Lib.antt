@@ -30,11 +30,10 @@ pub mod ranges
 pub mod Peeking
 pub mod Popping
 pub mod Ensuring
-pub mod Updating
+pub mod values
 pub mod Cloning
 pub mod Shifting
 pub mod Loading
 pub mod Unordered
 pub mod unions
 pub mod Packing
-pub mod Lent

@@ -41,7 +41,8 @@ impl<K: Copy, V: Copy, const N: usize> Trees<K, V, N> {
         requires increasing { IsIncreasing (C.order comp.now) (list_of self.old handle) }
         ensures* writes_back { sem 𝓛
             (lends_value_for K.row V.row N.row (C.order comp.now) self.entry handle key result) }
-        ensures value { option_copied_mut result ≡ value_for (C.order comp.now) (list_of self.old handle) key }
+        ensures value { option_copied_mut result
+            ≡ value_for (C.order comp.now) (list_of self.old handle) key }
         ensures written { OnSome result ((w : V) → WritesFor (C.order comp.now) self.old handle key w
             (with_value_for (C.order comp.now) self.old handle key w)) }
     {

@@ -9,14 +9,14 @@ pub difference-requires : goal.difference-requires
 difference-requires g c = (
   search first-field,
   (
-    ordered-read c.self.invariant (rw (← c.self.view_is) at c.requires.within) c.index.ensures,
-    ordered-read c.self.invariant (rw (← c.self.view_is) at c.requires.other) c.index-2.ensures,
+    ordered-read c.self.invariant (rw (← c.self.view_is, ← c.index.ensures.number) at c.requires.within) c.index-2.ensures,
+    ordered-read c.self.invariant (rw (← c.self.view_is, ← c.index-3.ensures.number) at c.requires.other) c.index-4.ensures,
   ),
 )
 
 pub returns : goal.returns
-returns g c = rw (← c.self.view_is) (record {
-  keys = c.difference.ensures.keys ∙ made-read c.args.other c.self.invariant (rw (← c.self.view_is) at c.requires.within) c.index.ensures (rw (← c.self.view_is) at c.requires.other) c.index-2.ensures (kept_from (g.C.Comparator.order c.self.inside.order) false);
+returns g c = rw (← c.self.view_is, ← c.index.ensures.number, ← c.index-3.ensures.number) (record {
+  keys = c.difference.ensures.keys ∙ made-read c.index-3.result c.self.invariant (rw (← c.self.view_is, ← c.index.ensures.number) at c.requires.within) c.index-2.ensures (rw (← c.self.view_is, ← c.index-3.ensures.number) at c.requires.other) c.index-4.ensures (kept_from (g.C.Comparator.order c.self.inside.order) false);
   increasing = c.difference.ensures.increasing;
   fits = c.difference.ensures.fits;
 })

@@ -1,6 +1,6 @@
 use Rattle.bforest_trees.proofs.Changed.{root-live, seen-as, seen-asks}
 use Rattle.bforest_trees.proofs.Entering.{ends-there}
-use Rattle.bforest_trees.proofs.Lent.{lies-for, lies-nowhere, union-there, used-there, value-there, with-value-there, writes-there}
+use Rattle.bforest_trees.proofs.values.Lent.{lies-for, lies-nowhere, union-there, used-there, value-there, with-value-there, writes-there}
 use Rattle.bforest_trees.proofs.trees.Trees.get_mut.Goals as goal
 use Rattle.std.proofs.Common.{inl, inr, rules, sym}
 

@@ -1,5 +1,5 @@
 use Rattle.bforest_trees.proofs.Changed.{seen-as, seen-asks}
-use Rattle.bforest_trees.proofs.Updating.{updated-union, updates}
+use Rattle.bforest_trees.proofs.values.Updating.{updated-union, updates}
 use Rattle.bforest_trees.proofs.trees.Trees.update.Goals as goal
 use Rattle.std.proofs.Common.{rules, sym, ◌∙◌}
 

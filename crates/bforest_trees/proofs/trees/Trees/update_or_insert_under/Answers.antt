@@ -1,7 +1,7 @@
 use Rattle.bforest_trees.proofs.Changed.{search-asks}
 use Rattle.bforest_trees.proofs.Ensuring.{was-new, was-updated}
 use Rattle.bforest_trees.proofs.Entering.{absent-on, ends-there}
-use Rattle.bforest_trees.proofs.Updating.{entry-there, is-value, updates-there, written-there}
+use Rattle.bforest_trees.proofs.values.Updating.{entry-there, is-value, updates-there, written-there}
 use Rattle.bforest_trees.proofs.trees.Trees.update_or_insert_under.Goals as goal
 use Rattle.std.proofs.Common.{rules}
 

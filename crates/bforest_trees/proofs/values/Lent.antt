@@ -68,7 +68,7 @@ module _ {K X : Type 0} (cmp : K → K → Ordering) {f : Forest K X} {h : Optio
         present = rw list here;
       })
 
-  -- and it has none
+  -- a key that the leaf of its place does not have has no value
   pub lies-nowhere : h ≡ Some n → list_at f n ≢ [] → LooksInLeaf cmp f n k leaf path indices size found → found.1 ≡ None → value_for cmp (list_of f h) k ≡ None
   lies-nowhere handle_is live looked is = rw (handle_is, list-root f n (live-root f n live)) (sym looked.value ∙ is)
 
