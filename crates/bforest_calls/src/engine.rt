@@ -193,10 +193,7 @@ fn refusal<K: Copy, V: Copy, C: Comparator<K>, T: Collection<K, V>>(
         (Ordered (map C.order comps.now)
         (record { forest = T.trees forest.now; handles = T.numbers handles.now }) h c)) }
 {
-    if let Some((handle, order)) = known
-        && handle == h
-        && order == c
-    {
+    if known == Some((h, c)) {
         return None;
     }
     if c >= comps.len() {
