@@ -99,7 +99,7 @@ RANGE = [
         2,
     ),
 ]
-# The mark of roots that debug builds keep in each slot (`guards.rs`). A slot that is made, copied or freed is no root.
+# The mark of roots that builds with guards keep in each slot (`guards.rs`). A slot that is made, copied or freed is no root.
 MARKED = [
     (r"^(?=use crate::entries::)", "use crate::guards::{RootMark, place_of};\n", 1),
     (r"^(    state: State<K, V, N>,\n)(?=\})", r"\1    pub(crate) root_mark: RootMark,\n", 1),
@@ -108,7 +108,7 @@ MARKED = [
 ]
 # A new tree, whose root is marked.
 NEW_TREE = (r"\bOk\(PackedNode::some\((\w+)\)\)", r"Ok(self.named(\1))", 1)
-# The place of a key that the call looked up in a leaf: debug builds compare the keys beside it.
+# The place of a key that the call looked up in a leaf: builds with guards compare the keys beside it.
 LOOKED_UP = (
     r"^( *)let \((\w+), stored\) = self\.pool\.look_up_in_leaf\((leaf|way\.leaf\(\)), key, comp\);\n",
     r"\g<0>\1self.expect_order(\3, \2, stored.is_some(), key, comp);\n",

@@ -1,23 +1,24 @@
-//! What debug builds keep and test beside the proved code: which slots are roots, whether a handle names one, and the order of the keys
-//! beside a place that was searched. Nothing in this file is proved, and release builds have nothing of it.
+//! What debug builds, and those with the feature `guards`, keep and test beside the proved code: which slots are roots, whether a handle
+//! names one, and the order of the keys beside a place that was searched. Nothing in this file is proved, and other builds have nothing of
+//! it.
 
-#[cfg(debug_assertions)]
+#[cfg(any(debug_assertions, feature = "guards"))]
 use crate::bforest_core::Path;
 use crate::bforest_core::{Comparator, Node, PackedNode};
 use crate::bforest_trees::Trees;
-#[cfg(debug_assertions)]
+#[cfg(any(debug_assertions, feature = "guards"))]
 use core::fmt::Arguments;
 use core::ops::Bound;
 
-/// Whether a slot is the root of a tree. Debug builds keep it in the slot itself, so that it takes no memory that could be refused; in
-/// release builds it is nothing.
+/// Whether a slot is the root of a tree. It is kept in the slot itself, so that it takes no memory that could be refused. Without guards it
+/// is nothing.
 #[derive(Clone, Copy)]
-pub(crate) struct RootMark(#[cfg(debug_assertions)] bool);
+pub(crate) struct RootMark(#[cfg(any(debug_assertions, feature = "guards"))] bool);
 
 impl RootMark {
     /// The mark of a slot that is no root.
     pub(crate) const NONE: RootMark = RootMark(
-        #[cfg(debug_assertions)]
+        #[cfg(any(debug_assertions, feature = "guards"))]
         false,
     );
 }
@@ -38,7 +39,7 @@ impl<K: Copy, V: Copy, const N: usize> Trees<K, V, N> {
         handle
     }
 
-    /// Gives a handle the root that its tree has from now on, and in debug builds the mark with it.
+    /// Gives a handle the root that its tree has from now on, and with guards the mark, too.
     #[inline(always)]
     pub(crate) fn rename(&mut self, handle: &mut PackedNode, root: PackedNode) {
         self.mark(*handle, false);
@@ -47,13 +48,13 @@ impl<K: Copy, V: Copy, const N: usize> Trees<K, V, N> {
     }
 }
 
-/// The place of a key among the first `len` keys of a leaf's row, by the comparator's search. Debug builds then compare the key with
+/// The place of a key among the first `len` keys of a leaf's row, by the comparator's search. Guards then compare the key with
 /// itself and with those beside its place, three times at most, before anything is written.
 #[inline(always)]
-#[cfg_attr(debug_assertions, track_caller)]
+#[cfg_attr(any(debug_assertions, feature = "guards"), track_caller)]
 pub(crate) fn place_of<K: Copy, C: Comparator<K>>(key: K, row: &[K], len: usize, comp: &C) -> Result<usize, usize> {
     let place = comp.search_prefix(key, row, len);
-    #[cfg(debug_assertions)]
+    #[cfg(any(debug_assertions, feature = "guards"))]
     match place {
         Ok(index) => order::expect(key, &row[..len], index, true, comp),
         Err(index) => order::expect(key, &row[..len], index, false, comp),
@@ -61,7 +62,7 @@ pub(crate) fn place_of<K: Copy, C: Comparator<K>>(key: K, row: &[K], len: usize,
     place
 }
 
-#[cfg(debug_assertions)]
+#[cfg(any(debug_assertions, feature = "guards"))]
 impl<K: Copy, V: Copy, const N: usize> Trees<K, V, N> {
     // Marks the slot that a handle names, if it names one, as a root or as none.
     fn mark(&mut self, handle: PackedNode, is_root: bool) {
@@ -118,14 +119,14 @@ impl<K: Copy, V: Copy, const N: usize> Trees<K, V, N> {
     }
 }
 
-#[cfg(debug_assertions)]
+#[cfg(any(debug_assertions, feature = "guards"))]
 #[cold]
 #[track_caller]
 fn not_live(why: Arguments<'_>) -> ! {
     panic!("the handle is not live in this forest, which the call requires and `holds` tests: {why}");
 }
 
-#[cfg(not(debug_assertions))]
+#[cfg(not(any(debug_assertions, feature = "guards")))]
 impl<K: Copy, V: Copy, const N: usize> Trees<K, V, N> {
     #[inline(always)]
     fn mark(&mut self, _handle: PackedNode, _is_root: bool) {}
@@ -141,7 +142,7 @@ impl<K: Copy, V: Copy, const N: usize> Trees<K, V, N> {
 }
 
 /// The order of the keys beside a place that was searched.
-#[cfg(debug_assertions)]
+#[cfg(any(debug_assertions, feature = "guards"))]
 mod order {
     use crate::bforest_core::Comparator;
     use core::cmp::Ordering;

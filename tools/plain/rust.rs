@@ -293,7 +293,7 @@ impl<K: Copy, V: Copy> Map<K, V> {
     /// # Panics
     ///
     /// As [`Map::get`]: the call requires that the handle is live and that its keys increase under the comparator.
-    #[cfg_attr(debug_assertions, track_caller)]
+    #[cfg_attr(any(debug_assertions, feature = "guards"), track_caller)]
     #[must_use]
     pub fn contains_key<C: Comparator<K>>(&self, key: K, forest: &MapForest<K, V>, comp: &C) -> bool {
         self.get(key, forest, comp).is_some()
@@ -303,8 +303,8 @@ impl<K: Copy, V: Copy> Map<K, V> {
     ///
     /// # Panics
     ///
-    /// In debug builds, where the handle is not live, as [`Map::iter`].
-    #[cfg_attr(debug_assertions, track_caller)]
+    /// In builds with guards, where the handle is not live, as [`Map::iter`].
+    #[cfg_attr(any(debug_assertions, feature = "guards"), track_caller)]
     #[must_use]
     pub fn debug<'a>(&self, forest: &'a MapForest<K, V>) -> impl Debug + use<'a, K, V>
     where
@@ -320,8 +320,8 @@ impl<K: Copy> Set<K> {
     ///
     /// # Panics
     ///
-    /// In debug builds, where the handle is not live, as [`Set::iter`].
-    #[cfg_attr(debug_assertions, track_caller)]
+    /// In builds with guards, where the handle is not live, as [`Set::iter`].
+    #[cfg_attr(any(debug_assertions, feature = "guards"), track_caller)]
     #[must_use]
     pub fn debug<'a>(&self, forest: &'a SetForest<K>) -> impl Debug + use<'a, K>
     where

@@ -16,12 +16,12 @@ LEFT = re.compile(r"[^\x00-\x7f]|\b(?:ghost|requires|ensures|decreases|invariant
 LIVE, SEARCHABLE = r"requires (?:live |searchable )?\{ (?:IsLive|IsSearchable) ", r"requires (?:searchable )?\{ IsSearchable "
 IS_LIVE, IS_ORDERED = "The call requires that the handle is live", " and that its keys increase under the comparator"
 ARE_LIVE, ARE_ORDERED = "The call requires that both handles are live", " and that their keys increase under the comparator"
-PANICS = "Else it may panic; debug builds often do so at once: [what a call requires](crate#what-a-call-requires)."
+PANICS = "Else it may panic; builds with guards often do so at once: [what a call requires](crate#what-a-call-requires)."
 LIVE_TOO = r"requires other \{ IsSearchable "
 GUARD, GUARD_TOO = "forest.trees.expect_live(self.root);", "forest.trees.expect_live(other.root);"
 # The same in a call on the forest.
 OF_FOREST, GUARD_OF_FOREST = r"requires \{ IsSearchable \(C\.order comp\.now\) self\.", "self.trees.expect_live(map.root);"
-TRACKED = "cfg_attr(debug_assertions, track_caller)"
+TRACKED = 'cfg_attr(any(debug_assertions, feature = "guards"), track_caller)'
 
 
 class Stop(Exception):
@@ -112,7 +112,7 @@ def with_panics(text, source, panics):
 
 
 def guard(contract):
-    """Where a handle has to be live: debug builds test it."""
+    """Where a handle has to be live: builds with guards test it."""
     if not re.search(LIVE, contract):
         return None
     if re.search(LIVE_TOO, contract):
@@ -123,7 +123,7 @@ def guard(contract):
 
 
 def with_marks(text):
-    """The text of the trees in which each handle gets its root by `rename`, with which debug builds keep the marks of roots."""
+    """The text of the trees in which each handle gets its root by `rename`, with which builds with guards keep the marks of roots."""
     text = re.sub(r"^( *)\*handle = ((?:PackedNode::some|packed)\(\w+\)|\w+);", r"\1self.rename(handle, \2);", text, flags=re.M)
     # what changes the table comes before
     return re.sub(r"^( *)\*handle = packed\(([^;]*)\);", r"\1let left = \2;\n\1self.rename(handle, packed(left));", text, flags=re.M)

@@ -1,4 +1,4 @@
-//! How often calls compare, told by a comparator that counts. In debug builds those that insert or remove by a key compare a few times more, and
+//! How often calls compare, told by a comparator that counts. With guards those that insert or remove by a key compare a few times more, and
 //! those that are handed bounds, or a key to split at, search for each once more.
 
 use bforest::{Comparator, Map, MapForest, Maps, Set, SetForest, Sets};
@@ -25,12 +25,12 @@ impl Comparator<u32> for Counting {
     }
 }
 
-/// How often a debug build compares a key with itself and with the keys beside its place, where it inserts or removes.
-const BESIDE: u32 = if cfg!(debug_assertions) { 3 } else { 0 };
+/// How often a build with guards compares a key with itself and with the keys beside its place, where it inserts or removes.
+const BESIDE: u32 = if cfg!(any(debug_assertions, feature = "guards")) { 3 } else { 0 };
 
-/// How often a debug build compares for a bound's key, where one search compares so often: it searches once more, and then as above.
+/// How often a build with guards compares for a bound's key, where one search compares so often: it searches once more, and then as above.
 fn beside_bound(search: u32) -> u32 {
-    if cfg!(debug_assertions) { search + BESIDE } else { 0 }
+    if cfg!(any(debug_assertions, feature = "guards")) { search + BESIDE } else { 0 }
 }
 
 /// Two leaves, of 10 to 40 and of 50 to 80.

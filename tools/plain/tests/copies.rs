@@ -1,6 +1,6 @@
-//! Copies of handles in debug builds: a call on one that is not live panics at once, and a call on one that is live is answered. Which
+//! Copies of handles in builds with guards: a call on one that is not live panics at once, and a call on one that is live is answered. Which
 //! is which, `holds` says, that looks at each slot. All slots are asked after a tenth of `BFOREST_CALLS` random calls.
-#![cfg(debug_assertions)]
+#![cfg(any(debug_assertions, feature = "guards"))]
 
 mod met;
 mod random;

@@ -39,8 +39,8 @@ unsafe impl GlobalAlloc for Counting {
 #[global_allocator]
 static ALLOCATOR: Counting = Counting;
 
-/// What the mark of a root takes in each node of a debug build.
-const MARK: usize = if cfg!(debug_assertions) { 4 } else { 0 };
+/// What the mark of a root takes in each node of a build with guards.
+const MARK: usize = if cfg!(any(debug_assertions, feature = "guards")) { 4 } else { 0 };
 
 /// What a node of a map takes, with keys and values of 4 bytes, what one of a set takes, and a handle.
 const MAP_NODE: usize = 64 + MARK;

@@ -471,11 +471,11 @@ fn calls_whose_other_handle_is_not_live() {
     }
 }
 
-// What release builds do not notice.
+// What builds without guards do not notice.
 
 /// A copy that names a leaf of a tree which has grown a level can end that leaf. What finds the hole later says what was done before.
 #[test]
-#[cfg(not(debug_assertions))]
+#[cfg(not(any(debug_assertions, feature = "guards")))]
 fn trees_that_a_copy_made_a_hole_in() {
     let mut forest = MapForest::new();
     let mut map = filled_map(&mut forest);
@@ -497,7 +497,7 @@ fn trees_that_a_copy_made_a_hole_in() {
 /// The eighth entry halves the only leaf into 4 entries and 4, below a new root. The copy names the first half. An insertion through the
 /// copy puts a key there that belongs into the other half, where it is looked for.
 #[test]
-#[cfg(not(debug_assertions))]
+#[cfg(not(any(debug_assertions, feature = "guards")))]
 fn a_copy_after_the_eighth_insertion_has_half_the_map() {
     let mut forest = MapForest::new();
     let mut map = map_up_to(FULL_MAP, &mut forest);
@@ -514,7 +514,7 @@ fn a_copy_after_the_eighth_insertion_has_half_the_map() {
 
 /// The sixteenth key of a set halves its only leaf into 8 keys and 8.
 #[test]
-#[cfg(not(debug_assertions))]
+#[cfg(not(any(debug_assertions, feature = "guards")))]
 fn a_copy_after_the_sixteenth_insertion_has_half_the_set() {
     let mut forest = SetForest::new();
     let mut set = set_up_to(FULL_SET, &mut forest);
@@ -586,7 +586,7 @@ fn looking_before_each_step_gives_all_entries() {
 
 // Orders that do not fit.
 
-/// How the message of a debug build begins where it finds keys out of order.
+/// How the message of a build with guards begins where it finds keys out of order.
 const OUT_OF_ORDER: &str = "the comparator is not that of the map, which the call requires and `increases` tests: ";
 
 /// Numbers without an order, by a shift register.
@@ -799,19 +799,19 @@ fn ordered_calls_of_sets<C: Comparator<u32>>() -> [Ordered<Set<u32>, SetForest<u
     ]
 }
 
-/// Makes each of these calls with the key, on a map and a set of 1 to 100. In debug builds nothing has changed then.
+/// Makes each of these calls with the key, on a map and a set of 1 to 100. With guards nothing has changed then.
 fn each_out_of_order<C: Comparator<u32>>(key: u32, order: &C, mistake: &str) {
     let (mut maps, mut sets) = (MapForest::new(), SetForest::new());
     let (map, set) = (hundred(&mut maps), hundred_of_a_set(&mut sets));
     for (name, call) in ordered_calls_of_maps() {
         let (mut copy, mut forest) = (map.clone(), maps.clone());
         refused(name, OUT_OF_ORDER, mistake, || call(&mut copy, key, &mut forest, order));
-        assert!(!cfg!(debug_assertions) || map.iter(&forest).eq(map.iter(&maps)), "{name}");
+        assert!(!cfg!(any(debug_assertions, feature = "guards")) || map.iter(&forest).eq(map.iter(&maps)), "{name}");
     }
     for (name, call) in ordered_calls_of_sets() {
         let (mut copy, mut forest) = (set.clone(), sets.clone());
         refused(name, OUT_OF_ORDER, mistake, || call(&mut copy, key, &mut forest, order));
-        assert!(!cfg!(debug_assertions) || set.iter(&forest).eq(set.iter(&sets)), "{name}");
+        assert!(!cfg!(any(debug_assertions, feature = "guards")) || set.iter(&forest).eq(set.iter(&sets)), "{name}");
     }
 }
 

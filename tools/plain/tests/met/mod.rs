@@ -10,7 +10,7 @@ pub struct Said {
     pub file: String,
 }
 
-/// How the message of a debug build begins where a handle is not live.
+/// How the message of a build with guards begins where a handle is not live.
 pub const NOT_LIVE: &str = "the handle is not live in this forest, which the call requires and `holds` tests: ";
 
 thread_local! {
@@ -61,11 +61,11 @@ pub fn survived<T>(what: &str, call: impl FnOnce() -> T) -> Option<T> {
     }
 }
 
-/// A call that is a mistake: debug builds panic at once. The message begins with what was asked and names the mistake, and its place is
+/// A call that is a mistake: builds with guards panic at once. The message begins with what was asked and names the mistake, and its place is
 /// that of the call.
 #[track_caller]
 pub fn refused(what: &str, asked: &str, mistake: &str, call: impl FnOnce()) {
-    if !cfg!(debug_assertions) {
+    if !cfg!(any(debug_assertions, feature = "guards")) {
         survived(what, call);
         return;
     }
