@@ -10,6 +10,7 @@ pub mod Evens
 pub mod Growing
 pub mod Lengths
 pub mod Loops
+pub mod Pairs
 pub mod SetCursors
 pub mod Sets
 pub mod Sides

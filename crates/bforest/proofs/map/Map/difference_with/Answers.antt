@@ -1,16 +1,9 @@
+use Rattle.bforest.proofs.Pairs.{both-searchable}
 use Rattle.bforest.proofs.map.Map.difference_with.Goals as goal
 use Rattle.std.proofs.Common.{rules}
 
 pub keep-requires : goal.keep-requires
-keep-requires g c = (
-  search rules,
-  rw (c.self.view_is, c.other.view_is, c.forest.view_is) (record {
-    live = c.requires.searchable.live;
-    increasing = c.requires.searchable.increasing;
-    other_live = c.requires.other.live;
-    other_increasing = c.requires.other.increasing;
-  }),
-)
+keep-requires g c = (search rules, rw (c.self.view_is, c.other.view_is, c.forest.view_is) (both-searchable c.requires.searchable c.requires.other))
 
 pub returns : goal.returns
 returns g c = rw (← c.self.view_is, ← c.other.view_is, ← c.forest.view_is) c.keep.ensures
