@@ -19,9 +19,9 @@ pub use Rattle.bforest_core.specs.{Change.{StandsUnder, TakesNodes, node_count},
 pub use Rattle.bforest_core.specs.{Climb.{TwoAbove, nodes_up, top_of}, Leaves.{EndsBothAt, EndsIn, EndsOn, LooksInLeaf, Narrows, PutsInLeaf, SearchEndsAt, TakesFromLeaf, entry_up_to}}
 pub use Rattle.bforest_core.specs.{Levels.sizes_of, Steps.TurnedBy, Table.{with_node, with_slots, with_value_at, without_front}, declared.path.Path.Path}
 pub use Rattle.bforest_core.specs.{Paths.{RemovesHere, spot}, Place.{entry_keys, first_number, inner_content, leaf_content, numbers_of, root_above, root_of}}
-pub use Rattle.bforest_core.specs.Removal.{Loses, OnLevel, Rebuilt, Rekeyed, Removed, Shrunk, StandsIn, Trimmed, Unbalanced, UpTo, content_at, half_at, most_at, numbers_under}
+pub use Rattle.bforest_core.specs.Removal.{Loses, OnLevel, Rebuilt, Reduced, Rekeyed, Removed, Shrunk, StandsIn, Trimmed, Unbalanced, UpTo, content_at, half_at, most_at, numbers_under}
 pub use Rattle.bforest_core.specs.{Trades.{Draws, Frees, Trades}, Ways.{CountsAt, EndsOnWay, Follows, HalvedOn, InsertsAt, LeadsUp, OnWay, PlacedIn, PlacedOn, Retraces, ShortOn, ShrinksOn, TakenOn}}
-pub use Rattle.bforest_core.specs.Sizes.{gain_above, growth, inner_gain, leaf_gain, loss, loss_above, need, need_above, past, rebalanced, shrink, trimmed}
+pub use Rattle.bforest_core.specs.Sizes.{gain_above, growth, inner_gain, leaf_gain, loss, loss_above, need, need_above, past, rebalanced, shrink, trimmed, without_next}
 pub use Rattle.bforest_nodes.proofs.Found.{absent_at, place-present, present_at, search_of-keys_of, value_for-absent, value_for-present}
 pub use Rattle.bforest_nodes.proofs.{Ordered.{place-here, place-later}, Searched.{all_greater_behind, count_up_to-no, count_up_to-none, count_up_to-yes}}
 pub use Rattle.bforest_nodes.proofs.Seams.{around, last_taken}

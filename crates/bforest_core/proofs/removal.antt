@@ -14,6 +14,7 @@ pub mod Merge
 pub mod Removing
 pub mod LeafAt
 pub mod Taking
+pub mod Dropping
 pub mod RemovingEmptied
 pub mod LeafEmptied
 pub mod OnWay

@@ -4,7 +4,7 @@ use Rattle.bforest_core.specs.Change.{AtUnder, Changes, CutsFront, Divides, Ends
 use Rattle.bforest_core.specs.Climb.{top_of}
 use Rattle.bforest_core.specs.Levels.{LevelNode, flat, node, sizes_of}
 use Rattle.bforest_core.specs.Place.{count, leaf_content}
-use Rattle.bforest_core.specs.Sizes.{growth, need, shrink, truncated}
+use Rattle.bforest_core.specs.Sizes.{growth, need, shrink, truncated, without_next}
 use Rattle.bforest_core.specs.Table.{NeedsGrowth, Table, free_count, room}
 use Rattle.bforest_core.specs.Trees.{tree_of}
 use Rattle.bforest_core.specs.declared.path.Path.{Path}
@@ -125,6 +125,20 @@ module _ {K V : Type 0} where
     pub end : result ≡ None → IsAtEnd path'
     pub none_left : result ≡ None → (at : OnEntry old path) → shrink n at.place (sizes_under old at.root) ≡ []
     pub freed_root : (at : OnEntry old path) → result ≢ Some at.root → 0 < count at.root new.chain
+
+  -- the leaf behind the path's and the key of its last entry; none where the path's leaf is the last
+  abbrev pub NextLeafIs : {n : ℕ} {table : Table K V} {path : Path K V n} → OnEntry table path → Option (ℕ × K) → Type 0
+  NextLeafIs at None = at.on.stands.leaf.after ≡ []
+  NextLeafIs at (Some next) =
+      (front : List (K × V)) × (last : K × V) × (rest : List (LevelNode K V)) × (at.on.stands.leaf.after ≡ node next.0 (front ++ last ∷ []) ∷ rest) × (last.0 ≡ next.1)
+
+  -- What the removal of the leaf behind the path's returns and leaves, where these leaves are behind that one: the entries of the leaf are out
+  -- of the list, and the nodes that this frees are on the free list. The path stays on its entry
+  pub record RemovesNext {n : ℕ} (old new : Table K V) (path path' : Path K V n) (at : OnEntry old path) (rest : List (LevelNode K V)) (root' : ℕ) : Type 0 where
+    pub removed : Changes n old new at.root root' (flat (at.on.stands.leaf.before ++ node (leaf_of path) at.on.stands.leaf.entries ∷ rest)) (without_next (length at.on.stands.leaf.before) (sizes_under old at.root))
+    pub account : GivesNodes (sizes_under old at.root) (without_next (length at.on.stands.leaf.before) (sizes_under old at.root)) old new
+    pub stands : StandsOn new root' path' at.place
+    pub same_root : (root' ≡ at.root) ↔ (length (without_next (length at.on.stands.leaf.before) (sizes_under old at.root)) ≡ length (sizes_under old at.root))
 
   -- What a cut at a path returns and leaves, on each entry where the path stands. The entries from there on are out of the list, and the
   -- nodes that held them alone are on the free list; `None` where the first entry went too, which ends the tree

@@ -239,13 +239,13 @@ module _ {K V : Type 0} where
     pub lost : LeafLoss most old table path indices size tree place
     pub at_entry : half_of most ≤ length lost.entries → get_or indices 0 0 < length (lost.entries ++ flat lost.after)
 
-  -- the entry at the place is removed from the tree, which is not empty and has the root `root'`. The sizes are those of `shrink`, and the
-  -- freed nodes are in front of the free list, those of the path from the leaf up
-  pub record Shrunk (most : ℕ) (old new : Table K V) (path : List ℕ) (tree : Tree K V) (place root' : ℕ) : Type 0 where
+  -- The tree has this list and these sizes now, is not empty and has the root `root'`. The freed nodes are in front of the free list, those of
+  -- the path from the leaf up
+  pub record Reduced (most : ℕ) (old new : Table K V) (path : List ℕ) (tree : Tree K V) (list : List (K × V)) (sizes_after : List (List ℕ)) (root' : ℕ) : Type 0 where
     pub tree' : Tree K V
     pub freed : List ℕ
-    pub flat_is : flat tree'.leaves ≡ remove (flat tree.leaves) place
-    pub sizes_are : sizes_of tree' ≡ shrink most place (sizes_of tree)
+    pub flat_is : flat tree'.leaves ≡ list
+    pub sizes_are : sizes_of tree' ≡ sizes_after
     pub fit : IsFit most tree'
     pub inside : IsIn new.nodes tree'
     pub some : 1 ≤ length (flat tree'.leaves)
@@ -256,9 +256,14 @@ module _ {K V : Type 0} where
     pub order : InOrder path (length tree.above - length tree'.above) freed
     pub frees : Frees old new (numbers_of tree) (numbers_of tree') freed
 
+  -- the entry at the place is removed from the tree, whose sizes are those of `shrink`
+  abbrev pub Shrunk : ℕ → Table K V → Table K V → List ℕ → Tree K V → ℕ → ℕ → Type 0
+  Shrunk most old new path tree place root' =
+      Reduced most old new path tree (remove (flat tree.leaves) place) (shrink most place (sizes_of tree)) root'
+
   -- the entry is removed, and the tree that is left satisfies `Now`
   pub record Removed (most : ℕ) (old new : Table K V) (path : List ℕ) (Now : Tree K V → Type 0) (tree : Tree K V) (place root' : ℕ) : Type 0 where
-    pub shrunk : Shrunk most old new path tree place root'
+    pub shrunk : Reduced most old new path tree (remove (flat tree.leaves) place) (shrink most place (sizes_of tree)) root'
     pub open shrunk use *
     pub at : Now tree'
 

@@ -2,7 +2,7 @@
 -- change them, and how many nodes an insertion needs. Functions of sizes and a place alone.
 use Rattle.bforest_core.specs.Levels.{half_of}
 use Rattle.std.specs.List.{sum_by}
-use Rattle.std.specs.Prelude.{◌≡◌, ◌≤◌, ℕ, zero, suc, ◌+◌, ◌*◌, ◌-◌, ◌/◌, nat_lt, nat_le, Bool, true, false, if◌then◌else◌, Option, None, Some, option_map, List, [], ◌∷◌, length}
+use Rattle.std.specs.Prelude.{◌≡◌, ◌≤◌, ℕ, zero, suc, ◌+◌, ◌*◌, ◌-◌, ◌/◌, nat_lt, nat_le, Bool, true, false, if◌then◌else◌, Option, None, Some, option_map, List, [], ◌∷◌, length, remove}
 
 -- prepends a node of this size to a change of one level, which is the index of the split or removed entry of
 -- the level above, if any, and the new sizes
@@ -73,6 +73,11 @@ trimmed ((size ∷ next ∷ after) ∷ levels) = (size ∷ next ∷ after) ∷ t
 abbrev pub shrink : ℕ → ℕ → List (List ℕ) → List (List ℕ)
 shrink n place [] = []
 shrink n place (leaves ∷ levels) = trimmed ((loss n place leaves).1 ∷ loss_above (loss n place leaves).0 levels)
+
+-- the sizes after the leaf behind the one with this index went, with all its entries
+abbrev pub without_next : ℕ → List (List ℕ) → List (List ℕ)
+without_next index [] = []
+without_next index (leaves ∷ levels) = trimmed (remove leaves (suc index) ∷ loss_above (Some index) levels)
 
 -- the first nodes of a level, which hold so many entries together: the last keeps what is left for it
 abbrev pub front : ℕ → List ℕ → List ℕ

@@ -11,6 +11,21 @@ ghost use Rattle.bforest_core.specs.Table.{IsUsed, PutsChild, PutsEntry, with_no
 use crate::pool::NodePool;
 use bforest_nodes::{Comparator, Node, Removed};
 
+// Makes a used node what another one is.
+pub(crate) fn copy_over<K: Copy, V: Copy, const N: usize>(
+    pool: &mut NodePool<K, V, N>,
+    from: Node,
+    to: Node,
+)
+    requires used { IsUsed pool.old to }
+    requires source { IsUsed pool.old from }
+    ensures { (content : Content K V) → slice_get pool.old.nodes from ≡ Some content
+        → pool.new ≡ with_node pool.old to content }
+{
+    let content = pool.node(from).copied();
+    *pool.node_mut(to) = content;
+}
+
 // Inserts a child and its first key into an inner node, after the child at `index`. Returns whether there was room.
 pub(crate) fn put_child<K: Copy, V: Copy, const N: usize>(
     pool: &mut NodePool<K, V, N>,

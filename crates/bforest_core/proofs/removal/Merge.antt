@@ -3,7 +3,7 @@ use Rattle.bforest_core.proofs.Words.{◌≡◌, ℕ, suc, ◌+◌, ◌-◌, ◌
 use Rattle.bforest_core.proofs.Words.{length-append, arith, Heads, Row, Rows, flat_map, Content, Table, node, flat, heads, sizes, numbers, inner_content}
 use Rattle.bforest_core.proofs.Words.{count, lt-ltb, le-ltb, zero, Option, None, true, false, Bool, if◌then◌else◌, option_map, loss, rebalanced, loss_above}
 use Rattle.bforest_core.proofs.Words.{nodes_up, subst, FitRow, RowIn, Above, TwoAbove, Frees, Rebuilt, Loosened, Healed, Joined, Loses, least, false≢true}
-use Rattle.bforest_core.proofs.{Words.Keeps, removal.Asked.keeps-refl}
+use Rattle.bforest_core.proofs.{Words.{Keeps, OnLevel, remove}, removal.Asked.{keeps-refl, remove_at}, removal.Rebalance.Ceded, removal.Collapse.length-sizes}
 use Rattle.bforest_core.proofs.rows.LevelRows.{least-pos, flat-append, heads-append, sizes-append, FitRow-join, FitRow-split, Solid-full}
 use Rattle.bforest_core.proofs.{rows.Zipper.stands_here, table.Tables.{count-append, count-row, counts, row-same}, table.Trading.{frees-after, frees-then}}
 
@@ -45,10 +45,10 @@ pub nodes_up-same : (path path' : List ℕ) (level count : ℕ) → ((i : ℕ) �
 nodes_up-same path path' level zero same = refl
 nodes_up-same path path' level (suc count) same = cc (nodes_up-same path path' (suc level) count (λ i above. same i (omega arith)), same level (omega arith))
 
--- a level that lost an entry is rebalanced, with the rows above it: its entries are `list`, nodes of these numbers
+-- a level that lost entries is rebalanced, with the rows above it: its entries are `list`, nodes of these numbers
 -- were freed, and the path goes through one of its nodes
 pub record Restored {K V X : Type 0} (content : List (K × X) → Content K V) (half most : ℕ) (old new : Table K V) (path indices : List ℕ) (level size : ℕ)
-    (were : List (List ℕ)) (own : List ℕ) (list : List (K × X)) (place : ℕ) (freed : List ℕ) : Type 0 where
+    (sizes_after : List (List ℕ)) (own : List ℕ) (list : List (K × X)) (place : ℕ) (freed : List ℕ) : Type 0 where
   pub row : Row K X
   pub front : Row K X
   pub entries : List (K × X)
@@ -59,7 +59,7 @@ pub record Restored {K V X : Type 0} (content : List (K × X) → Content K V) (
   pub fit : FitRow half most row
   pub inside : RowIn content new.nodes row
   pub above : Above new path indices (suc level) size rows (heads row) (length (heads front))
-  pub sizes_are : sizes row ∷ map sizes rows ≡ lost most place were
+  pub sizes_are : sizes row ∷ map sizes rows ≡ sizes_after
   pub frees : Frees old new own (numbers row ++ flat_map numbers rows) freed
   pub place_is : place ≡ length (flat front) + get_or indices level 0
 
@@ -68,7 +68,7 @@ module _ {K V X : Type 0} {content : List (K × X) → Content K V} {half most o
   -- the level is rebalanced, and the path is as it was below it
   abbrev pub Restores : Table K V → List ℕ → List ℕ → List ℕ → Type 0
   Restores new path' indices' freed =
-      Restored content half most old new path' indices' level size were own list place freed × Keeps path indices path' indices' level size
+      Restored content half most old new path' indices' level size (lost most place were) own list place freed × Keeps path indices path' indices' level size
 
   -- the level is rebalanced, and the path stands in it, where an entry follows
   abbrev pub Stays : Table K V → List ℕ → List ℕ → List ℕ → Type 0
@@ -203,3 +203,58 @@ module _ {K V : Type 0} {t u : Table K V} {path indices : List ℕ} {up size : �
         frees = r.frees;
         keeps = restored.0.1;
       }
+
+-- a node's right neighbour has its entries, and the rows above lost the node
+module _ {K V X : Type 0} {content : List (K × X) → Content K V} {half most t v path indices path1 level size before n e es q f fs after rest : _}
+    (p : OnLevel content half most t path indices level size before n (e ∷ es) (node q (f ∷ fs) ∷ after) rest)
+    (c : Ceded content half most t v path indices path1 level size before n e es q f fs after rest) where
+  abbrev pub cede_asks : {up' size' : ℕ} → up' ≡ suc level → size' ≡ size → TwoAbove v path1 indices up' size'
+  cede_asks up_is size_is = record { rows = rest; before = heads before; x = (e.0, n); y = (f.0, q); after = heads after; above = rw (up_is, size_is) c.above }
+
+  abbrev pub row : Row K X
+  row = before ++ node n (e ∷ es) ∷ node q (f ∷ fs) ∷ after
+
+  -- the level without the neighbour's entries, under the rows as they are now
+  pub ceded_restored : {new : Table K V} {path' indices' : List ℕ} {up' size' place : ℕ} {leaves : Row K X} {list : List (K × X)} → up' ≡ suc level → size' ≡ size → (levels : ℕ) →
+      Rebuilt v new path1 indices path' indices' up' size' rest (heads before ++ (e.0, q) ∷ heads after) (length (heads before))
+      (loss_above (Some (length (heads before))) (map sizes rest)) (nodes_up path1 up' levels) → 1 ≤ half → place ≡ length (flat before) + get_or indices level 0 →
+      leaves ≡ row → list ≡ flat (before ++ node n (e ∷ es) ∷ after) → get_or indices level 0 < length (e ∷ es) →
+      (r : Restored content half most t new path' indices' level size (remove (sizes leaves) (suc (length before)) ∷ loss_above (Some (length before)) (map sizes rest))
+      (numbers leaves ++ flat_map numbers rest) list place (nodes_up path level (suc levels)))
+      × Keeps path indices path' indices' level size × (get_or indices' level 0 < length r.entries)
+  ceded_restored {new} {path'} {indices'} up_is size_is levels again one place_is whole list_was within = let left = before ++ node q (e ∷ es) ∷ after in
+      let freed = nodes_up path (suc level) levels in let r =
+      rw (up_is, size_is, nodes_up-same path path1 (suc level) levels (λ i above. c.nodes_above i (omega arith))) at again in
+      let full = Solid-full half most one before p.solid in let k = λ (m : ℕ). counts m before n (e ∷ es) (node q (f ∷ fs) ∷ after) rest t.chain in
+      let list_is = sym (cc (heads-append before (node q (e ∷ es) ∷ after))) in
+      let gone = remove_at (sizes before ++ length (e ∷ es) ∷ []) (length (f ∷ fs)) (sizes after) in
+      let len : length (sizes before ++ length (e ∷ es) ∷ []) ≡ suc (length before) = omega (arith, length-append (sizes before) (length (e ∷ es) ∷ []), length-sizes before) in
+      let was : sizes row ≡ (sizes before ++ length (e ∷ es) ∷ []) ++ length (f ∷ fs) ∷ sizes after = simp (sizes-append, append_assoc) in
+      let are : sizes left ≡ (sizes before ++ length (e ∷ es) ∷ []) ++ sizes after = simp (sizes-append, append_assoc) in
+      let without : remove (sizes row) (suc (length before)) ≡ sizes left = rw (was, are, ← len) gone in
+      let frees = frees-then (numbers row ++ flat_map numbers rest) (numbers left ++ flat_map numbers r.rows')
+      (λ m. omega (arith, k m, count-append m (numbers left) (flat_map numbers r.rows'))) p.apart c.frees r.frees in
+      let index_is = r.entries_below level (omega arith) in (
+        record {
+          row = left;
+          front = before;
+          entries = e ∷ es;
+          after = after;
+          rows = r.rows';
+          row_is = ap (λ z. before ++ node z (e ∷ es) ∷ after) (sym (cc (r.nodes_below level (omega arith))));
+          list_is = rw list_was (simp flat-append);
+          fit = c.fit;
+          inside = row-same _ _ _ _ (λ m more. r.frees.others m (omega (arith, k m, count-row m before q (e ∷ es) after))) c.inside;
+          above = subst (λ z. Above new path' indices' (suc level) size r.rows' z (length (heads before))) list_is r.above;
+          sizes_are = cc (whole, without, full, r.sizes_are);
+          frees = subst (λ z. Frees t new (numbers z ++ flat_map numbers rest) (numbers left ++ flat_map numbers r.rows') (nodes_up path level (suc levels))) (sym whole)
+              (subst (λ z. Frees t new (numbers row ++ flat_map numbers rest) (numbers left ++ flat_map numbers r.rows') (freed ++ z ∷ [])) (sym p.number_is) frees);
+          place_is = place_is ∙ ap (λ z. length (flat before) + z) (sym index_is);
+        },
+        record {
+          nodes_below = λ i low. r.nodes_below i (omega arith) ∙ c.nodes_below i low;
+          entries_below = λ i low. r.entries_below i (omega arith) ∙ c.entries_below i low;
+          same_top = r.same_top ∙ c.same_top;
+        },
+        omega (arith, index_is, within),
+      )

@@ -1,12 +1,13 @@
 -- A node that lost an entry: it stays, or is balanced with its right neighbour.
-use Rattle.bforest_core.proofs.table.Tables.{row-changed, count-same, count-append, counts, count-row, row-same, rows-same}
+use Rattle.bforest_core.proofs.table.Tables.{row-changed, count-same, count-append, counts, count-row, row-same, row-split, rows-same}
 use Rattle.bforest_core.proofs.Words.{◌≡◌, ℕ, suc, ◌+◌, ◌-◌, ◌/◌, ◌≤◌, ◌<◌, ◌≢◌, List, [], ◌∷◌, ◌++◌, length, refl, sym, ap, ◌∙◌, inl, inr, length-append}
 use Rattle.bforest_core.proofs.Words.{arith, Content, Table, false, le-leb, lt-leb, lt-ltb, le-ltb, zero, ◌*◌, ◌⊎◌, map, set, get_or, append_assoc, Row}
 use Rattle.bforest_core.proofs.Words.{flat_map, append-nil, get_or-set_other, get_or-set_same, with_freed, node, flat, heads, sizes, numbers, least}
-use Rattle.bforest_core.proofs.Words.{rebalanced, count, Above, Rebuilt, OnLevel, Healed, Joined, Keeps}
+use Rattle.bforest_core.proofs.Words.{rebalanced, count, Above, FitRow, Frees, Rebuilt, RowIn, Rows, OnLevel, Healed, Joined, Keeps}
+use Rattle.bforest_core.specs.Descent.{SameAbove}
 use Rattle.bforest_core.proofs.rows.LevelRows.{flat-append, heads-append, sizes-append, numbers-append, FitRow-join, least-le}
 use Rattle.bforest_core.proofs.{rows.Zipper.{above_two, stands-same}, removal.Balance.{AllRight, IsHalf, PutsTwo, Spread}, removal.Lifted.above_same}
-use Rattle.bforest_core.proofs.{removal.Asked.keeps-refl, table.Trading.{apart_from, trades-none, trades-wider, frees-after, frees-one}}
+use Rattle.bforest_core.proofs.{removal.Asked.keeps-refl, table.Trading.{Puts, apart_from, trades-none, trades-wider, frees-after, frees-one}}
 
 -- the last node, if not empty, stays
 pub rebalanced_last : (q m : ℕ) → 1 ≤ m → rebalanced q m [] ≡ (false, m ∷ [])
@@ -20,6 +21,19 @@ judged half most es [] lo some w = (some, rebalanced_last _ _ some)
 judged half most [] (x ∷ xs) lo some w = absurd (omega arith)
 judged half most (e ∷ es) (node k fs ∷ xs) lo some (inl h) = (h, rw (le-ltb (2 * suc (length es)) most (omega arith)))
 judged half most (e ∷ es) (x ∷ xs) lo some (inr none) = absurd cc
+
+-- The right neighbour of a node has the node's entries in place of its own, and the path leads to it. The node is freed; the level above
+-- still names both
+pub record Ceded {K V X : Type 0} (content : List (K × X) → Content K V) (half most : ℕ) (old new : Table K V) (path indices path' : List ℕ) (level size : ℕ)
+    (before : Row K X) (n : ℕ) (e : K × X) (es : List (K × X)) (q : ℕ) (f : K × X) (fs : List (K × X)) (after : Row K X) (rest : Rows K) : Type 0 where
+  pub inside : RowIn content new.nodes (before ++ node q (e ∷ es) ∷ after)
+  pub fit : FitRow half most (before ++ node q (e ∷ es) ∷ after)
+  pub above : Above new path' indices (suc level) size rest (heads before ++ (e.0, n) ∷ (f.0, q) ∷ heads after) (length (heads before))
+  pub number_is : get_or path' level 0 ≡ q
+  pub frees : Frees old new (numbers (before ++ node n (e ∷ es) ∷ node q (f ∷ fs) ∷ after)) (numbers (before ++ node q (e ∷ es) ∷ after)) (n ∷ [])
+  pub nodes_above : SameAbove level path path'
+  pub keeps : Keeps path indices path' indices level size
+  pub open keeps use *
 
 module _ {K V X : Type 0} {content : List (K × X) → Content K V} {half most : ℕ} (hm : IsHalf half most) {t : Table K V} {path indices up size before n : _} where
   module _ {es after rest : _} (p : OnLevel content half most t path indices up size before n es after rest) (why : (half ≤ length es) ⊎ (after ≡ [])) where
@@ -176,3 +190,37 @@ module _ {K V X : Type 0} {content : List (K × X) → Content K V} {half most :
               same_top = get_or-set_other _ _ (size - 1) q 0 (λ w. omega arith);
             };
           }
+
+    -- the right neighbour takes the node's entries in place of its own, and the node's slot is freed
+    pub settle_cede : {u : Table K V} (v : Table K V) → half ≤ length (e ∷ es) → Puts t u q (content (e ∷ es)) → v ≡ with_freed u n → up < length path → Ceded content half most t v path indices (set path up q) up size before n e es q f fs after rest
+    settle_cede {u} v healthy w v_is low =
+        let fit_q = p.fits in let a = above_both in
+        let high = above_two _ (heads before) (e.0, n) (f.0, q) (heads after) a in
+        let slot = (row-split content t.nodes before (node n (e ∷ es) ∷ node q (f ∷ fs) ∷ after) p.inside).1.0 in
+        let one = frees-one u v n (w.others n (apart_from n q apart.0) ∙ slot) v_is in
+        let c = λ (m : ℕ). counts m before n (e ∷ es) (node q (f ∷ fs) ∷ after) rest t.chain in
+        let both = frees-after (n ∷ q ∷ []) (q ∷ []) (λ m. omega (arith, count-append m (n ∷ []) (q ∷ []))) w.frees one in
+        let frees = trades-wider (numbers row) (numbers (before ++ node q (e ∷ es) ∷ after))
+        (λ m. omega (arith, pair m, count-row m before q (e ∷ es) after, count-append m (q ∷ []) (numbers after), count-append m (n ∷ []) (q ∷ []))) both in
+        record {
+          inside = row-changed content _ _ before (node n (e ∷ es) ∷ node q (f ∷ fs) ∷ []) (node q (e ∷ es) ∷ []) after (n ∷ q ∷ []) p.inside both.others
+              (one.others q (apart_from q n (λ w. apart.0 (sym w))) ∙ w.here, tt) pair_apart;
+          fit = FitRow-join _ _ _ (node q (e ∷ es)) after p.solid (omega (arith, least-le half (omega arith) after), p.most_is, fit_q.2);
+          above = record {
+            over = record {
+              stacked = a.stacked;
+              inside = rows-same _ _ _ (λ m some. frees.others m (omega (arith, c m))) a.inside;
+              stands = stands-same _ _ _ _ _ _ _ (λ i high. get_or-set_other path up i q 0 (λ w. omega arith)) (λ i high. refl) a.stands;
+              height = a.height;
+            };
+            apart = λ m. omega (arith, c m, count-append m (flat_map numbers rest) v.chain, ap (λ z. count m z) frees.chain_is);
+          };
+          number_is = get_or-set_same _ _ _ 0 low;
+          frees = frees;
+          nodes_above = λ i above. get_or-set_other path up i q 0 (λ w. omega arith);
+          keeps = record {
+            nodes_below = λ i below. get_or-set_other path up i q 0 (λ w. omega arith);
+            entries_below = λ i low. refl;
+            same_top = get_or-set_other _ _ (size - 1) q 0 (λ w. omega arith);
+          };
+        }

@@ -1,7 +1,10 @@
 -- The effect of a removal from the tree under a root on the table.
 use Rattle.bforest_core.proofs.Words.{[], length-remove, IsTrue, ◌≡◌, ℕ, suc, ◌<◌, Option, Some, None, IfSome, List, ◌++◌, length, refl, sym, ap, ◌∙◌, subst}
 use Rattle.bforest_core.proofs.Words.{inl, inr, append_assoc, length-append, arith, eqb_tells, length-map, Table, flat, sizes, Tree, sizes_of, shrink, count}
-use Rattle.bforest_core.proofs.Words.{root_of, numbers_of, Stands, tree_of, IsUnion, is_root, Shrinks, StandsUnder, node_count, StandsIn, Removed, Emptied}
+use Rattle.bforest_core.proofs.Words.{root_of, numbers_of, Stands, tree_of, IsUnion, is_root, Shrinks, StandsUnder, node_count, StandsIn, Removed, Emptied, Changes, Reduced}
+use Rattle.bforest_core.proofs.Words.{◌∷◌, node, leaf_of, without_next}
+use Rattle.bforest_core.specs.{Change.GivesNodes, Paths.RemovesNext}
+use Rattle.std.specs.Prelude.{◌↔◌}
 use Rattle.bforest_core.proofs.{Words.{IsPathAt, OnEntry, Path, RemovesHere}, union.Roots.{exchanged-freed, uprooted-union}}
 use Rattle.bforest_core.proofs.{union.Account.{length-same, nodes-count}, union.Forests.root-among, union.Exchange.IsPlanted, union.Unions.rooted}
 use Rattle.bforest_core.proofs.{rows.LevelRows.flat-append, table.Tables.count-append}
@@ -13,7 +16,7 @@ if_some P Q (Some x) h p = h x p
 
 module _ {K V : Type 0} where
   -- a path under a root stands in its tree, which is in the table
-  pub stands_in : (most : ℕ) (table : Table K V) {root place path indices size : _} → IsUnion most table → StandsUnder table.nodes root path indices size place → StandsIn most table path indices size (tree_of table.nodes root) place
+  abbrev pub stands_in : (most : ℕ) (table : Table K V) {root place path indices size : _} → IsUnion most table → StandsUnder table.nodes root path indices size place → StandsIn most table path indices size (tree_of table.nodes root) place
   stands_in most table union s =
       let r = rooted _ _ _ union s.root_is in record { fit = r.fit; inside = r.inside; apart = r.apart; low = r.low; stands = s.stands }
 
@@ -21,48 +24,66 @@ module _ {K V : Type 0} where
   pub place_low : (path indices size : _) (tree : Tree K V) (place : ℕ) → Stands path indices size tree place → place < length (flat tree.leaves)
   place_low path indices size tree place s = let at = s.leaf in rw at.row_is (simp (flat-append, length-append) (omega arith))
 
+  -- the tree under a root became this one, which has this list and these sizes, under a root of its own
+  pub record Replaced (most : ℕ) (old new : Table K V) (root : ℕ) (list : List (K × V)) (after : List (List ℕ)) (tree' : Tree K V) (root' : ℕ) : Type 0 where
+    pub changes : Changes most old new root root' list after
+    pub account : GivesNodes (sizes_of (tree_of old.nodes root)) after old new
+    pub same_root : (root' ≡ root) ↔ (length after ≡ length (sizes_of (tree_of old.nodes root)))
+    pub tree_is : tree_of new.nodes root' ≡ tree'
+
   -- the effect of a removal on the table and the path, with the root that is left, if any
   pub record Said (most : ℕ) (old new : Table K V) (path : List ℕ) (root place : ℕ) (Now : Tree K V → Type 0) (found : Option ℕ) : Type 0 where
     pub shrinks : Shrinks most old new path root place found
     pub at : IfSome found (λ root'. IsTrue (is_root new.nodes root') × Now (tree_of new.nodes root'))
 
   module _ (most old new : _) {root place path indices size : _} (Now : Tree K V → Type 0) (union : IsUnion most old) (s : StandsUnder old.nodes root path indices size place) where
-    -- removing an entry of a tree that has others
-    pub removal : {root' : ℕ} → Removed most old new path Now (tree_of old.nodes root) place root' → Said most old new path root place Now (Some root')
-    removal i = let tree = tree_of old.nodes root in let r = rooted most old root union s.root_is in
+    -- the tree with another list
+    pub replaced : {list : List (K × V)} {after : List (List ℕ)} {root' : ℕ} (i : Reduced most old new path (tree_of old.nodes root) list after root') → Replaced most old new root list after i.tree' root'
+    replaced {list} {after} i = let tree = tree_of old.nodes root in let r = rooted most old root union s.root_is in
         let planted : IsPlanted most new.nodes i.tree' = record { fit = i.fit; inside = i.inside; some = i.some; low = omega arith } in
         let e = exchanged-freed root union s.root_is planted i.frees in
+        let levels : length after ≡ suc (length i.tree'.above) = omega (arith, ap length i.sizes_are, length-map i.tree'.above sizes) in
+        let levels_were : length (sizes_of tree) ≡ suc (length tree.above) = omega (arith, length-map tree.above sizes) in
+        let rooted_is = λ (z : root_of i.tree' ≡ root). ap (λ w. count w i.freed) (z ∙ sym r.root_is) in
+        subst (λ z. Replaced most old new root list after i.tree' z) i.root_is (record {
+          changes = record {
+            union = e.union;
+            root_is = e.root_is;
+            list_is = cc;
+            sizes_are = cc;
+            others = e.others;
+            old_gone = e.old_gone;
+            new_came = e.new_came;
+            limit_is = i.frees.limit_is;
+          };
+          same_root = (
+            λ same. elim (eqb_tells (length i.tree'.above) (length tree.above)) [
+              | inl w ↦ omega arith
+              | inr w ↦ absurd (omega (arith, rooted_is same, i.frees.numbers_are (root_of i.tree'), r.apart (root_of i.tree'), count-append, root-among most new.nodes i.tree' i.fit i.inside i.some))
+            ],
+            λ same. cc (i.same_root (omega arith)),
+          );
+          account = record {
+            given = i.freed;
+            chain_is = i.frees.chain_is;
+            slots = i.frees.slots_are;
+            memory_is = i.frees.memory_is;
+            count_is = omega (arith, length-same (i.freed ++ numbers_of i.tree') (numbers_of tree) i.frees.numbers_are, length-append i.freed (numbers_of i.tree'), nodes-count tree, nodes-count i.tree' ∙ ap (λ z. node_count z) i.sizes_are);
+          };
+          tree_is = e.tree_is;
+        })
+
+    -- removing an entry of a tree that has others
+    pub removal : {root' : ℕ} → Removed most old new path Now (tree_of old.nodes root) place root' → Said most old new path root place Now (Some root')
+    removal i = let tree = tree_of old.nodes root in let r = rooted most old root union s.root_is in let p = replaced i.shrunk in
         let levels : length (shrink most place (sizes_of tree)) ≡ suc (length i.tree'.above) = omega (arith, ap length i.sizes_are, length-map i.tree'.above sizes) in
         let levels_were : length (sizes_of tree) ≡ suc (length tree.above) = omega (arith, length-map tree.above sizes) in
-        let among = root-among most new.nodes i.tree' i.fit i.inside i.some in
-        let rooted_is = λ (z : root_of i.tree' ≡ root). ap (λ w. count w i.freed) (z ∙ sym r.root_is) in
-        rw (← i.root_is) (record {
-          at = (e.root_is, subst Now (sym e.tree_is) i.at);
+        record {
+          at = (p.changes.root_is, subst Now (sym p.tree_is) i.at);
           shrinks = record {
-            changes = record {
-              union = e.union;
-              root_is = e.root_is;
-              list_is = cc;
-              sizes_are = cc;
-              others = e.others;
-              old_gone = e.old_gone;
-              new_came = e.new_came;
-              limit_is = i.frees.limit_is;
-            };
-            same_root = (
-              λ same. elim (eqb_tells (length i.tree'.above) (length tree.above)) [
-                | inl w ↦ omega arith
-                | inr w ↦ absurd (omega (arith, rooted_is same, i.frees.numbers_are (root_of i.tree'), r.apart (root_of i.tree'), count-append))
-              ],
-              λ same. cc (i.same_root (omega arith)),
-            );
-            account = record {
-              given = i.freed;
-              chain_is = i.frees.chain_is;
-              slots = i.frees.slots_are;
-              memory_is = i.frees.memory_is;
-              count_is = omega (arith, length-same (i.freed ++ numbers_of i.tree') (numbers_of tree) i.frees.numbers_are, length-append i.freed (numbers_of i.tree'), nodes-count tree, nodes-count i.tree' ∙ ap (λ z. node_count z) i.sizes_are);
-            };
+            changes = p.changes;
+            same_root = p.same_root;
+            account = p.account;
             order = record {
               roots = i.order.roots;
               up = i.order.up;
@@ -73,11 +94,11 @@ module _ {K V : Type 0} where
             ended = λ is. absurd cc;
             none_left = λ is. absurd cc;
             freed_root = λ ne. elim (eqb_tells (length i.tree'.above) (length tree.above)) [
-              | inl w ↦ absurd (ne (ap Some (cc (i.same_root w.1))))
+              | inl w ↦ absurd (ne (ap Some (i.same_root w.1 ∙ r.root_is)))
               | inr w ↦ omega (arith, ap (λ z. count z i.freed) r.root_is, ap (λ z. count root z) i.frees.chain_is, count-append root i.freed old.chain)
             ];
           };
-        })
+        }
 
     -- the effect of a removal, from the answer of the call for a leaf of one entry
     pub outcome : (found : _) → IfSome found (λ root'. Removed most old new path Now (tree_of old.nodes root) place root') →
@@ -105,6 +126,18 @@ module _ {K V : Type 0} where
           };
         }
     outcome (Some root') removed emptied = removal removed
+
+  -- what the removal of the leaf behind the path's leaves
+  pub removes_next : {most : ℕ} {old new : Table K V} {path path' : Path K V most} (union : IsUnion most old) (at : OnEntry old path) {rest : _} {root' : ℕ}
+      (r : Reduced most old new path.node (tree_of old.nodes at.root) (flat (at.on.stands.leaf.before ++ node (leaf_of path) at.on.stands.leaf.entries ∷ rest)) (without_next (length at.on.stands.leaf.before) (sizes_of (tree_of old.nodes at.root))) root') →
+      Stands path'.node path'.entry path'.size r.tree' at.place → RemovesNext old new path path' at rest root'
+  removes_next {path' = path'} union at r st = let p = replaced _ _ _ (λ z. Unit {0}) union at.on r in
+      record {
+        removed = p.changes;
+        account = p.account;
+        same_root = p.same_root;
+        stands = record { root_is = p.changes.root_is; stands = subst (λ z. Stands path'.node path'.entry path'.size z at.place) (sym p.tree_is) st };
+      }
 
   -- what is said of a removal, at each entry where the path stands
   pub removes : {most : ℕ} {old new : Table K V} {path path' : Path K V most} {result : Option ℕ} →

@@ -1,7 +1,7 @@
 //! Removing the entry where a path is.
 ghost use Rattle.std.specs.Prelude.{remove, true, false, IfSome, ◌≡◌, ◌≢◌, ℕ, ◌+◌, ◌-◌, ◌<◌, ◌≤◌, ◌↔◌, List, [], ◌∷◌, ◌++◌, length, get_or, slice_get, Some, None};
 ghost use Rattle.bforest_nodes.specs.Content.{IsLeafCapacity};
-ghost use Rattle.bforest_core.specs.Levels.{LevelNode, flat, Tree, most_levels};
+ghost use Rattle.bforest_core.specs.Levels.{LevelNode, flat, node, Tree, most_levels};
 ghost use Rattle.bforest_core.specs.Sizes.{shrink};
 ghost use Rattle.bforest_core.specs.Table.{IsUsed, Table};
 ghost use Rattle.bforest_core.specs.Place.{IsPathAt, leaf_content, root_of, count};
@@ -9,13 +9,13 @@ ghost use Rattle.bforest_core.specs.Removal.{UpTo, Trimmed, StandsIn, HasOthers,
 ghost use Rattle.bforest_core.specs.Change.{Changes, Ends, GivesInOrder, GivesNodes, Shrinks};
 ghost use Rattle.bforest_core.specs.Trees.{IsUnion};
 
-use crate::access::{child, entries, leaf_key, remove_entry};
+use crate::access::{child, copy_over, entries, last_key, leaf_key, remove_entry};
 use crate::path::Path;
 use crate::pool::NodePool;
 use bforest_nodes::Node;
 
 impl<K: Copy, V: Copy, const N: usize> Path<K, V, N> {
-    ghost use Rattle.bforest_core.specs.Paths.{LeafLost, OnEntry, RemovesHere, nodes_of};
+    ghost use Rattle.bforest_core.specs.Paths.{LeafLost, NextLeafIs, OnEntry, RemovesHere, RemovesNext, nodes_of};
 
     /// Removes the entry here, and returns the root of its tree, or `None` if it was the tree's last entry, whose node is freed with it.
     /// The path goes to the next entry, or to the end. Takes no memory.
@@ -57,6 +57,40 @@ impl<K: Copy, V: Copy, const N: usize> Path<K, V, N> {
             return Some(root);
         }
         Some(self.rebalance_leaf(root, pool))
+    }
+
+    /// The leaf behind the path's and the key of its last entry, or `None` where the path's leaf is the last.
+    pub fn next_leaf(&self, pool: &NodePool<K, V, N>) -> Option<(Node, K)>
+        requires union { IsUnion N pool.now }
+        requires stands { OnEntry pool.now self.now }
+        ensures next { (at : OnEntry pool.now self.now) → NextLeafIs at result }
+    {
+        match self.right_sibling(1, pool) {
+            None => None,
+            Some(next) => Some((next.1, last_key(pool, next.1).1)),
+        }
+    }
+
+    /// Removes all entries of the leaf `next`, which is behind the path's, and returns the root of the tree. The path stays on its entry.
+    /// Takes no memory.
+    ///
+    /// The other leaves stay as they are. A node above that falls under half full is filled from its right neighbour or merged into it, and
+    /// so on upwards; a root with a single child is discarded.
+    pub fn remove_next_leaf(&mut self, next: Node, pool: &mut NodePool<K, V, N>) -> Node
+        requires union { IsUnion N pool.old }
+        requires next { (at : OnEntry pool.old self.old) × (gone : List (K × V))
+            × (rest : List (LevelNode K V)) × (at.on.stands.leaf.after ≡ node next gone ∷ rest) }
+        ensures { (at : OnEntry pool.old self.old) (gone : List (K × V)) (rest : List (LevelNode K V))
+            → at.on.stands.leaf.after ≡ node next gone ∷ rest
+            → RemovesNext pool.old pool.new self.old self.new at rest result }
+    {
+        let root = self.root();
+        let here = self.node[0];
+        copy_over(pool, here, next);
+        pool.free_node(here);
+        self.node[0] = next;
+        self.merge_above(1, pool);
+        self.collapse_root(root, pool)
     }
 
     // Balances the path's leaf, which lost an entry, with its right neighbour, and so on upwards. Returns the tree's root.
