@@ -146,18 +146,14 @@ impl<'a, K: Copy, V: Copy> Ends<'a, K, V> {
             (limit_place (C.order comp.now) stop (list_under pool.now root)) }
         ensures range { IsRange pool.now (Some root) self.new }
     {
-        match Spot::find_both(start.key, stop.key, root, pool, comp) {
-            None => self.is_one = true,
-            Some(((spot, leaf), (other, last))) => {
-                let from = start.place(leaf, pool, comp);
-                let to = stop.place(last, pool, comp);
-                if spot.code() == other.code() {
-                    self.hold(spot, leaf, from, to, pool);
-                } else {
-                    self.start_at(spot, leaf, from, pool);
-                    self.stop_at(other, last, to, pool);
-                }
-            }
+        let ((spot, leaf), (other, last)) = Spot::find_both(start.key, stop.key, root, pool, comp);
+        let from = start.place(leaf, pool, comp);
+        let to = stop.place(last, pool, comp);
+        if spot.code() == other.code() {
+            self.hold(spot, leaf, from, to, pool);
+        } else {
+            self.start_at(spot, leaf, from, pool);
+            self.stop_at(other, last, to, pool);
         }
     }
 
