@@ -374,7 +374,8 @@ impl Spot {
             if !goes_along(pool, node, index, to, comp) {
                 let first = find_below(next, child, from, pool, comp);
                 let (other, lower) = follow(pool, node, to, comp);
-                return (first, Some(find_below(here.below(node, other), lower, to, pool, comp)));
+                let last = find_below(here.below(node, other), lower, to, pool, comp);
+                return (first, Some(last));
             }
             here = next;
             node = child;

@@ -1,6 +1,6 @@
 -- The way down to the leaf in which a search ends: each answer of `value_below` and, as a spot, of `find_below` is one of these.
 use Rattle.bforest_core.proofs.Words.{BeginsWith, without_last, ◌-◌, ◌*◌, ◌/◌, ◌+◌, SearchSpot, entry_items, entry_keys, IsSpotAt, leaf_place, length-map, ◌≡◌, ℕ, suc, ◌≤◌, ◌<◌, List, [], ◌∷◌, ◌++◌}
-use Rattle.bforest_core.proofs.Words.{IsTrue,  length, slice_get, Some, refl, sym, ap, ◌∙◌, arith, append-nil, Row, Rows, Content, EndsOn, Inner, IsInner}
+use Rattle.bforest_core.proofs.Words.{IsTrue, length, slice_get, Some, refl, sym, ap, ◌∙◌, arith, append-nil, Row, Rows, Content, EndsOn, Inner, IsInner}
 use Rattle.bforest_core.proofs.Words.{IsIncreasing, IsTotalOrder, IsStrictlySortedBy, IsUnion, Narrows, SearchAt, SearchEndsAt, SearchThrough, Table}
 use Rattle.bforest_core.proofs.{Words.{child_index, flat, is_root, leaf_content, place, tree_of, IsLeafCapacity}, union.Unions.is-rooted}
 use Rattle.bforest_core.proofs.{walks.Codes.{IsBelow, code-low}, table.Stored.item_count, walks.Cousins.place-is, walks.Whole.all_through, walks.Reading.ChildRead}
@@ -136,11 +136,11 @@ module _ (start above : Spot) (w : BeginsWith start above) where
       let digit : next.code / 8 ≡ above.code = omega (arith, code, low) in
       (omega (arith, height, w.0), ap (λ n. without_last n next.code) more ∙ ap (without_last (above.height - start.height)) digit ∙ w.1)
 
-  -- ways to one level that begin apart end apart
-  pub begun-alike : (other last : Spot) → BeginsWith other last → start.height ≡ other.height → above.height ≡ last.height → above.code ≡ last.code
-      → start.code ≡ other.code
-  begun-alike other last v starts ends same = let left : above.height - start.height ≡ last.height - other.height = omega (arith, starts, ends) in
-      sym w.1 ∙ (λ j. without_last (left j) (same j)) ∙ v.1
+  -- ways to one leaf below a node begin with one child of it
+  pub one-child : (other last : Spot) → BeginsWith other last → (code : ℕ) {i j : ℕ} → start.code ≡ code * 8 + i → other.code ≡ code * 8 + j
+      → start.height ≡ other.height → above.height ≡ last.height → above.code ≡ last.code → i ≡ j
+  one-child other last v code here there starts ends same = let left : above.height - start.height ≡ last.height - other.height = omega (arith, starts, ends) in
+      let alike : start.code ≡ other.code = sym w.1 ∙ (λ j. without_last (left j) (same j)) ∙ v.1 in omega (arith, here, there, alike)
 
 -- whatever lies about a node, a search through it goes on through this node below it, with the way there
 abbrev pub GoesOn : {K V : Type 0} → (K → K → Ordering) → ℕ → List (Content K V) → K → Spot → ℕ → Spot → ℕ → Type 0
