@@ -7,8 +7,8 @@ pub use Rattle.bforest_core.specs.Levels.{FitRow, IsFit, LevelNode, Solid, Stack
 pub use Rattle.bforest_core.specs.Paths.{InsertsHere, OnEntry, OnLeaf, Placing, PointsTo, Standing, StandsAt, StandsOn, index_of, leaf_of, list_under, path_root, place_in}
 pub use Rattle.bforest_core.specs.Place.{Distinct, IsAt, IsIn, IsPathAt, PointsAt, RowIn, RowsIn, Stands, StandsAbove, count, entry_before, entry_items}
 pub use Rattle.bforest_core.specs.Removal.{Dropped, Emptied, HasOthers, Healed, Heals, IsSingle, Item, Joined, Joins, Keeps, LeafLoss, Loosened, LoosenedRows}
-pub use Rattle.bforest_core.specs.Spots.{Coded, CodedOver, Direction, EndsAt, Followed, HasNext, HasPrev, HasUnder, IsBesideOf, IsLeafAt, IsLower, IsSpotAt, IsTurn}
-pub use Rattle.bforest_core.specs.Spots.{IsWay, Leads, NumberAt, SearchAt, Sided, Way, backwards, onwards}
+pub use Rattle.bforest_core.specs.Spots.{BeginsWith, Coded, CodedOver, Direction, EndsAt, Followed, HasNext, HasPrev, HasUnder, IsBesideOf, IsLeafAt, IsLower, IsSpotAt, IsTurn}
+pub use Rattle.bforest_core.specs.Spots.{IsWay, Leads, NumberAt, SearchAt, Sided, Way, backwards, onwards, without_last}
 pub use Rattle.bforest_core.specs.Steps.{Advances, AreFirst, AreLast, HasOver, LastAt, MoreAt, Moved, OnLevels, OnOver, OnTree, Retreats, Turned, TurnedBack}
 pub use Rattle.bforest_core.specs.Table.{IsBalancedAt, IsEntryAt, IsFreeAt, IsFullAt, IsSplitAt, IsHalfFullAt, IsUsed}
 pub use Rattle.bforest_core.specs.Table.{GrowsFor, NeedsGrowth, PutsChild, PutsEntry, PutsIn, Table, down_from}
@@ -16,7 +16,7 @@ pub use Rattle.bforest_core.specs.Table.{free_count, fresh_nodes, front_of, fron
 pub use Rattle.bforest_core.specs.Trees.{Every, IsForest, IsUnion, OthersKeep, entries_of, inner_row, inner_rows, is_used, leaf_row, levels_below, numbers_down}
 pub use Rattle.bforest_core.specs.{Chain.{IsChain, IsPool, chain_from, next_of}, Descent.{SearchThrough, StackedTo, StandsTo, Under, child_index}, Trees.slot}
 pub use Rattle.bforest_core.specs.{Change.{StandsUnder, TakesNodes, node_count}, Spots.{OnUnder, leaf_count, leaf_place, place_by}}
-pub use Rattle.bforest_core.specs.{Climb.{TwoAbove, nodes_up, top_of}, Leaves.{EndsBothAt, EndsIn, EndsOn, LooksInLeaf, Narrows, PutsInLeaf, SearchEndsAt, TakesFromLeaf, entry_up_to}}
+pub use Rattle.bforest_core.specs.{Climb.{TwoAbove, nodes_up, top_of}, Leaves.{EndsIn, EndsOn, LooksInLeaf, Narrows, PutsInLeaf, SearchEndsAt, SearchSpot, TakesFromLeaf, entry_up_to}}
 pub use Rattle.bforest_core.specs.{Levels.sizes_of, Steps.TurnedBy, Table.{with_node, with_slots, with_value_at, without_front}, declared.path.Path.Path}
 pub use Rattle.bforest_core.specs.{Paths.{RemovesHere, spot}, Place.{entry_keys, first_number, inner_content, leaf_content, numbers_of, root_above, root_of}}
 pub use Rattle.bforest_core.specs.Removal.{Loses, OnLevel, Rebuilt, Reduced, Rekeyed, Removed, Shrunk, StandsIn, Trimmed, Unbalanced, UpTo, content_at, half_at, most_at, numbers_under}

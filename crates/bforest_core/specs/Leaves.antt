@@ -1,7 +1,6 @@
 -- The leaf of a tree in which a search for a key ends: its path, its spot, what it tells of the whole tree, and what looking the key up
 -- there, putting a value in, and removing the key, returns and leaves.
 use Rattle.std.specs.Prelude.{◌≡◌, ℕ, ◌+◌, ◌<◌, ◌≤◌, IsTrue, true, false, if◌then◌else◌, List, [], ◌∷◌, ◌++◌, length, get_or, insert, slice_get, slice_set, Option, Some, None, Result, Ok, Err, IfOk, IfSome, option_map}
-use Rattle.std.specs.Ordering.{is_gt}
 use Rattle.std.specs.declared.cmp.Ordering.{Ordering}
 use Rattle.bforest_nodes.specs.Content.{Content}
 use Rattle.bforest_nodes.specs.Entries.{IsIncreasing, is_present, place, value_for, with_value}
@@ -85,13 +84,11 @@ module _ {K V : Type 0} (cmp : K → K → Ordering) where
     pub leaf : IsLeafAt table root at number
     pub tells : Narrows (tree_of table.nodes root).leaves key leaf.before leaf.entries
 
-  -- searches for two keys in the tree under a root end in these leaves, and these are their spots; the first key is not greater
-  pub record EndsBothAt (table : Table K V) (root : ℕ) (from to : K) (front : Spot) (first : ℕ) (back : Spot) (last : ℕ) : Type 0 where
-    pub front_at : IsSpotAt table root front (leaf_place table root front)
-    pub first_ends : SearchEndsAt table root from (leaf_place table root front) first
-    pub back_at : IsSpotAt table root back (leaf_place table root back)
-    pub last_ends : SearchEndsAt table root to (leaf_place table root back) last
-    pub ordered : is_gt (cmp from to) ≡ false
+  -- a search for the key in the tree under a root ends in the leaf with this number, and this is the leaf's spot
+  pub record SearchSpot (table : Table K V) (root : ℕ) (key : K) (spot : Spot) (number : ℕ) : Type 0 where
+    pub spot_at : IsSpotAt table root spot (leaf_place table root spot)
+    pub search : SearchEndsAt table root key (leaf_place table root spot) number
+    pub open search use *
 
   -- a search for the key among these leaves, which lie in the slots, ends in the leaf with this number, and the spot is that of the leaf
   -- below these rows

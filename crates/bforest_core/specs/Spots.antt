@@ -1,6 +1,6 @@
 -- The place of a leaf in its tree as a number, with an octal digit for each level of inner nodes.
 use Rattle.std.proofs.Math.Logic.{◌⊎◌}
-use Rattle.std.specs.Prelude.{◌≡◌, ℕ, suc, ◌+◌, ◌-◌, ◌<◌, ◌/◌, ◌%◌, IfSome, IsTrue, List, [], ◌∷◌, ◌++◌, drop, length, get_or, slice_get, take, Option, Some, None, ◌≤◌, ◌*◌, ◌^◌}
+use Rattle.std.specs.Prelude.{◌≡◌, ℕ, zero, suc, ◌+◌, ◌-◌, ◌<◌, ◌/◌, ◌%◌, IfSome, IsTrue, List, [], ◌∷◌, ◌++◌, drop, length, get_or, slice_get, take, Option, Some, None, ◌≤◌, ◌*◌, ◌^◌}
 use Rattle.bforest_nodes.specs.Content.{Content, entry_count}
 use Rattle.bforest_core.specs.Descent.{NodeOver, SearchThrough}
 use Rattle.std.specs.declared.cmp.Ordering.{Ordering}
@@ -47,6 +47,15 @@ pub record Way {K V : Type 0} (slots : List (Content K V)) (root code depth : �
 -- no inner node is above a spot's leaf: it is the only one of its tree, or there is none
 abbrev pub HasNoParent : Spot → Type 0
 HasNoParent spot = spot.height ≡ 0
+
+-- a code without this many of its last digits
+abbrev pub without_last : ℕ → ℕ → ℕ
+without_last zero code = code
+without_last (suc count) code = without_last count (code / 8)
+
+-- the way of a spot begins with that of another
+abbrev pub BeginsWith : Spot → Spot → Type 0
+BeginsWith start spot = (start.height ≤ spot.height) × (without_last (spot.height - start.height) spot.code ≡ start.code)
 
 -- the leaf before has the same parent
 abbrev pub HasPrev : Spot → Type 0

@@ -1,15 +1,15 @@
 //! The place of a leaf in its tree, in one word.
-ghost use Rattle.std.specs.Prelude.{◌≡◌, ℕ, suc, ◌+◌, ◌-◌, ◌*◌, ◌<◌, ◌≤◌, ◌/◌, ◌%◌, ◌++◌, ◌∷◌, IfSome, IsTrue, List, length, slice_get, Some, None, true, false};
+ghost use Rattle.std.specs.Prelude.{◌≡◌, ◌≢◌, ℕ, suc, ◌+◌, ◌-◌, ◌*◌, ◌<◌, ◌≤◌, ◌/◌, ◌%◌, ◌++◌, ◌∷◌, IfSome, IsTrue, List, length, slice_get, Some, None, true, false};
 ghost use Rattle.std.specs.List.Sorted.{IsStrictlySortedBy};
 ghost use Rattle.std.specs.Ordering.{is_gt};
-ghost use Rattle.bforest_core.specs.Leaves.{EndsBothAt, EndsOn, SearchEndsAt};
+ghost use Rattle.bforest_core.specs.Leaves.{SearchSpot, EndsOn, SearchEndsAt};
 ghost use Rattle.bforest_core.specs.Levels.{LevelNode, heads};
 ghost use Rattle.bforest_core.specs.Paths.{list_under};
 ghost use Rattle.bforest_core.specs.Trees.{IsUnion, is_root, tree_of};
 ghost use Rattle.bforest_nodes.specs.Content.{Inner, IsLeafCapacity};
 ghost use Rattle.bforest_nodes.specs.Entries.{IsIncreasing};
 ghost use Rattle.bforest_core.specs.Descent.{IsFirst, IsLast, child_index};
-ghost use Rattle.bforest_core.specs.Spots.{IsBesideOf, IsLower, Leads, HasNext, HasNoParent, HasPrev, HasUnder, IsLeafAt, IsSpotAt, IsTurn, IsWay, NumberAt, OnUnder, SearchAt, SpotOn, Way, backwards, leaf_count, leaf_place, onwards};
+ghost use Rattle.bforest_core.specs.Spots.{BeginsWith, IsBesideOf, IsLower, Leads, HasNext, HasNoParent, HasPrev, HasUnder, IsLeafAt, IsSpotAt, IsTurn, IsWay, NumberAt, OnUnder, SearchAt, SpotOn, Way, backwards, leaf_count, leaf_place, onwards};
 
 use crate::access::{child, child_count, follow, last_index, separator};
 use crate::pool::NodePool;
@@ -111,14 +111,14 @@ impl Spot {
 
     // One level down.
     #[inline(always)]
-    fn below(self, node: Node, index: usize) -> Spot
-        requires code { self.code < 35184372088832 }
-        requires height { self.height < 16 }
+    fn below(&self, node: Node, index: usize) -> Spot
+        requires code { self.now.code < 35184372088832 }
+        requires height { self.now.height < 16 }
         requires index { index < 8 }
-        ensures code { result.code ≡ self.code * 8 + index }
+        ensures code { result.code ≡ self.now.code * 8 + index }
         ensures parent { result.parent ≡ node }
-        ensures grand { result.grand ≡ self.parent }
-        ensures height { result.height ≡ suc self.height }
+        ensures grand { result.grand ≡ self.now.parent }
+        ensures height { result.height ≡ suc self.now.height }
     {
         Spot {
             code: self.code * 8 + index as u64,
@@ -345,11 +345,11 @@ impl Spot {
         ensures leaf { SearchEndsAt (C.order comp.now) pool.now root key
             (leaf_place pool.now root result.0) result.1 }
     {
-        find_below(&Spot::root(root), root, key, pool, comp)
+        find_below(Spot::root(root), root, key, pool, comp)
     }
 
-    /// The leaves in which searches for two keys end, and their places, or `None` where the first key is greater. The searches go down
-    /// together as far as they go the same way.
+    /// The leaf in which a search for `from` ends, and that in which a search for `to` ends, where it is another one: each with its place.
+    /// Where `to` is less, there is no other. The searches go down together as far as they go the same way.
     #[inline(always)]
     pub fn find_both<K: Copy, V: Copy, const N: usize, C: Comparator<K>>(
         from: K,
@@ -357,29 +357,30 @@ impl Spot {
         root: Node,
         pool: &NodePool<K, V, N>,
         comp: &C,
-    ) -> Option<((Spot, Node), (Spot, Node))>
+    ) -> ((Spot, Node), Option<(Spot, Node)>)
         requires union { IsUnion N pool.now }
         requires root { IsTrue (is_root pool.now.nodes root) }
         requires increasing { IsIncreasing (C.order comp.now) (list_under pool.now root) }
-        ensures some { IfSome result (λ ends. EndsBothAt (C.order comp.now) pool.now root from to ends.0.0
-            ends.0.1 ends.1.0 ends.1.1) }
-        ensures none { result ≡ None → is_gt (C.order comp.now from to) ≡ true }
+        ensures first { SearchSpot (C.order comp.now) pool.now root from result.0.0 result.0.1 }
+        ensures other { IfSome result.1 (λ last. SearchSpot (C.order comp.now) pool.now root to last.0 last.1
+            × (result.0.0.code ≢ last.0.code) × (is_gt (C.order comp.now from to) ≡ false)) }
+        ensures same { result.1 ≡ None → is_gt (C.order comp.now from to) ≡ false
+            → SearchSpot (C.order comp.now) pool.now root to result.0.0 result.0.1 }
     {
         let (mut here, mut node) = (Spot::root(root), root);
         while pool.node(node).is_inner() {
             let (index, child) = follow(pool, node, from, comp);
             let next = here.below(node, index);
             if !goes_along(pool, node, index, to, comp) {
-                let first = find_below(&next, child, from, pool, comp);
-                return Some((first, find_below(&here, node, to, pool, comp)));
+                let first = find_below(next, child, from, pool, comp);
+                let (other, lower) = follow(pool, node, to, comp);
+                let last = find_below(here.below(node, other), lower, to, pool, comp);
+                return (first, Some(last));
             }
             here = next;
             node = child;
         }
-        if comp.cmp(from, to).is_gt() {
-            return None;
-        }
-        Some(((here, node), (here, node)))
+        ((here, node), None)
     }
 }
 
@@ -402,6 +403,9 @@ fn goes_along<K: Copy, V: Copy, const N: usize, C: Comparator<K>>(
     ensures ordered { result ≡ false → (from : K) (keys : List K) (children : List ℕ)
         → slice_get pool.now.nodes node ≡ Some (Inner keys children)
         → index ≡ child_index (C.order comp.now) keys from → is_gt (C.order comp.now from key) ≡ false }
+    ensures apart { result ≡ false → (keys : List K) (children : List ℕ)
+        → slice_get pool.now.nodes node ≡ Some (Inner keys children)
+        → index ≢ child_index (C.order comp.now) keys key }
 {
     index == last_index(pool, node) || comp.cmp(key, separator(pool, node, index)).is_lt()
 }
@@ -591,7 +595,7 @@ fn last_below<K: Copy, V: Copy, const N: usize>(
 
 // From a node at this place down to the leaf in which a search for `key` ends, which goes through the node.
 fn find_below<K: Copy, V: Copy, const N: usize, C: Comparator<K>>(
-    spot: &Spot,
+    spot: Spot,
     node: Node,
     key: K,
     pool: &NodePool<K, V, N>,
@@ -599,12 +603,13 @@ fn find_below<K: Copy, V: Copy, const N: usize, C: Comparator<K>>(
 ) -> (Spot, Node)
     requires capacity { IsLeafCapacity N }
     requires under { (leaves : List (LevelNode K V)) × (rows : List (List (LevelNode K ℕ)))
-        × SearchAt (C.order comp.now) N pool.now.nodes leaves rows key spot.now node }
+        × SearchAt (C.order comp.now) N pool.now.nodes leaves rows key spot node }
     ensures found { (leaves : List (LevelNode K V)) (rows : List (List (LevelNode K ℕ)))
-        → SearchAt (C.order comp.now) N pool.now.nodes leaves rows key spot.now node
+        → SearchAt (C.order comp.now) N pool.now.nodes leaves rows key spot node
         → EndsOn (C.order comp.now) pool.now.nodes leaves rows key result.0 result.1 }
+    ensures begins { BeginsWith spot result.0 }
 {
-    let (mut here, mut lower) = (*spot, node);
+    let (mut here, mut lower) = (spot, node);
     while pool.node(lower).is_inner() {
         let (index, child) = follow(pool, lower, key, comp);
         here = here.below(lower, index);

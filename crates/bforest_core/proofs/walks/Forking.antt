@@ -1,7 +1,7 @@
 -- Two searches that go to the same child of a node: each answer of `goes_along` is one of these.
 use Rattle.bforest_core.proofs.Words.{all_greater_behind, count_up_to-no, count_up_to-none, count_up_to-yes, count_up_to, alike_right, is_gt, is_lt, ◌≡◌, ℕ}
 use Rattle.bforest_core.proofs.Words.{suc, ◌<◌, ◌≤◌, List, [], ◌∷◌, Some, arith, false, length, refl, slice_get, sym, ap, true, ◌∙◌, Content, Inner}
-use Rattle.bforest_core.proofs.{Words.{IsStrictlySortedBy, IsTotalOrder, child_index, slice_get_within}, table.Stored.some_same, walks.Reading.LastRead}
+use Rattle.bforest_core.proofs.{Words.{false≢true, IsStrictlySortedBy, IsTotalOrder, child_index, slice_get_within}, table.Stored.some_same, walks.Reading.LastRead}
 use Rattle.{bforest_nodes.specs.Content.keys_of, std.specs.declared.cmp.Ordering.{Ordering, TheVariants.{Equal, Greater, Less}}}
 
 module _ {K : Type 0} {cmp : K → K → Ordering} (o : IsTotalOrder cmp) where
@@ -101,6 +101,15 @@ module _ {K V : Type 0} {cmp : K → K → Ordering} (o : IsTotalOrder cmp) (slo
       → index ≡ child_index cmp keys from → is_gt (cmp from key) ≡ false
   not-along {s} reads past from keys children found at =
       not-greater o from s key (greater-behind o from s keys (sorted-keys found) (cc (reads keys children found))) past
+
+  -- so a search for the key does not go to the child
+  pub not-here : {s : K} → ((keys : List K) (children : _) → slice_get slots node ≡ Some (Inner keys children)
+      → slice_get keys index ≡ Some s) → is_lt (cmp key s) ≡ false → (keys : List K) (children : _) → slice_get slots node ≡ Some (Inner keys children)
+      → index ≡ child_index cmp keys key → ⊥
+  not-here {s} reads past keys children found at =
+      let greater = greater-behind o key s keys (sorted-keys found) (cc (reads keys children found)) in
+      let less : cmp key s ≡ Less = cc (o.antisymm key s) in
+      false≢true (sym past ∙ ap is_lt less)
 
 -- a key that is tested to be less
 pub less-tested : (r : Ordering) → is_lt r ≡ true → r ≡ Less

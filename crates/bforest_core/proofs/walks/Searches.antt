@@ -1,6 +1,6 @@
 -- The way down to the leaf in which a search ends: each answer of `value_below` and, as a spot, of `find_below` is one of these.
-use Rattle.bforest_core.proofs.Words.{EndsBothAt, entry_items, entry_keys, IsSpotAt, leaf_place, length-map, ◌≡◌, ℕ, suc, ◌≤◌, ◌<◌, List, [], ◌∷◌, ◌++◌}
-use Rattle.bforest_core.proofs.Words.{IsTrue, is_gt, false, length, slice_get, Some, refl, sym, ap, ◌∙◌, arith, append-nil, Row, Rows, Content, EndsOn, Inner, IsInner}
+use Rattle.bforest_core.proofs.Words.{BeginsWith, without_last, ◌-◌, ◌*◌, ◌/◌, ◌+◌, SearchSpot, entry_items, entry_keys, IsSpotAt, leaf_place, length-map, ◌≡◌, ℕ, suc, ◌≤◌, ◌<◌, List, [], ◌∷◌, ◌++◌}
+use Rattle.bforest_core.proofs.Words.{IsTrue, length, slice_get, Some, refl, sym, ap, ◌∙◌, arith, append-nil, Row, Rows, Content, EndsOn, Inner, IsInner}
 use Rattle.bforest_core.proofs.Words.{IsIncreasing, IsTotalOrder, IsStrictlySortedBy, IsUnion, Narrows, SearchAt, SearchEndsAt, SearchThrough, Table}
 use Rattle.bforest_core.proofs.{Words.{child_index, flat, is_root, leaf_content, place, tree_of, IsLeafCapacity}, union.Unions.is-rooted}
 use Rattle.bforest_core.proofs.{walks.Codes.{IsBelow, code-low}, table.Stored.item_count, walks.Cousins.place-is, walks.Whole.all_through, walks.Reading.ChildRead}
@@ -125,6 +125,23 @@ abbrev pub search-root : {K V : Type 0} {cmp : K → K → Ordering} {most : ℕ
 search-root {root} union is increasing depth none =
     record { on = under-root root union is; increasing = increasing; through = all_through _ _ _; low = omega (arith, (is-rooted root union is).low) }
 
+-- the way of a spot begins with itself, and with what the way of the spot above begins with
+pub begins-here : (spot : Spot) → BeginsWith spot spot
+begins-here spot = let none : spot.height - spot.height ≡ 0 = omega arith in (omega arith, ap (λ n. without_last n spot.code) none)
+
+module _ (start above : Spot) (w : BeginsWith start above) where
+  pub begins-below : {index : ℕ} (next : Spot) → next.code ≡ above.code * 8 + index → next.height ≡ suc above.height → index < 8 → BeginsWith start next
+  begins-below {index} next code height low =
+      let more : next.height - start.height ≡ suc (above.height - start.height) = omega (arith, height, w.0) in
+      let digit : next.code / 8 ≡ above.code = omega (arith, code, low) in
+      (omega (arith, height, w.0), ap (λ n. without_last n next.code) more ∙ ap (without_last (above.height - start.height)) digit ∙ w.1)
+
+  -- ways to one leaf below a node begin with one child of it
+  pub one-child : (other last : Spot) → BeginsWith other last → (code : ℕ) {i j : ℕ} → start.code ≡ code * 8 + i → other.code ≡ code * 8 + j
+      → start.height ≡ other.height → above.height ≡ last.height → above.code ≡ last.code → i ≡ j
+  one-child other last v code here there starts ends same = let left : above.height - start.height ≡ last.height - other.height = omega (arith, starts, ends) in
+      let alike : start.code ≡ other.code = sym w.1 ∙ (λ j. without_last (left j) (same j)) ∙ v.1 in omega (arith, here, there, alike)
+
 -- whatever lies about a node, a search through it goes on through this node below it, with the way there
 abbrev pub GoesOn : {K V : Type 0} → (K → K → Ordering) → ℕ → List (Content K V) → K → Spot → ℕ → Spot → ℕ → Type 0
 GoesOn {K} {V} cmp most slots key spot number next child = (leaves : Row K V) (rows : Rows K) → SearchAt cmp most slots leaves rows key spot number
@@ -165,13 +182,8 @@ module _ {K V : Type 0} {cmp : K → K → Ordering} {table : Table K V} {root :
     tells = e.tells;
   }
 
--- both ends, where two searches were made
-pub both-end : {K V : Type 0} {cmp : K → K → Ordering} {table : Table K V} {root : ℕ} → IsTrue (is_root table.nodes root) →
-    {from to : K} {first last : Spot} {leaf leaf' : ℕ}
-    → EndsOn cmp table.nodes (tree_of table.nodes root).leaves (tree_of table.nodes root).above from first leaf
-    → EndsOn cmp table.nodes (tree_of table.nodes root).leaves (tree_of table.nodes root).above to last leaf'
-    → is_gt (cmp from to) ≡ false → EndsBothAt cmp table root from to first leaf last leaf'
-both-end is e h ordered = record { front_at = spot-found is e; first_ends = search-leaf is e; back_at = spot-found is h; last_ends = search-leaf is h; ordered = ordered }
+  pub search-at : SearchSpot cmp table root key spot number
+  search-at = record { spot_at = spot-found; search = search-leaf }
 
 -- where a search from the root down ends, without its spot
 pub ends-here : {K V : Type 0} {cmp : K → K → Ordering} (o : IsTotalOrder cmp) {most : ℕ} (capacity : IsLeafCapacity most) {table : Table K V} {root key number depth : _}

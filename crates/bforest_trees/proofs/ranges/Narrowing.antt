@@ -2,7 +2,7 @@
 use Rattle.bforest_trees.proofs.ranges.Beside.{one-code, leaf-low, leaf-read, leaves}
 use Rattle.bforest_trees.proofs.ranges.Between.{slice-between, up-to-absent, up-to-present}
 use Rattle.bforest_trees.proofs.Held.{list-is, start-behind, start-is}
-use Rattle.bforest_trees.proofs.ranges.Limits.{ends-rise, limit-in-leaf, limit-most, places-rise}
+use Rattle.bforest_trees.proofs.ranges.Limits.{ends-rise, limit-in-leaf, limit-most, limits-crossed, places-rise}
 use Rattle.bforest_trees.proofs.ranges.Ranging.{no-part, pairs-all, pairs-take, range-first, range-none}
 use Rattle.bforest_trees.specs.Bounds.{end_place, entries_between, start_place}
 use Rattle.bforest_trees.proofs.Changed.{list-root}
@@ -12,8 +12,7 @@ use Rattle.bforest_trees.specs.Range.{IsFresh, IsRange, back_held, back_leaf, fr
 use Rattle.bforest_trees.specs.declared.trees.range.Ends.{Ends}
 use Rattle.bforest_trees.specs.declared.trees.range.Limit.{Limit}
 use Rattle.bforest_core.proofs.rows.LevelRows.{flat-append}
-use Rattle.bforest_core.proofs.walks.Ranks.{leaf-same}
-use Rattle.bforest_core.specs.Leaves.{EndsBothAt, SearchEndsAt}
+use Rattle.bforest_core.specs.Leaves.{SearchEndsAt, SearchSpot}
 use Rattle.bforest_core.specs.Levels.{flat, node}
 use Rattle.bforest_core.specs.Paths.{list_under}
 use Rattle.bforest_core.specs.Place.{entry_items, entry_keys}
@@ -160,9 +159,6 @@ module _ {K X : Type 0} (f : Forest K X) (root : ℕ) where
         between = λ other. absurd (false≢true (sym other));
       }
 
-    pub none-narrowed : (s e : ℕ) → e ≤ s → Narrowed (record old { is_one = true }) s e
-    none-narrowed s e low = record { left = none-left (Some root) ∙ sym (range-none (list_under f root) s e low); range = none-range (Some root) }
-
     module _ {cmp : K → K → Ordering} (o : IsTotalOrder cmp) (up : IsIncreasing cmp (list_under f root)) where
       -- the front is at a limit in its leaf
       module _ (start : Limit K) {spot : Spot} (on : IsSpotAt f root spot (leaf_place f root spot)) {number : ℕ} (s : SearchEndsAt cmp f root start.key (leaf_place f root spot) number)
@@ -226,20 +222,14 @@ module _ {K X : Type 0} (f : Forest K X) (root : ℕ) where
                 };
               })
 
-      -- both ends are at limits in their leaves
-      module _ (start stop : Limit K) {front : Spot} {first : ℕ} {back : Spot} {last : ℕ} (e : EndsBothAt cmp f root start.key stop.key front first back last)
-          {from to : ℕ} (from_is : from ≡ limit_place cmp start e.first_ends.leaf.entries) (to_is : to ≡ limit_place cmp stop e.last_ends.leaf.entries) where
+      -- the front is at a limit in its leaf, and the end at another limit
+      module _ (start stop : Limit K) {front : Spot} {first : ℕ} (s : SearchSpot cmp f root start.key front first) {from : ℕ}
+          (from_is : from ≡ limit_place cmp start s.leaf.entries) where
         abbrev p : ℕ
         p = leaf_place f root front
 
-        abbrev q : ℕ
-        q = leaf_place f root back
-
         abbrev es : List (K × X)
-        es = e.first_ends.leaf.entries
-
-        abbrev xs : List (K × X)
-        xs = e.last_ends.leaf.entries
+        es = s.leaf.entries
 
         abbrev from-place : ℕ
         from-place = limit_place cmp start (list_under f root)
@@ -247,58 +237,71 @@ module _ {K X : Type 0} (f : Forest K X) (root : ℕ) where
         abbrev to-place : ℕ
         to-place = limit_place cmp stop (list_under f root)
 
-        -- what is between, cut out of the list
-        between-cut : slice_range (list_under f root) from-place to-place ≡ drop (start_of f root p + from) (flat (take q (leaves f root)) ++ take to xs)
-        between-cut = range-drop (list_under f root) from-place to-place ∙ (λ j. drop (start-place start e.front_at e.first_ends from_is j) (stop-cut stop e.back_at e.last_ends to_is j))
+        -- the end is in the leaf in which its search ends
+        module _ {back : Spot} {last : ℕ} (t : SearchSpot cmp f root stop.key back last) {to : ℕ} (to_is : to ≡ limit_place cmp stop t.leaf.entries) where
+          abbrev q : ℕ
+          q = leaf_place f root back
 
-        module _ (code : front.code ≡ back.code) where
-          one-place : p ≡ q
-          one-place = leaf-same e.front_at e.back_at code
+          abbrev xs : List (K × X)
+          xs = t.leaf.entries
 
-          one-leaf : xs ≡ es
-          one-leaf = cc (leaf-read e.first_ends.leaf, leaf-read e.last_ends.leaf, one-place)
+          -- what is between, cut out of the list
+          between-cut : slice_range (list_under f root) from-place to-place ≡ drop (start_of f root p + from) (flat (take q (leaves f root)) ++ take to xs)
+          between-cut = range-drop (list_under f root) from-place to-place ∙ (λ j. drop (start-place start s.spot_at s.search from_is j) (stop-cut stop t.spot_at t.search to_is j))
 
+          module _ (ordered : is_gt (cmp start.key stop.key) ≡ false) (apart : front.code ≢ back.code) where
+            less : p < q
+            less = elim (cases_lt p q) [
+              | inl l ↦ l
+              | inr ge ↦ absurd (let rise = leaves-rise o up s.search t.search ordered in apart (one-code s.spot_at t.spot_at (omega (arith, ge, rise))))
+            ]
+
+            module _ {mid new : Ends K X} (keys : mid.keys.now ≡ entry_keys es) (vals : mid.vals.now ≡ entry_items es) (mid_is : mid ≡ record old { keys = mid.keys; vals = mid.vals; index = from; spot = front; has_front = true })
+                (back_keys : new.back_keys.now ≡ take to (entry_keys xs)) (back_vals : new.back_vals.now ≡ entry_items xs) (new_is : new ≡ record mid { back_keys = new.back_keys; back_vals = new.back_vals; back_spot = back; has_back = true }) where
+              both-is : new ≡ record old { keys = mid.keys; vals = mid.vals; index = from; spot = front; has_front = true; back_keys = new.back_keys; back_vals = new.back_vals; back_spot = back; has_back = true }
+              both-is = new_is ∙ ap {A = Ends K X} (λ z. record z { back_keys = new.back_keys; back_vals = new.back_vals; back_spot = back; has_back = true }) mid_is
+
+              pub both-narrowed : Narrowed new from-place to-place
+              unfolding left_in
+              both-narrowed = subst (λ z. Narrowed z from-place to-place) (sym both-is) (record {
+                left = (λ j. drop from (pairs (keys j) (vals j)) ++ ((if fresh.one j then [] else flat (slice_range (leaves f root) (suc p) q)) ++ pairs (back_keys j) (back_vals j)))
+                    ∙ (λ j. drop from (pairs-all es j) ++ (flat (slice_range (leaves f root) (suc p) q) ++ pairs-take xs to j))
+                    ∙ sym (between-cut ∙ front-cut s.leaf from q (take to xs) (index-low start s.spot_at s.search from_is) less);
+                range = record {
+                  paired = omega (arith, ap length keys, ap length vals, length-map es (λ e. e.0), length-map es (λ e. e.1));
+                  back_paired = omega (arith, ap length back_keys, ap length back_vals, length-take to (entry_keys xs), length-map xs (λ e. e.0), length-map xs (λ e. e.1));
+                  one = no-spot old.is_one fresh.one;
+                  between = λ _. (root, refl, record { root_is = s.spot_at.root_is; front = λ _. s.spot_at; back = λ _. t.spot_at; ordered = omega (arith, less) });
+                };
+              })
+
+        -- the end is in the front's leaf, where its search ends too, if its key is not less
+        module _ {to : ℕ} (to_is : to ≡ limit_place cmp stop es) (same : is_gt (cmp start.key stop.key) ≡ false → SearchSpot cmp f root stop.key front first) where
           pub hold-low : to ≤ length es
-          hold-low = omega (arith, stop-low stop e.back_at e.last_ends to_is, ap length one-leaf)
+          hold-low = omega (arith, to_is, limit-most cmp o es stop)
+
+          held-cut : slice_range (list_under f root) from-place to-place ≡ drop from (take to es)
+          held-cut = go (is_gt (cmp start.key stop.key)) refl
+            where
+              go : (b : Bool) → is_gt (cmp start.key stop.key) ≡ b → slice_range (list_under f root) from-place to-place ≡ drop from (take to es)
+              go true crossed = range-none (list_under f root) from-place to-place (limits-crossed cmp o (list_under f root) start stop crossed)
+                  ∙ sym (sym (range-drop es from to) ∙ range-none es from to (omega (arith, from_is, to_is, limits-crossed cmp o es start stop crossed)))
+              go false ordered = let t = same ordered in let one : t.leaf.entries ≡ es = cc (leaf-read s.leaf, leaf-read t.leaf) in
+                  between-cut t (to_is ∙ ap (λ z. limit_place cmp stop z) (sym one))
+                  ∙ (λ j. drop (start_of f root p + from) (flat (take p (leaves f root)) ++ take to (one j))) ∙ one-cut p from (take to es)
 
           module _ {new : Ends K X} (keys : new.keys.now ≡ take to (entry_keys es)) (vals : new.vals.now ≡ entry_items es)
               (is : new ≡ record old { keys = new.keys; vals = new.vals; index = from; spot = front; has_front = true; is_one = true }) where
             pub hold-narrowed : Narrowed new from-place to-place
             unfolding left_in
             hold-narrowed = subst (λ z. Narrowed z from-place to-place) (sym is) (record {
-              left = (λ j. drop from (pairs (keys j) (vals j)) ++ ([] ++ empty-back j)) ∙ append-nil (drop from (pairs (take to (entry_keys es)) (entry_items es))) ∙ ap (drop from) (pairs-take es to)
-                  ∙ sym (between-cut ∙ (λ j. drop (start_of f root p + from) (flat (take (sym one-place j) (leaves f root)) ++ take to (one-leaf j))) ∙ one-cut p from (take to es));
+              left = (λ j. drop from (pairs (keys j) (vals j)) ++ ([] ++ empty-back j)) ∙ append-nil (drop from (pairs (take to (entry_keys es)) (entry_items es)))
+                  ∙ ap (drop from) (pairs-take es to) ∙ sym held-cut;
               range = record {
                 paired = omega (arith, ap length keys, ap length vals, length-take to (entry_keys es), length-map es (λ e. e.0), length-map es (λ e. e.1));
                 back_paired = omega (arith, ap length fresh.back_keys);
                 one = λ _. fresh.back_keys;
                 between = λ other. absurd (false≢true (sym other));
-              };
-            })
-
-        module _ (apart : front.code ≢ back.code) where
-          less : p < q
-          less = elim (cases_lt p q) [
-            | inl l ↦ l
-            | inr ge ↦ absurd (let rise = leaves-rise o up e.first_ends e.last_ends e.ordered in apart (one-code e.front_at e.back_at (omega (arith, ge, rise))))
-          ]
-
-          module _ {mid new : Ends K X} (keys : mid.keys.now ≡ entry_keys es) (vals : mid.vals.now ≡ entry_items es) (mid_is : mid ≡ record old { keys = mid.keys; vals = mid.vals; index = from; spot = front; has_front = true })
-              (back_keys : new.back_keys.now ≡ take to (entry_keys xs)) (back_vals : new.back_vals.now ≡ entry_items xs) (new_is : new ≡ record mid { back_keys = new.back_keys; back_vals = new.back_vals; back_spot = back; has_back = true }) where
-            both-is : new ≡ record old { keys = mid.keys; vals = mid.vals; index = from; spot = front; has_front = true; back_keys = new.back_keys; back_vals = new.back_vals; back_spot = back; has_back = true }
-            both-is = new_is ∙ ap {A = Ends K X} (λ z. record z { back_keys = new.back_keys; back_vals = new.back_vals; back_spot = back; has_back = true }) mid_is
-
-            pub both-narrowed : Narrowed new from-place to-place
-            unfolding left_in
-            both-narrowed = subst (λ z. Narrowed z from-place to-place) (sym both-is) (record {
-              left = (λ j. drop from (pairs (keys j) (vals j)) ++ ((if fresh.one j then [] else flat (slice_range (leaves f root) (suc p) q)) ++ pairs (back_keys j) (back_vals j)))
-                  ∙ (λ j. drop from (pairs-all es j) ++ (flat (slice_range (leaves f root) (suc p) q) ++ pairs-take xs to j))
-                  ∙ sym (between-cut ∙ front-cut e.first_ends.leaf from q (take to xs) (index-low start e.front_at e.first_ends from_is) less);
-              range = record {
-                paired = omega (arith, ap length keys, ap length vals, length-map es (λ e. e.0), length-map es (λ e. e.1));
-                back_paired = omega (arith, ap length back_keys, ap length back_vals, length-take to (entry_keys xs), length-map xs (λ e. e.0), length-map xs (λ e. e.1));
-                one = no-spot old.is_one fresh.one;
-                between = λ _. (root, refl, record { root_is = e.front_at.root_is; front = λ _. e.front_at; back = λ _. e.back_at; ordered = omega (arith, less) });
               };
             })
 

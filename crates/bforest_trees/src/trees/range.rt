@@ -146,17 +146,17 @@ impl<'a, K: Copy, V: Copy> Ends<'a, K, V> {
             (limit_place (C.order comp.now) stop (list_under pool.now root)) }
         ensures range { IsRange pool.now (Some root) self.new }
     {
-        match Spot::find_both(start.key, stop.key, root, pool, comp) {
-            None => self.is_one = true,
-            Some(((spot, leaf), (other, last))) => {
-                let from = start.place(leaf, pool, comp);
+        let ((spot, leaf), other) = Spot::find_both(start.key, stop.key, root, pool, comp);
+        let from = start.place(leaf, pool, comp);
+        match other {
+            None => {
+                let to = stop.place(leaf, pool, comp);
+                self.hold(spot, leaf, from, to, pool);
+            }
+            Some((back, last)) => {
                 let to = stop.place(last, pool, comp);
-                if spot.code() == other.code() {
-                    self.hold(spot, leaf, from, to, pool);
-                } else {
-                    self.start_at(spot, leaf, from, pool);
-                    self.stop_at(other, last, to, pool);
-                }
+                self.start_at(spot, leaf, from, pool);
+                self.stop_at(back, last, to, pool);
             }
         }
     }
@@ -324,6 +324,7 @@ impl<'a, K: Copy, V: Copy> Ends<'a, K, V> {
     }
 
     // Takes the front to the next leaf, which may be the back's.
+    #[inline(always)]
     fn enter_next<const N: usize>(&mut self, root: Node, pool: &'a NodePool<K, V, N>)
         requires union { IsUnion N pool.now }
         requires range { IsRange pool.now (Some root) self.old }
@@ -343,6 +344,7 @@ impl<'a, K: Copy, V: Copy> Ends<'a, K, V> {
     }
 
     // Takes the back to the leaf before, which may be the front's.
+    #[inline(always)]
     fn enter_prev<const N: usize>(&mut self, root: Node, pool: &'a NodePool<K, V, N>)
         requires union { IsUnion N pool.now }
         requires range { IsRange pool.now (Some root) self.old }
