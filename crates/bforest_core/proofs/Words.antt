@@ -1,7 +1,7 @@
 -- Re-exports the definitions of the specs that proofs cite. Declares nothing.
 pub use Rattle.bforest_core.proofs.rows.Shapes.{Heads, Row, Rows}
 pub use Rattle.bforest_core.specs.Change.{AllocatesLeaf, AtUnder, Changes, EntryTaken, KeepsTrees, PlacedUnder, Plants, Shrinks}
-pub use Rattle.bforest_core.specs.Climb.{Above, Over, Grown, GrownBy, Halved, HalvedBy, Inserted, LastAbove, LeafHalved, NextIs, OneAbove, Placed, Raised, SameBelow}
+pub use Rattle.bforest_core.specs.Climb.{Above, Over, Grown, GrownBy, Halved, HalvedBy, Inserted, KeyIs, LastAbove, LeafHalved, NextIs, OneAbove, Placed, Raised, SameBelow}
 pub use Rattle.bforest_core.specs.Descent.{Descended, GoesThrough, HasBelow, IsFirst, IsFrom, IsLast, IsRooted, IsUpTo, Led, LedUp, NodeOver, OnBelow, Reached}
 pub use Rattle.bforest_core.specs.Levels.{FitRow, IsFit, LevelNode, Solid, Stacked, Topped, Tree, flat, half_of, head_of, heads, least, node, numbers, sizes}
 pub use Rattle.bforest_core.specs.Paths.{InsertsHere, OnEntry, OnLeaf, Placing, PointsTo, Standing, StandsAt, StandsOn, index_of, leaf_of, list_under, path_root, place_in}

@@ -27,6 +27,11 @@ abbrev pub NextIs : {K : Type 0} → Option (K × ℕ) → List (K × ℕ) → T
 NextIs None rest = rest ≡ []
 NextIs {K} (Some next) rest = (others : List (K × ℕ)) × (rest ≡ next ∷ others)
 
+-- the first key of the nodes that follow one, if any
+abbrev pub KeyIs : {K : Type 0} → Option K → List (K × ℕ) → Type 0
+KeyIs None rest = rest ≡ []
+KeyIs (Some key) rest = (number : ℕ) × NextIs (Some (key, number)) rest
+
 -- the path is as it was below a level, and its root is the old one or, with a level more, a taken one
 pub record Climbs (path indices path' indices' : List ℕ) (level size size' : ℕ) (taken : List ℕ) : Type 0 where
   pub nodes_below : SameBelow level path path'

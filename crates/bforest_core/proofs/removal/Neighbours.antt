@@ -1,6 +1,6 @@
 -- The right neighbour of a node, under the same parent or another: the answers of `right_sibling`, and the move of a path there.
 use Rattle.bforest_core.proofs.Words.{◌≡◌, ℕ, suc, ◌≤◌, List, [], ◌∷◌, ◌++◌, length, drop, slice_get, Some, refl, sym, ◌∙◌, append_assoc, length-append}
-use Rattle.bforest_core.proofs.Words.{arith, Heads, inner_content, entry_keys, entry_items, ◌+◌, ◌<◌, Option, get_or, ap, Table, Above, NextIs, OneAbove}
+use Rattle.bforest_core.proofs.Words.{arith, Heads, inner_content, entry_keys, entry_items, ◌+◌, ◌<◌, Option, get_or, ap, Table, Above, KeyIs, NextIs, OneAbove}
 use Rattle.bforest_core.proofs.Words.{subst, node, flat, heads, RowIn, add-one, nil_from_length, ◌≢◌, true, false, map, None, Bool, Moved}
 use Rattle.bforest_core.proofs.removal.Asked.{Beside, ChildAt, Counts, ReadsChild, ReadsKey, Seen, no_nodes, seen, some_first}
 use Rattle.bforest_core.proofs.{removal.Lifted.{NextNode, headed, next_of, rows_above}, table.Stored.{slice_get_at, some_same, item_count}}
@@ -25,6 +25,10 @@ module _ {K V : Type 0} where
   abbrev pub up_asks : {t : Table K V} {path indices up size rows a x b : _} → Spot t path indices up size rows a x b → OneAbove t path indices (up + 1) size
   up_asks {path = path} {up = up} {x = x} d = let h = some_first (d.l ++ x ∷ d.r) (omega arith) in
       record { rows = d.rest; before = heads d.before; x = (h.0.0, get_or path up 0); after = heads d.after; above = rw add-one (headed d.before (get_or path up 0) d.after h (rows_above d)) }
+
+  -- the nodes behind the path's on level 1 begin with the same key as those behind it on this level
+  abbrev pub KeyComes : (t : Table K V) (path indices : List ℕ) (up size : ℕ) → OneAbove t path indices 1 size → Type 0
+  KeyComes t path indices up size w = (v : OneAbove t path indices up size) × ((o : Option K) → KeyIs o v.after → KeyIs o w.after)
 
   -- the rows after a step, with another index below them
   pub entered_next : {t : Table K V} {path indices path' indices' : _} (indices2 : _) {level size rows : _} (a x y b : _) → Above t path indices (suc level) size rows (a ++ x ∷ y ∷ b) (length a) →
@@ -81,6 +85,12 @@ module _ {K V : Type 0} where
           let child_is = some_same (cc (second (λ z. z.1) _ x _ _, reads_child keys items s.slot_is)) in
           (w.1 ++ flat after, d.b_is ∙ ap (λ z. z ++ flat after) w.2 ∙ ap (λ z. (z, w.0.1) ∷ (w.1 ++ flat after)) key_is ∙ ap (λ z. (key, z) ∷ (w.1 ++ flat after)) child_is)
 
+      -- the first key behind, where a neighbour has the same parent
+      pub key_same : (key : K) → index + 1 < m → ReadsKey t (get_or path up i) index key → KeyIs (Some key) b
+      key_same key more reads = let w = some_first r (omega (arith, s.counted m value)) in
+          let key_is = some_same (cc (second_key l x w.0 w.1, d.entry_is, reads keys items s.slot_is)) in
+          (w.0.1, (w.1 ++ flat after, d.b_is ∙ ap (λ z. z ++ flat after) w.2 ∙ ap (λ z. (z, w.0.1) ∷ (w.1 ++ flat after)) key_is))
+
       module _ (less : m ≤ index + 1) where
         behind : b ≡ flat after
         behind = cc (d.b_is, nil_from_length r (omega (arith, s.counted m value)))
@@ -88,6 +98,12 @@ module _ {K V : Type 0} where
         -- there is no right neighbour
         pub none_right : (o : Option (K × ℕ)) → o ≡ None → Beside t path indices (up + 1) size o → NextIs None b
         none_right o is beside = cc (behind, no_nodes 4 8 (omega arith) _ d.fit.2 (subst (λ z. NextIs z (heads after)) is (beside (up_asks d))))
+
+        -- the first key behind is that behind the parent
+        pub key_up : (o : Option K) → KeyIs o (heads after) → KeyIs o b
+        key_up None is = cc (behind, no_nodes 4 8 (omega arith) _ d.fit.2 is)
+        key_up (Some key) is = let n = next_of 4 8 (omega arith) _ key is.0 is.1.0 d.fit.2 is.1.1 in
+            (n.f.1, (n.fs ++ flat n.rest, behind ∙ ap (λ z. flat z) n.after_is ∙ ap (λ z. (z, n.f.1) ∷ (n.fs ++ flat n.rest)) (sym n.k_is)))
 
         -- the right neighbour has another parent
         pub beside_next : (o : Option (K × ℕ)) (next : _) (is : o ≡ Some next) (beside : Beside t path indices (up + 1) size o) (child : ℕ) →

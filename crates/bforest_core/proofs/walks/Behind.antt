@@ -2,12 +2,13 @@
 use Rattle.bforest_core.proofs.Words.{◌≡◌, ℕ, zero, suc, ◌+◌, ◌-◌, ◌≤◌, ◌<◌, false, List, [], ◌∷◌, ◌++◌, get_or, length, set}
 use Rattle.bforest_core.proofs.Words.{slice_get, IfSome, Some, refl, sym, subst, ap, ◌∙◌, arith, IsTotalOrder, IsStrictlySortedBy, AllByRecursion, is_some, is_gt, is_lt}
 use Rattle.bforest_core.proofs.Words.{ordering_reverse, option_map, Path, flat, node, EndsIn, leaf_of, index_of, list_under, Table, IsUnion, tree_of}
-use Rattle.bforest_core.proofs.Words.{IsIncreasing, is_present, place, place-later, place-present, value_for, entry_keys, get_or-set_same, all_greater_behind, leaf_content, length-map}
+use Rattle.bforest_core.proofs.Words.{Bool, KeyIs, None, Option, StandsOn, heads, value_for-absent, slice_get-map, true, IsIncreasing, is_present, place, place-later, place-present, value_for, entry_keys, get_or-set_same, all_greater_behind, leaf_content, length-map}
 use Rattle.bforest_core.proofs.{rows.LevelRows.flat-append, table.Lists.{slice_get-append_left, slice_get-append-add}, table.Stored.some_same}
+use Rattle.bforest_core.proofs.removal.{Dropping.{next_node, none_next}, Removal.stands_in}
 use Rattle.bforest_core.proofs.walks.{Entered.points_in, Nearby.all_at, Rising.{all_split, entry_between, increasing_split, place-le, place_between}, Standing.on-leaf-in}
 use Rattle.bforest_core.proofs.walks.{Steps.{at_index, read}, TopNode.set_but, Whole.stands-pointed}
 use Rattle.bforest_core.specs.Place.{IsAt}
-use Rattle.{std.specs.{Map.keys_of, declared.cmp.Ordering.{Ordering, TheVariants.{Less, Equal, Greater}}}, bforest_core.specs.Paths.StandsBefore}
+use Rattle.{std.specs.{Map.keys_of, declared.cmp.Ordering.{Ordering, TheVariants.{Less, Equal, Greater}}}, bforest_core.specs.Paths.{IsPlaced, StandsBefore}}
 
 module _ {K X : Type 0} where
   -- an entry's key is greater than those of a part in front of its own
@@ -29,12 +30,21 @@ module _ {K : Type 0} {cmp : K → K → Ordering} (o : IsTotalOrder cmp) (key :
   all_lower e [] t h = tt
   all_lower e (k ∷ ks) t h = (o.trans k e key h.0 t, all_lower e ks t h.1)
 
-  -- the place of a key behind an entry is not 0
-  place-some : {X : Type 0} (es : List (K × X)) (i e : _) → IsIncreasing cmp es → slice_get es i ≡ Some e → cmp e.0 key ≡ Less → 0 < place cmp es key
+  -- the place of a key behind an entry is behind it
+  place-above : {X : Type 0} (es : List (K × X)) (i e : _) → IsIncreasing cmp es → slice_get es i ≡ Some e → cmp e.0 key ≡ Less → i < place cmp es key
   unfolding IsStrictlySortedBy
-  place-some [] i e h here t = absurd cc
-  place-some (x ∷ es) zero e h here t = omega (arith, place-later cmp o x es key (ap (λ z. cmp z.0 key) (some_same here) ∙ t))
-  place-some (x ∷ es) (suc i) e h here t = omega (arith, place-later cmp o x es key (o.trans x.0 e.0 key (all_at (λ k. cmp x.0 k ≡ Less) es i e h.0 here) t))
+  place-above [] i e h here t = absurd cc
+  place-above (x ∷ es) zero e h here t = omega (arith, place-later cmp o x es key (ap (λ z. cmp z.0 key) (some_same here) ∙ t))
+  place-above (x ∷ es) (suc i) e h here t =
+      omega (arith, place-later cmp o x es key (o.trans x.0 e.0 key (all_at (λ k. cmp x.0 k ≡ Less) es i e h.0 here) t), place-above es i e h.1 here t)
+
+  -- a key whose place is behind all entries is absent
+  absent-behind : {X : Type 0} (es : List (K × X)) → place cmp es key ≡ length es → is_present cmp es key ≡ false
+  absent-behind es at = go (is_present cmp es key) refl
+    where
+      go : (b : Bool) → is_present cmp es key ≡ b → b ≡ false
+      go true here = absurd (omega (arith, at, place-present cmp es key here))
+      go false here = refl
 
   -- a key that is not less than the other is not less in the turned comparison
   not_below : (k : K) → is_gt (cmp key k) ≡ false → is_lt (cmp k key) ≡ false
@@ -44,6 +54,24 @@ module _ {K : Type 0} {cmp : K → K → Ordering} (o : IsTotalOrder cmp) (key :
       go Less t = refl
       go Equal t = refl
       go Greater t = absurd cc
+
+  -- a key above a lesser one
+  turned : (k : K) → is_lt (cmp key k) ≡ true → cmp k key ≡ Greater
+  turned k less = o.antisymm k key ∙ go (cmp key k) less
+    where
+      go : (r : Ordering) → is_lt r ≡ true → ordering_reverse r ≡ Greater
+      go Less t = refl
+      go Equal t = absurd cc
+      go Greater t = absurd cc
+
+  -- a key below a greater one
+  beneath : (k : K) → is_gt (cmp key k) ≡ true → cmp k key ≡ Less
+  beneath k above = o.antisymm k key ∙ go (cmp key k) above
+    where
+      go : (r : Ordering) → is_gt r ≡ true → ordering_reverse r ≡ Less
+      go Less t = absurd cc
+      go Equal t = absurd cc
+      go Greater t = refl
 
 -- a path on an entry that is less than a key
 module _ {K V : Type 0} {n : ℕ} {table : Table K V} {root : ℕ} {path : Path K V n} (union : IsUnion n table) {cmp : K → K → Ordering} (o : IsTotalOrder cmp) {key : K}
@@ -89,14 +117,39 @@ module _ {K V : Type 0} {n : ℕ} {table : Table K V} {root : ℕ} {path : Path 
   pub entries-up : IsIncreasing cmp leaf.entries
   entries-up = (increasing_split o leaf.entries (flat leaf.after) own).0
 
-  -- where the key is not greater than the last of the leaf, a search ends in the leaf
-  pub ends-here : {k : K} → slice_get (entry_keys leaf.entries) (length (entry_keys leaf.entries) - 1) ≡ Some k → is_gt (cmp key k) ≡ false → length path.node ≡ 17 → length path.entry ≡ 17
-      → EndsIn cmp table root key (leaf_of path) path.node path.entry path.size
-  ends-here {k} last upto wide indexed =
-      let high = all_greater_behind cmp key o k (keys_of (flat leaf.after)) (less_behind cmp leaf.entries (flat leaf.after) (length (entry_keys leaf.entries) - 1) k own last) (not_below o key k upto) in
-      let after = (increasing_split o leaf.entries (flat leaf.after) own).1 in
-      let place_is : place cmp (list_under table root) key ≡ length (flat leaf.before) + place cmp leaf.entries key = ap (λ l. place cmp l key) whole ∙ place_between o (flat leaf.before) leaf.entries (flat leaf.after) key after low high in
-      let found = entry_between o (flat leaf.before) leaf.entries (flat leaf.after) key after low high in
+  behind-up : IsIncreasing cmp (flat leaf.after)
+  behind-up = (increasing_split o leaf.entries (flat leaf.after) own).1
+
+  -- the key is less than all behind the leaf
+  abbrev pub IsLow : Type 0
+  IsLow = AllByRecursion (λ q. cmp q key ≡ Greater) (keys_of (flat leaf.after))
+
+  -- it is, where it is not greater than the last of the leaf
+  pub low-here : {k : K} → slice_get (entry_keys leaf.entries) (length (entry_keys leaf.entries) - 1) ≡ Some k → is_gt (cmp key k) ≡ false → IsLow
+  low-here {k} last upto = all_greater_behind cmp key o k (keys_of (flat leaf.after)) (less_behind cmp leaf.entries (flat leaf.after) (length (entry_keys leaf.entries) - 1) k own last) (not_below o key k upto)
+
+  -- it is, where it is less than the first key behind the leaf
+  pub low-next : (next : Option K) → KeyIs next (heads leaf.after) → IfSome next (λ k. is_lt (cmp key k) ≡ true) → IsLow
+  unfolding IsStrictlySortedBy
+  low-next None is less = rw (none_next (stands_in n table union b.on) is) tt
+  low-next (Some k) is less = let d = next_node (stands_in n table union b.on) is.1 in
+      let below = turned o key d.f.0 (rw d.k_is at less) in let list_is : flat leaf.after ≡ d.f ∷ (d.fs ++ flat d.rest) = ap flat d.after_is in
+      subst (λ l. AllByRecursion (λ q. cmp q key ≡ Greater) (keys_of l)) (sym list_is)
+      (below, all_greater_behind cmp key o d.f.0 (keys_of (d.fs ++ flat d.rest)) (subst (IsIncreasing cmp) list_is behind-up).0 (ap is_lt below))
+
+  -- the place in the leaf of a key that is greater than the last of it, where the path stands on that one, or else
+  pub place-here : suc (index_of path) ≡ length leaf.entries → place cmp leaf.entries key ≡ length leaf.entries
+  place-here is = omega (arith, is, place-above o key leaf.entries (index_of path) e entries-up here lesser, place-le o leaf.entries key)
+
+  pub place-last : (i : ℕ) {k : K} → suc i ≡ length leaf.entries → slice_get (entry_keys leaf.entries) i ≡ Some k → is_gt (cmp key k) ≡ true → place cmp leaf.entries key ≡ length leaf.entries
+  place-last i {k} is last above = let r = read leaf.entries i (omega (arith, is)) in let key_is = some_same (sym (slice_get-map (λ w. w.0) leaf.entries i ∙ ap (option_map (λ w. w.0)) r.1) ∙ last) in
+      omega (arith, is, place-above o key leaf.entries i r.0 entries-up r.1 (ap (λ z. cmp z key) key_is ∙ beneath o key k above), place-le o leaf.entries key)
+
+  -- then a search ends in the leaf
+  pub ends-here : IsLow → length path.node ≡ 17 → length path.entry ≡ 17 → EndsIn cmp table root key (leaf_of path) path.node path.entry path.size
+  ends-here high wide indexed =
+      let place_is : place cmp (list_under table root) key ≡ length (flat leaf.before) + place cmp leaf.entries key = ap (λ l. place cmp l key) whole ∙ place_between o (flat leaf.before) leaf.entries (flat leaf.after) key behind-up low high in
+      let found = entry_between o (flat leaf.before) leaf.entries (flat leaf.after) key behind-up low high in
       let present_is : is_present cmp (list_under table root) key ≡ is_present cmp leaf.entries key = ap (λ l. is_present cmp l key) whole ∙ ap is_some found in
       let at : get_or (set path.entry 0 (place cmp leaf.entries key)) 0 0 ≡ place cmp leaf.entries key = get_or-set_same path.entry 0 (place cmp leaf.entries key) 0 (omega (arith, indexed)) in
       let within : get_or (set path.entry 0 (place cmp leaf.entries key)) 0 0 ≤ length leaf.entries = omega (arith, at, place-le o leaf.entries key) in
@@ -112,5 +165,19 @@ module _ {K V : Type 0} {n : ℕ} {table : Table K V} {root : ℕ} {path : Path 
         wide = wide;
         indexed = omega (arith, indexed);
         present = λ yes. record { root_is = b.on.root_is; stands = stands-pointed points (omega (arith, at, place-present cmp leaf.entries key (sym present_is ∙ yes))) };
-        absent = λ no. record { root_is = b.on.root_is; at = record { points = points; first = λ none. absurd (omega (arith, at, none, place-some o key leaf.entries (index_of path) e entries-up here lesser)) } };
+        absent = λ no. record { root_is = b.on.root_is; at = record { points = points; first = λ none. absurd (omega (arith, at, none, place-above o key leaf.entries (index_of path) e entries-up here lesser)) } };
       }
+
+  -- where the key is greater than the leaf's and less than those behind, a path that goes behind the leaf's last entry is where a search ends
+  pub ends-behind : (count : ℕ) → count ≡ length leaf.entries → place cmp leaf.entries key ≡ count → IsLow → length path.node ≡ 17 → length path.entry ≡ 17 → (now : Path K V n)
+      → now.node ≡ path.node → now.entry ≡ set path.entry 0 count → now.size ≡ path.size
+      → (None ≡ value_for cmp (list_under table root) key)
+      × (is_present cmp (list_under table root) key ≡ true → StandsOn table root now (place cmp (list_under table root) key))
+      × (is_present cmp (list_under table root) key ≡ false → IsPlaced table root now (place cmp (list_under table root) key))
+  unfolding ends-here
+  ends-behind count is at low wide indexed now nodes entries size =
+      let e = ends-here low wide indexed in let none = e.found_is ∙ absent-behind o key leaf.entries (at ∙ is) in (
+        sym (value_for-absent cmp (list_under table root) key none),
+        λ here. absurd (let bad : true ≡ false = sym here ∙ none in cc),
+        λ absent. rw (nodes, entries, size, ← at) (e.absent absent),
+      )
