@@ -3,7 +3,7 @@
 
 #[cfg(debug_assertions)]
 use crate::bforest_core::Path;
-use crate::bforest_core::{Comparator, Node, PackedNode};
+use crate::bforest_core::{Comparator, Node, NodePool, PackedNode};
 use crate::bforest_trees::Trees;
 #[cfg(debug_assertions)]
 use core::fmt::Arguments;
@@ -41,11 +41,34 @@ impl<K: Copy, V: Copy, const N: usize> Trees<K, V, N> {
     /// Gives a handle the root that its tree has from now on, and in debug builds the mark with it.
     #[inline(always)]
     pub(crate) fn rename(&mut self, handle: &mut PackedNode, root: PackedNode) {
-        self.mark(*handle, false);
-        *handle = root;
-        self.mark(root, true);
+        rename_in(&mut self.pool, handle, root);
+    }
+
+    // Marks the slot that a handle names, if it names one, as a root or as none.
+    #[inline(always)]
+    fn mark(&mut self, handle: PackedNode, is_root: bool) {
+        mark_in(&mut self.pool, handle, is_root);
     }
 }
+
+/// The same in a pool, for a function without the trees.
+#[inline(always)]
+pub(crate) fn rename_in<K: Copy, V: Copy, const N: usize>(pool: &mut NodePool<K, V, N>, handle: &mut PackedNode, root: PackedNode) {
+    mark_in(pool, *handle, false);
+    *handle = root;
+    mark_in(pool, root, true);
+}
+
+#[cfg(debug_assertions)]
+fn mark_in<K: Copy, V: Copy, const N: usize>(pool: &mut NodePool<K, V, N>, handle: PackedNode, is_root: bool) {
+    if let Some(root) = handle.expand() {
+        pool.node_mut(root).root_mark = RootMark(is_root);
+    }
+}
+
+#[cfg(not(debug_assertions))]
+#[inline(always)]
+fn mark_in<K: Copy, V: Copy, const N: usize>(_pool: &mut NodePool<K, V, N>, _handle: PackedNode, _is_root: bool) {}
 
 /// The place of a key among the first `len` keys of a leaf's row, by the comparator's search. Debug builds then compare the key with
 /// itself and with those beside its place, three times at most, before anything is written.
@@ -63,13 +86,6 @@ pub(crate) fn place_of<K: Copy, C: Comparator<K>>(key: K, row: &[K], len: usize,
 
 #[cfg(debug_assertions)]
 impl<K: Copy, V: Copy, const N: usize> Trees<K, V, N> {
-    // Marks the slot that a handle names, if it names one, as a root or as none.
-    fn mark(&mut self, handle: PackedNode, is_root: bool) {
-        if let Some(root) = handle.expand() {
-            self.pool.node_mut(root).root_mark = RootMark(is_root);
-        }
-    }
-
     /// Panics where a handle is neither empty nor names a root.
     #[track_caller]
     pub(crate) fn expect_live(&self, handle: PackedNode) {
@@ -127,9 +143,6 @@ fn not_live(why: Arguments<'_>) -> ! {
 
 #[cfg(not(debug_assertions))]
 impl<K: Copy, V: Copy, const N: usize> Trees<K, V, N> {
-    #[inline(always)]
-    fn mark(&mut self, _handle: PackedNode, _is_root: bool) {}
-
     #[inline(always)]
     pub(crate) fn expect_live(&self, _handle: PackedNode) {}
 

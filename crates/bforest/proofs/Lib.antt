@@ -14,6 +14,7 @@ pub mod SetCursors
 pub mod Sets
 pub mod Sides
 pub mod Shrinking
+pub mod RangeFits
 pub mod Fewest
 pub mod Standard
 pub mod Truncating
