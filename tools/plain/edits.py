@@ -243,7 +243,13 @@ EDITS = {
             "        self.expect_order_at(*handle, bounds.0, comp);\n        self.expect_order_at(*handle, bounds.1, comp);\n",
             1,
         ),
-        # A function without the trees, which keep the marks, writes the handle.
+        # Functions without the trees, which keep the marks, write the handle.
+        (
+            r"^( *)\*handle = (PackedNode::some\(path\.remove_next_leaf\(next, pool\)\));\n",
+            r"\1let left = \2;\n\1rename_in(pool, handle, left);\n",
+            1,
+        ),
+        (r"^(?=use crate::trees::\{Trees, packed\};)", "use crate::guards::rename_in;\n", 1),
         (
             r"^( *)return (cut_front_at\(&mut self\.pool, )handle(, &mut path\));\n",
             r"\1let mut left = *handle;\n\1let changed = \2&mut left\3;\n\1self.rename(handle, left);\n\1return changed;\n",

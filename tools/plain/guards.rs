@@ -4,7 +4,7 @@
 
 #[cfg(any(debug_assertions, feature = "guards"))]
 use crate::bforest_core::Path;
-use crate::bforest_core::{Comparator, Node, PackedNode};
+use crate::bforest_core::{Comparator, Node, NodePool, PackedNode};
 use crate::bforest_trees::Trees;
 #[cfg(any(debug_assertions, feature = "guards"))]
 use core::fmt::Arguments;
@@ -42,11 +42,34 @@ impl<K: Copy, V: Copy, const N: usize> Trees<K, V, N> {
     /// Gives a handle the root that its tree has from now on, and with guards the mark, too.
     #[inline(always)]
     pub(crate) fn rename(&mut self, handle: &mut PackedNode, root: PackedNode) {
-        self.mark(*handle, false);
-        *handle = root;
-        self.mark(root, true);
+        rename_in(&mut self.pool, handle, root);
+    }
+
+    // Marks the slot that a handle names, if it names one, as a root or as none.
+    #[inline(always)]
+    fn mark(&mut self, handle: PackedNode, is_root: bool) {
+        mark_in(&mut self.pool, handle, is_root);
     }
 }
+
+/// The same in a pool, for a function without the trees.
+#[inline(always)]
+pub(crate) fn rename_in<K: Copy, V: Copy, const N: usize>(pool: &mut NodePool<K, V, N>, handle: &mut PackedNode, root: PackedNode) {
+    mark_in(pool, *handle, false);
+    *handle = root;
+    mark_in(pool, root, true);
+}
+
+#[cfg(any(debug_assertions, feature = "guards"))]
+fn mark_in<K: Copy, V: Copy, const N: usize>(pool: &mut NodePool<K, V, N>, handle: PackedNode, is_root: bool) {
+    if let Some(root) = handle.expand() {
+        pool.node_mut(root).root_mark = RootMark(is_root);
+    }
+}
+
+#[cfg(not(any(debug_assertions, feature = "guards")))]
+#[inline(always)]
+fn mark_in<K: Copy, V: Copy, const N: usize>(_pool: &mut NodePool<K, V, N>, _handle: PackedNode, _is_root: bool) {}
 
 /// The place of a key among the first `len` keys of a leaf's row, by the comparator's search. Guards then compare the key with
 /// itself and with those beside its place, three times at most, before anything is written.
@@ -64,13 +87,6 @@ pub(crate) fn place_of<K: Copy, C: Comparator<K>>(key: K, row: &[K], len: usize,
 
 #[cfg(any(debug_assertions, feature = "guards"))]
 impl<K: Copy, V: Copy, const N: usize> Trees<K, V, N> {
-    // Marks the slot that a handle names, if it names one, as a root or as none.
-    fn mark(&mut self, handle: PackedNode, is_root: bool) {
-        if let Some(root) = handle.expand() {
-            self.pool.node_mut(root).root_mark = RootMark(is_root);
-        }
-    }
-
     /// Panics where a handle is neither empty nor names a root.
     #[track_caller]
     pub(crate) fn expect_live(&self, handle: PackedNode) {
@@ -128,9 +144,6 @@ fn not_live(why: Arguments<'_>) -> ! {
 
 #[cfg(not(any(debug_assertions, feature = "guards")))]
 impl<K: Copy, V: Copy, const N: usize> Trees<K, V, N> {
-    #[inline(always)]
-    fn mark(&mut self, _handle: PackedNode, _is_root: bool) {}
-
     #[inline(always)]
     pub(crate) fn expect_live(&self, _handle: PackedNode) {}
 

@@ -1,12 +1,12 @@
 -- What a call that may change one tree says of its handle: the sizes of the tree's nodes fit the list afterwards as they did before, and
 -- slots, free slots and the tree's nodes balance.
 use Rattle.bforest.proofs.Growing.{growth-fits}
-use Rattle.bforest.proofs.Shrinking.{shrink-fits}
+use Rattle.bforest.proofs.{RangeFits.range-fits, Shrinking.{shrink-fits}}
 use Rattle.bforest.proofs.BehindFits.{detached-fits}
 use Rattle.bforest.proofs.Truncating.{truncation-fits}
 pub use Rattle.bforest.proofs.Lengths.{length-written}
 use Rattle.bforest.specs.Bounds.{entries_between, is_between, is_from_start, is_past_end, start_place}
-use Rattle.bforest.specs.Calls.{Clears, Compacts, Filters, GetsOrInserts, Inserts, KeepsFrom, Pops, Removes, RemovesAt, RemovesBetween, Unites, Updates, fewest, need_of_union, removals, sizes_behind, sizes_outside, truncation}
+use Rattle.bforest.specs.Calls.{Clears, Compacts, Filters, GetsOrInserts, Inserts, KeepsFrom, Pops, Removes, RemovesAt, RemovesBetween, Unites, Updates, fewest, need_of_union, sizes_behind, sizes_outside, truncation}
 use Rattle.bforest.specs.Entries.{is_present, place, value_for}
 use Rattle.bforest.specs.Forest.{Becomes, Forest, Gives, IsFitFor, IsLive, Takes, growth, limit_of, list_of, need, need_of, room_of, shrink, sizes_of}
 use Rattle.bforest.specs.Refusal.{OutOfMemory}
@@ -110,17 +110,10 @@ module _ {K V : Type 0} where
         go None live list sizes = refl
         go (Some n) live list sizes = rw (list ∙ sym (kept-by (list_of f h)), sizes live) (sifted-all most odd any tt (list_of f h) (kept_of cmp present (list_of f h) (list_of f other)) (sizes_of f h) (asked (list_of f h)) fit)
 
-    -- n removals at one place
-    removals-fit : (p n len : ℕ) (sizes : List (List ℕ)) → IsFitFor most len sizes → p + n ≤ len → IsFitFor most (len - n) (removals most p n sizes)
-    removals-fit p zero len sizes fit low = subst (λ k. IsFitFor most k sizes) (let is : len ≡ len - 0 = omega arith in is) fit
-    removals-fit p (suc n) len sizes fit low =
-        subst (λ k. IsFitFor most k (shrink most p (removals most p n sizes))) (let is : (len - n) - 1 ≡ len - suc n = omega arith in is)
-        (shrink-fits most odd p (len - n) (removals most p n sizes) (removals-fit p n len sizes fit (omega (arith, low))) (omega (arith, low)))
-
-    -- the same of a range with a start, or of all entries in front of a place
+    -- a range with a start and an end, or all entries in front of a place
     behind-fit : (lo : Bound K) (p n len : ℕ) (sizes : List (List ℕ)) → IsFitFor most len sizes → p + n ≤ len → IsFitFor most (len - n) (sizes_behind most lo p n sizes)
-    behind-fit (Included k) p n len sizes fit low = removals-fit p n len sizes fit low
-    behind-fit (Excluded k) p n len sizes fit low = removals-fit p n len sizes fit low
+    behind-fit (Included k) p n len sizes fit low = range-fits most odd p n len sizes fit low
+    behind-fit (Excluded k) p n len sizes fit low = range-fits most odd p n len sizes fit low
     behind-fit Unbounded p n len sizes fit low = detached-fits most n len sizes (omega (arith, odd)) fit (omega (arith, low))
 
     -- the same of a range with an end, or of all entries behind a place

@@ -15,6 +15,7 @@ pub mod SetCursors
 pub mod Sets
 pub mod Sides
 pub mod Shrinking
+pub mod RangeFits
 pub mod Fewest
 pub mod Standard
 pub mod Truncating

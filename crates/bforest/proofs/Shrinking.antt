@@ -121,7 +121,7 @@ trimmed-fit (size ∷ next ∷ after) (level ∷ levels) some fit =
     (level ∷ up.0, ap (λ z. (size ∷ next ∷ after) ∷ z) up.1, (fit.0, fit.1, fit.2, up.2))
 
 -- The levels up to the root, where one node, if any, is gone from the level below.
-trimmed-above : (count : ℕ) (new : List ℕ) (gone : Option ℕ) (levels : List (List ℕ)) → 0 < length new → IsFitAbove count levels → (gone ≡ None → length new ≡ count) → ((i : ℕ) → gone ≡ Some i → (suc (length new) ≡ count) × (i < count))
+pub trimmed-above : (count : ℕ) (new : List ℕ) (gone : Option ℕ) (levels : List (List ℕ)) → 0 < length new → IsFitAbove count levels → (gone ≡ None → length new ≡ count) → ((i : ℕ) → gone ≡ Some i → (suc (length new) ≡ count) × (i < count))
     → Fits new (trimmed (new ∷ loss_above gone levels))
 trimmed-above count new None levels some fit same less = trimmed-fit new levels some (rw (same refl) fit)
 trimmed-above count [] (Some i) levels some fit same less = absurd (omega (arith, some))

@@ -3,7 +3,7 @@ use Rattle.bforest_trees.specs.Retain.{Stepped}
 use Rattle.bforest_core.specs.Change.{Changes, GivesNodes}
 use Rattle.bforest_core.specs.Paths.{StandsAt}
 use Rattle.bforest_core.specs.Place.{count}
-use Rattle.bforest_core.specs.Sizes.{loss, loss_above, shrink, trimmed}
+use Rattle.bforest_core.specs.Sizes.{loss, loss_above, shrink, trimmed, without_next}
 use Rattle.bforest_core.specs.Table.{Table}
 use Rattle.bforest_core.specs.declared.path.Path.{Path}
 use Rattle.bforest_nodes.specs.Entries.{with_value}
@@ -37,6 +37,11 @@ loss_fewer : (k : Option ℕ) (levels : List (List ℕ)) → length (loss_above 
 loss_fewer None levels = omega arith
 loss_fewer (Some p) [] = omega arith
 loss_fewer (Some p) (level ∷ levels) = omega (arith, loss_fewer (loss 8 p level).0 levels)
+
+-- a leaf that goes adds no level
+pub without_next-fewer : (i : ℕ) (sizes : List (List ℕ)) → length (without_next i sizes) ≤ length sizes
+without_next-fewer i [] = omega arith
+without_next-fewer i (leaves ∷ levels) = omega (arith, trimmed_fewer (remove leaves (suc i) ∷ loss_above (Some i) levels), loss_fewer (Some i) levels)
 
 -- a removal adds no level
 pub shrink-fewer : (n p : ℕ) (sizes : List (List ℕ)) → length (shrink n p sizes) ≤ length sizes

@@ -9,3 +9,6 @@ pub mod Outside
 pub mod Parting
 pub mod Splitting
 pub mod Fronting
+pub mod Counted
+pub mod Thinning
+pub mod Leafwise

@@ -2,7 +2,7 @@
 -- map cites.
 use Rattle.bforest_core.specs.Change.{node_count, severed}
 use Rattle.bforest_core.specs.Packed.{ArePacked, fewest}
-use Rattle.bforest_core.specs.Sizes.{IsFitFor, detached, shrink, truncated}
+use Rattle.bforest_core.specs.Sizes.{IsFitFor, detached, shrink, truncated, without_next}
 use Rattle.bforest_core.specs.declared.pool.OutOfMemory.TheVariants.{Full, Memory}
 use Rattle.bforest_core.specs.declared.pool.OutOfMemory.{OutOfMemory}
 use Rattle.bforest_nodes.specs.Entries.{IsIncreasing, cut, is_present, place, put, value_for}
@@ -12,7 +12,8 @@ use Rattle.bforest_trees.specs.Retain.{Retains, sizes_by}
 use Rattle.bforest_trees.specs.Shift.{Rekeys}
 use Rattle.bforest_trees.specs.Union.{are_among, fits, kept_from, kept_of, keeps_all, united}
 use Rattle.std.specs.Fn.{FnOnceReturns, Once}
-use Rattle.std.specs.Prelude.{Bool, Err, IfOk, IfSome, IsOk, IsSome, List, None, Ok, OnErr, OnOk, Option, Result, Some, [], drop, false, if◌then◌else◌, length, nat_lt, not, remove, slice_get, take, true, unwrap_or, zero, suc, ◌++◌, ◌+◌, ◌-◌, ◌<◌, ◌↔◌, ◌≡◌, ◌≢◌, ◌≤◌, ℕ}
+use Rattle.std.specs.List.{sum_by}
+use Rattle.std.specs.Prelude.{Bool, Err, IfOk, IfSome, IsOk, IsSome, List, None, Ok, OnErr, OnOk, Option, Result, Some, [], drop, false, if◌then◌else◌, length, nat_le, nat_lt, not, remove, slice_get, take, true, unwrap_or, zero, suc, ◌++◌, ◌∷◌, ◌+◌, ◌-◌, ◌<◌, ◌↔◌, ◌≡◌, ◌≢◌, ◌≤◌, ℕ}
 use Rattle.std.specs.Cmp.{IsTotalOrder}
 use Rattle.std.specs.Ordering.{is_eq}
 use Rattle.std.specs.declared.cmp.Ordering.{Ordering}
@@ -24,17 +25,47 @@ abbrev pub removals : ℕ → ℕ → ℕ → List (List ℕ) → List (List ℕ
 removals most place zero sizes = sizes
 removals most place (suc n) sizes = shrink most place (removals most place n sizes)
 
+-- the index of the leaf that has the entry at a place, from the sizes of the leaves
+abbrev pub leaf_index : ℕ → List ℕ → ℕ
+leaf_index place [] = 0
+leaf_index place (size ∷ after) = if nat_lt place size then 0 else suc (leaf_index (place - size) after)
+
+-- how many of these leaves, from the first on, have so many entries together at most
+abbrev pub leaves_within : ℕ → List ℕ → ℕ
+leaves_within n [] = 0
+leaves_within n (size ∷ after) = if nat_le size n then suc (leaves_within (n - size) after) else 0
+
+-- how many leaves behind the leaf of a place have no other entries than some of the n from that place on
+abbrev pub whole_leaves : ℕ → ℕ → List ℕ → ℕ
+whole_leaves place n [] = 0
+whole_leaves place n (size ∷ after) =
+    if nat_lt place size then leaves_within ((place + n) - size) after else whole_leaves (place - size) n after
+
+-- the sizes of a tree after so many leaves behind the one with this index went, one after another
+abbrev pub without_leaves : ℕ → ℕ → List (List ℕ) → List (List ℕ)
+without_leaves index zero sizes = sizes
+without_leaves index (suc count) sizes = without_next index (without_leaves index count sizes)
+
+-- The sizes of a tree after n entries from a place on were removed: first the leaves behind the leaf of the place all of whose entries go, and
+-- then the other entries, one after another
+abbrev pub without_range : ℕ → ℕ → ℕ → List (List ℕ) → List (List ℕ)
+without_range most place zero sizes = sizes
+without_range most place (suc n) [] = []
+without_range most place (suc n) (leaves ∷ levels) =
+    let index = leaf_index place leaves in let count = whole_leaves place (suc n) leaves in
+    removals most place (suc n - sum_by (λ size. size) (take count (drop (suc index) leaves))) (without_leaves index count (leaves ∷ levels))
+
 -- the sizes of a tree after the last n entries were removed, from this place on, with the nodes that held them alone
 abbrev pub truncation : ℕ → ℕ → List (List ℕ) → List (List ℕ)
 truncation place zero sizes = sizes
 truncation place (suc n) sizes = truncated place sizes
 
 -- the sizes of a tree after n entries up to an end bound were removed, of which the first is at this place: all at once where the start has no
--- bound, else one after another
+-- bound, else by leaves
 abbrev pub sizes_behind : {K : Type 0} → ℕ → Bound K → ℕ → ℕ → List (List ℕ) → List (List ℕ)
 sizes_behind most Unbounded place n sizes = detached most n sizes
-sizes_behind most (Included k) place n sizes = removals most place n sizes
-sizes_behind most (Excluded k) place n sizes = removals most place n sizes
+sizes_behind most (Included k) place n sizes = without_range most place n sizes
+sizes_behind most (Excluded k) place n sizes = without_range most place n sizes
 
 -- the sizes of a tree after n entries within two bounds were removed, of which the first is at this place: all at once where the end has no bound
 abbrev pub sizes_outside : {K : Type 0} → ℕ → Bound K → Bound K → ℕ → ℕ → List (List ℕ) → List (List ℕ)

@@ -10,6 +10,7 @@ pub mod Place
 pub mod Range
 pub mod Retain
 pub mod Shift
+pub mod Thinned
 pub mod Order
 pub mod Union
 pub mod Written

@@ -264,6 +264,25 @@ impl Sizes {
         self.trim();
     }
 
+    /// `count` entries from a place on go: first, one by one, the leaves behind that of the place of which all entries go, each of which leaves
+    /// the levels above as a leaf does that is merged into its right neighbour, and then the others, one after another. Returns how many those are.
+    fn remove_leaves(&mut self, place: usize, count: usize) -> usize {
+        let leaf = self.path(place, false)[0];
+        let here = self.0[0][..=leaf].iter().sum::<usize>() - place;
+        let mut left = count;
+        while self.0[0].get(leaf + 1).is_some_and(|next| here + next <= left) {
+            let path = self.path(place, false);
+            left -= self.0[0].remove(leaf + 1);
+            for (height, node) in path.into_iter().enumerate().skip(1) {
+                if !self.loses(height, node, 8) {
+                    break;
+                }
+            }
+            self.trim();
+        }
+        left
+    }
+
     /// All entries from a place on go at once: of each level the nodes that hold the first ones are left, the last with what is in front.
     fn truncate(&mut self, place: usize) {
         let mut kept = place;
@@ -499,8 +518,15 @@ impl<'a, C: Order> Model<'a, C> {
             self.cut(at, &within);
         } else if low == Bound::Unbounded {
             self.cut_front(at, &within);
-        } else {
-            within.iter().for_each(|rank| _ = self.remove(at, *rank));
+        } else if let Some(first) = within.first() {
+            let list = &mut self.lists[at];
+            let before = list.sizes.nodes();
+            let place = list.ranks.partition_point(|it| it < first);
+            within.iter().for_each(|rank| _ = list.entries.remove(rank));
+            list.ranks.drain(place..place + within.len());
+            let others = list.sizes.remove_leaves(place, within.len());
+            (0..others).for_each(|_| list.sizes.shrink(place, self.leaf));
+            self.free += before - list.sizes.nodes();
         }
         !within.is_empty()
     }

@@ -673,7 +673,7 @@ fn evens_within(bounds: Bounds, last: u32) -> u32 {
 }
 
 /// Removes ranges whose bounds are keys up to `last`; `taken` removes one, and returns how often it compared: in one search, if there is a
-/// bound, and between two bounds once for each entry that goes and once more. Debug builds compare beside each bound too.
+/// bound, and between two bounds once for each entry that goes, at most, and twice more. Debug builds compare beside each bound too.
 fn each_removal(last: u32, search: impl Fn(u32) -> u32, taken: impl Fn(Bounds) -> u32) {
     assert_eq!(taken((Unbounded, Unbounded)), 0);
     let of = |bound: Bound<u32>, cost: &dyn Fn(u32) -> u32| match bound {
@@ -685,7 +685,7 @@ fn each_removal(last: u32, search: impl Fn(u32) -> u32, taken: impl Fn(Bounds) -
         let found = match bounds {
             (start, Unbounded) => of(start, &search),
             (Unbounded, end) => of(end, &search),
-            (start, _) => of(start, &search) + evens_within(bounds, last) + 1,
+            (start, _) => of(start, &search) + evens_within(bounds, last) + 2,
         };
         found + of(bounds.0, &beside) + of(bounds.1, &beside)
     };

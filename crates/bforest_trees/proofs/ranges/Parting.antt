@@ -11,7 +11,7 @@ use Rattle.bforest_trees.proofs.ranges.Between.{end-rises, start-rises}
 use Rattle.bforest_trees.proofs.ranges.Outside.{Parts, behind-is, filter-halves, get-behind, none-out, outside-is, past-behind, remove-behind}
 use Rattle.bforest_trees.proofs.unions.Choosing.{passing-value}
 use Rattle.bforest_trees.specs.Bounds.{end_place, entries_between, entries_outside, is_between, is_from_start, is_past_end, start_behind, start_place}
-use Rattle.bforest_trees.specs.Calls.{CutsFrom, CutsTo, RemovesBetween, SameLevels, removals, sizes_outside, truncation}
+use Rattle.bforest_trees.specs.Calls.{CutsFrom, CutsTo, RemovesBetween, SameLevels, removals, sizes_outside, truncation, without_range}
 use Rattle.bforest_trees.specs.Forest.{Becomes, Forest, Gives, IsLive, list_of, sizes_of}
 use Rattle.bforest_trees.specs.Place.{AtSpot, IsSpot, OnSpot}
 use Rattle.bforest_trees.specs.Retain.{kept_by}
@@ -30,7 +30,7 @@ use Rattle.std.specs.declared.ops.Bound.TheVariants.{Excluded, Included, Unbound
 use Rattle.std.specs.declared.ops.Bound.{Bound}
 
 -- the sizes after a range with a start and an end
-bounded : {K : Type 0} (most : ℕ) (lo hi : Bound K) (p n : ℕ) (sizes : List (List ℕ)) → (lo ≡ Unbounded → ⊥) → (hi ≡ Unbounded → ⊥) → sizes_outside most lo hi p n sizes ≡ removals most p n sizes
+pub bounded : {K : Type 0} (most : ℕ) (lo hi : Bound K) (p n : ℕ) (sizes : List (List ℕ)) → (lo ≡ Unbounded → ⊥) → (hi ≡ Unbounded → ⊥) → sizes_outside most lo hi p n sizes ≡ without_range most p n sizes
 bounded most lo Unbounded p n sizes start end = absurd (end refl)
 bounded most (Included a) (Included k) p n sizes start end = refl
 bounded most (Included a) (Excluded k) p n sizes start end = refl
@@ -57,7 +57,7 @@ less-some p n zero is = sym (no (omega (arith, is)))
     no low = grind (arith, low)
 less-some p n (suc m) is = grind (arith, is)
 
-zero-by : (n : ℕ) → nat_lt 0 n ≡ false → n ≡ 0
+pub zero-by : (n : ℕ) → nat_lt 0 n ≡ false → n ≡ 0
 zero-by n t = omega (arith, ltb-false 0 n t)
 
 -- keys that compare equal are on the same side of each bound
@@ -82,11 +82,11 @@ module _ {K X : Type 0} (cmp : K → K → Ordering) where
       go (e ∷ es) = ap (λ l. if test e.0 then e ∷ l else l) (go es)
 
   module _ (lo hi : Bound K) where
-    outside-up : (es : List (K × X)) → IsIncreasing cmp es → IsIncreasing cmp (entries_outside cmp lo hi es)
+    pub outside-up : (es : List (K × X)) → IsIncreasing cmp es → IsIncreasing cmp (entries_outside cmp lo hi es)
     outside-up es up = tested-up (λ k. not (is_between cmp lo hi k)) es up
 
     -- a key's value among the entries outside
-    outside-value : IsTotalOrder cmp → (es : List (K × X)) (q : K) → IsIncreasing cmp es → value_for cmp (entries_outside cmp lo hi es) q ≡ (if is_between cmp lo hi q then None else value_for cmp es q)
+    pub outside-value : IsTotalOrder cmp → (es : List (K × X)) (q : K) → IsIncreasing cmp es → value_for cmp (entries_outside cmp lo hi es) q ≡ (if is_between cmp lo hi q then None else value_for cmp es q)
     outside-value total es q up =
         passing-value cmp total (λ k. not (is_between cmp lo hi k)) (λ k r t i. not (start-alike cmp total lo k r t i && not (end-alike cmp total hi k r t i))) outside-up es q up ∙ turned (is_between cmp lo hi q)
       where
@@ -99,7 +99,7 @@ module _ {K X : Type 0} (cmp : K → K → Ordering) where
   end-low hi es = count_by-le-length (λ (e : K × X). not (is_past_end cmp hi e.0)) es
 
   -- the place where the bounds begin is in the list
-  start-low : (lo : Bound K) (es : List (K × X)) → start_place cmp lo es ≤ length es
+  pub start-low : (lo : Bound K) (es : List (K × X)) → start_place cmp lo es ≤ length es
   start-low lo es = count_by-le-length (λ (e : K × X). not (is_from_start cmp lo e.0)) es
 
 module _ {K X : Type 0} (most : ℕ) (cmp : K → K → Ordering) (lo hi : Bound K) (f₀ : Forest K X) (h₀ : Option ℕ) where
@@ -118,6 +118,16 @@ module _ {K X : Type 0} (most : ℕ) (cmp : K → K → Ordering) (lo hi : Bound
     pub tested : (i : ℕ) (e : K × X) → start_place cmp lo (list_of f₀ h₀) ≤ i → i < to → slice_get (list_of f₀ h₀) i ≡ Some e → is_past_end cmp hi e.0 ≡ false
     pub changed_is : changed ≡ nat_lt 0 count
     pub same : count ≡ 0 → (f ≡ f₀) × (h ≡ h₀)
+
+  -- the entries within the bounds were removed, one after another
+  pub record Parted (changed : Bool) (f : Forest K X) (h : Option ℕ) : Type 0 where
+    pub removed : Becomes f₀ h₀ f h (entries_outside cmp lo hi (list_of f₀ h₀))
+    pub changed_is : changed ≡ nat_lt 0 (length (entries_between cmp lo hi (list_of f₀ h₀)))
+    pub sizes : sizes_of f h ≡ removals most (start_place cmp lo (list_of f₀ h₀)) (length (entries_between cmp lo hi (list_of f₀ h₀))) (sizes_of f₀ h₀)
+    pub fewer : length (sizes_of f h) ≤ length (sizes_of f₀ h₀)
+    pub same_levels : length (sizes_of f h) ≡ length (sizes_of f₀ h₀) → h ≡ h₀
+    pub account : Gives (sizes_of f₀ h₀) (sizes_of f h) f₀ f
+    pub same : length (entries_between cmp lo hi (list_of f₀ h₀)) ≡ 0 → (f ≡ f₀) × (h ≡ h₀)
 
 module _ {K X : Type 0} {most : ℕ} {cmp : K → K → Ordering} {lo hi : Bound K} {f₀ : Forest K X} {h₀ : Option ℕ} where
   -- before the first step
@@ -201,17 +211,15 @@ module _ {K X : Type 0} {most : ℕ} {cmp : K → K → Ordering} {lo hi : Bound
             }
 
     -- the loop ends in front of an entry that is past the end, or behind all
-    pub parting-end : (lo ≡ Unbounded → ⊥) → (hi ≡ Unbounded → ⊥) → IsTotalOrder cmp → IsIncreasing cmp (list_of f₀ h₀) → ((at : AtSpot f h path) (e : K × X) → slice_get (list_of f h) at.place ≡ Some e → is_past_end cmp hi e.0 ≡ true) → RemovesBetween most cmp lo hi f₀ h₀ changed f h
-    parting-end start end total up past = record {
+    pub parting-end : IsTotalOrder cmp → IsIncreasing cmp (list_of f₀ h₀) → ((at : AtSpot f h path) (e : K × X) → slice_get (list_of f h) at.place ≡ Some e → is_past_end cmp hi e.0 ≡ true) → Parted most cmp lo hi f₀ h₀ changed f h
+    parting-end total up past = record {
       removed = subst (Becomes f₀ h₀ f h) (sym parts.outside_is) s.becomes;
-      changed = s.changed_is ∙ ap (nat_lt 0) (sym count);
-      found = λ q. ap (λ l. value_for cmp l q) (s.becomes.list ∙ sym parts.outside_is) ∙ outside-value cmp lo hi total (list_of f₀ h₀) q up;
-      sizes = s.sizes ∙ ap (λ n. removals most (start_place cmp lo (list_of f₀ h₀)) n (sizes_of f₀ h₀)) (sym count) ∙ sym (bounded most lo hi (start_place cmp lo (list_of f₀ h₀)) (length (entries_between cmp lo hi (list_of f₀ h₀))) (sizes_of f₀ h₀) start end);
+      changed_is = s.changed_is ∙ ap (nat_lt 0) (sym count);
+      sizes = s.sizes ∙ ap (λ n. removals most (start_place cmp lo (list_of f₀ h₀)) n (sizes_of f₀ h₀)) (sym count);
+      fewer = s.fewer;
       same_levels = s.same_levels;
       account = s.gives;
-      increasing = subst (IsIncreasing cmp) (sym (s.becomes.list ∙ sym parts.outside_is)) (outside-up cmp lo hi (list_of f₀ h₀) up);
-      same_forest = λ none. (s.same (zero-by s.count (sym s.changed_is ∙ none))).0;
-      same_handle = λ none. (s.same (zero-by s.count (sym s.changed_is ∙ none))).1;
+      same = λ none. s.same (sym count ∙ none);
     }
       where
         behind : AllByRecursion (λ (y : K × X). is_past_end cmp hi y.0 ≡ true) (drop s.to (list_of f₀ h₀))

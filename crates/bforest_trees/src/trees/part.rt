@@ -3,12 +3,14 @@ ghost use Rattle.bforest_trees.specs.Bounds.{is_past_end, start_behind, start_pl
 ghost use Rattle.bforest_trees.specs.Calls.{CutsFrom, CutsTo, RemovesBetween, SplitsAt, SplitsOff};
 ghost use Rattle.bforest_trees.specs.Forest.{IsLive, list_of};
 ghost use Rattle.bforest_trees.specs.Place.{AtSpot, IsSpot};
+ghost use Rattle.bforest_trees.specs.Thinned.{NextWithin, Stops, Thinned};
+ghost use Rattle.bforest_core.specs.Paths.{IsAtEnd, OnEntry};
 ghost use Rattle.bforest_core.specs.Trees.{IsUnion};
 ghost use Rattle.bforest_nodes.specs.Entries.{IsIncreasing};
 ghost use Rattle.std.specs.Prelude.{Err, IfOk, Ok, Some, false, slice_get, true, ◌≡◌};
 
 use crate::trees::{Trees, packed};
-use bforest_core::{Comparator, NodePool, OutOfMemory, PackedNode, Path};
+use bforest_core::{Comparator, Node, NodePool, OutOfMemory, PackedNode, Path};
 use std::ops::Bound;
 
 impl<K: Copy, V: Copy, const N: usize> Trees<K, V, N> {
@@ -35,6 +37,7 @@ impl<K: Copy, V: Copy, const N: usize> Trees<K, V, N> {
             return cut_front_at(&mut self.pool, handle, &mut path);
         }
         self.goto_start(*handle, &mut path, bounds.0, comp);
+        remove_leaves(&mut self.pool, handle, &mut path, bounds.1, comp);
         let mut changed = false;
         while self.is_within(*handle, &path, bounds.1, comp) {
             self.remove_at(handle, &mut path);
@@ -124,6 +127,57 @@ impl<K: Copy, V: Copy, const N: usize> Trees<K, V, N> {
             }
             Bound::Unbounded => {
                 let _entry = self.first(handle, path);
+            }
+        }
+    }
+}
+
+// Removes each leaf behind a path's whose entries are all in front of an end bound. The path stays on its entry.
+fn remove_leaves<K: Copy, V: Copy, const N: usize, C: Comparator<K>>(
+    pool: &mut NodePool<K, V, N>,
+    handle: &mut PackedNode,
+    path: &mut Path<K, V, N>,
+    end: Bound<K>,
+    comp: &C,
+)
+    requires union { IsUnion N pool.old }
+    requires live { IsLive pool.old handle.old }
+    requires increasing { IsIncreasing (C.order comp.now) (list_of pool.old handle.old) }
+    requires stands { AtSpot pool.old handle.old path.old }
+    ensures union { IsUnion N pool.new }
+    ensures pool_at_end { IsAtEnd path.old → pool.new ≡ pool.old }
+    ensures handle_at_end { IsAtEnd path.old → handle.new ≡ handle.old }
+    ensures path_at_end { IsAtEnd path.old → path.new ≡ path.old }
+    ensures thinned { (¬ IsAtEnd path.old) → (at : AtSpot pool.old handle.old path.old)
+        → (t : Thinned N (C.order comp.now) end pool.old handle.old at.place pool.new handle.new path.new)
+        × Stops (C.order comp.now) end t.behind t.after }
+{
+    if path.leaf_pos().is_none() {
+        return;
+    }
+    while let Some(next) = leaf_within(pool, path, end, comp) {
+        *handle = PackedNode::some(path.remove_next_leaf(next, pool));
+    }
+}
+
+// The leaf behind a path's, if there is one whose entries are all in front of an end bound.
+fn leaf_within<K: Copy, V: Copy, const N: usize, C: Comparator<K>>(
+    pool: &NodePool<K, V, N>,
+    path: &Path<K, V, N>,
+    end: Bound<K>,
+    comp: &C,
+) -> Option<Node>
+    requires union { IsUnion N pool.now }
+    requires stands { OnEntry pool.now path.now }
+    ensures next { (at : OnEntry pool.now path.now) → NextWithin (C.order comp.now) end at result }
+{
+    match path.next_leaf(pool) {
+        None => None,
+        Some(next) => {
+            if is_past(end, next.1, comp) {
+                None
+            } else {
+                Some(next.0)
             }
         }
     }
