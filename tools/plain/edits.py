@@ -329,7 +329,7 @@ MUST_USE = {
     "bforest/forest.rt": ["slots", "nodes_in_use", "free_slots", "node_limit"],
     "bforest/map_forest.rt": ["new", "with_node_limit", "holds", "get_mut"],
     "bforest/set_forest.rt": ["new", "with_node_limit", "holds"],
-    "bforest_indexed/maps.rt": [*MANY, "cursor", "get_mut", "len_of", *(it for it in TELLING if it not in ("contains", "increases"))],
+    "bforest_indexed/maps.rt": [*MANY, "cursor", "get_mut", "len_of", "is_subset", "is_disjoint", *(it for it in TELLING if it not in ("contains", "increases"))],
     "bforest_indexed/sets.rt": [*MANY, "len_of", *SET_TELLING],
     "bforest/map_cursor.rt": ["is_empty", "entry", "key", "value"],
     "bforest/map_cursor_mut.rt": ["is_empty", "entry", "key", "value", "value_mut"],

@@ -5,6 +5,7 @@ ghost use Rattle.bforest.specs.Entries.{value_for};
 ghost use Rattle.bforest.specs.Forest.{IsFitFor, empty, first_level, free_of, limit_of, slots_of};
 ghost use Rattle.bforest.specs.Memory.{MapsFitInMemory};
 ghost use Rattle.bforest.specs.Retain.{Answers, MayAsk, MayAskEach};
+ghost use Rattle.bforest.specs.Union.{are_among, are_apart};
 ghost use Rattle.bforest_indexed.specs.Edits.{EditsAt};
 ghost use Rattle.bforest_indexed.specs.Indexed.{CompactsAt, HoldsFor, RemovesBetweenAt, SplitsOffAt, ReservesFor};
 ghost use Rattle.bforest_indexed.specs.Lending.{lends_value_at};
@@ -440,6 +441,30 @@ impl<K: Copy, V: Copy, C: Comparator<K>, I: Idx> Maps<K, V, C, I> {
             }
             Err(refused) => Err(LoadError::Refused(refused)),
         }
+    }
+
+    /// Returns whether each key of the map at `index` has an equal one in the map at `other`, which may be the same. The values do not
+    /// matter. An empty map is a subset of each map. Reads both side by side, up to the first key that is not there: at most one comparison
+    /// for each key of either.
+    pub fn is_subset(&self, index: I, other: I) -> bool
+        requires within { I.number index < count self.now }
+        requires other { I.number other < count self.now }
+        ensures among { result ≡ are_among (C.order (comparator self.now)) (entries self.now (I.number index))
+            (entries self.now (I.number other)) }
+    {
+        self.maps[index.index()].is_subset(&self.maps[other.index()], &self.forest, &self.order)
+    }
+
+    /// Returns whether no key of the map at `index` has an equal one in the map at `other`, which may be the same. The values do not
+    /// matter. An empty map is disjoint from each map. Reads both side by side, up to the first key that both have: at most one comparison
+    /// for each key of either.
+    pub fn is_disjoint(&self, index: I, other: I) -> bool
+        requires within { I.number index < count self.now }
+        requires other { I.number other < count self.now }
+        ensures apart { result ≡ are_apart (C.order (comparator self.now)) (entries self.now (I.number index))
+            (entries self.now (I.number other)) }
+    {
+        self.maps[index.index()].is_disjoint(&self.maps[other.index()], &self.forest, &self.order)
     }
 
     /// Puts each entry of the map at `other` whose key is absent into the map at `index`, and returns whether there was one. A present key
