@@ -68,6 +68,8 @@ INDEXED = [
     (r"Vec::new\(alloc\)", "Vec::new()", 1),
     (r"\bAllocError\b", "TryReserveError", 4),
     (r"^use std::ops::Bound;", "use std::ops::RangeBounds;", 1),
+    # A panic names the line of the caller, also where the index is looked up below the call.
+    (r"^(?=    fn (?:map|set)\(&self, index: I\))", "    #[track_caller]\n", 1),
     (
         r"pub fn (range|remove_range)\((&(?:mut )?self, index: I), bounds: \(Bound<K>, Bound<K>\)\)",
         r"pub fn \1<R: RangeBounds<K>>(\2, bounds: R)",
