@@ -68,6 +68,8 @@ INDEXED = [
     (r"Vec::new\(alloc\)", "Vec::new()", 1),
     (r"\bAllocError\b", "TryReserveError", 4),
     (r"^use std::ops::Bound;", "use std::ops::RangeBounds;", 1),
+    # A panic names the line of the caller, also where the index is looked up below the call.
+    (r"^(?=    fn (?:map|set)\(&self, index: I\))", "    #[track_caller]\n", 1),
     (
         r"pub fn (range|remove_range)\((&(?:mut )?self, index: I), bounds: \(Bound<K>, Bound<K>\)\)",
         r"pub fn \1<R: RangeBounds<K>>(\2, bounds: R)",
@@ -335,7 +337,7 @@ MUST_USE = {
     "bforest/forest.rt": ["slots", "nodes_in_use", "free_slots", "node_limit"],
     "bforest/map_forest.rt": ["new", "with_node_limit", "holds", "get_mut"],
     "bforest/set_forest.rt": ["new", "with_node_limit", "holds"],
-    "bforest_indexed/maps.rt": [*MANY, "cursor", "get_mut", "len_of", *(it for it in TELLING if it not in ("contains", "increases"))],
+    "bforest_indexed/maps.rt": [*MANY, "cursor", "get_mut", "len_of", "is_subset", "is_disjoint", *(it for it in TELLING if it not in ("contains", "increases"))],
     "bforest_indexed/sets.rt": [*MANY, "len_of", *SET_TELLING],
     "bforest/map_cursor.rt": ["is_empty", "entry", "key", "value"],
     "bforest/map_cursor_mut.rt": ["is_empty", "entry", "key", "value", "value_mut"],

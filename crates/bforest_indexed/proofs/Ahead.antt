@@ -7,8 +7,8 @@ use Rattle.bforest.specs.Refusal.{Full, Memory, OutOfMemory}
 use Rattle.bforest.specs.Room.{IsEnoughFor, IsMetBy, IsMostFor}
 use Rattle.bforest_indexed.proofs.Kept.{kept-all, kept-same, same-nodes}
 use Rattle.bforest_indexed.specs.Handles.{Holds}
-use Rattle.bforest_indexed.specs.Indexed.{AreKept, HasRoom, Indexed, KeepsAll, ReservesFor, memory, missing, nodes_in_use, table}
-use Rattle.std.proofs.Common.{Err, IsErrAnd, List, None, Ok, Option, Result, ap, arith, get_or, inl, inr, max, refl, subst, sym, ◌*◌, ◌+◌, ◌-◌, ◌<◌, ◌∙◌, ◌≡◌, ◌≢◌, ◌≤◌, ℕ}
+use Rattle.bforest_indexed.specs.Indexed.{AreKept, HasRoom, Indexed, KeepsAll, MayHave, ReservesFor, memory, missing, nodes_in_use, table}
+use Rattle.std.proofs.Common.{Err, IsErrAnd, List, None, Ok, Option, Result, ap, arith, get_or, inl, inr, max, refl, subst, sym, ◌*◌, ◌+◌, ◌-◌, ◌<◌, ◌↔◌, ◌∙◌, ◌≡◌, ◌≢◌, ◌≤◌, ℕ}
 use Rattle.std.proofs.Math.Nat.{le-max_left, le-max_right, mul-le-mul_left}
 use Rattle.std.proofs.lemmas.Bool.Decides.{leb_tells}
 use Rattle.std.proofs.lemmas.Result.{err_from_is_err_and}
@@ -43,50 +43,37 @@ module _ {K X C : Type 0} {most : ℕ} {cmp : K → K → Ordering} {m : Indexed
   one-most : (n : ℕ) → IsMostFor most most_entries n → n ≡ nodes
   one-most n also = omega (arith, never-fewer most most_entries most_entries n nodes also.0 met (omega arith), never-fewer most most_entries most_entries nodes n enough also.1 (omega arith))
 
-  keeps : KeepsAll m m
-  keeps = record { lists = λ i. refl; sizes = λ i. refl; same_comparator = refl }
+  -- nothing was asked of the table
+  unasked : (why : OutOfMemory) → (HasRoom most lists most_entries (table m) → lists ≤ memory m → ⊥)
+      → (◌≡◌ {A = Result (Unit {0}) OutOfMemory} (Err why) (Err Full) ↔ ¬ (MayHave most lists most_entries (table m)))
+      → (◌≡◌ {A = Result (Unit {0}) OutOfMemory} (Err why) (Err Memory) → memory m < lists) → ReservesFor most lists most_entries m (Err why) m
+  unasked why few full short = record {
+    keeps = record { lists = λ i. refl; sizes = λ i. refl; same_comparator = refl };
+    same_count = refl;
+    same_limit = refl;
+    room = tt;
+    indices = tt;
+    holds = holds-same lists (memory m);
+    no_fewer = omega arith;
+    added_free = refl;
+    no_more = tt;
+    growth = λ n also. grows-not refl;
+    enough = λ room there. absurd (few room there);
+    same = λ room. refl;
+    refused = refl;
+    full = full;
+    full_same = λ is. refl;
+    memory = λ is. inl (short is);
+  }
 
   -- the limit does not allow so many slots
   pub too-many : slots_of (table m) ≤ limit_of (table m) → limit_of (table m) < lists * nodes → ReservesFor most lists most_entries m (Err Full) m
-  too-many bound few = record {
-    keeps = keeps;
-    same_count = refl;
-    same_limit = refl;
-    room = tt;
-    indices = tt;
-    holds = holds-same lists (memory m);
-    no_fewer = omega arith;
-    added_free = refl;
-    no_more = tt;
-    growth = λ n also. grows-not refl;
-    enough = λ room there. absurd (not-both few (omega (arith, least room.0 room.1, room.2, bound)));
-    same = λ room. refl;
-    refused = refl;
-    full = (λ is may. not-both few (omega (arith, least may.0 may.1, may.2)), λ never. refl);
-    full_same = λ is. refl;
-    memory = λ is. absurd (full-memory is);
-  }
+  too-many bound few = unasked Full (λ room there. not-both few (omega (arith, least room.0 room.1, room.2, bound)))
+      (λ is may. not-both few (omega (arith, least may.0 may.1, may.2)), λ never. refl) (λ is. absurd (full-memory is))
 
   -- memory for the handles was refused
   pub no-memory : lists * nodes ≤ limit_of (table m) → memory m < lists → ReservesFor most lists most_entries m (Err Memory) m
-  no-memory within few = record {
-    keeps = keeps;
-    same_count = refl;
-    same_limit = refl;
-    room = tt;
-    indices = tt;
-    holds = holds-same lists (memory m);
-    no_fewer = omega arith;
-    added_free = refl;
-    no_more = tt;
-    growth = λ n also. grows-not refl;
-    enough = λ room there. absurd (not-both few there);
-    same = λ room. refl;
-    refused = refl;
-    full = (λ is. absurd (memory-full is), λ never. absurd (never (nodes, enough, within)));
-    full_same = λ is. refl;
-    memory = λ is. inl few;
-  }
+  no-memory within few = unasked Memory (λ room there. not-both few there) (λ is. absurd (memory-full is), λ never. absurd (never (nodes, enough, within))) (λ is. few)
 
   -- the table was asked for the slots that its free ones and the nodes in use are too few
   module _ (within : lists * nodes ≤ limit_of (table m)) (n : ℕ) (n-is : n ≡ lists * nodes - nodes_in_use m) (f' : Forest K X) where

@@ -1,8 +1,7 @@
 -- What a call on the tree of one index leaves of all trees.
 use Rattle.bforest.proofs.Balances.{clears-balance, filters-balance, inserts-balance, pops-balance, removes-balance, updates-balance}
-use Rattle.bforest.specs.Bounds.{entries_between, entry_at_least, entry_at_most}
 use Rattle.bforest.specs.Calls.{Clears, Filters, GetsOrInserts, Inserts, Pops, Removes, Reserves, Updates, UpdatesOrInserts}
-use Rattle.bforest.specs.Entries.{IsIncreasing, is_present, value_for}
+use Rattle.bforest.specs.Entries.{IsIncreasing, value_for}
 use Rattle.bforest.specs.Forest.{Becomes, Forest, Gives, IsFitFor, IsLive, IsSearchable, empty, emptied, free_of, list_at, list_of, sizes_of, slots_of}
 use Rattle.bforest.specs.Refusal.{Full, OutOfMemory}
 use Rattle.bforest.specs.Retain.{MayAskEach, Retains}
@@ -23,7 +22,6 @@ use Rattle.std.specs.List.{SwappedAt}
 use Rattle.std.specs.List.Sorted.{IsStrictlySortedBy}
 use Rattle.std.specs.Ordering.{is_eq}
 use Rattle.std.specs.declared.cmp.Ordering.{Ordering}
-use Rattle.std.specs.declared.ops.Bound.{Bound}
 
 -- the empty list increases
 pub nothing-increases : (K X : Type 0) (cmp : K → K → Ordering) → IsIncreasing {K = K} {X = X} cmp []
@@ -222,34 +220,12 @@ module _ {K X C : Type 0} where
     pub read : h ≡ handle m i
     read = get_or_read m.handles i h within is None
 
-    -- what is so of the handle that was read is so of the index
-    pub of-index : (P : Option ℕ → Type 0) → P h → P (handle m i)
-    of-index P p = subst P read p
-
-    pub same-list : list_of (table m) h ≡ entries m i
+    same-list : list_of (table m) h ≡ entries m i
     same-list = ap (list_of (table m)) read
 
-    pub same-sizes : sizes_of (table m) h ≡ node_sizes m i
-    same-sizes = ap (sizes_of (table m)) read
-
     -- what is found in the list that was read
-    pub value-read : (k : K) → value_for cmp (list_of (table m) h) k ≡ value_for cmp (entries m i) k
+    value-read : (k : K) → value_for cmp (list_of (table m) h) k ≡ value_for cmp (entries m i) k
     value-read k = ap (λ (es : List (K × X)). value_for cmp es k) same-list
-
-    pub present-read : (k : K) → is_present cmp (list_of (table m) h) k ≡ is_present cmp (entries m i) k
-    present-read k = ap (λ (es : List (K × X)). is_present cmp es k) same-list
-
-    pub at_most-read : (k : K) → entry_at_most cmp (list_of (table m) h) k ≡ entry_at_most cmp (entries m i) k
-    at_most-read k = ap (λ (es : List (K × X)). entry_at_most cmp es k) same-list
-
-    pub at_least-read : (k : K) → entry_at_least cmp (list_of (table m) h) k ≡ entry_at_least cmp (entries m i) k
-    at_least-read k = ap (λ (es : List (K × X)). entry_at_least cmp es k) same-list
-
-    pub between-read : (b d : Bound K) → entries_between cmp b d (list_of (table m) h) ≡ entries_between cmp b d (entries m i)
-    between-read b d = ap (entries_between cmp b d) same-list
-
-    pub on-list : (P : List (K × X) → Type 0) → P (list_of (table m) h) → P (entries m i)
-    on-list P p = subst P same-list p
 
     -- what is asked of the list of the index is so of the list that was read
     pub asked-read : {F : Type 0} {step : F → K → X → Bool → X → F → Type 0} {may : F → K → X → Type 0} {f : F} → MayAskEach step may f (entries m i)

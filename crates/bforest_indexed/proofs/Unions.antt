@@ -5,11 +5,10 @@ use Rattle.bforest.specs.Entries.{is_present, value_for}
 use Rattle.bforest.specs.Forest.{Forest, Gives, list_of, sizes_of}
 use Rattle.bforest.specs.Refusal.{OutOfMemory}
 use Rattle.bforest.specs.Room.{node_count}
-use Rattle.bforest.specs.Union.{are_among, are_apart, fits}
-use Rattle.bforest_indexed.proofs.Kept.{changes, changes-not, here, kept-set, list-here, read, same-list, unchanged, with_tree}
+use Rattle.bforest.specs.Union.{fits}
+use Rattle.bforest_indexed.proofs.Kept.{changes, changes-not, here, kept-set, list-here, read, unchanged, with_tree}
 use Rattle.bforest_indexed.specs.Indexed.{AreKept, Indexed, KeepsFromAt, UnitesAt, count, entries, handle, node_sizes, table}
 use Rattle.std.proofs.Common.{Bool, Err, List, None, Ok, Option, Result, ap, false, get_or, if◌then◌else◌, length, refl, subst, sym, true, ◌<◌, ◌∙◌, ◌≡◌, ℕ}
-use Rattle.std.specs.Map.{keys_of}
 use Rattle.std.specs.declared.cmp.Ordering.{Ordering}
 
 module _ {K X C : Type 0} {most : ℕ} {cmp : K → K → Ordering} {m : Indexed K X C} {i : ℕ} (j : ℕ) (a : AreKept most cmp m) (within : i < count m) where
@@ -62,10 +61,10 @@ module _ {K X C : Type 0} {most : ℕ} {cmp : K → K → Ordering} {m : Indexed
     })
 
     -- the handles of two indices were read, and their trees united
-    pub united-at : {h q : Option ℕ} → h ≡ get_or m.handles i h → j < count m → q ≡ get_or m.handles j q → {r : Result Bool OutOfMemory} → Unites most cmp (table m) h q r f' h'
+    pub united-at : {h q : Option ℕ} → h ≡ get_or m.handles i h → q ≡ handle m j → {r : Result Bool OutOfMemory} → Unites most cmp (table m) h q r f' h'
         → AreKept most cmp (with_tree m i f' h') × UnitesAt most cmp m i j r (with_tree m i f' h')
-    united-at {h} {q} is other_within other_is {r} call =
-        united-here r (subst (λ (z : Option ℕ). Unites most cmp (table m) (handle m i) z r f' h') (read a other_within other_is)
+    united-at {h} {q} is other_is {r} call =
+        united-here r (subst (λ (z : Option ℕ). Unites most cmp (table m) (handle m i) z r f' h') other_is
         (subst (λ (z : Option ℕ). Unites most cmp (table m) z q r f' h') (read a within is) call))
 
     keeps-here : {present r : Bool} → KeepsFrom most cmp present (table m) (handle m i) (handle m j) r f' h'
@@ -88,20 +87,8 @@ module _ {K X C : Type 0} {most : ℕ} {cmp : K → K → Ordering} {m : Indexed
         list = ap (list_of f') (here a within call.kept)
 
     -- the handles of two indices were read, and the entries of one kept by the keys of the other
-    pub keeps-at : {h q : Option ℕ} → h ≡ get_or m.handles i h → j < count m → q ≡ get_or m.handles j q → {present r : Bool} → KeepsFrom most cmp present (table m) h q r f' h'
+    pub keeps-at : {h q : Option ℕ} → h ≡ get_or m.handles i h → q ≡ handle m j → {present r : Bool} → KeepsFrom most cmp present (table m) h q r f' h'
         → AreKept most cmp (with_tree m i f' h') × KeepsFromAt most cmp present m i j r (with_tree m i f' h')
-    keeps-at {h} {q} is other_within other_is {present} {r} call =
-        keeps-here (subst (λ (z : Option ℕ). KeepsFrom most cmp present (table m) (handle m i) z r f' h') (read a other_within other_is)
+    keeps-at {h} {q} is other_is {present} {r} call =
+        keeps-here (subst (λ (z : Option ℕ). KeepsFrom most cmp present (table m) (handle m i) z r f' h') other_is
         (subst (λ (z : Option ℕ). KeepsFrom most cmp present (table m) z q r f' h') (read a within is) call))
-
-  -- what two lists tell is what the handles that were read tell
-  module _ {h q : Option ℕ} (is : h ≡ get_or m.handles i h) (other_within : j < count m) (other_is : q ≡ get_or m.handles j q) where
-    pub among-read : are_among cmp (list_of (table m) h) (list_of (table m) q) ≡ are_among cmp (entries m i) (entries m j)
-    among-read = λ n. are_among cmp (same-list a within is n) (same-list a other_within other_is n)
-
-    pub apart-read : are_apart cmp (list_of (table m) h) (list_of (table m) q) ≡ are_apart cmp (entries m i) (entries m j)
-    apart-read = λ n. are_apart cmp (same-list a within is n) (same-list a other_within other_is n)
-
-    -- what is made of both lists
-    pub made-read : (f : List (K × X) → List (K × X) → List (K × X)) → keys_of (f (list_of (table m) h) (list_of (table m) q)) ≡ keys_of (f (entries m i) (entries m j))
-    made-read f = λ n. keys_of (f (same-list a within is n) (same-list a other_within other_is n))

@@ -2,9 +2,10 @@
 ghost use Rattle.bforest.specs.Bounds.{entries_between, entry_at_least, entry_at_most};
 ghost use Rattle.bforest.specs.Calls.{Reserves};
 ghost use Rattle.bforest.specs.Entries.{value_for};
-ghost use Rattle.bforest.specs.Forest.{IsFitFor, empty, first_level, free_of, limit_of, slots_of};
+ghost use Rattle.bforest.specs.Forest.{IsFitFor, IsSearchable, empty, first_level, free_of, limit_of, slots_of};
 ghost use Rattle.bforest.specs.Memory.{MapsFitInMemory};
 ghost use Rattle.bforest.specs.Retain.{Answers, MayAsk, MayAskEach};
+ghost use Rattle.bforest.specs.Union.{are_among, are_apart};
 ghost use Rattle.bforest_indexed.specs.Edits.{EditsAt};
 ghost use Rattle.bforest_indexed.specs.Indexed.{CompactsAt, HoldsFor, RemovesBetweenAt, SplitsOffAt, ReservesFor};
 ghost use Rattle.bforest_indexed.specs.Lending.{lends_value_at};
@@ -13,7 +14,7 @@ ghost use Rattle.bforest_indexed.specs.Written.{WritesAt, with_value_at};
 ghost use Rattle.bforest_indexed.specs.Indexed.{ClearsAll, ClearsAt, CopiesAt, FiltersAt, GetsOrInsertsAt, InsertsAt, IntersectsAt, SubtractsAt, UnitesAt, UpdatesAt, UpdatesOrInsertsAt};
 ghost use Rattle.bforest_indexed.specs.Indexed.{KeepsAll, PopsAt, RemovesAt, Swaps, Truncates};
 ghost use Rattle.bforest.specs.declared.map_forest.TheConstants.{MAP_LEAF};
-ghost use Rattle.bforest_indexed.specs.Indexed.{comparator, count, entries, memory, node_sizes, nodes_in_use, table};
+ghost use Rattle.bforest_indexed.specs.Indexed.{comparator, count, entries, handle, memory, node_sizes, nodes_in_use, table};
 ghost use Rattle.std.specs.Borrow.{sem};
 ghost use Rattle.std.specs.Option.{option_copied_mut};
 ghost use Rattle.std.specs.Prelude.{IfOk, IsOk, IsTrue, OnErr, OnOk, OnSome, Some, length, slice_get, ◌+◌, ◌-◌, ◌/◌, ◌<◌, ◌^◌, ◌↔◌, ◌≡◌, ◌≤◌, ℕ};
@@ -217,13 +218,22 @@ impl<K: Copy, V: Copy, C: Comparator<K>, I: Idx> Maps<K, V, C, I> {
         self.maps.swap(i.index(), j.index());
     }
 
+    // The map of an index.
+    fn map(&self, index: I) -> &Map<K, V>
+        requires within { I.number index < count self.now }
+        ensures handle { result.now ≡ handle self.now (I.number index) }
+        ensures searchable { IsSearchable (C.order (comparator self.now)) (table self.now) result.now }
+    {
+        &self.maps[index.index()]
+    }
+
     /// Returns the value of the entry whose key compares equal to `key`, or `None`. One search, as [`bforest::Map::get`] makes.
     pub fn get(&self, index: I, key: K) -> Option<V>
         requires within { I.number index < count self.now }
         ensures value { result
             ≡ value_for (C.order (comparator self.now)) (entries self.now (I.number index)) key }
     {
-        self.maps[index.index()].get(key, &self.forest, &self.order)
+        self.map(index).get(key, &self.forest, &self.order)
     }
 
     /// Returns the last entry whose key is not greater than `key`, or `None` where each key is greater. One search.
@@ -232,7 +242,7 @@ impl<K: Copy, V: Copy, C: Comparator<K>, I: Idx> Maps<K, V, C, I> {
         ensures entry { result
             ≡ entry_at_most (C.order (comparator self.now)) (entries self.now (I.number index)) key }
     {
-        self.maps[index.index()].get_or_less(key, &self.forest, &self.order)
+        self.map(index).get_or_less(key, &self.forest, &self.order)
     }
 
     /// Returns the first entry whose key is not less than `key`, or `None` where each key is less. One search.
@@ -241,7 +251,8 @@ impl<K: Copy, V: Copy, C: Comparator<K>, I: Idx> Maps<K, V, C, I> {
         ensures entry { result
             ≡ entry_at_least (C.order (comparator self.now)) (entries self.now (I.number index)) key }
     {
-        self.maps[index.index()].get_or_greater(key, &self.forest, &self.order)
+        self.map(index)
+            .get_or_greater(key, &self.forest, &self.order)
     }
 
     /// Returns the first entry of a map, or `None` where it is empty. Visits one node of each level. No comparison.
@@ -249,7 +260,7 @@ impl<K: Copy, V: Copy, C: Comparator<K>, I: Idx> Maps<K, V, C, I> {
         requires within { I.number index < count self.now }
         ensures entry { result ≡ slice_get (entries self.now (I.number index)) 0 }
     {
-        self.maps[index.index()].first(&self.forest)
+        self.map(index).first(&self.forest)
     }
 
     /// Returns the last entry of a map, or `None` where it is empty. Visits one node of each level. No comparison.
@@ -258,7 +269,7 @@ impl<K: Copy, V: Copy, C: Comparator<K>, I: Idx> Maps<K, V, C, I> {
         ensures entry { result
             ≡ slice_get (entries self.now (I.number index)) (length (entries self.now (I.number index)) - 1) }
     {
-        self.maps[index.index()].last(&self.forest)
+        self.map(index).last(&self.forest)
     }
 
     /// Inserts a value at a key and returns the value that was there, as [`bforest::Map::insert`] does: a stored key that compares equal
@@ -442,6 +453,32 @@ impl<K: Copy, V: Copy, C: Comparator<K>, I: Idx> Maps<K, V, C, I> {
         }
     }
 
+    /// Returns whether each key of the map at `index` has an equal one in the map at `other`, which may be the same. The values do not
+    /// matter. An empty map is a subset of each map. Reads both side by side, up to the first key that is not there: at most one comparison
+    /// for each key of either.
+    pub fn is_subset(&self, index: I, other: I) -> bool
+        requires within { I.number index < count self.now }
+        requires other { I.number other < count self.now }
+        ensures among { result ≡ are_among (C.order (comparator self.now)) (entries self.now (I.number index))
+            (entries self.now (I.number other)) }
+    {
+        let (map, other) = (self.map(index), self.map(other));
+        map.is_subset(other, &self.forest, &self.order)
+    }
+
+    /// Returns whether no key of the map at `index` has an equal one in the map at `other`, which may be the same. The values do not
+    /// matter. An empty map is disjoint from each map. Reads both side by side, up to the first key that both have: at most one comparison
+    /// for each key of either.
+    pub fn is_disjoint(&self, index: I, other: I) -> bool
+        requires within { I.number index < count self.now }
+        requires other { I.number other < count self.now }
+        ensures apart { result ≡ are_apart (C.order (comparator self.now)) (entries self.now (I.number index))
+            (entries self.now (I.number other)) }
+    {
+        let (map, other) = (self.map(index), self.map(other));
+        map.is_disjoint(other, &self.forest, &self.order)
+    }
+
     /// Puts each entry of the map at `other` whose key is absent into the map at `index`, and returns whether there was one. A present key
     /// keeps its own value. Where both are one, nothing changes.
     ///
@@ -458,7 +495,7 @@ impl<K: Copy, V: Copy, C: Comparator<K>, I: Idx> Maps<K, V, C, I> {
         ensures { UnitesAt MAP_LEAF (C.order (comparator self.old)) self.old (I.number index) (I.number other)
             result self.new }
     {
-        let theirs = self.maps[other.index()].clone();
+        let theirs = self.map(other).clone();
         self.maps[index.index()].union_with(&theirs, &mut self.forest, &self.order)
     }
 
@@ -473,7 +510,7 @@ impl<K: Copy, V: Copy, C: Comparator<K>, I: Idx> Maps<K, V, C, I> {
         ensures { IntersectsAt MAP_LEAF (C.order (comparator self.old)) self.old (I.number index)
             (I.number other) result self.new }
     {
-        let theirs = self.maps[other.index()].clone();
+        let theirs = self.map(other).clone();
         self.maps[index.index()].intersect_with(&theirs, &mut self.forest, &self.order)
     }
 
@@ -488,7 +525,7 @@ impl<K: Copy, V: Copy, C: Comparator<K>, I: Idx> Maps<K, V, C, I> {
         ensures { SubtractsAt MAP_LEAF (C.order (comparator self.old)) self.old (I.number index)
             (I.number other) result self.new }
     {
-        let theirs = self.maps[other.index()].clone();
+        let theirs = self.map(other).clone();
         self.maps[index.index()].difference_with(&theirs, &mut self.forest, &self.order)
     }
 
@@ -557,7 +594,7 @@ impl<K: Copy, V: Copy, C: Comparator<K>, I: Idx> Maps<K, V, C, I> {
         requires within { I.number index < count self.now }
         ensures count { result ≡ length (entries self.now (I.number index)) }
     {
-        self.maps[index.index()].len(&self.forest)
+        self.map(index).len(&self.forest)
     }
 
     /// Returns the height of a map's tree, in levels of nodes: 0 where it is empty, and never more than 17. Visits one node of each level.
@@ -569,7 +606,7 @@ impl<K: Copy, V: Copy, C: Comparator<K>, I: Idx> Maps<K, V, C, I> {
         ensures leaves { length (first_level (node_sizes self.now (I.number index)))
             ≤ (length (entries self.now (I.number index)) + 3) / 4 }
     {
-        self.maps[index.index()].levels(&self.forest)
+        self.map(index).levels(&self.forest)
     }
 
     /// Returns an iterator over the entries of a map, in order. Visits one node of each level, and then each leaf once. No comparison.
@@ -579,7 +616,7 @@ impl<K: Copy, V: Copy, C: Comparator<K>, I: Idx> Maps<K, V, C, I> {
         ensures entries { result ≡ entries self.now (I.number index) }
         ensures fits { MapsFitInMemory K.row V.row }
     {
-        self.maps[index.index()].iter(&self.forest)
+        self.map(index).iter(&self.forest)
     }
 
     /// Returns a double-ended iterator over the entries of a map within both bounds, in order. At most two searches and one comparison; the
@@ -590,7 +627,7 @@ impl<K: Copy, V: Copy, C: Comparator<K>, I: Idx> Maps<K, V, C, I> {
             (entries self.now (I.number index)) }
         ensures fits { MapsFitInMemory K.row V.row }
     {
-        self.maps[index.index()].range(bounds, &self.forest, &self.order)
+        self.map(index).range(bounds, &self.forest, &self.order)
     }
 
     /// Returns a cursor that reads a map. It stands at the end, behind the last entry. Constant time.
@@ -601,7 +638,7 @@ impl<K: Copy, V: Copy, C: Comparator<K>, I: Idx> Maps<K, V, C, I> {
         ensures comparator { result.comparator ≡ comparator self.now }
         ensures fits { MapsFitInMemory K.row V.row }
     {
-        self.maps[index.index()].cursor(&self.forest, &self.order)
+        self.map(index).cursor(&self.forest, &self.order)
     }
 
     /// Hands a writing cursor of a map to `edit`, and returns what that returns. The cursor stands at the end at first. What it does to the

@@ -2,7 +2,7 @@
 ghost use Rattle.bforest.specs.Bounds.{entries_between, entry_at_least, entry_at_most};
 ghost use Rattle.bforest.specs.Calls.{Reserves};
 ghost use Rattle.bforest.specs.Entries.{is_present, value_for};
-ghost use Rattle.bforest.specs.Forest.{IsFitFor, empty, first_level, free_of, limit_of, slots_of};
+ghost use Rattle.bforest.specs.Forest.{IsFitFor, IsSearchable, empty, first_level, free_of, limit_of, slots_of};
 ghost use Rattle.bforest.specs.Memory.{SetsFitInMemory};
 ghost use Rattle.bforest.specs.Retain.{MayAskEach};
 ghost use Rattle.bforest.specs.Set.{AnswersKey, MayAskKey, as_popped, as_put, as_removed, the_value, with_unit};
@@ -11,7 +11,7 @@ ghost use Rattle.bforest_indexed.specs.Indexed.{CompactsAt, HoldsFor, RemovesBet
 ghost use Rattle.bforest_indexed.specs.Loads.{LoadsAt};
 ghost use Rattle.bforest_indexed.specs.Indexed.{ClearsAll, ClearsAt, CopiesAt, FiltersAt, InsertsAt, IntersectsAt, KeepsAll, PopsAt, RemovesAt, SubtractsAt, Swaps, Truncates, UnitesAt};
 ghost use Rattle.bforest.specs.declared.set_forest.TheConstants.{SET_LEAF};
-ghost use Rattle.bforest_indexed.specs.Indexed.{comparator, count, entries, keys, memory, node_sizes, nodes_in_use, table};
+ghost use Rattle.bforest_indexed.specs.Indexed.{comparator, count, entries, handle, keys, memory, node_sizes, nodes_in_use, table};
 ghost use Rattle.std.specs.List.Sorted.{IsStrictlySortedBy};
 ghost use Rattle.std.specs.Map.{keys_of};
 ghost use Rattle.std.specs.Prelude.{IfOk, IsOk, IsTrue, OnErr, OnOk, false, is_some, length, option_map, slice_get, true, ◌*◌, ◌+◌, ◌-◌, ◌/◌, ◌<◌, ◌^◌, ◌↔◌, ◌≡◌, ◌≤◌, ℕ};
@@ -217,6 +217,15 @@ impl<K: Copy, C: Comparator<K>, I: Idx> Sets<K, C, I> {
         self.sets.swap(i.index(), j.index());
     }
 
+    // The set of an index.
+    fn set(&self, index: I) -> &Set<K>
+        requires within { I.number index < count self.now }
+        ensures handle { result.now ≡ handle self.now (I.number index) }
+        ensures searchable { IsSearchable (C.order (comparator self.now)) (table self.now) result.now }
+    {
+        &self.sets[index.index()]
+    }
+
     /// Returns whether a set has a key that compares equal to `key`. One search, as [`bforest::Set::contains`] makes.
     pub fn contains(&self, index: I, key: K) -> bool
         requires within { I.number index < count self.now }
@@ -225,7 +234,7 @@ impl<K: Copy, C: Comparator<K>, I: Idx> Sets<K, C, I> {
         ensures value { result
             ≡ is_some (value_for (C.order (comparator self.now)) (entries self.now (I.number index)) key) }
     {
-        self.sets[index.index()].contains(key, &self.forest, &self.order)
+        self.set(index).contains(key, &self.forest, &self.order)
     }
 
     /// Returns the last key that is not greater than `key`, as it is stored, or `None` where each key is greater. One search.
@@ -234,7 +243,7 @@ impl<K: Copy, C: Comparator<K>, I: Idx> Sets<K, C, I> {
         ensures key { result ≡ option_map (λ e. e.0)
             (entry_at_most (C.order (comparator self.now)) (entries self.now (I.number index)) key) }
     {
-        self.sets[index.index()].get_or_less(key, &self.forest, &self.order)
+        self.set(index).get_or_less(key, &self.forest, &self.order)
     }
 
     /// Returns the first key that is not less than `key`, as it is stored, or `None` where each key is less. One search.
@@ -243,7 +252,8 @@ impl<K: Copy, C: Comparator<K>, I: Idx> Sets<K, C, I> {
         ensures key { result ≡ option_map (λ e. e.0)
             (entry_at_least (C.order (comparator self.now)) (entries self.now (I.number index)) key) }
     {
-        self.sets[index.index()].get_or_greater(key, &self.forest, &self.order)
+        self.set(index)
+            .get_or_greater(key, &self.forest, &self.order)
     }
 
     /// Returns the first key of a set, or `None` where it is empty. Visits one node of each level. No comparison.
@@ -251,7 +261,7 @@ impl<K: Copy, C: Comparator<K>, I: Idx> Sets<K, C, I> {
         requires within { I.number index < count self.now }
         ensures key { result ≡ slice_get (keys self.now (I.number index)) 0 }
     {
-        self.sets[index.index()].first(&self.forest)
+        self.set(index).first(&self.forest)
     }
 
     /// Returns the last key of a set, or `None` where it is empty. Visits one node of each level. No comparison.
@@ -260,7 +270,7 @@ impl<K: Copy, C: Comparator<K>, I: Idx> Sets<K, C, I> {
         ensures key { result
             ≡ slice_get (keys self.now (I.number index)) (length (keys self.now (I.number index)) - 1) }
     {
-        self.sets[index.index()].last(&self.forest)
+        self.set(index).last(&self.forest)
     }
 
     /// Inserts a key and returns whether it was absent, as [`bforest::Set::insert`] does: a stored key that compares equal stays. One
@@ -389,7 +399,8 @@ impl<K: Copy, C: Comparator<K>, I: Idx> Sets<K, C, I> {
         ensures among { result ≡ are_among (C.order (comparator self.now)) (entries self.now (I.number index))
             (entries self.now (I.number other)) }
     {
-        self.sets[index.index()].is_subset(&self.sets[other.index()], &self.forest, &self.order)
+        let (set, other) = (self.set(index), self.set(other));
+        set.is_subset(other, &self.forest, &self.order)
     }
 
     /// Returns whether no key of the set at `index` has an equal one in the set at `other`, which may be the same. An empty set is disjoint
@@ -400,7 +411,8 @@ impl<K: Copy, C: Comparator<K>, I: Idx> Sets<K, C, I> {
         ensures apart { result ≡ are_apart (C.order (comparator self.now)) (entries self.now (I.number index))
             (entries self.now (I.number other)) }
     {
-        self.sets[index.index()].is_disjoint(&self.sets[other.index()], &self.forest, &self.order)
+        let (set, other) = (self.set(index), self.set(other));
+        set.is_disjoint(other, &self.forest, &self.order)
     }
 
     /// Puts each key of the set at `other` that is absent into the set at `index`, and returns whether there was one. A stored key that
@@ -419,7 +431,7 @@ impl<K: Copy, C: Comparator<K>, I: Idx> Sets<K, C, I> {
         ensures { UnitesAt SET_LEAF (C.order (comparator self.old)) self.old (I.number index) (I.number other)
             result self.new }
     {
-        let theirs = self.sets[other.index()].clone();
+        let theirs = self.set(other).clone();
         self.sets[index.index()].union_with(&theirs, &mut self.forest, &self.order)
     }
 
@@ -434,7 +446,7 @@ impl<K: Copy, C: Comparator<K>, I: Idx> Sets<K, C, I> {
         ensures { IntersectsAt SET_LEAF (C.order (comparator self.old)) self.old (I.number index)
             (I.number other) result self.new }
     {
-        let theirs = self.sets[other.index()].clone();
+        let theirs = self.set(other).clone();
         self.sets[index.index()].intersect_with(&theirs, &mut self.forest, &self.order)
     }
 
@@ -449,7 +461,7 @@ impl<K: Copy, C: Comparator<K>, I: Idx> Sets<K, C, I> {
         ensures { SubtractsAt SET_LEAF (C.order (comparator self.old)) self.old (I.number index)
             (I.number other) result self.new }
     {
-        let theirs = self.sets[other.index()].clone();
+        let theirs = self.set(other).clone();
         self.sets[index.index()].difference_with(&theirs, &mut self.forest, &self.order)
     }
 
@@ -518,7 +530,7 @@ impl<K: Copy, C: Comparator<K>, I: Idx> Sets<K, C, I> {
         requires within { I.number index < count self.now }
         ensures count { result ≡ length (entries self.now (I.number index)) }
     {
-        self.sets[index.index()].len(&self.forest)
+        self.set(index).len(&self.forest)
     }
 
     /// Returns the height of a set's tree, in levels of nodes: 0 where it is empty, and never more than 17. Visits one node of each level.
@@ -530,7 +542,7 @@ impl<K: Copy, C: Comparator<K>, I: Idx> Sets<K, C, I> {
         ensures leaves { length (first_level (node_sizes self.now (I.number index)))
             ≤ (length (entries self.now (I.number index)) + 7) / 8 }
     {
-        self.sets[index.index()].levels(&self.forest)
+        self.set(index).levels(&self.forest)
     }
 
     /// Returns an iterator over the keys of a set, in order. Visits one node of each level, and then each leaf once. No comparison.
@@ -540,7 +552,7 @@ impl<K: Copy, C: Comparator<K>, I: Idx> Sets<K, C, I> {
         ensures keys { result ≡ keys self.now (I.number index) }
         ensures fits { SetsFitInMemory K.row }
     {
-        self.sets[index.index()].iter(&self.forest)
+        self.set(index).iter(&self.forest)
     }
 
     /// Returns an iterator over the keys of the sets at `index` and at `other`, in order; both may be one. Of two keys that compare equal
@@ -555,7 +567,8 @@ impl<K: Copy, C: Comparator<K>, I: Idx> Sets<K, C, I> {
         ensures increasing { IsStrictlySortedBy (C.order (comparator self.now)) result }
         ensures fits { SetsFitInMemory K.row }
     {
-        self.sets[index.index()].union(&self.sets[other.index()], &self.forest, &self.order)
+        let (set, other) = (self.set(index), self.set(other));
+        set.union(other, &self.forest, &self.order)
     }
 
     /// Returns an iterator over the keys of the set at `index` that have an equal one in the set at `other`, in order; both may be one. As
@@ -569,7 +582,8 @@ impl<K: Copy, C: Comparator<K>, I: Idx> Sets<K, C, I> {
         ensures increasing { IsStrictlySortedBy (C.order (comparator self.now)) result }
         ensures fits { SetsFitInMemory K.row }
     {
-        self.sets[index.index()].intersection(&self.sets[other.index()], &self.forest, &self.order)
+        let (set, other) = (self.set(index), self.set(other));
+        set.intersection(other, &self.forest, &self.order)
     }
 
     /// Returns an iterator over the keys of the set at `index` that have no equal one in the set at `other`, in order; both may be one. As
@@ -583,7 +597,8 @@ impl<K: Copy, C: Comparator<K>, I: Idx> Sets<K, C, I> {
         ensures increasing { IsStrictlySortedBy (C.order (comparator self.now)) result }
         ensures fits { SetsFitInMemory K.row }
     {
-        self.sets[index.index()].difference(&self.sets[other.index()], &self.forest, &self.order)
+        let (set, other) = (self.set(index), self.set(other));
+        set.difference(other, &self.forest, &self.order)
     }
 
     /// Returns an iterator over the keys that one of the sets at `index` and at `other` has alone, in order; both may be one. As
@@ -597,11 +612,8 @@ impl<K: Copy, C: Comparator<K>, I: Idx> Sets<K, C, I> {
         ensures increasing { IsStrictlySortedBy (C.order (comparator self.now)) result }
         ensures fits { SetsFitInMemory K.row }
     {
-        self.sets[index.index()].symmetric_difference(
-            &self.sets[other.index()],
-            &self.forest,
-            &self.order,
-        )
+        let (set, other) = (self.set(index), self.set(other));
+        set.symmetric_difference(other, &self.forest, &self.order)
     }
 
     /// Returns a double-ended iterator over the keys of a set within both bounds, in order. At most two searches and one comparison; the
@@ -612,7 +624,7 @@ impl<K: Copy, C: Comparator<K>, I: Idx> Sets<K, C, I> {
             (entries self.now (I.number index))) }
         ensures fits { SetsFitInMemory K.row }
     {
-        self.sets[index.index()].range(bounds, &self.forest, &self.order)
+        self.set(index).range(bounds, &self.forest, &self.order)
     }
 
     /// Returns how many slots the table has, which is the number of nodes in use and of free ones. Constant time.

@@ -574,10 +574,10 @@ fn calls_on_whole_maps_and_sets_by_an_index() {
         within(count - 1);
         sets.load(0, &keys).unwrap();
         within(count - 1);
-        _ = sets.is_subset(1, 0);
-        within(2 * count);
-        _ = sets.is_disjoint(1, 0);
-        within(2 * count);
+        _ = (maps.is_subset(1, 0), sets.is_subset(1, 0));
+        within(4 * count);
+        _ = (maps.is_disjoint(1, 0), sets.is_disjoint(1, 0));
+        within(4 * count);
         _ = sets.union(1, 0).count();
         within(2 * count);
         _ = (sets.intersection(1, 0).count(), sets.difference(1, 0).count());

@@ -29,6 +29,9 @@ fn read(maps: &Maps<u32, u32>, model: &Model, at: usize, key: u32) {
     assert_eq!((maps.levels(at) == 0, maps.len_of(at)), (map.is_empty(), map.len()));
     let range = maps.range(at, key / 2..key);
     assert!(range.eq(map.range(key / 2..key).map(|(k, v)| (*k, *v))));
+    let other = key as usize % model.len();
+    assert_eq!(maps.is_subset(at, other), map.keys().all(|it| model[other].contains_key(it)));
+    assert_eq!(maps.is_disjoint(at, other), !map.keys().any(|it| model[other].contains_key(it)));
     let mut cursor = maps.cursor(at);
     assert_eq!(cursor.goto(key), map.get(&key).copied());
     assert_eq!(cursor.prev(), entry(map.range(..key).next_back()));
@@ -173,6 +176,9 @@ fn sets_answer_as_a_vector_of_sets() {
             assert_eq!(sets.get_or_greater(at, key), model[at].range(key..).next().copied());
             assert_eq!((sets.first(at), sets.last(at)), (model[at].first().copied(), model[at].last().copied()));
             assert!(sets.range(at, ..key).rev().eq(model[at].range(..key).rev().copied()));
+            let other = key as usize % 9;
+            assert_eq!(sets.is_subset(at, other), model[at].is_subset(&model[other]));
+            assert_eq!(sets.is_disjoint(at, other), model[at].is_disjoint(&model[other]));
             match random.below(28) {
                 0..10 => match if key % 2 == 0 { sets.insert(at, key) } else { sets.try_insert(at, key) } {
                     Ok(new) => assert_eq!(new, model[at].insert(key)),

@@ -226,7 +226,10 @@ fn unions_by_index() {
     for (index, key, value) in [(0, 1, 'a'), (0, 2, 'b'), (1, 2, 'c'), (1, 3, 'd')] {
         maps.insert(index, key, value).unwrap();
     }
+    assert!(maps.is_subset(1, 1) && !maps.is_disjoint(1, 1) && maps.is_subset(2, 0) && maps.is_disjoint(2, 2));
+    assert!(!maps.is_subset(1, 0) && !maps.is_disjoint(0, 1));
     assert_eq!(maps.union_with(0, 1), Ok(true));
+    assert!(maps.is_subset(1, 0) && !maps.is_subset(0, 1));
     assert_eq!(maps.union_with(0, 1), Ok(false));
     assert_eq!(maps.union_with(0, 0), Ok(false));
     assert_eq!(maps.union_with(0, 2), Ok(false));
@@ -416,6 +419,6 @@ fn intersections_and_differences_by_index() {
     assert!(sets.is_disjoint(0, 1) && sets.intersect_with(0, 1) && sets.iter(0).next().is_none());
     assert!(sets.difference_with(1, 1) && !sets.difference_with(1, 1) && !sets.intersect_with(1, 2));
     assert!(maps.intersect_with(0, 1) && maps.iter(0).eq((0..40).step_by(3).map(|key| (key, 0))));
-    assert!(maps.difference_with(1, 0) && !maps.difference_with(0, 1) && maps.intersect_with(0, 2));
+    assert!(maps.difference_with(1, 0) && maps.is_disjoint(0, 1) && !maps.difference_with(0, 1) && maps.intersect_with(0, 2));
     assert_eq!((sets.slots() - sets.free_slots(), maps.slots() - maps.free_slots()), (0, 0));
 }

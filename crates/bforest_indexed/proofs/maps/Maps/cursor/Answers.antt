@@ -1,13 +1,8 @@
-use Rattle.bforest_indexed.proofs.Kept.{ordered-read, same-list}
 use Rattle.bforest_indexed.proofs.Sizes.{first-field}
 use Rattle.bforest_indexed.proofs.maps.Maps.cursor.Goals as goal
-use Rattle.std.proofs.Common.{ap, length, ◌∙◌}
 
 pub cursor-requires : goal.cursor-requires
-cursor-requires g c = (search first-field, ordered-read c.self.invariant (rw (← c.self.view_is, ← c.index.ensures.number) at c.requires.within) c.index-2.ensures)
+cursor-requires g c = (search first-field, rw (← c.self.view_is) at c.map.ensures.searchable)
 
-pub returns-clause-entries : goal.returns-clause-entries
-returns-clause-entries g c = rw (← c.self.view_is, ← c.index.ensures.number) (c.cursor.ensures.entries ∙ same-list c.self.invariant (rw (← c.self.view_is, ← c.index.ensures.number) at c.requires.within) c.index-2.ensures)
-
-pub returns-clause-spot : goal.returns-clause-spot
-returns-clause-spot g c = rw (← c.self.view_is, ← c.index.ensures.number) (c.cursor.ensures.spot ∙ ap length (same-list c.self.invariant (rw (← c.self.view_is, ← c.index.ensures.number) at c.requires.within) c.index-2.ensures))
+pub returns : goal.returns
+returns g c = rw (← c.self.view_is, ← (rw (← c.self.view_is) at c.map.ensures.handle)) (record { entries = c.cursor.ensures.entries; spot = c.cursor.ensures.spot; comparator = c.cursor.ensures.comparator; fits = c.cursor.ensures.fits })

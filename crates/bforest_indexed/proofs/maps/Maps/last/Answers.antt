@@ -1,10 +1,8 @@
-use Rattle.bforest_indexed.proofs.Kept.{live-read, same-list}
 use Rattle.bforest_indexed.proofs.Sizes.{first-field}
 use Rattle.bforest_indexed.proofs.maps.Maps.last.Goals as goal
-use Rattle.std.proofs.Common.{ap, length, slice_get, ◌-◌, ◌∙◌}
 
 pub last-requires : goal.last-requires
-last-requires g c = (search first-field, live-read c.self.invariant (rw (← c.self.view_is, ← c.index.ensures.number) at c.requires.within) c.index-2.ensures)
+last-requires g c = (search first-field, (rw (← c.self.view_is) at c.map.ensures.searchable).live)
 
 pub returns : goal.returns
-returns g c = record { entry = rw (← c.self.view_is, ← c.index.ensures.number) (c.last.ensures.entry ∙ ap (λ es. slice_get es (length es - 1)) (same-list c.self.invariant (rw (← c.self.view_is, ← c.index.ensures.number) at c.requires.within) c.index-2.ensures)) }
+returns g c = rw (← c.self.view_is, ← (rw (← c.self.view_is) at c.map.ensures.handle)) (record { entry = c.last.ensures.entry })

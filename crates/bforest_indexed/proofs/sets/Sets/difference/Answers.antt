@@ -1,22 +1,8 @@
-use Rattle.bforest_indexed.proofs.Kept.{ordered-read}
 use Rattle.bforest_indexed.proofs.Sizes.{first-field}
-use Rattle.bforest_indexed.proofs.Unions.{made-read}
 use Rattle.bforest_indexed.proofs.sets.Sets.difference.Goals as goal
-use Rattle.bforest.specs.Union.{kept_from}
-use Rattle.std.proofs.Common.{false, ◌∙◌}
 
 pub difference-requires : goal.difference-requires
-difference-requires g c = (
-  search first-field,
-  (
-    ordered-read c.self.invariant (rw (← c.self.view_is, ← c.index.ensures.number) at c.requires.within) c.index-2.ensures,
-    ordered-read c.self.invariant (rw (← c.self.view_is, ← c.index-3.ensures.number) at c.requires.other) c.index-4.ensures,
-  ),
-)
+difference-requires g c = (search first-field, (rw (← c.self.view_is) at c.set-set.ensures.searchable, rw (← c.self.view_is) at c.set-other.ensures.searchable))
 
 pub returns : goal.returns
-returns g c = rw (← c.self.view_is, ← c.index.ensures.number, ← c.index-3.ensures.number) (record {
-  keys = c.difference.ensures.keys ∙ made-read c.index-3.result c.self.invariant (rw (← c.self.view_is, ← c.index.ensures.number) at c.requires.within) c.index-2.ensures (rw (← c.self.view_is, ← c.index-3.ensures.number) at c.requires.other) c.index-4.ensures (kept_from (g.C.Comparator.order c.self.inside.order) false);
-  increasing = c.difference.ensures.increasing;
-  fits = c.difference.ensures.fits;
-})
+returns g c = rw (← c.self.view_is, ← (rw (← c.self.view_is) at c.set-set.ensures.handle), ← (rw (← c.self.view_is) at c.set-other.ensures.handle)) (record { keys = c.difference.ensures.keys; increasing = c.difference.ensures.increasing; fits = c.difference.ensures.fits })

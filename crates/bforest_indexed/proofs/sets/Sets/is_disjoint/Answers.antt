@@ -1,17 +1,8 @@
-use Rattle.bforest_indexed.proofs.Kept.{ordered-read}
 use Rattle.bforest_indexed.proofs.Sizes.{first-field}
-use Rattle.bforest_indexed.proofs.Unions.{apart-read}
 use Rattle.bforest_indexed.proofs.sets.Sets.is_disjoint.Goals as goal
-use Rattle.std.proofs.Common.{◌∙◌}
 
 pub is_disjoint-requires : goal.is_disjoint-requires
-is_disjoint-requires g c = (
-  search first-field,
-  (
-    ordered-read c.self.invariant (rw (← c.self.view_is, ← c.index.ensures.number) at c.requires.within) c.index-2.ensures,
-    ordered-read c.self.invariant (rw (← c.self.view_is, ← c.index-3.ensures.number) at c.requires.other) c.index-4.ensures,
-  ),
-)
+is_disjoint-requires g c = (search first-field, (rw (← c.self.view_is) at c.set-set.ensures.searchable, rw (← c.self.view_is) at c.set-other.ensures.searchable))
 
 pub returns : goal.returns
-returns g c = record { apart = rw (← c.self.view_is, ← c.index.ensures.number, ← c.index-3.ensures.number) (c.is_disjoint.ensures.apart ∙ apart-read c.index-3.result c.self.invariant (rw (← c.self.view_is, ← c.index.ensures.number) at c.requires.within) c.index-2.ensures (rw (← c.self.view_is, ← c.index-3.ensures.number) at c.requires.other) c.index-4.ensures) }
+returns g c = rw (← c.self.view_is, ← (rw (← c.self.view_is) at c.set-set.ensures.handle), ← (rw (← c.self.view_is) at c.set-other.ensures.handle)) (record { apart = c.is_disjoint.ensures.apart })

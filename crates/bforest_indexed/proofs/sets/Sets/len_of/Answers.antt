@@ -1,10 +1,8 @@
-use Rattle.bforest_indexed.proofs.Kept.{live-read, same-list}
 use Rattle.bforest_indexed.proofs.Sizes.{first-field}
 use Rattle.bforest_indexed.proofs.sets.Sets.len_of.Goals as goal
-use Rattle.std.proofs.Common.{ap, length, ◌∙◌}
 
 pub len-requires : goal.len-requires
-len-requires g c = (search first-field, live-read c.self.invariant (rw (← c.self.view_is, ← c.index.ensures.number) at c.requires.within) c.index-2.ensures)
+len-requires g c = (search first-field, (rw (← c.self.view_is) at c.set.ensures.searchable).live)
 
 pub returns : goal.returns
-returns g c = record { count = rw (← c.self.view_is, ← c.index.ensures.number) (c.len.ensures.count ∙ ap length (same-list c.self.invariant (rw (← c.self.view_is, ← c.index.ensures.number) at c.requires.within) c.index-2.ensures)) }
+returns g c = rw (← c.self.view_is, ← (rw (← c.self.view_is) at c.set.ensures.handle)) (record { count = c.len.ensures.count })
