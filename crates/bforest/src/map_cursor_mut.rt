@@ -170,8 +170,9 @@ impl<'a, K: Copy, V: Copy, C: Comparator<K>> MapCursorMut<'a, K, V, C> {
     /// Inserts a value at a key as [`Map::try_insert`] does, and moves to the key's entry.
     ///
     /// At most two comparisons where the key is that of the entry here or of the previous one, or belongs between these two, or behind the
-    /// last entry where the cursor is at the end. Where it belongs behind the entry here and not behind the last of that leaf, two and then
-    /// a search in the leaf. Else also one search, as in [`Map::get`].
+    /// last entry where the cursor is in its leaf or at the end. Where it belongs behind the entry here and not behind the last of that leaf,
+    /// two and then a search in the leaf; where it belongs between that leaf and the next, three. Else three and one search, as in
+    /// [`Map::get`].
     ///
     /// # Errors
     ///

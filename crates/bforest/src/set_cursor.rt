@@ -120,8 +120,8 @@ impl<'a, K: Copy, C: Comparator<K>> SetCursor<'a, K, C> {
     /// Inserts a key as [`Set::try_insert`] does, and moves to it.
     ///
     /// At most two comparisons where the key is the one here or the previous one, or belongs between these two, or behind the last key
-    /// where the cursor is at the end. Where it belongs behind the key here and not behind the last of that leaf, two and then a search in
-    /// the leaf. Else also one search, as in [`Set::contains`].
+    /// where the cursor is in its leaf or at the end. Where it belongs behind the key here and not behind the last of that leaf, two and then
+    /// a search in the leaf; where it belongs between that leaf and the next, three. Else three and one search, as in [`Set::contains`].
     ///
     /// # Errors
     ///
