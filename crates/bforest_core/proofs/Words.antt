@@ -7,8 +7,8 @@ pub use Rattle.bforest_core.specs.Levels.{FitRow, IsFit, LevelNode, Solid, Stack
 pub use Rattle.bforest_core.specs.Paths.{InsertsHere, OnEntry, OnLeaf, Placing, PointsTo, Standing, StandsAt, StandsOn, index_of, leaf_of, list_under, path_root, place_in}
 pub use Rattle.bforest_core.specs.Place.{Distinct, IsAt, IsIn, IsPathAt, PointsAt, RowIn, RowsIn, Stands, StandsAbove, count, entry_before, entry_items}
 pub use Rattle.bforest_core.specs.Removal.{Dropped, Emptied, HasOthers, Healed, Heals, IsSingle, Item, Joined, Joins, Keeps, LeafLoss, Loosened, LoosenedRows}
-pub use Rattle.bforest_core.specs.Spots.{BeginsWith, Coded, CodedOver, Direction, EndsAt, Followed, HasNext, HasPrev, HasUnder, IsBesideOf, IsLeafAt, IsLower, IsSpotAt, IsTurn}
-pub use Rattle.bforest_core.specs.Spots.{IsWay, Leads, NumberAt, SearchAt, Sided, Way, backwards, onwards, without_last}
+pub use Rattle.bforest_core.specs.Spots.{BeginsWith, Coded, CodedOver, Direction, EndsAt, Followed, HasBeside, HasNext, HasPrev, HasUnder, IsBesideOf, IsLeafAt, IsLower, IsSpotAt, IsTurn}
+pub use Rattle.bforest_core.specs.Spots.{IsNearest, IsWay, Leads, NumberAt, SearchAt, Sided, Way, backwards, nearest, onwards, toward, without_last}
 pub use Rattle.bforest_core.specs.Steps.{Advances, AreFirst, AreLast, HasOver, LastAt, MoreAt, Moved, OnLevels, OnOver, OnTree, Retreats, Turned, TurnedBack}
 pub use Rattle.bforest_core.specs.Table.{IsBalancedAt, IsEntryAt, IsFreeAt, IsFullAt, IsSplitAt, IsHalfFullAt, IsUsed}
 pub use Rattle.bforest_core.specs.Table.{GrowsFor, NeedsGrowth, PutsChild, PutsEntry, PutsIn, Table, down_from}

@@ -1,8 +1,8 @@
 -- The place of a leaf in its tree as a number, with an octal digit for each level of inner nodes.
 use Rattle.std.proofs.Math.Logic.{◌⊎◌}
-use Rattle.std.specs.Prelude.{◌≡◌, ℕ, zero, suc, ◌+◌, ◌-◌, ◌<◌, ◌/◌, ◌%◌, IfSome, IsTrue, List, [], ◌∷◌, ◌++◌, drop, length, get_or, slice_get, take, Option, Some, None, ◌≤◌, ◌*◌, ◌^◌}
+use Rattle.std.specs.Prelude.{◌≡◌, ℕ, zero, suc, Bool, true, false, ◌+◌, ◌-◌, ◌<◌, ◌/◌, ◌%◌, IfSome, IsTrue, List, [], ◌∷◌, ◌++◌, drop, length, get_or, slice_get, take, Option, Some, None, ◌≤◌, ◌*◌, ◌^◌}
 use Rattle.bforest_nodes.specs.Content.{Content, entry_count}
-use Rattle.bforest_core.specs.Descent.{NodeOver, SearchThrough}
+use Rattle.bforest_core.specs.Descent.{IsFirst, IsLast, NodeOver, SearchThrough}
 use Rattle.std.specs.declared.cmp.Ordering.{Ordering}
 use Rattle.bforest_core.specs.Levels.{LevelNode, flat, node, Stacked}
 use Rattle.bforest_core.specs.Place.{IsAt, RowsIn, inner_content, leaf_content, root_above}
@@ -127,6 +127,29 @@ module _ {K V : Type 0} where
 
   abbrev pub backwards : Direction K V
   backwards = record { HasChild = λ content index. 0 < index; Beside = λ place to. suc to ≡ place; AtEnd = λ place count. place ≡ 0 }
+
+  abbrev pub toward : Bool → Direction K V
+  toward true = onwards
+  toward false = backwards
+
+-- of so many places that by which a way comes in: the first where it goes onwards, else the last
+abbrev pub nearest : Bool → ℕ → ℕ
+nearest true count = 0
+nearest false count = count - 1
+
+-- such a node of a level: none is before it, or else none is after it
+abbrev pub IsNearest : {K : Type 0} → Bool → List (K × ℕ) → List (K × ℕ) → Type 0
+IsNearest true = IsFirst
+IsNearest false = IsLast
+
+module _ {K V : Type 0} (d : Direction K V) (slots : List (Content K V)) (node index : ℕ) where
+  -- a node has no child on that side of the one at an index
+  abbrev pub HasNone : Type 0
+  HasNone = (content : Content K V) → slice_get slots node ≡ Some content → ¬ d.HasChild content index
+
+  -- it has one, and this is the index of the child beside
+  abbrev pub HasBeside : ℕ → Type 0
+  HasBeside to = d.Beside index to × ((content : Content K V) → slice_get slots node ≡ Some content → d.HasChild content index)
 
 module _ {K V : Type 0} (slots : List (Content K V)) (root code depth : ℕ) where
   -- the way of a code ends at this node, whose spot this is

@@ -6,10 +6,10 @@ ghost use Rattle.bforest_core.specs.Leaves.{SearchSpot, EndsOn, SearchEndsAt};
 ghost use Rattle.bforest_core.specs.Levels.{LevelNode, heads};
 ghost use Rattle.bforest_core.specs.Paths.{list_under};
 ghost use Rattle.bforest_core.specs.Trees.{IsUnion, is_root, tree_of};
-ghost use Rattle.bforest_nodes.specs.Content.{Inner, IsLeafCapacity};
+ghost use Rattle.bforest_nodes.specs.Content.{Content, Inner, IsInner, IsLeafCapacity, entry_count};
 ghost use Rattle.bforest_nodes.specs.Entries.{IsIncreasing};
-ghost use Rattle.bforest_core.specs.Descent.{IsFirst, IsLast, child_index};
-ghost use Rattle.bforest_core.specs.Spots.{BeginsWith, IsBesideOf, IsLower, Leads, HasNext, HasNoParent, HasPrev, HasUnder, IsLeafAt, IsSpotAt, IsTurn, IsWay, NumberAt, OnUnder, SearchAt, SpotOn, Way, backwards, leaf_count, leaf_place, onwards};
+ghost use Rattle.bforest_core.specs.Descent.{child_index};
+ghost use Rattle.bforest_core.specs.Spots.{BeginsWith, HasBeside, HasNone, IsBesideOf, IsNearest, IsLower, Leads, HasNext, HasNoParent, HasPrev, HasUnder, IsLeafAt, IsSpotAt, IsTurn, IsWay, NumberAt, OnUnder, SearchAt, SpotOn, Way, backwards, leaf_count, leaf_place, nearest, onwards, toward};
 
 use crate::access::{child, child_count, follow, last_index, separator};
 use crate::pool::NodePool;
@@ -64,7 +64,7 @@ impl Spot {
         if !pool.node(root).is_inner() {
             return (Spot::root(root), root);
         }
-        first_below(Spot::root(root), root, pool)
+        end_below(true, Spot::root(root), root, pool)
     }
 
     /// The last leaf below a root, and its place.
@@ -79,7 +79,7 @@ impl Spot {
         ensures leaf { IsLeafAt pool.now root (leaf_count pool.now root - 1) result.1 }
     {
         if pool.node(root).is_inner() {
-            last_below(Spot::root(root), root, pool)
+            end_below(false, Spot::root(root), root, pool)
         } else {
             (Spot::root(root), root)
         }
@@ -410,8 +410,7 @@ fn goes_along<K: Copy, V: Copy, const N: usize, C: Comparator<K>>(
     index == last_index(pool, node) || comp.cmp(key, separator(pool, node, index)).is_lt()
 }
 
-// The node behind the one at which the way of a code ends, and its spot, if there is one: the way turns to the next child as low as it can,
-// and goes on to the first children.
+// The node behind the one at which the way of a code ends, and its spot, if there is one.
 #[inline(never)]
 fn next_far<K: Copy, V: Copy, const N: usize>(
     code: u64,
@@ -421,68 +420,12 @@ fn next_far<K: Copy, V: Copy, const N: usize>(
 ) -> Option<(Spot, Node)>
     requires low { height ≤ 16 }
     requires over { Way pool.now.nodes root code height }
-    ensures next { IsBesideOf pool.now.nodes root code height onwards result }
+    ensures beside { IsBesideOf pool.now.nodes root code height onwards result }
 {
-    let (mut here, mut next) = turn_on(code, height, root, pool)?;
-    while here.height < height {
-        here = here.below(next, 0);
-        next = child(pool, next, 0);
-    }
-    Some((here, next))
+    far(true, code, height, root, pool)
 }
 
-// The lowest next child beside the way of a code, and its spot, if there is one.
-#[inline(always)]
-fn turn_on<K: Copy, V: Copy, const N: usize>(
-    code: u64,
-    height: u32,
-    root: Node,
-    pool: &NodePool<K, V, N>,
-) -> Option<(Spot, Node)>
-    requires low { height ≤ 16 }
-    requires over { Way pool.now.nodes root code height }
-    ensures some { IfSome result (λ turn.
-        IsTurn pool.now.nodes root code height onwards 0 turn.0 turn.1) }
-    ensures none { result ≡ None → IsBesideOf pool.now.nodes root code height onwards None }
-{
-    let (mut here, mut node) = (Spot::root(root), root);
-    let mut next = None;
-    let mut left = height;
-    while left > 0 {
-        left -= 1;
-        let index = ((code >> (3 * left)) % 8) as usize;
-        next = lower_next(next, &here, node, index, pool);
-        here = here.below(node, index);
-        node = child(pool, node, index);
-    }
-    next
-}
-
-// The child of `node` behind the one at an index, and its spot, where there is one; else what was found further up. `here` is the spot of
-// `node`.
-#[inline(always)]
-fn lower_next<K: Copy, V: Copy, const N: usize>(
-    above: Option<(Spot, Node)>,
-    here: &Spot,
-    node: Node,
-    index: usize,
-    pool: &NodePool<K, V, N>,
-) -> Option<(Spot, Node)>
-    requires low { here.now.height < 16 }
-    requires index { index < 8 }
-    requires way { (root : ℕ) × Way pool.now.nodes root (here.now.code * 8 + index) (suc here.now.height)
-        × Leads pool.now.nodes root here.now.code here.now.height here.now node }
-    ensures lower { (root : ℕ) → Leads pool.now.nodes root here.now.code here.now.height here.now node
-        → IsLower pool.now.nodes root here.now node onwards index above result }
-{
-    if index + 1 < child_count(pool, node) {
-        return Some((here.below(node, index + 1), child(pool, node, index + 1)));
-    }
-    above
-}
-
-// The node before the one at which the way of a code ends, and its spot, if there is one: the way turns to the child before as low as it
-// can, and goes on to the last children.
+// The node before the one at which the way of a code ends, and its spot, if there is one.
 #[inline(never)]
 fn prev_far<K: Copy, V: Copy, const N: usize>(
     code: u64,
@@ -492,20 +435,38 @@ fn prev_far<K: Copy, V: Copy, const N: usize>(
 ) -> Option<(Spot, Node)>
     requires low { height ≤ 16 }
     requires over { Way pool.now.nodes root code height }
-    ensures before { IsBesideOf pool.now.nodes root code height backwards result }
+    ensures beside { IsBesideOf pool.now.nodes root code height backwards result }
 {
-    let (mut here, mut before) = turn_back(code, height, root, pool)?;
-    while here.height < height {
-        let last = last_index(pool, before);
-        here = here.below(before, last);
-        before = child(pool, before, last);
-    }
-    Some((here, before))
+    far(false, code, height, root, pool)
 }
 
-// The lowest child before the way of a code, and its spot, if there is one.
+// The node beside the one at which the way of a code ends, and its spot, if there is one: the one behind, or else the one before. The way
+// turns to the child beside as low as it can, and goes on to the first children, or else to the last.
 #[inline(always)]
-fn turn_back<K: Copy, V: Copy, const N: usize>(
+fn far<K: Copy, V: Copy, const N: usize>(
+    on: bool,
+    code: u64,
+    height: u32,
+    root: Node,
+    pool: &NodePool<K, V, N>,
+) -> Option<(Spot, Node)>
+    requires low { height ≤ 16 }
+    requires over { Way pool.now.nodes root code height }
+    ensures beside { IsBesideOf pool.now.nodes root code height (toward on) result }
+{
+    let (mut here, mut node) = turn(on, code, height, root, pool)?;
+    while here.height < height {
+        let index = entered_at(on, pool, node);
+        here = here.below(node, index);
+        node = child(pool, node, index);
+    }
+    Some((here, node))
+}
+
+// The lowest child beside the way of a code, and its spot, if there is one.
+#[inline(always)]
+fn turn<K: Copy, V: Copy, const N: usize>(
+    on: bool,
     code: u64,
     height: u32,
     root: Node,
@@ -514,26 +475,27 @@ fn turn_back<K: Copy, V: Copy, const N: usize>(
     requires low { height ≤ 16 }
     requires over { Way pool.now.nodes root code height }
     ensures some { IfSome result (λ turn.
-        IsTurn pool.now.nodes root code height backwards 0 turn.0 turn.1) }
-    ensures none { result ≡ None → IsBesideOf pool.now.nodes root code height backwards None }
+        IsTurn pool.now.nodes root code height (toward on) 0 turn.0 turn.1) }
+    ensures none { result ≡ None → IsBesideOf pool.now.nodes root code height (toward on) None }
 {
     let (mut here, mut node) = (Spot::root(root), root);
-    let mut before = None;
+    let mut found = None;
     let mut left = height;
     while left > 0 {
         left -= 1;
         let index = ((code >> (3 * left)) % 8) as usize;
-        before = lower_prev(before, &here, node, index, pool);
+        found = lower(on, found, &here, node, index, pool);
         here = here.below(node, index);
         node = child(pool, node, index);
     }
-    before
+    found
 }
 
-// The child of `node` before the one at an index, and its spot, where there is one; else what was found further up. `here` is the spot of
+// The child of `node` beside the one at an index, and its spot, where there is one; else what was found further up. `here` is the spot of
 // `node`.
 #[inline(always)]
-fn lower_prev<K: Copy, V: Copy, const N: usize>(
+fn lower<K: Copy, V: Copy, const N: usize>(
+    on: bool,
     above: Option<(Spot, Node)>,
     here: &Spot,
     node: Node,
@@ -545,52 +507,73 @@ fn lower_prev<K: Copy, V: Copy, const N: usize>(
     requires way { (root : ℕ) × Way pool.now.nodes root (here.now.code * 8 + index) (suc here.now.height)
         × Leads pool.now.nodes root here.now.code here.now.height here.now node }
     ensures lower { (root : ℕ) → Leads pool.now.nodes root here.now.code here.now.height here.now node
-        → IsLower pool.now.nodes root here.now node backwards index above result }
+        → IsLower pool.now.nodes root here.now node (toward on) index above result }
 {
-    if index > 0 {
-        return Some((here.below(node, index - 1), child(pool, node, index - 1)));
+    match beside(on, pool, node, index) {
+        Some(at) => Some((here.below(node, at), child(pool, node, at))),
+        None => above,
     }
-    above
 }
 
-// From a node at this place, the first of its level, down to the first leaf below it.
-fn first_below<K: Copy, V: Copy, const N: usize>(
+// The index of the child beside the one at an index, if there is one: of the one behind, or else of the one before.
+#[inline(always)]
+fn beside<K: Copy, V: Copy, const N: usize>(
+    on: bool,
+    pool: &NodePool<K, V, N>,
+    node: Node,
+    index: usize,
+) -> Option<usize>
+    requires index { index < 8 }
+    requires inner { (content : Content K V) × (slice_get pool.now.nodes node ≡ Some content)
+        × IsInner content }
+    ensures some { IfSome result (λ at. HasBeside (toward on) pool.now.nodes node index at) }
+    ensures none { result ≡ None → HasNone (toward on) pool.now.nodes node index }
+{
+    if on {
+        if index + 1 < child_count(pool, node) {
+            return Some(index + 1);
+        }
+    } else if index > 0 {
+        return Some(index - 1);
+    }
+    None
+}
+
+// The index of the entry or child of a node by which a way enters it: of the first, or else of the last.
+#[inline(always)]
+fn entered_at<K: Copy, V: Copy, const N: usize>(
+    on: bool,
+    pool: &NodePool<K, V, N>,
+    node: Node,
+) -> usize
+    requires some { (content : Content K V) × (slice_get pool.now.nodes node ≡ Some content)
+        × (1 ≤ entry_count content) }
+    ensures at { (content : Content K V) → slice_get pool.now.nodes node ≡ Some content → result
+        ≡ nearest on (entry_count content) }
+{
+    if on { 0 } else { last_index(pool, node) }
+}
+
+// From a node at this place, the first of its level, down to the first leaf below it; or else from the last to the last.
+fn end_below<K: Copy, V: Copy, const N: usize>(
+    on: bool,
     spot: Spot,
     node: Node,
     pool: &NodePool<K, V, N>,
 ) -> (Spot, Node)
     requires capacity { IsLeafCapacity N }
-    requires under { HasUnder N pool.now.nodes IsFirst spot node }
-    ensures first { OnUnder N pool.now.nodes IsFirst spot node (λ leaves rows. (others : List ℕ)
-        × IsWay others result.0 rows 0 × NumberAt (heads leaves) 0 result.1) }
+    requires under { HasUnder N pool.now.nodes (IsNearest on) spot node }
+    ensures end { OnUnder N pool.now.nodes (IsNearest on) spot node (λ leaves rows. (others : List ℕ)
+        × IsWay others result.0 rows (nearest on (length leaves))
+        × NumberAt (heads leaves) (nearest on (length leaves)) result.1) }
 {
-    let (mut here, mut first) = (spot, node);
-    while pool.node(first).is_inner() {
-        here = here.below(first, 0);
-        first = child(pool, first, 0);
+    let (mut here, mut lower) = (spot, node);
+    while pool.node(lower).is_inner() {
+        let index = entered_at(on, pool, lower);
+        here = here.below(lower, index);
+        lower = child(pool, lower, index);
     }
-    (here, first)
-}
-
-// From a node at this place, the last of its level, down to the last leaf below it.
-fn last_below<K: Copy, V: Copy, const N: usize>(
-    spot: Spot,
-    node: Node,
-    pool: &NodePool<K, V, N>,
-) -> (Spot, Node)
-    requires capacity { IsLeafCapacity N }
-    requires under { HasUnder N pool.now.nodes IsLast spot node }
-    ensures last { OnUnder N pool.now.nodes IsLast spot node (λ leaves rows. (others : List ℕ)
-        × IsWay others result.0 rows (length leaves - 1)
-        × NumberAt (heads leaves) (length leaves - 1) result.1) }
-{
-    let (mut here, mut last) = (spot, node);
-    while pool.node(last).is_inner() {
-        let index = last_index(pool, last);
-        here = here.below(last, index);
-        last = child(pool, last, index);
-    }
-    (here, last)
+    (here, lower)
 }
 
 // From a node at this place down to the leaf in which a search for `key` ends, which goes through the node.

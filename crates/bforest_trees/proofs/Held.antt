@@ -6,7 +6,7 @@ use Rattle.bforest_trees.specs.declared.look.Look.{Look}
 use Rattle.bforest_core.proofs.rows.LevelRows.{flat-append}
 use Rattle.bforest_core.proofs.table.Lists.{slice_get-append_left}
 use Rattle.bforest_core.proofs.table.Stored.{read_same, some_same}
-use Rattle.bforest_core.proofs.walks.CodesDown.{first-here, first-of}
+use Rattle.bforest_core.proofs.walks.CodesDown.{end-of, near-here}
 use Rattle.bforest_core.proofs.walks.Entered.{pair_read}
 use Rattle.bforest_core.proofs.walks.Steps.{read}
 use Rattle.bforest_core.specs.Levels.{LevelNode, flat, node}
@@ -19,7 +19,7 @@ use Rattle.bforest_core.specs.declared.spot.Spot.{Spot}
 use Rattle.bforest_nodes.proofs.Seams.{slice_get-append-add}
 use Rattle.bforest_nodes.specs.Content.{Content, IsInner, IsLeaf, Leaf, keys_of, vals_of}
 use Rattle.bforest_nodes.specs.Entries.{place}
-use Rattle.std.proofs.Common.{IsTrue, List, Option, Some, [], ap, append_assoc, arith, inl, length, length-append, refl, slice_get, subst, suc, sym, take, ◌+◌, ◌++◌, ◌-◌, ◌<◌, ◌∙◌, ◌∷◌, ◌≡◌, ◌≤◌, ℕ}
+use Rattle.std.proofs.Common.{IsTrue, List, Option, Some, [], ap, append_assoc, arith, inl, length, length-append, refl, slice_get, subst, suc, sym, take, ◌+◌, ◌++◌, ◌-◌, ◌<◌, ◌∙◌, ◌∷◌, ◌≡◌, ◌≤◌, ℕ, true}
 use Rattle.std.proofs.Math.Seq.{take-length}
 use Rattle.std.proofs.lemmas.List.{length-map, take_at}
 use Rattle.std.proofs.lemmas.Option.{slice_get_within}
@@ -151,5 +151,5 @@ from-first {root = root} is on leaf = record { root = root; handle_is = is; plac
 pub from-only : {K V : Type 0} {n : ℕ} {table : Table K V} {root : ℕ} {content : Content K V} → IsUnion n table →
     IsTrue (is_root table.nodes root) → slice_get table.nodes root ≡ Some content → (IsInner content → ⊥) → (spot : Spot) → spot.code ≡ 0 → spot.height ≡ 0 → LeafFrom table (Some root) spot root 0
 from-only union is read other spot code height =
-    let alone = first-of union is code height (first-here union.1.capacity read other spot) in
+    let alone = end-of union is code height true (near-here union.1.capacity read other spot true) in
     from-first refl alone.0 alone.1

@@ -1,5 +1,5 @@
 -- The way of a code down rows of inner nodes, and a spot as such a way.
-use Rattle.bforest_core.proofs.Words.{Coded, CodedOver, HasNext, IsLeafAt, IsSpotAt, IsBesideOf, IsWay, Leads, NumberAt, Way, backwards, leaf_count, onwards}
+use Rattle.bforest_core.proofs.Words.{Coded, CodedOver, HasNext, IsLeafAt, IsSpotAt, IsBesideOf, IsWay, Leads, NumberAt, Way, Bool, false, leaf_count, toward, true}
 use Rattle.bforest_core.proofs.Words.{ℕ, zero, suc, ◌+◌, ◌-◌, ◌*◌, ◌/◌, ◌%◌, ◌≤◌, ◌<◌, List, [], ◌∷◌, length, drop, get_or, slice_get, Some, refl, sym, ap, ◌∙◌}
 use Rattle.bforest_core.proofs.Words.{IsTrue, ◌≡◌, arith, None, Heads, Row, Rows, Content, IsAt, flat, heads, FitRow, RowIn, inner_content, IsUnion, Table, is_root, tree_of}
 use Rattle.bforest_core.proofs.{walks.Reading.{CountAsked, CountRead}, rows.LevelRows.some_leaf, walks.RowNodes.{NodeIn, fit_full, node-at, node-in, node-same}}
@@ -197,8 +197,7 @@ module _ {K V : Type 0} {slots : List (Content K V)} {root : ℕ} (spot : Spot) 
     (way-none p.over height).0,
   )
 
-  pub root-last : IsBesideOf slots root spot.code spot.height onwards None
-  root-last = record { some = tt; none = λ none p. (way-none p.over height).1 }
-
-  pub root-first : IsBesideOf slots root spot.code spot.height backwards None
-  root-first = record { some = tt; none = λ none p. (way-none p.over height).2 }
+  -- nothing is beside it
+  pub root-alone : (on : Bool) → IsBesideOf slots root spot.code spot.height (toward on) None
+  root-alone true = record { some = tt; none = λ none p. (way-none p.over height).1 }
+  root-alone false = record { some = tt; none = λ none p. (way-none p.over height).2 }

@@ -1,7 +1,7 @@
--- The way down to the first leaf below a node, and to the last, as a spot: each answer of `first_below` and `last_below` is one of these.
+-- The way down to the first leaf below a node, and to the last, as a spot: each answer of `end_below` is one of these.
 use Rattle.bforest_core.proofs.Words.{HasUnder, IsLeafAt, IsSpotAt, IsWay, NodeOver, NumberAt, OnUnder, Sided, leaf_count, ◌≡◌, ℕ, suc, ◌+◌, ◌-◌, ◌≤◌, ◌<◌}
 use Rattle.bforest_core.proofs.Words.{List, [], ◌∷◌, ◌++◌, IsTrue, length, slice_get, Some, refl, sym, ap, ◌∙◌, arith, append_assoc, Heads, Row}
-use Rattle.bforest_core.proofs.Words.{Rows, Content, IsInner, IsLeafCapacity, IsUnion, flat, heads, IsFirst, IsLast, append-nil, Table, is_root}
+use Rattle.bforest_core.proofs.Words.{Rows, Content, IsInner, IsLeafCapacity, IsUnion, Bool, true, false, nearest, flat, heads, IsNearest, append-nil, Table, is_root}
 use Rattle.bforest_core.proofs.{Words.tree_of, walks.Standing.under-root, union.Unions.is-rooted}
 use Rattle.bforest_core.proofs.walks.TopNode.{InnerUnder, LeafUnder, inner_under, leaf_under, node_held, head_at}
 use Rattle.bforest_core.proofs.{table.Stored.{item_count, slice_get_at}, walks.Leading.{Turns, child_under, last-place}, walks.Codes.{IsBelow, code-low, leaf-at, way-below}}
@@ -19,16 +19,9 @@ module _ {K V : Type 0} {most : _} {slots : List (Content K V)} {leaves : Row K 
   child-way low {spot} b {upper} {numbers} w place_is =
       way-below (head_at s.at refl refl low place_is) (omega arith) (rw s.before_is w) b
 
--- what is said of the first leaf, and of the last, as the end of a way
-module _ {K V : Type 0} (end : Spot) (leaf : ℕ) (leaves : Row K V) (rows : Rows K) where
-  abbrev Said : ℕ → Type 0
-  Said place = (others : List ℕ) × IsWay others end rows place × NumberAt (heads leaves) place leaf
-
-  abbrev pub FirstSaid : Type 0
-  FirstSaid = Said 0
-
-  abbrev pub LastSaid : Type 0
-  LastSaid = Said (length leaves - 1)
+-- what is said of the leaf at the end of a way: it is the first, or else the last
+abbrev pub NearSaid : {K V : Type 0} → Bool → Spot → ℕ → Row K V → Rows K → Type 0
+NearSaid on end leaf leaves rows = (others : List ℕ) × IsWay others end rows (nearest on (length leaves)) × NumberAt (heads leaves) (nearest on (length leaves)) leaf
 
 module _ {K V : Type 0} {most : ℕ} {slots : List (Content K V)} (capacity : IsLeafCapacity most) {number : ℕ} {content : Content K V}
     (read : slice_get slots number ≡ Some content) (other : IsInner content → ⊥) (spot : Spot) where
@@ -36,7 +29,7 @@ module _ {K V : Type 0} {most : ℕ} {slots : List (Content K V)} (capacity : Is
     ended : LeafUnder d.on
     ended = leaf_under capacity d.on read other
 
-    way-here : {place : ℕ} → length d.before ≡ place → Said spot number leaves rows place
+    way-here : {place : ℕ} → length d.before ≡ place → (others : List ℕ) × IsWay others spot rows place × NumberAt (heads leaves) place number
     way-here {place} is = let all = rw ended.lower_is at d.under.stacked in (
       d.numbers,
       rw (← (ap (λ z. z ++ d.upper) (sym ended.lower_is) ∙ d.join)) (rw (← is) d.way),
@@ -46,11 +39,9 @@ module _ {K V : Type 0} {most : ℕ} {slots : List (Content K V)} (capacity : Is
     ends : d.after ≡ [] → length d.before ≡ length leaves - 1
     ends none = last-place capacity ended none
 
-  pub first-here : OnUnder most slots IsFirst spot number (FirstSaid spot number)
-  first-here leaves rows d = way-here d (ap length d.side)
-
-  pub last-here : OnUnder most slots IsLast spot number (LastSaid spot number)
-  last-here leaves rows d = way-here d (ends d d.side)
+  pub near-here : (on : Bool) → OnUnder most slots (IsNearest on) spot number (NearSaid on spot number)
+  near-here true leaves rows d = way-here d (ap length d.side)
+  near-here false leaves rows d = way-here d (ends d d.side)
 
 -- a level down, to the child on that side
 module _ {K V : Type 0} {most : ℕ} {slots : List (Content K V)} (capacity : IsLeafCapacity most) {number : ℕ} {content : Content K V}
@@ -126,6 +117,11 @@ way-spot table root {numbers} is v =
 pub root-held : {K V : Type 0} {n : ℕ} {table : Table K V} (union : IsUnion n table) (root : ℕ) (is : IsTrue (is_root table.nodes root)) → LastAsked table.nodes root
 root-held union root is = node_held union.1.capacity (under-root root union is)
 
+-- a root is alone in its level
+root-side : (K : Type 0) (on : Bool) → IsNearest {K = K} on [] []
+root-side K true = refl
+root-side K false = refl
+
 -- the ways down from a root
 module _ {K V : Type 0} {n : ℕ} {table : Table K V} (union : IsUnion n table) {root : ℕ} (is : IsTrue (is_root table.nodes root)) {spot : Spot}
     (code : spot.code ≡ 0) (height : spot.height ≡ 0) where
@@ -143,9 +139,6 @@ module _ {K V : Type 0} {n : ℕ} {table : Table K V} (union : IsUnion n table) 
   pub root-under : {Side : Heads K → Heads K → Type 0} → Side [] [] → HasUnder n table.nodes Side spot root
   root-under side = ((tree_of table.nodes root).leaves, (tree_of table.nodes root).above, root-sided side, omega (arith, (is-rooted root union is).low))
 
-  pub first-of : {end : Spot} {leaf : ℕ} → OnUnder n table.nodes IsFirst spot root (FirstSaid end leaf) → IsSpotAt table root end 0 × IsLeafAt table root 0 leaf
-  first-of says = let r = says _ _ (root-sided refl) in (way-spot table root is r.1, leaf-at union root is r.2)
-
-  pub last-of : {end : Spot} {leaf : ℕ} → OnUnder n table.nodes IsLast spot root (LastSaid end leaf)
-      → IsSpotAt table root end (leaf_count table root - 1) × IsLeafAt table root (leaf_count table root - 1) leaf
-  last-of says = let r = says _ _ (root-sided refl) in (way-spot table root is r.1, leaf-at union root is r.2)
+  pub end-of : (on : Bool) {end : Spot} {leaf : ℕ} → OnUnder n table.nodes (IsNearest on) spot root (NearSaid on end leaf)
+      → IsSpotAt table root end (nearest on (leaf_count table root)) × IsLeafAt table root (nearest on (leaf_count table root)) leaf
+  end-of on says = let r = says _ _ (root-sided (root-side K on)) in (way-spot table root is r.1, leaf-at union root is r.2)

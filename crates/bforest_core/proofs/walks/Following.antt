@@ -1,4 +1,4 @@
--- The way of a code followed from the root down, digit by digit: the answers of `next_far` and `prev_far`.
+-- The way of a code followed from the root down, digit by digit: the answers of `far`.
 use Rattle.bforest_core.proofs.Words.{shr-shr, Direction, EndsAt, Followed, IsBesideOf, IsLower, IsTurn, Leads, Way, ◌≡◌, ℕ, zero, suc, Some, None, Option}
 use Rattle.bforest_core.proofs.Words.{slice_get, inl, inr, IfSome, refl, ◌+◌, ◌-◌, ◌*◌, ◌/◌, ◌%◌, ◌^◌, ◌≤◌, ◌<◌, List, sym, ap, subst, ◌∙◌, arith, Content}
 use Rattle.bforest_core.proofs.{Words.eqb_tells, table.Stored.some_same, walks.Codes.{above, IsBelow, root-leads, way-none}, walks.OnLevel.leads-on}

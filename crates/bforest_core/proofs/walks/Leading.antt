@@ -1,7 +1,7 @@
 -- The descent to the first entry and to the last, as one on a side: the answers of `descend_first` and `descend_last`.
 use Rattle.bforest_core.proofs.Words.{◌≡◌, ◌≢◌, ℕ, zero, suc, ◌+◌, ◌-◌, ◌≤◌, ◌<◌, List, [], ◌∷◌, ◌++◌, length, get_or, set, slice_get, Some, refl, sym, ap}
 use Rattle.bforest_core.proofs.Words.{subst, ◌∙◌, arith, length-append, Heads, Row, Rows, length-map, nil_from_length, Content, IsInner, entry_count}
-use Rattle.bforest_core.proofs.Words.{node, flat, leaf_content, inner_content, entry_items, HasBelow, IsFirst, IsLast, Led, LedUp, NodeOver, OnBelow}
+use Rattle.bforest_core.proofs.Words.{node, flat, leaf_content, inner_content, entry_items, Bool, HasBelow, IsFirst, IsLast, IsNearest, nearest, true, false, Led, LedUp, NodeOver, OnBelow}
 use Rattle.bforest_core.proofs.{Words.IsLeafCapacity, walks.Downward.{HeadNode, stands_more}, walks.RowNodes.no_heads}
 use Rattle.bforest_core.proofs.{table.Stored.{some_same, item_count}, rows.LevelRows.{flat-append, some_leaf}, walks.Reading.{ChildAsked, ChildRead, LastRead}}
 use Rattle.bforest_core.proofs.walks.TopNode.{SameBut, none_flat, flat_parted, head_at, set_but, LeafUnder, InnerUnder, inner_at, leaf_at}
@@ -105,6 +105,13 @@ module _ {K V : Type 0} {most : ℕ} {slots : List (Content K V)} where
 
       at-leaf : {leaves : _} {n : NodeOver most slots leaves number} (s : LeafUnder n) → last ≡ length s.es
       at-leaf s = omega (arith, says (leaf_content (s.e ∷ s.es)) s.slot_is, length-map (s.e ∷ s.es) (λ w. w.0))
+
+  -- a way that comes into each node by the child nearest to it
+  pub near-turns : (on : Bool) {number index : ℕ} → IsLeafCapacity most → {content : Content K V} → slice_get slots number ≡ Some content
+      → ((other : Content K V) → slice_get slots number ≡ Some other → index ≡ nearest on (entry_count other))
+      → Turns most slots (IsNearest on) (λ leaves. nearest on (length (flat leaves))) number index
+  near-turns true {number} capacity read says = subst (λ i. Turns most slots IsFirst (λ leaves. 0) number i) (sym (says _ read)) first-turns
+  near-turns false capacity read says = last-turns capacity says
 
 -- the descent on one side, from a node whose index in the path was written
 module _ {K V : Type 0} {most : ℕ} (capacity : IsLeafCapacity most) {slots : List (Content K V)} {Side : Heads K → Heads K → Type 0}

@@ -1,9 +1,10 @@
--- The node beside the one at which the way of a code ends, one level further down: what `turn_on`, `turn_back`, `next_far` and `prev_far` find there.
-use Rattle.bforest_core.proofs.Words.{Direction, IsBesideOf, IsWay, Leads, NumberAt, Way, backwards, onwards, ◌≡◌, ℕ, suc, ◌+◌, ◌-◌, ◌*◌, ◌/◌, ◌≤◌, ◌<◌, List}
-use Rattle.bforest_core.proofs.{Words.{◌∷◌, drop, length, Some, None, refl, sym, ◌∙◌, arith, Content, heads}, walks.Branches.{Branch, branch-asks}}
+-- The node beside the one at which the way of a code ends, one level further down: what `turn` and `far` find there.
+use Rattle.bforest_core.proofs.Words.{Bool, Direction, HasBeside, IsBesideOf, IsWay, Leads, NumberAt, Way, backwards, entry_count, nearest, onwards, toward, ◌≡◌, ℕ, suc, ◌+◌, ◌-◌, ◌*◌, ◌/◌, ◌≤◌, ◌<◌, List}
+use Rattle.bforest_core.proofs.{Words.{◌∷◌, ap, drop, false, length, slice_get, subst, true, Some, None, refl, sym, ◌∙◌, arith, Content, heads}, walks.Branches.{Branch, branch-asks}}
 use Rattle.bforest_core.proofs.walks.Branches.{branch-at, branch-child, branch-low, first-of, last-asks, last-of, last-some, next-own, none-next, none-prev}
 use Rattle.bforest_core.proofs.{walks.Branches.{own, prev-own, prev-some}, walks.Codes.{IsBelow, Parent, code-low, count-asks, digit-put, here, read-same}}
 use Rattle.bforest_core.proofs.{walks.Codes.way-below, walks.Reading.{ChildAsked, ChildRead, CountAsked, CountRead, LastAsked, LastRead}}
+use Rattle.bforest_core.proofs.table.Stored.{some_same}
 use Rattle.bforest_core.specs.declared.spot.Spot.{Spot}
 
 -- a level down, to the child at an index of the node at which the way of a spot ends
@@ -76,7 +77,7 @@ module _ {K V : Type 0} {slots : List (Content K V)} {root : ℕ} {spot : Spot} 
   )
 
   -- the child that was read is the one beside
-  said-some : {d : Direction K V} {above : Spot} {number index1 : ℕ} → ((p : There) → Stands p (d.Beside p.place) above number index1)
+  pub said-some : {d : Direction K V} {above : Spot} {number index1 : ℕ} → ((p : There) → Stands p (d.Beside p.place) above number index1)
       → {next : Spot} {child : ℕ} → IsBelow above number index1 next → ChildRead slots number index1 child
       → IsBesideOf slots root code (suc spot.height) d (Some (next, child))
   said-some {number} stands b reads = record {
@@ -92,30 +93,22 @@ module _ {K V : Type 0} {slots : List (Content K V)} {root : ℕ} {spot : Spot} 
   module _ {count : ℕ} (counts : CountRead slots node count) where
     -- the next child of the same node
     module _ (low : index + 1 < count) where
-      pub next-at : (p : There) → Stands p (λ to. to ≡ suc p.place) spot node (index + 1)
+      next-at : (p : There) → Stands p (λ to. to ≡ suc p.place) spot node (index + 1)
       next-at p = record { to = suc p.place; is = refl; branch = next-own (parent p) counts low; others = drop 1 p.numbers; way = its p }
 
-      pub next-said : {next : Spot} {child : ℕ} → IsBelow spot node (index + 1) next → ChildRead slots node (index + 1) child
-          → IsBesideOf slots root code (suc spot.height) onwards (Some (next, child))
-      next-said b reads = said-some next-at b reads
-
     module _ (high : count ≤ index + 1) where
-      pub last-said : IsBesideOf slots root spot.code spot.height onwards None → IsBesideOf slots root code (suc spot.height) onwards None
+      last-said : IsBesideOf slots root spot.code spot.height onwards None → IsBesideOf slots root code (suc spot.height) onwards None
       last-said says = said-none (λ p. none-next (parent p) counts high) says
 
       -- the first child of the node behind
       module _ {above : Spot} {number : ℕ} (on : IsBesideOf slots root spot.code spot.height onwards (Some (above, number))) where
-        pub turn-at : (p : There) → Stands p (λ to. to ≡ suc p.place) above number 0
+        turn-at : (p : There) → Stands p (λ to. to ≡ suc p.place) above number 0
         turn-at p = let w = on.some (up p) in
             record { to = suc p.place; is = refl; branch = first-of (parent p) counts high w.1 w.4; others = w.2; way = w.3 }
 
-        pub turn-said : {next : Spot} {child : ℕ} → IsBelow above number 0 next → ChildRead slots number 0 child
-            → IsBesideOf slots root code (suc spot.height) onwards (Some (next, child))
-        turn-said b reads = said-some turn-at b reads
-
   -- the child before, of the same node
   module _ (low : 0 < index) where
-    pub prev-at : (p : There) → Stands p (λ to. suc to ≡ p.place) spot node (index - 1)
+    prev-at : (p : There) → Stands p (λ to. suc to ≡ p.place) spot node (index - 1)
     prev-at p = record {
       to = p.place - 1;
       is = omega (arith, prev-some (parent p) low);
@@ -124,21 +117,14 @@ module _ {K V : Type 0} {slots : List (Content K V)} {root : ℕ} {spot : Spot} 
       way = its p;
     }
 
-    pub prev-said : {next : Spot} {child : ℕ} → IsBelow spot node (index - 1) next → ChildRead slots node (index - 1) child
-        → IsBesideOf slots root code (suc spot.height) backwards (Some (next, child))
-    prev-said b reads = said-some prev-at b reads
-
   module _ (none : index ≤ 0) where
-    pub first-said : IsBesideOf slots root spot.code spot.height backwards None → IsBesideOf slots root code (suc spot.height) backwards None
+    first-said : IsBesideOf slots root spot.code spot.height backwards None → IsBesideOf slots root code (suc spot.height) backwards None
     first-said says = said-none (λ p. none-prev (parent p) none) says
 
     -- the last child of the node before
     module _ {above : Spot} {number : ℕ} (on : IsBesideOf slots root spot.code spot.height backwards (Some (above, number))) where
-      pub back-count : There → LastAsked slots number
-      back-count p = last-asks p _ (on.some (up p)).4
-
       module _ {last : ℕ} (says : LastRead slots number last) where
-        pub back-at : (p : There) → Stands p (λ to. suc to ≡ p.place) above number last
+        back-at : (p : There) → Stands p (λ to. suc to ≡ p.place) above number last
         back-at p = let w = on.some (up p) in record {
           to = p.place - 1;
           is = omega (arith, last-some (parent p) none w.1 w.4 says);
@@ -147,6 +133,30 @@ module _ {K V : Type 0} {slots : List (Content K V)} {root : ℕ} {spot : Spot} 
           way = w.3;
         }
 
-        pub back-said : {next : Spot} {child : ℕ} → IsBelow above number last next → ChildRead slots number last child
-            → IsBesideOf slots root code (suc spot.height) backwards (Some (next, child))
-        back-said b reads = said-some back-at b reads
+  -- the child beside, of the same node
+  pub side-at : (on : Bool) {to : ℕ} → HasBeside {K = K} {V = V} (toward on) slots node index to → (p : There)
+      → Stands p ((toward {K = K} {V = V} on).Beside p.place) spot node to
+  side-at true {to} w p = let n = count-asked p in let is : index + 1 ≡ to = omega (arith, w.0) in
+      subst (Stands p (λ z. z ≡ suc p.place) spot node) is (next-at (λ other found. ap entry_count (some_same (sym n.1 ∙ found))) (w.1 n.0 n.1) p)
+  side-at false {to} w p = let low : 0 < index = omega (arith, w.0) in let is : index - 1 ≡ to = omega (arith, w.0) in
+      subst (Stands p (λ z. suc z ≡ p.place) spot node) is (prev-at low p)
+
+  -- nothing is beside it, where nothing is beside the node
+  pub none-said : (on : Bool) {content : Content K V} → slice_get slots node ≡ Some content → ((toward {K = K} {V = V} on).HasChild content index → ⊥)
+      → IsBesideOf slots root spot.code spot.height (toward on) None → IsBesideOf slots root code (suc spot.height) (toward on) None
+  none-said true slot_is none = last-said (λ other found. ap entry_count (some_same (sym slot_is ∙ found))) (omega (arith, none))
+  none-said false slot_is none = first-said (omega (arith, none))
+
+  -- what the index of that child asks, by which a way comes into the node beside, and the child
+  pub enter-asks : {d : Direction K V} {above : Spot} {number : ℕ} → IsBesideOf slots root spot.code spot.height d (Some (above, number)) → There
+      → LastAsked slots number
+  enter-asks beside p = last-asks p _ (beside.some (up p)).4
+
+  pub enter-at : (on : Bool) {content : Content K V} → slice_get slots node ≡ Some content → ((toward {K = K} {V = V} on).HasChild content index → ⊥)
+      → {above : Spot} {number : ℕ} → IsBesideOf slots root spot.code spot.height (toward on) (Some (above, number)) → {to : ℕ}
+      → ((other : Content K V) → slice_get slots number ≡ Some other → to ≡ nearest on (entry_count other)) → (p : There)
+      → Stands p ((toward {K = K} {V = V} on).Beside p.place) above number to
+  enter-at true slot_is none {above} {number} beside enters p = let n = last-asks p _ (beside.some (up p)).4 in
+      subst (Stands p (λ z. z ≡ suc p.place) above number) (sym (enters n.0 n.1))
+      (turn-at (λ other found. ap entry_count (some_same (sym slot_is ∙ found))) (omega (arith, none)) beside p)
+  enter-at false slot_is none beside enters p = back-at (omega (arith, none)) beside enters p

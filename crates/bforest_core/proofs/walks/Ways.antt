@@ -6,8 +6,8 @@ use Rattle.bforest_core.proofs.Words.{Coded, NumberAt, StandsAbove, Stands, Poin
 use Rattle.bforest_core.proofs.Words.{TakenOn, IsFit, FitRow, RowsIn, half_of, node, flat, heads, place, place-present, child_index, root_above, root_of, inner_content, entry_items}
 use Rattle.bforest_core.proofs.Words.{entry_keys, IsLeafCapacity}
 use Rattle.bforest_core.proofs.{walks.Searches.{CameTo, came-first, search-ends, search-on}, walks.Rising.place-le, walks.Whole.stands-pointed}
-use Rattle.bforest_core.proofs.Words.{IsFirst, IsLast, IsLeafAt, IsSpotAt, OnWay, length-append}
-use Rattle.bforest_core.proofs.{walks.CodesDown.{FirstSaid, GoesDown, LastSaid, down-on, first-here, first-of, last-here, last-of, root-under}, walks.Leading.Turns, walks.TopNode.none_flat}
+use Rattle.bforest_core.proofs.Words.{IsFirst, IsLast, true, false, IsLeafAt, IsSpotAt, OnWay, length-append}
+use Rattle.bforest_core.proofs.{walks.CodesDown.{GoesDown, NearSaid, down-on, end-of, near-here, root-under}, walks.Leading.Turns, walks.TopNode.none_flat}
 use Rattle.bforest_core.proofs.{walks.Reading.{ChildAsked, ChildRead}, walks.RowNodes.{NodeIn, entry_at, node-in}, walks.Steps.read, walks.LeafSearch.items-read}
 use Rattle.bforest_core.proofs.{table.Stored.{item_count, slice_get_at, some_same}, rows.LevelRows.{FitRow-split, Solid-full, flat-append, heads-append, least-pos, some_leaf}}
 use Rattle.bforest_core.proofs.{removal.Asked.some_first, rows.Tops.top_rows, walks.TopNode.set_but, union.Unions.{is-rooted, rooted}}
@@ -450,12 +450,12 @@ module _ {K V : Type 0} {most : ℕ} {table : Table K V} {root : ℕ} (union : I
     }
 
   module _ {way : Way} {content : Content K V} (found : slice_get table.nodes way.leaf ≡ Some content) (other : IsInner content → ⊥) where
-    pub leading-first : Leading most table.nodes IsFirst FirstSaid root way → OnWay table root way 0 0
-    leading-first w = let f = first-of union is refl refl (w.down.ends (as-spot way w.grand) way.leaf (first-here union.1.capacity found other (as-spot way w.grand))) in
+    pub leading-first : Leading most table.nodes IsFirst (NearSaid true) root way → OnWay table root way 0 0
+    leading-first w = let f = end-of union is refl refl true (w.down.ends (as-spot way w.grand) way.leaf (near-here union.1.capacity found other (as-spot way w.grand) true)) in
         spot-on-way union is w.grand f.0 f.1 w.alone 0 f.1.some (omega (arith, none_flat f.1.before f.1.at))
 
-    pub leading-last : Leading most table.nodes IsLast LastSaid root way → (index : ℕ) × OnWay table root way index (length (flat (tree_of table.nodes root).leaves) - 1)
-    leading-last w = let f = last-of union is refl refl (w.down.ends (as-spot way w.grand) way.leaf (last-here union.1.capacity found other (as-spot way w.grand))) in
+    pub leading-last : Leading most table.nodes IsLast (NearSaid false) root way → (index : ℕ) × OnWay table root way index (length (flat (tree_of table.nodes root).leaves) - 1)
+    leading-last w = let f = end-of union is refl refl false (w.down.ends (as-spot way w.grand) way.leaf (near-here union.1.capacity found other (as-spot way w.grand) false)) in
         let l = f.1 in let index = length l.entries - 1 in
         let row : length (tree_of table.nodes root).leaves ≡ length l.before + suc (length l.after) = ap length l.leaves_are ∙ length-append l.before (node way.leaf l.entries ∷ l.after) in
         let all : length (flat (tree_of table.nodes root).leaves) ≡ length (flat l.before) + (length l.entries + length (flat l.after)) =

@@ -26,10 +26,10 @@ overflow_mul-spot g c = omega (arith, spot-low c.requires.union c.requires.spot.
 
 pub returns-in_err-far-clause-none : goal.returns-in_err-far-clause-none
 returns-in_err-far-clause-none g c = λ none place s. last-leaf c.requires.union _ s.root_is
-    (c.next_far.ensures.next.none c.in_err-far.was (spot-over c.requires.union s))
+    (c.next_far.ensures.beside.none c.in_err-far.was (spot-over c.requires.union s))
 
 pub returns-clause-some : goal.returns-clause-some
-returns-clause-some g c = λ place s. far-behind c.requires.union (rw c.in_ok-far.was at c.next_far.ensures.next) place s
+returns-clause-some g c = λ place s. far-behind c.requires.union (rw c.in_ok-far.was at c.next_far.ensures.beside) place s
 
 pub overflow_add-index : goal.overflow_add-index
 overflow_add-index g c = omega arith

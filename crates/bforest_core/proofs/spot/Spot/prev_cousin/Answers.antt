@@ -6,10 +6,10 @@ pub prev_far-requires : goal.prev_far-requires
 prev_far-requires g c = (search rules, (spot-height c.requires.union c.requires.spot.1, spot-over c.requires.union c.requires.spot.1))
 
 pub returns-in_err-far-clause-none : goal.returns-in_err-far-clause-none
-returns-in_err-far-clause-none g c = λ none place s. c.prev_far.ensures.before.none c.in_err-far.was (spot-over c.requires.union s)
+returns-in_err-far-clause-none g c = λ none place s. c.prev_far.ensures.beside.none c.in_err-far.was (spot-over c.requires.union s)
 
 pub returns-clause-some : goal.returns-clause-some
-returns-clause-some g c = λ place s. far-before c.requires.union (rw c.in_ok-far.was at c.prev_far.ensures.before) place s
+returns-clause-some g c = λ place s. far-before c.requires.union (rw c.in_ok-far.was at c.prev_far.ensures.beside) place s
 
 pub child-parent-requires : goal.child-parent-requires
 child-parent-requires g c = (search rules, parent-before-asks c.requires.union c.requires.spot.1 c.requires.deep c.requires.first c.if-index-gt0.true)
