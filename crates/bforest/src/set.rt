@@ -391,9 +391,10 @@ impl<K: Copy> Set<K> {
     ///
     /// Where a bound is lacking, whole subtrees go, each node of which is read once, after at most one search, as in [`Set::contains`]. Of
     /// the nodes that stay, those on the path to where the rest begins or ends are written, and without a start bound the first node of
-    /// each level is filled from its right neighbour, or merged into it, where it is at most half full. Between two bounds they are removed
-    /// one after another, in order, after one search, with one comparison for each of them and one more, and each may rebalance or merge
-    /// nodes, as in [`Set::remove`]. No node and no memory is taken, so this can't be refused.
+    /// each level is filled from its right neighbour, or merged into it, where it is at most half full. Between two bounds there is one
+    /// search. Then the leaves behind the first one go whole of which all keys go, with one comparison for each, and the other keys one
+    /// after another, in order, with one comparison for each; and two more. Each leaf and each key that goes may rebalance or merge nodes,
+    /// as in [`Set::remove`]. No node and no memory is taken, so this can't be refused.
     pub fn remove_range<C: Comparator<K>>(
         &mut self,
         bounds: (Bound<K>, Bound<K>),
