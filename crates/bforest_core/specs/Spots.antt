@@ -147,7 +147,7 @@ module _ {K V : Type 0} (d : Direction K V) (slots : List (Content K V)) (node i
   abbrev pub HasNone : Type 0
   HasNone = (content : Content K V) → slice_get slots node ≡ Some content → ¬ d.HasChild content index
 
-  -- it has one, and this is the index of the child beside
+  -- there is a child beside the one at this index, and it has the index `to`
   abbrev pub HasBeside : ℕ → Type 0
   HasBeside to = d.Beside index to × ((content : Content K V) → slice_get slots node ≡ Some content → d.HasChild content index)
 

@@ -124,11 +124,11 @@ module _ {K V : Type 0} {n : ℕ} {table : Table K V} {root : ℕ} {path : Path 
   abbrev pub IsLow : Type 0
   IsLow = AllByRecursion (λ q. cmp q key ≡ Greater) (keys_of (flat leaf.after))
 
-  -- it is, where it is not greater than the last of the leaf
+  -- a key that is not greater than the last of the leaf is less than all behind it
   pub low-here : {k : K} → slice_get (entry_keys leaf.entries) (length (entry_keys leaf.entries) - 1) ≡ Some k → is_gt (cmp key k) ≡ false → IsLow
   low-here {k} last upto = all_greater_behind cmp key o k (keys_of (flat leaf.after)) (less_behind cmp leaf.entries (flat leaf.after) (length (entry_keys leaf.entries) - 1) k own last) (not_below o key k upto)
 
-  -- it is, where it is less than the first key behind the leaf
+  -- so is one that is less than the first key behind the leaf
   pub low-next : (next : Option K) → KeyIs next (heads leaf.after) → IfSome next (λ k. is_lt (cmp key k) ≡ true) → IsLow
   unfolding IsStrictlySortedBy
   low-next None is less = rw (none_next (stands_in n table union b.on) is) tt
@@ -145,7 +145,7 @@ module _ {K V : Type 0} {n : ℕ} {table : Table K V} {root : ℕ} {path : Path 
   place-last i {k} is last above = let r = read leaf.entries i (omega (arith, is)) in let key_is = some_same (sym (slice_get-map (λ w. w.0) leaf.entries i ∙ ap (option_map (λ w. w.0)) r.1) ∙ last) in
       omega (arith, is, place-above o key leaf.entries i r.0 entries-up r.1 (ap (λ z. cmp z key) key_is ∙ beneath o key k above), place-le o leaf.entries key)
 
-  -- then a search ends in the leaf
+  -- a search for such a key ends in the leaf
   pub ends-here : IsLow → length path.node ≡ 17 → length path.entry ≡ 17 → EndsIn cmp table root key (leaf_of path) path.node path.entry path.size
   ends-here high wide indexed =
       let place_is : place cmp (list_under table root) key ≡ length (flat leaf.before) + place cmp leaf.entries key = ap (λ l. place cmp l key) whole ∙ place_between o (flat leaf.before) leaf.entries (flat leaf.after) key behind-up low high in

@@ -102,7 +102,7 @@ module _ {K V : Type 0} {cmp : K → K → Ordering} (o : IsTotalOrder cmp) (slo
   not-along {s} reads past from keys children found at =
       not-greater o from s key (greater-behind o from s keys (sorted-keys found) (cc (reads keys children found))) past
 
-  -- so a search for the key does not go to the child
+  -- a search for a key that is not less than the separator does not go to the child
   pub not-here : {s : K} → ((keys : List K) (children : _) → slice_get slots node ≡ Some (Inner keys children)
       → slice_get keys index ≡ Some s) → is_lt (cmp key s) ≡ false → (keys : List K) (children : _) → slice_get slots node ≡ Some (Inner keys children)
       → index ≡ child_index cmp keys key → ⊥

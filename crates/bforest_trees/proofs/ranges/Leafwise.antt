@@ -252,7 +252,7 @@ module _ {K X : Type 0} {most : ℕ} {cmp : K → K → Ordering} {lo hi : Bound
     | inr none ↦ (let end : path.size ≡ 0 = omega (arith, none) in rw (forest end, handle end, same end) (parting-first live spot))
   ]
 
-  -- and then all within the bounds are
+  -- all entries within the bounds are removed where the loop removes those that the leaves left
   pub leaves-between : {f : Forest K X} {h : Option ℕ} {changed : Bool} → (lo ≡ Unbounded → ⊥) → (hi ≡ Unbounded → ⊥) → (IsIncreasing cmp (list_of f₁ h₁) → Parted most cmp lo hi f₁ h₁ changed f h) → RemovesBetween most cmp lo hi f₀ h₀ changed f h
   leaves-between {f} {h} {changed} start end parted = elim (cases_lt 0 path.size) [
     | inl some ↦ (let t = thinned (λ end. omega (arith, end, some)) (record { place = start_place cmp lo (list_of f₀ h₀); spot = spot }) in
