@@ -128,7 +128,7 @@ module _ {K V : Type 0} {n : ℕ} {table : Table K V} {root : ℕ} {path : Path 
   pub low-here : {k : K} → slice_get (entry_keys leaf.entries) (length (entry_keys leaf.entries) - 1) ≡ Some k → is_gt (cmp key k) ≡ false → IsLow
   low-here {k} last upto = all_greater_behind cmp key o k (keys_of (flat leaf.after)) (less_behind cmp leaf.entries (flat leaf.after) (length (entry_keys leaf.entries) - 1) k own last) (not_below o key k upto)
 
-  -- so is one that is less than the first key behind the leaf
+  -- a key that is less than the first one behind the leaf is less than all behind it
   pub low-next : (next : Option K) → KeyIs next (heads leaf.after) → IfSome next (λ k. is_lt (cmp key k) ≡ true) → IsLow
   unfolding IsStrictlySortedBy
   low-next None is less = rw (none_next (stands_in n table union b.on) is) tt
