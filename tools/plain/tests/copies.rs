@@ -361,7 +361,7 @@ fn handles_of_slots<H: Handle>() -> Vec<H> {
 }
 
 /// How many random calls are made at least, of which some are refused memory.
-const FEWEST: usize = 5000;
+const FEWEST: usize = 10_000;
 
 /// A tenth of the calls that `BFOREST_CALLS` names, since a panic for most slots follows each.
 fn tenth() -> usize {

@@ -1,12 +1,12 @@
 -- The leaf behind a path's, and the tree without it: the answers of `next_leaf` and `remove_next_leaf`.
-use Rattle.bforest_core.proofs.Words.{◌≡◌, ℕ, suc, ◌+◌, ◌-◌, ◌≤◌, ◌<◌, Some, None, Option, List, [], ◌∷◌, ◌++◌, map, length, get_or, set, slice_get, refl, sym, ap, ◌∙◌}
-use Rattle.bforest_core.proofs.Words.{append_assoc, length-append, length-map, map-append, arith, Row, flat_map, Content, Table, node, flat, heads, sizes, numbers}
-use Rattle.bforest_core.proofs.Words.{Above, FitRow, Solid, RowIn, Distinct, IsAt, IsUsed, IsLeafCapacity, Leaf, LevelNode, NextIs, OnEntry, OneAbove, TwoAbove, OnLevel}
-use Rattle.bforest_core.proofs.Words.{StandsIn, UpTo, Trimmed, Rebuilt, Reduced, Tree, count, entry_items, entry_keys, half_of, leaf_content, nodes_up, numbers_of}
-use Rattle.bforest_core.proofs.Words.{loss_above, root_of, sizes_of, trimmed, with_freed, with_node, without_next, get_or_default, IsPathAt, Stands, Keeps, remove, subst, true, ◌≢◌}
+use Rattle.bforest_core.proofs.Words.{◌≡◌, ℕ, suc, ◌-◌, ◌≤◌, ◌<◌, Some, None, List, [], ◌∷◌, ◌++◌, map, length, get_or, set, slice_get, refl, sym, ap, ◌∙◌}
+use Rattle.bforest_core.proofs.Words.{length-append, map-append, arith, Row, flat_map, Content, Table, node, flat, heads, sizes, numbers}
+use Rattle.bforest_core.proofs.Words.{Above, FitRow, Solid, RowIn, Distinct, IsAt, IsUsed, IsLeafCapacity, Leaf, NextIs, OneAbove, TwoAbove, OnLevel}
+use Rattle.bforest_core.proofs.Words.{StandsIn, UpTo, Trimmed, Rebuilt, Reduced, count, entry_items, entry_keys, half_of, leaf_content, nodes_up, numbers_of}
+use Rattle.bforest_core.proofs.Words.{loss_above, root_of, sizes_of, with_freed, with_node, without_next, get_or_default, Stands, Keeps, remove, subst, true, ◌≢◌}
 use Rattle.bforest_core.proofs.removal.{Asked.{First, no_nodes, some_first}, Balance.{IsHalf, kind_half}, Lifted.{NextNode, headed, next_of}, Merge.{Restored, cede_asks, ceded_restored}}
 use Rattle.bforest_core.proofs.removal.{Rebalance.{Ceded, apart as two_apart, settle_cede}, Removing.{pending, stands, trimmed_reduced, up_here}}
-use Rattle.bforest_core.proofs.{rows.LevelRows.{FitRow-split, Solid-full, least-pos}, rows.Zipper.apart_here, table.Stored.{keys_count, slice_get_at, some_same}}
+use Rattle.bforest_core.proofs.{rows.LevelRows.{FitRow-split, Solid-full, least-pos}, rows.Zipper.apart_here, table.Stored.{slice_get_at, some_same}}
 use Rattle.bforest_core.proofs.{table.Tables.{count-append, is_used, row-split}, table.Trading.{Puts, apart_from, puts}}
 
 -- a list with an element, cut in front of its last

@@ -1,4 +1,4 @@
-use Rattle.bforest_core.proofs.Words.{ap, is_lt, not, rules, arith, refl, sym, ◌∙◌}
+use Rattle.bforest_core.proofs.Words.{ap, is_lt, rules, arith, sym, ◌∙◌}
 use Rattle.bforest_core.proofs.removal.{Dropping.beside_asks, Removal.stands_in}
 use Rattle.bforest_core.proofs.walks.{Behind.{ends-behind, low-next}, Standing.on-leaf-in}
 use Rattle.bforest_core.proofs.path.Path.find_behind_leaf.Goals.{in-Some+else-not-is_lt, in_default}

@@ -1,4 +1,4 @@
-use Rattle.bforest_core.proofs.{Words.{OneAbove, ◌-◌, ◌≡◌}, removal.Neighbours.KeyComes}
+use Rattle.bforest_core.proofs.{Words.{OneAbove, ◌-◌}, removal.Neighbours.KeyComes}
 use Rattle.bforest_core.proofs.path.Path.key_behind.Given as goal
 
 abbrev pub invariant-loop-up : goal.invariant-loop-up

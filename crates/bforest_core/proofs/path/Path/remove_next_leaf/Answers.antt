@@ -1,4 +1,4 @@
-use Rattle.bforest_core.proofs.{Words.{rules, arith, refl, sym, ◌∙◌, tree_of}, removal.{Removal.{removes_next, stands_in}, Dropping.{collapse_asks, copy_asks, dropped, free_asks, merge_asks}}}
+use Rattle.bforest_core.proofs.{Words.{rules, arith, sym, ◌∙◌}, removal.{Removal.{removes_next, stands_in}, Dropping.{collapse_asks, copy_asks, dropped, free_asks, merge_asks}}}
 use Rattle.bforest_core.proofs.rows.Tops.{root-stands}
 use Rattle.bforest_core.proofs.path.Path.remove_next_leaf.Goals as goal
 
