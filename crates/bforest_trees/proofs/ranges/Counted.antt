@@ -2,9 +2,9 @@
 use Rattle.bforest_core.specs.Levels.{LevelNode, flat, node, sizes}
 use Rattle.bforest_trees.proofs.ranges.Slices.{Rises, count-cons}
 use Rattle.bforest_trees.specs.Calls.{leaf_index, leaves_within, whole_leaves}
-use Rattle.std.proofs.Common.{Bool, List, [], ap, arith, cond, count_by, drop, false, length, length-append, not, refl, subst, suc, sym, take, true, zero, ◌+◌, ◌-◌, ◌++◌, ◌<◌, ◌∙◌, ◌∷◌, ◌≡◌, ◌≤◌, ℕ}
+use Rattle.std.proofs.Common.{Bool, List, [], ap, arith, cond, count_by, drop, false, length, length-append, not, refl, suc, take, true, ◌+◌, ◌-◌, ◌++◌, ◌<◌, ◌∙◌, ◌∷◌, ◌≡◌, ◌≤◌, ℕ}
 use Rattle.std.proofs.lemmas.Bool.{le-leb, le-ltb, lt-leb, lt-ltb}
-use Rattle.std.proofs.lemmas.List.Sums.{count_by-le-length, sum_by-append, sum_by-cons}
+use Rattle.std.proofs.lemmas.List.Sums.{sum_by-append, sum_by-cons}
 use Rattle.std.specs.List.{AllByRecursion, sum_by}
 
 -- the sum of some sizes

@@ -5,10 +5,10 @@ use Rattle.bforest_nodes.proofs.Ordered.{IsIncreasing-remove}
 use Rattle.bforest_nodes.specs.Entries.{IsIncreasing, value_for}
 use Rattle.bforest_trees.proofs.Becoming.{becomes-both}
 use Rattle.bforest_trees.proofs.ranges.Between.{end-rises, slice-between, start-rises}
-use Rattle.bforest_trees.proofs.ranges.Counted.{all-behind, all-front, count-all, count-append, from-behind, index-at, not-past, taken-is, total, whole-at, within-exact}
+use Rattle.bforest_trees.proofs.ranges.Counted.{all-front, count-all, count-append, from-behind, index-at, not-past, taken-is, total, whole-at, within-exact}
 use Rattle.bforest_trees.proofs.ranges.Parting.{Parted, Parting, bounded, parting-first, outside-up, outside-value, start-low, zero-by}
 use Rattle.bforest_trees.proofs.ranges.Slices.{Rises, count-cons, count-none}
-use Rattle.bforest_trees.specs.Bounds.{end_place, entries_between, entries_outside, is_between, is_from_start, is_past_end, start_place}
+use Rattle.bforest_trees.specs.Bounds.{end_place, entries_between, entries_outside, is_from_start, is_past_end, start_place}
 use Rattle.bforest_trees.specs.Calls.{RemovesBetween, removals, without_leaves, without_range}
 use Rattle.bforest_trees.specs.Forest.{Becomes, Forest, IsLive, list_of, sizes_of}
 use Rattle.bforest_core.specs.Paths.{IsAtEnd}
@@ -17,14 +17,14 @@ use Rattle.bforest_trees.specs.Place.{AtSpot, IsSpot}
 use Rattle.bforest_trees.specs.Thinned.{Stops, Thinned}
 use Rattle.std.proofs.Common.{inl, inr}
 use Rattle.std.proofs.lemmas.Bool.{cases_lt, lt-ltb}
-use Rattle.std.proofs.Common.{Bool, List, None, Option, Some, [], ap, append_assoc, arith, cond, count_by, drop, false, filter, if◌then◌else◌, length, length-append, length-drop, nat_lt, not, refl, subst, suc, sym, take, true, zero, ◌&&◌, ◌+◌, ◌-◌, ◌++◌, ◌<◌, ◌∙◌, ◌∷◌, ◌≡◌, ◌≤◌, ℕ}
+use Rattle.std.proofs.Common.{Bool, List, Option, [], ap, arith, cond, count_by, drop, false, filter, length, length-append, length-drop, nat_lt, not, refl, subst, suc, sym, true, zero, ◌&&◌, ◌+◌, ◌-◌, ◌++◌, ◌<◌, ◌∙◌, ◌∷◌, ◌≡◌, ◌≤◌, ℕ}
 use Rattle.std.proofs.lemmas.List.Elements.{filter-append}
 use Rattle.std.proofs.lemmas.List.Sums.{count_by-le-length}
 use Rattle.std.proofs.lemmas.List.{length-take-le, nil_from_length}
 use Rattle.std.specs.Cmp.{IsTotalOrder}
-use Rattle.std.specs.List.{AllByRecursion, sum_by}
+use Rattle.std.specs.List.{AllByRecursion}
 use Rattle.std.specs.declared.cmp.Ordering.{Ordering}
-use Rattle.std.specs.declared.ops.Bound.TheVariants.{Excluded, Included, Unbounded}
+use Rattle.std.specs.declared.ops.Bound.TheVariants.{Unbounded}
 use Rattle.std.specs.declared.ops.Bound.{Bound}
 
 lt-same : (a b : ℕ) → (a ≡ 0 → b ≡ 0) → (b ≡ 0 → a ≡ 0) → nat_lt 0 a ≡ nat_lt 0 b

@@ -21,10 +21,9 @@ use Rattle.bforest_trees.specs.Calls.{leaf_index, without_leaves}
 use Rattle.bforest_trees.specs.Forest.{Becomes, Forest, Gives, IsLive, list_of, sizes_of}
 use Rattle.bforest_trees.specs.Place.{IsSpot}
 use Rattle.bforest_trees.specs.Thinned.{NextWithin, Stops, Thinned}
-use Rattle.std.proofs.Common.{List, None, Option, Some, [], ap, append_assoc, arith, false, length, length-append, map, refl, remove, subst, suc, sym, true, ◌+◌, ◌++◌, ◌<◌, ◌∙◌, ◌∷◌, ◌≡◌, ◌≤◌, ℕ, inl, inr}
+use Rattle.std.proofs.Common.{List, None, Option, Some, [], ap, append_assoc, arith, false, length, length-append, map, refl, remove, subst, suc, sym, ◌++◌, ◌<◌, ◌∙◌, ◌∷◌, ◌≡◌, ◌≤◌, ℕ, inl, inr}
 use Rattle.std.proofs.lemmas.List.Sums.{sum_by-append}
 use Rattle.std.specs.Cmp.{IsTotalOrder}
-use Rattle.std.specs.List.{AllByRecursion}
 use Rattle.std.specs.declared.cmp.Ordering.{Ordering}
 use Rattle.std.specs.declared.ops.Bound.{Bound}
 

@@ -1,4 +1,4 @@
-use Rattle.bforest_trees.proofs.ranges.Parting.{parting-at, parting-cut, parting-end, parting-first, parting-front, parting-live, parting-next, parting-on, parting-shorter}
+use Rattle.bforest_trees.proofs.ranges.Parting.{parting-at, parting-cut, parting-end, parting-front, parting-live, parting-next, parting-on, parting-shorter}
 use Rattle.bforest_trees.proofs.Spots.{spot-end}
 use Rattle.bforest_trees.proofs.ranges.Leafwise.{leaves-between, leaves-first}
 use Rattle.bforest_trees.proofs.trees.Trees.remove_range.Goals as goal
