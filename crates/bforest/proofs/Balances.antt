@@ -18,7 +18,7 @@ use Rattle.bforest_trees.proofs.Putting.{present-some}
 use Rattle.bforest_trees.proofs.ranges.Outside.{filter-behind, filter-from, filter-halves}
 use Rattle.bforest_trees.specs.Calls.{as_inserted}
 use Rattle.std.specs.Fn.{Once}
-use Rattle.std.proofs.Common.{Bool, Err, List, None, Ok, Option, Result, Some, [], ap, arith, false, if◌then◌else◌, inl, inr, length, not, refl, remove, subst, suc, sym, true, zero, ◌%◌, ◌+◌, ◌-◌, ◌<◌, ◌∙◌, ◌∷◌, ◌≡◌, ◌≢◌, ◌≤◌, ℕ}
+use Rattle.std.proofs.Common.{Bool, Err, List, None, Ok, Option, Result, Some, [], ap, arith, false, if◌then◌else◌, inl, inr, length, not, refl, remove, subst, suc, sym, true, ◌%◌, ◌+◌, ◌-◌, ◌<◌, ◌∙◌, ◌∷◌, ◌≡◌, ◌≢◌, ◌≤◌, ℕ}
 use Rattle.std.proofs.lemmas.Bool.Decides.{leb_tells}
 use Rattle.std.proofs.lemmas.List.Edits.{length-insert, length-remove}
 use Rattle.std.proofs.lemmas.List.Sums.{count_by-le-length}

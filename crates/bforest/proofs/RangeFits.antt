@@ -2,9 +2,9 @@
 use Rattle.bforest.proofs.Growing.{least-half, total, total-cons}
 use Rattle.bforest.proofs.Shrinking.{shrink-fits, trimmed-above}
 use Rattle.bforest_trees.proofs.ranges.Counted.{index-at, taken-is, whole-at}
-use Rattle.bforest_trees.specs.Calls.{leaf_index, leaves_within, removals, whole_leaves, without_leaves, without_range}
-use Rattle.bforest_core.specs.Sizes.{IsFitAbove, IsFitFor, IsFitLevel, loss_above, shrink, trimmed, without_next}
-use Rattle.std.proofs.Common.{Bool, List, None, Option, Some, [], ap, append_assoc, arith, false, if◌then◌else◌, length, length-append, nat_le, refl, remove, subst, suc, sym, true, zero, ◌%◌, ◌+◌, ◌-◌, ◌++◌, ◌<◌, ◌∙◌, ◌∷◌, ◌≡◌, ◌≤◌, ℕ}
+use Rattle.bforest_trees.specs.Calls.{leaves_within, removals, without_leaves, without_range}
+use Rattle.bforest_core.specs.Sizes.{IsFitFor, IsFitLevel, loss_above, shrink, trimmed, without_next}
+use Rattle.std.proofs.Common.{Bool, List, Some, [], ap, arith, false, if◌then◌else◌, length, length-append, nat_le, refl, remove, subst, suc, sym, true, zero, ◌%◌, ◌+◌, ◌-◌, ◌++◌, ◌<◌, ◌∙◌, ◌∷◌, ◌≡◌, ◌≤◌, ℕ}
 use Rattle.std.proofs.Common.{inl, inr, ◌/◌}
 use Rattle.std.proofs.lemmas.Bool.{cases_lt, leb-true}
 use Rattle.std.proofs.lemmas.List.Sums.{sum_by-append}

@@ -1,5 +1,5 @@
 -- Two sets that are read side by side: what a step takes off, and what is left.
-use Rattle.bforest_trees.proofs.unions.Merging.{IsBefore, IsBelow, absent-below, all-below, equal-back, first-below, front-none, goes, present-first, present-later, flip, rest-up, steps-less}
+use Rattle.bforest_trees.proofs.unions.Merging.{IsBefore, IsBelow, absent-below, all-below, equal-back, first-below, front-none, goes, present-first, present-later, flip, steps-less}
 use Rattle.bforest_trees.proofs.unions.Choosing.{absent-all, kept-none}
 use Rattle.bforest_trees.proofs.unions.Restricting.{up-kept}
 use Rattle.bforest_trees.specs.Merge.{TakesOff, front_order}
@@ -7,13 +7,13 @@ use Rattle.bforest.specs.Set.{with_unit}
 use Rattle.bforest.specs.Sides.{Increase, Sides, Steps, Takes, front, in_both, in_first}
 use Rattle.bforest.specs.Union.{fits, kept_from, united, unshared}
 use Rattle.bforest_nodes.specs.Entries.{IsIncreasing, is_present}
-use Rattle.std.proofs.Common.{Bool, List, None, Option, Some, [], ap, arith, cond, false, if◌then◌else◌, length, refl, subst, sym, true, ◌+◌, ◌<◌, ◌∙◌, ◌∷◌, ◌≡◌, ◌≢◌}
+use Rattle.std.proofs.Common.{Bool, List, None, Option, Some, [], ap, arith, cond, false, if◌then◌else◌, length, refl, subst, sym, true, ◌∙◌, ◌∷◌, ◌≡◌, ◌≢◌}
 use Rattle.std.proofs.lemmas.List.{length-map}
 use Rattle.std.specs.Cmp.{IsTotalOrder}
 use Rattle.std.specs.Iterator.{YieldsFirst}
 use Rattle.std.specs.Map.{keys_of}
 use Rattle.std.specs.Bool.{IsTrue}
-use Rattle.std.specs.Ordering.{is_eq, is_gt, is_lt, ordering_reverse}
+use Rattle.std.specs.Ordering.{is_eq, is_lt, ordering_reverse}
 use Rattle.std.specs.declared.cmp.Ordering.TheVariants.{Equal, Greater, Less}
 use Rattle.std.specs.declared.cmp.Ordering.{Ordering}
 

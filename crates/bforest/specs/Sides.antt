@@ -6,7 +6,7 @@ use Rattle.bforest_nodes.specs.Entries.{IsIncreasing}
 use Rattle.bforest_trees.specs.Merge.{front_order}
 use Rattle.std.specs.Map.{keys_of}
 use Rattle.std.specs.Ordering.{is_eq, is_lt}
-use Rattle.std.specs.Prelude.{Bool, List, None, Option, Some, [], false, if◌then◌else◌, length, true, ◌+◌, ◌<◌, ◌∷◌, ◌≡◌}
+use Rattle.std.specs.Prelude.{List, None, Option, Some, [], false, if◌then◌else◌, length, true, ◌+◌, ◌<◌, ◌∷◌, ◌≡◌}
 use Rattle.std.specs.declared.cmp.Ordering.{Ordering}
 
 -- the keys that are left, of which the first was read already
