@@ -392,9 +392,9 @@ impl<K: Copy> Set<K> {
     /// Where a bound is lacking, whole subtrees go, each node of which is read once, after at most one search, as in [`Set::contains`]. Of
     /// the nodes that stay, those on the path to where the rest begins or ends are written, and without a start bound the first node of
     /// each level is filled from its right neighbour, or merged into it, where it is at most half full. Between two bounds there is one
-    /// search. Then the leaves behind the first one go whole of which all keys go, with one comparison for each, and the other keys one
-    /// after another, in order, with one comparison for each; and two more. Each leaf and each key that goes may rebalance or merge nodes,
-    /// as in [`Set::remove`]. No node and no memory is taken, so this can't be refused.
+    /// search. Then each leaf behind the first one is removed whole if all its keys go, and the other keys one after another, in order.
+    /// There is one comparison for each such leaf, one for each such key, and two more. Each of them may rebalance or merge nodes, as in
+    /// [`Set::remove`]. No node and no memory is taken, so this can't be refused.
     pub fn remove_range<C: Comparator<K>>(
         &mut self,
         bounds: (Bound<K>, Bound<K>),

@@ -1,5 +1,5 @@
 -- Where a path stands in a pool, in the terms of its public calls; contracts read a path only through these.
-use Rattle.std.specs.Prelude.{◌≡◌, ◌≢◌, ℕ, List, Option, Some, None, IfSome, Result, Err, IfOk, IsOk, OnOk, OnErr, drop, take, insert, remove, length, get_or, slice_get, if◌then◌else◌, ◌==◌, ◌+◌, ◌++◌, ◌∷◌, [], nat_eq, ◌<◌, ◌≤◌, ◌↔◌}
+use Rattle.std.specs.Prelude.{true, false, ◌≡◌, ◌≢◌, ℕ, List, Option, Some, None, IfSome, Result, Err, IfOk, IsOk, OnOk, OnErr, drop, take, insert, remove, length, get_or, slice_get, if◌then◌else◌, ◌==◌, ◌+◌, ◌++◌, ◌∷◌, [], nat_eq, ◌<◌, ◌≤◌, ◌↔◌}
 use Rattle.bforest_core.specs.Change.{AtUnder, Changes, CutsFront, Divides, Ends, EntryTaken, GivesInOrder, GivesNodes, PlacedUnder, PointsUnder, StandsUnder, TakesNodes}
 use Rattle.bforest_core.specs.Climb.{top_of}
 use Rattle.bforest_core.specs.Levels.{LevelNode, flat, node, sizes_of}
@@ -7,6 +7,7 @@ use Rattle.bforest_core.specs.Place.{count, leaf_content}
 use Rattle.bforest_core.specs.Sizes.{growth, need, shrink, truncated, without_next}
 use Rattle.bforest_core.specs.Table.{NeedsGrowth, Table, free_count, room}
 use Rattle.bforest_core.specs.Trees.{tree_of}
+use Rattle.bforest_nodes.specs.Entries.{is_present, place, value_for}
 use Rattle.bforest_core.specs.declared.path.Path.{Path}
 use Rattle.std.specs.declared.cmp.Ordering.{Ordering}
 use Rattle.std.specs.declared.cmp.Ordering.TheVariants.{Greater}
@@ -86,6 +87,13 @@ module _ {K V : Type 0} where
     pub place : ℕ
     pub on : StandsOn table root path place
     pub less : IfSome (slice_get (list_under table root) place) (λ entry. cmp key entry.0 ≡ Greater)
+
+  -- What a search for a key under a root returns, and where the path is then: on the key's entry or, where the key is absent, where an entry
+  -- may be inserted at its place
+  pub record GoesTo {n : ℕ} (cmp : K → K → Ordering) (table : Table K V) (root : ℕ) (key : K) (result : Option V) (path' : Path K V n) : Type 0 where
+    pub value : result ≡ value_for cmp (list_under table root) key
+    pub present : is_present cmp (list_under table root) key ≡ true → StandsOn table root path' (place cmp (list_under table root) key)
+    pub absent : is_present cmp (list_under table root) key ≡ false → IsPlaced table root path' (place cmp (list_under table root) key)
 
   -- the root and the place where an entry may be inserted at a path
   pub record Placing {n : ℕ} (table : Table K V) (path : Path K V n) : Type 0 where

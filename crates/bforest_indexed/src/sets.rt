@@ -490,8 +490,8 @@ impl<K: Copy, C: Comparator<K>, I: Idx> Sets<K, C, I> {
     /// Removes the keys of a set that are within both bounds, and returns whether there was one.
     ///
     /// As [`bforest::Set::remove_range`]: where a bound is lacking, at most one search, and whole subtrees go. Between two bounds one
-    /// search, and then whole leaves go, and the other keys, with one comparison for each, and two more. It takes no node and no memory, so it
-    /// can't be refused.
+    /// search, and then one comparison for each leaf that goes whole, one for each other key that goes, and two more. It takes no node and
+    /// no memory, so it can't be refused.
     pub fn remove_range(&mut self, index: I, bounds: (Bound<K>, Bound<K>)) -> bool
         requires within { I.number index < count self.old }
         ensures { RemovesBetweenAt SET_LEAF (C.order (comparator self.old)) bounds.0 bounds.1 self.old

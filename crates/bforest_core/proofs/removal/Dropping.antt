@@ -136,7 +136,7 @@ module _ {K V : Type 0} {most : ℕ} {t : Table K V} {path indices size tree pla
         free_asks = rw num_is (is_used u n _ (w.others n (apart_from n q differ.0) ∙ slots.0) (cc (w.chain_is, none_here)))
 
         module _ {v : Table K V} (freed : v ≡ with_freed u read) where
-          pub ceded : Ceded leaf_content (half_of most) most t v path indices (set path 0 q) 0 size leaf.before n some.0 some.1 q first.0 first.1 after tree.above
+          pub ceded : Ceded leaf_content (half_of most) most t v path indices (set path 0 q) 0 size leaf.before n some.0 some.1 q first.0 first.1 after tree.above (some.0 ∷ some.1)
           ceded = settle_cede hm level v healthy w (freed ∙ ap (with_freed u) num_is) wide
 
           abbrev pub merge_asks : TwoAbove v (set path 0 q) indices 1 size

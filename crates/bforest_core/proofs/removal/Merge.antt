@@ -207,7 +207,7 @@ module _ {K V : Type 0} {t u : Table K V} {path indices : List ℕ} {up size : �
 -- a node's right neighbour has its entries, and the rows above lost the node
 module _ {K V X : Type 0} {content : List (K × X) → Content K V} {half most t v path indices path1 level size before n e es q f fs after rest : _}
     (p : OnLevel content half most t path indices level size before n (e ∷ es) (node q (f ∷ fs) ∷ after) rest)
-    (c : Ceded content half most t v path indices path1 level size before n e es q f fs after rest) where
+    (c : Ceded content half most t v path indices path1 level size before n e es q f fs after rest (e ∷ es)) where
   abbrev pub cede_asks : {up' size' : ℕ} → up' ≡ suc level → size' ≡ size → TwoAbove v path1 indices up' size'
   cede_asks up_is size_is = record { rows = rest; before = heads before; x = (e.0, n); y = (f.0, q); after = heads after; above = rw (up_is, size_is) c.above }
 

@@ -2,7 +2,7 @@
 use Rattle.bforest_core.proofs.table.Tables.{row-changed, count-same, count-append, counts, count-row, row-same, row-split, rows-same}
 use Rattle.bforest_core.proofs.Words.{◌≡◌, ℕ, suc, ◌+◌, ◌-◌, ◌/◌, ◌≤◌, ◌<◌, ◌≢◌, List, [], ◌∷◌, ◌++◌, length, refl, sym, ap, ◌∙◌, inl, inr, length-append}
 use Rattle.bforest_core.proofs.Words.{arith, Content, Table, false, le-leb, lt-leb, lt-ltb, le-ltb, zero, ◌*◌, ◌⊎◌, map, set, get_or, append_assoc, Row}
-use Rattle.bforest_core.proofs.Words.{flat_map, append-nil, get_or-set_other, get_or-set_same, with_freed, node, flat, heads, sizes, numbers, least}
+use Rattle.bforest_core.proofs.Words.{Some, slice_get, flat_map, append-nil, get_or-set_other, get_or-set_same, with_freed, node, flat, heads, sizes, numbers, least}
 use Rattle.bforest_core.proofs.Words.{rebalanced, count, Above, FitRow, Frees, Rebuilt, RowIn, Rows, OnLevel, Healed, Joined, Keeps}
 use Rattle.bforest_core.specs.Descent.{SameAbove}
 use Rattle.bforest_core.proofs.rows.LevelRows.{flat-append, heads-append, sizes-append, numbers-append, FitRow-join, least-le}
@@ -22,15 +22,14 @@ judged half most [] (x ∷ xs) lo some w = absurd (omega arith)
 judged half most (e ∷ es) (node k fs ∷ xs) lo some (inl h) = (h, rw (le-ltb (2 * suc (length es)) most (omega arith)))
 judged half most (e ∷ es) (x ∷ xs) lo some (inr none) = absurd cc
 
--- The right neighbour of a node has the node's entries in place of its own, and the path leads to it. The node is freed; the level above
--- still names both
+-- The right neighbour of a node has the entries `now`, and the path leads to it. The node is freed; the level above still names both
 pub record Ceded {K V X : Type 0} (content : List (K × X) → Content K V) (half most : ℕ) (old new : Table K V) (path indices path' : List ℕ) (level size : ℕ)
-    (before : Row K X) (n : ℕ) (e : K × X) (es : List (K × X)) (q : ℕ) (f : K × X) (fs : List (K × X)) (after : Row K X) (rest : Rows K) : Type 0 where
-  pub inside : RowIn content new.nodes (before ++ node q (e ∷ es) ∷ after)
-  pub fit : FitRow half most (before ++ node q (e ∷ es) ∷ after)
+    (before : Row K X) (n : ℕ) (e : K × X) (es : List (K × X)) (q : ℕ) (f : K × X) (fs : List (K × X)) (after : Row K X) (rest : Rows K) (now : List (K × X)) : Type 0 where
+  pub inside : RowIn content new.nodes (before ++ node q now ∷ after)
+  pub fit : FitRow half most (before ++ node q now ∷ after)
   pub above : Above new path' indices (suc level) size rest (heads before ++ (e.0, n) ∷ (f.0, q) ∷ heads after) (length (heads before))
   pub number_is : get_or path' level 0 ≡ q
-  pub frees : Frees old new (numbers (before ++ node n (e ∷ es) ∷ node q (f ∷ fs) ∷ after)) (numbers (before ++ node q (e ∷ es) ∷ after)) (n ∷ [])
+  pub frees : Frees old new (numbers (before ++ node n (e ∷ es) ∷ node q (f ∷ fs) ∷ after)) (numbers (before ++ node q now ∷ after)) (n ∷ [])
   pub nodes_above : SameAbove level path path'
   pub keeps : Keeps path indices path' indices level size
   pub open keeps use *
@@ -112,6 +111,36 @@ module _ {K V X : Type 0} {content : List (K × X) → Content K V} {half most :
     above_two_put {u} w = let b = above_both in above_same b u (λ m some. w.others m (omega (arith, p.apart m, pair m, count-append)))
         (λ m. omega (arith, b.apart m, ap (λ z. count m z) w.chain_is, count-append))
 
+    -- the right neighbour has these entries, and the node's slot is freed
+    settle_right : (v : Table K V) (now : List (K × X)) → Frees t v (n ∷ q ∷ []) (q ∷ []) (n ∷ []) → slice_get v.nodes q ≡ Some (content now) → least half after ≤ length now → length now ≤ most
+        → up < length path → Ceded content half most t v path indices (set path up q) up size before n e es q f fs after rest now
+    settle_right v now freed slot lo hi low =
+        let fit_q = p.fits in let a = above_both in let high = above_two _ (heads before) (e.0, n) (f.0, q) (heads after) a in
+        let c = λ (m : ℕ). counts m before n (e ∷ es) (node q (f ∷ fs) ∷ after) rest t.chain in
+        let frees = trades-wider (numbers row) (numbers (before ++ node q now ∷ after))
+        (λ m. omega (arith, pair m, count-row m before q now after, count-append m (q ∷ []) (numbers after), count-append m (n ∷ []) (q ∷ []))) freed in
+        record {
+          inside = row-changed content _ _ before (node n (e ∷ es) ∷ node q (f ∷ fs) ∷ []) (node q now ∷ []) after (n ∷ q ∷ []) p.inside freed.others (slot, tt) pair_apart;
+          fit = FitRow-join _ _ _ (node q now) after p.solid (lo, hi, fit_q.2);
+          above = record {
+            over = record {
+              stacked = a.stacked;
+              inside = rows-same _ _ _ (λ m some. frees.others m (omega (arith, c m))) a.inside;
+              stands = stands-same _ _ _ _ _ _ _ (λ i high. get_or-set_other path up i q 0 (λ w. omega arith)) (λ i high. refl) a.stands;
+              height = a.height;
+            };
+            apart = λ m. omega (arith, c m, count-append m (flat_map numbers rest) v.chain, ap (λ z. count m z) frees.chain_is);
+          };
+          number_is = get_or-set_same _ _ _ 0 low;
+          frees = frees;
+          nodes_above = λ i above. get_or-set_other path up i q 0 (λ w. omega arith);
+          keeps = record {
+            nodes_below = λ i below. get_or-set_other path up i q 0 (λ w. omega arith);
+            entries_below = λ i low. refl;
+            same_top = get_or-set_other _ _ (size - 1) q 0 (λ w. omega arith);
+          };
+        }
+
     module _ {u : Table K V} (v : Table K V) (under : length (e ∷ es) < half) where
       -- the node takes entries of its right neighbour, and the key between the two was updated above
       pub settle_spread : {key : K} (s : Spread content t u most n q (e ∷ es) (f ∷ fs) key) → Rebuilt u v path indices path indices (suc up) size rest (heads before ++ (e.0, n) ∷ (key, q) ∷ heads after) (length (heads before)) (map sizes rest) [] →
@@ -150,14 +179,10 @@ module _ {K V X : Type 0} {content : List (K × X) → Content K V} {half most :
       -- the node is merged into its right neighbour, and its slot is freed
       pub settle_join : AllRight content t u most n q (e ∷ es) (f ∷ fs) → v ≡ with_freed u n → up < length path → Joined content half most t v path indices (set path up q) indices up size before n (e ∷ es) (node q (f ∷ fs) ∷ after) rest
       settle_join s v_is low =
-          let both : List (K × X) = (e ∷ es) ++ f ∷ fs in
           let few = lt-ltb (2 * suc (length es)) most (omega arith) in let fits = le-leb (suc (length es) + suc (length fs)) most s.fits in
-          let len = length-append (e ∷ es) (f ∷ fs) in let fit_q = p.fits in let a = above_both in
-          let high = above_two _ (heads before) (e.0, n) (f.0, q) (heads after) a in let one = frees-one u v n s.two.here v_is in
-          let c = λ (m : ℕ). counts m before n (e ∷ es) (node q (f ∷ fs) ∷ after) rest t.chain in
+          let len = length-append (e ∷ es) (f ∷ fs) in let fit_q = p.fits in let one = frees-one u v n s.two.here v_is in
           let joined = frees-after (n ∷ q ∷ []) (q ∷ []) (λ m. omega (arith, count-append m (n ∷ []) (q ∷ []))) s.two.frees one in
-          let frees = trades-wider (numbers row) (numbers (before ++ node q both ∷ after))
-          (λ m. omega (arith, pair m, count-row m before q both after, count-append m (q ∷ []) (numbers after), count-append m (n ∷ []) (q ∷ []))) joined in
+          let y = settle_right v ((e ∷ es) ++ f ∷ fs) joined (one.others q (apart_from q n (λ w. apart.0 (sym w))) ∙ s.two.there) (omega arith) (omega arith) low in
           record {
             first = e;
             others = es;
@@ -168,59 +193,21 @@ module _ {K V X : Type 0} {content : List (K × X) → Content K V} {half most :
             entries_are = refl;
             after_is = refl;
             outcome = rw (few, fits) cc;
-            inside = row-changed content _ _ before (node n (e ∷ es) ∷ node q (f ∷ fs) ∷ []) (node q both ∷ []) after (n ∷ q ∷ []) p.inside joined.others
-                (one.others q (apart_from q n (λ w. apart.0 (sym w))) ∙ s.two.there, tt) pair_apart;
-            fit = FitRow-join _ _ _ (node q both) after p.solid (omega arith, omega arith, fit_q.2);
-            above = record {
-              over = record {
-                stacked = a.stacked;
-                inside = rows-same _ _ _ (λ m some. frees.others m (omega (arith, c m))) a.inside;
-                stands = stands-same _ _ _ _ _ _ _ (λ i high. get_or-set_other path up i q 0 (λ w. omega arith)) (λ i high. refl) a.stands;
-                height = a.height;
-              };
-              apart = λ m. omega (arith, c m, count-append m (flat_map numbers rest) v.chain, ap (λ z. count m z) frees.chain_is);
-            };
-            number_is = get_or-set_same _ _ _ 0 low;
+            inside = y.inside;
+            fit = y.fit;
+            above = y.above;
+            number_is = y.number_is;
             entry_is = refl;
-            frees = frees;
-            nodes_above = λ i above. get_or-set_other path up i q 0 (λ w. omega arith);
-            keeps = record {
-              nodes_below = λ i below. get_or-set_other path up i q 0 (λ w. omega arith);
-              entries_below = λ i low. refl;
-              same_top = get_or-set_other _ _ (size - 1) q 0 (λ w. omega arith);
-            };
+            frees = y.frees;
+            nodes_above = y.nodes_above;
+            keeps = y.keeps;
           }
 
     -- the right neighbour takes the node's entries in place of its own, and the node's slot is freed
-    pub settle_cede : {u : Table K V} (v : Table K V) → half ≤ length (e ∷ es) → Puts t u q (content (e ∷ es)) → v ≡ with_freed u n → up < length path → Ceded content half most t v path indices (set path up q) up size before n e es q f fs after rest
+    pub settle_cede : {u : Table K V} (v : Table K V) → half ≤ length (e ∷ es) → Puts t u q (content (e ∷ es)) → v ≡ with_freed u n → up < length path
+        → Ceded content half most t v path indices (set path up q) up size before n e es q f fs after rest (e ∷ es)
     settle_cede {u} v healthy w v_is low =
-        let fit_q = p.fits in let a = above_both in
-        let high = above_two _ (heads before) (e.0, n) (f.0, q) (heads after) a in
-        let slot = (row-split content t.nodes before (node n (e ∷ es) ∷ node q (f ∷ fs) ∷ after) p.inside).1.0 in
+        let fit_q = p.fits in let slot = (row-split content t.nodes before (node n (e ∷ es) ∷ node q (f ∷ fs) ∷ after) p.inside).1.0 in
         let one = frees-one u v n (w.others n (apart_from n q apart.0) ∙ slot) v_is in
-        let c = λ (m : ℕ). counts m before n (e ∷ es) (node q (f ∷ fs) ∷ after) rest t.chain in
-        let both = frees-after (n ∷ q ∷ []) (q ∷ []) (λ m. omega (arith, count-append m (n ∷ []) (q ∷ []))) w.frees one in
-        let frees = trades-wider (numbers row) (numbers (before ++ node q (e ∷ es) ∷ after))
-        (λ m. omega (arith, pair m, count-row m before q (e ∷ es) after, count-append m (q ∷ []) (numbers after), count-append m (n ∷ []) (q ∷ []))) both in
-        record {
-          inside = row-changed content _ _ before (node n (e ∷ es) ∷ node q (f ∷ fs) ∷ []) (node q (e ∷ es) ∷ []) after (n ∷ q ∷ []) p.inside both.others
-              (one.others q (apart_from q n (λ w. apart.0 (sym w))) ∙ w.here, tt) pair_apart;
-          fit = FitRow-join _ _ _ (node q (e ∷ es)) after p.solid (omega (arith, least-le half (omega arith) after), p.most_is, fit_q.2);
-          above = record {
-            over = record {
-              stacked = a.stacked;
-              inside = rows-same _ _ _ (λ m some. frees.others m (omega (arith, c m))) a.inside;
-              stands = stands-same _ _ _ _ _ _ _ (λ i high. get_or-set_other path up i q 0 (λ w. omega arith)) (λ i high. refl) a.stands;
-              height = a.height;
-            };
-            apart = λ m. omega (arith, c m, count-append m (flat_map numbers rest) v.chain, ap (λ z. count m z) frees.chain_is);
-          };
-          number_is = get_or-set_same _ _ _ 0 low;
-          frees = frees;
-          nodes_above = λ i above. get_or-set_other path up i q 0 (λ w. omega arith);
-          keeps = record {
-            nodes_below = λ i below. get_or-set_other path up i q 0 (λ w. omega arith);
-            entries_below = λ i low. refl;
-            same_top = get_or-set_other _ _ (size - 1) q 0 (λ w. omega arith);
-          };
-        }
+        let freed = frees-after (n ∷ q ∷ []) (q ∷ []) (λ m. omega (arith, count-append m (n ∷ []) (q ∷ []))) w.frees one in
+        settle_right v (e ∷ es) freed (one.others q (apart_from q n (λ w. apart.0 (sym w))) ∙ w.here) (omega (arith, least-le half (omega arith) after)) p.most_is low

@@ -5,7 +5,7 @@ use Rattle.bforest_core.proofs.Words.{root_of, numbers_of, Stands, tree_of, IsUn
 use Rattle.bforest_core.proofs.Words.{◌∷◌, node, leaf_of, without_next}
 use Rattle.bforest_core.specs.{Change.GivesNodes, Paths.RemovesNext}
 use Rattle.std.specs.Prelude.{◌↔◌}
-use Rattle.bforest_core.proofs.{Words.{IsPathAt, OnEntry, Path, RemovesHere}, union.Roots.{exchanged-freed, uprooted-union}}
+use Rattle.bforest_core.proofs.{Words.{IsPathAt, OnEntry, Path, RemovesHere}, union.Roots.{exchanged-changes, exchanged-freed, uprooted-union}}
 use Rattle.bforest_core.proofs.{union.Account.{length-same, nodes-count}, union.Forests.root-among, union.Exchange.IsPlanted, union.Unions.rooted}
 use Rattle.bforest_core.proofs.{rows.LevelRows.flat-append, table.Tables.count-append}
 
@@ -46,16 +46,7 @@ module _ {K V : Type 0} where
         let levels_were : length (sizes_of tree) ≡ suc (length tree.above) = omega (arith, length-map tree.above sizes) in
         let rooted_is = λ (z : root_of i.tree' ≡ root). ap (λ w. count w i.freed) (z ∙ sym r.root_is) in
         subst (λ z. Replaced most old new root list after i.tree' z) i.root_is (record {
-          changes = record {
-            union = e.union;
-            root_is = e.root_is;
-            list_is = cc;
-            sizes_are = cc;
-            others = e.others;
-            old_gone = e.old_gone;
-            new_came = e.new_came;
-            limit_is = i.frees.limit_is;
-          };
+          changes = rw (← i.flat_is, ← i.sizes_are) (exchanged-changes e refl i.frees.limit_is);
           same_root = (
             λ same. elim (eqb_tells (length i.tree'.above) (length tree.above)) [
               | inl w ↦ omega arith

@@ -2,13 +2,13 @@
 use Rattle.bforest_core.proofs.Words.{◌≡◌, ℕ, zero, suc, ◌+◌, ◌-◌, ◌≤◌, ◌<◌, false, List, [], ◌∷◌, ◌++◌, get_or, length, set}
 use Rattle.bforest_core.proofs.Words.{slice_get, IfSome, Some, refl, sym, subst, ap, ◌∙◌, arith, IsTotalOrder, IsStrictlySortedBy, AllByRecursion, is_some, is_gt, is_lt}
 use Rattle.bforest_core.proofs.Words.{ordering_reverse, option_map, Path, flat, node, EndsIn, leaf_of, index_of, list_under, Table, IsUnion, tree_of}
-use Rattle.bforest_core.proofs.Words.{Bool, KeyIs, None, Option, StandsOn, heads, value_for-absent, slice_get-map, true, IsIncreasing, is_present, place, place-later, place-present, value_for, entry_keys, get_or-set_same, all_greater_behind, leaf_content, length-map}
+use Rattle.bforest_core.proofs.Words.{Bool, KeyIs, None, Option, heads, value_for-absent, slice_get-map, true, IsIncreasing, is_present, place, place-later, place-present, value_for, entry_keys, get_or-set_same, all_greater_behind, leaf_content, length-map}
 use Rattle.bforest_core.proofs.{rows.LevelRows.flat-append, table.Lists.{slice_get-append_left, slice_get-append-add}, table.Stored.some_same}
 use Rattle.bforest_core.proofs.removal.{Dropping.{next_node, none_next}, Removal.stands_in}
 use Rattle.bforest_core.proofs.walks.{Entered.points_in, Nearby.all_at, Rising.{all_split, entry_between, increasing_split, place-le, place_between}, Standing.on-leaf-in}
 use Rattle.bforest_core.proofs.walks.{Steps.{at_index, read}, TopNode.set_but, Whole.stands-pointed}
 use Rattle.bforest_core.specs.Place.{IsAt}
-use Rattle.{std.specs.{Map.keys_of, declared.cmp.Ordering.{Ordering, TheVariants.{Less, Equal, Greater}}}, bforest_core.specs.Paths.{IsPlaced, StandsBefore}}
+use Rattle.{std.specs.{Map.keys_of, declared.cmp.Ordering.{Ordering, TheVariants.{Less, Equal, Greater}}}, bforest_core.specs.Paths.{GoesTo, StandsBefore}}
 
 module _ {K X : Type 0} where
   -- an entry's key is greater than those of a part in front of its own
@@ -171,13 +171,11 @@ module _ {K V : Type 0} {n : ℕ} {table : Table K V} {root : ℕ} {path : Path 
   -- where the key is greater than the leaf's and less than those behind, a path that goes behind the leaf's last entry is where a search ends
   pub ends-behind : (count : ℕ) → count ≡ length leaf.entries → place cmp leaf.entries key ≡ count → IsLow → length path.node ≡ 17 → length path.entry ≡ 17 → (now : Path K V n)
       → now.node ≡ path.node → now.entry ≡ set path.entry 0 count → now.size ≡ path.size
-      → (None ≡ value_for cmp (list_under table root) key)
-      × (is_present cmp (list_under table root) key ≡ true → StandsOn table root now (place cmp (list_under table root) key))
-      × (is_present cmp (list_under table root) key ≡ false → IsPlaced table root now (place cmp (list_under table root) key))
+      → GoesTo cmp table root key None now
   unfolding ends-here
   ends-behind count is at low wide indexed now nodes entries size =
-      let e = ends-here low wide indexed in let none = e.found_is ∙ absent-behind o key leaf.entries (at ∙ is) in (
-        sym (value_for-absent cmp (list_under table root) key none),
-        λ here. absurd (let bad : true ≡ false = sym here ∙ none in cc),
-        λ absent. rw (nodes, entries, size, ← at) (e.absent absent),
-      )
+      let e = ends-here low wide indexed in let none = e.found_is ∙ absent-behind o key leaf.entries (at ∙ is) in record {
+        value = sym (value_for-absent cmp (list_under table root) key none);
+        present = λ here. absurd (let bad : true ≡ false = sym here ∙ none in cc);
+        absent = λ absent. rw (nodes, entries, size, ← at) (e.absent absent);
+      }

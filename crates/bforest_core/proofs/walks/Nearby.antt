@@ -3,22 +3,17 @@ use Rattle.bforest_core.proofs.Words.{place-here, place-later, ◌≡◌, ◌≢
 use Rattle.bforest_core.proofs.Words.{length-append, drop, slice_get, IfSome, Option, Some, None, refl, sym, subst, ap, ◌∙◌, arith, Row, IsTotalOrder}
 use Rattle.bforest_core.proofs.Words.{IsStrictlySortedBy, AllByRecursion, is_some, option_map, is_lt, ordering_reverse, drop_all, Path, IsUpTo, Solid, flat}
 use Rattle.bforest_core.proofs.Words.{half_of, node, StandsAt, StandsOn, index_of, leaf_of, list_under, entry_before, leaf_content, Table, IsUnion, tree_of}
-use Rattle.bforest_core.proofs.{Words.{IsIncreasing, entry_for, is_present, place, value_for}, rows.LevelRows.{FitRow-split, some_leaf}}
+use Rattle.bforest_core.proofs.{Words.{IsIncreasing, entry_for, place}, rows.LevelRows.{FitRow-split, some_leaf}}
 use Rattle.bforest_core.proofs.{table.Stored.some_same, walks.Backward.{at_end, at_entry}, walks.Entered.{entry_read, points_in}, walks.Rising.all_greater}
 use Rattle.bforest_core.proofs.{walks.Rising.{entry_between, increasing_rest, less_from, place_between}, walks.Standing.{on-leaf-in, on-tree, on-within}}
 use Rattle.bforest_core.proofs.{walks.Standing.points-stands, walks.Steps.{never, read}}
-use Rattle.{std.specs.{Map.keys_of, declared.cmp.Ordering.{Ordering, TheVariants.{Less, Equal, Greater}}}, bforest_core.specs.Paths.IsPlaced}
+use Rattle.{std.specs.{Map.keys_of, declared.cmp.Ordering.{Ordering, TheVariants.{Less, Equal, Greater}}}, bforest_core.specs.Paths.{GoesTo, IsPlaced}}
 
 module _ {K X : Type 0} (cmp : K → K → Ordering) (es : List (K × X)) (key : K) where
   -- what a search finds: the place of the key, and the entry there if the key is present
   pub record Finds (p : ℕ) (entry : Option (K × X)) : Type 0 where
     pub place_is : place cmp es key ≡ p
     pub entry_is : entry_for cmp es key ≡ entry
-
--- a key without a value is not present
-pub no-value : {K X : Type 0} (cmp : K → K → Ordering) (key : K) (es : List (K × X)) → None ≡ value_for cmp es key → is_present cmp es key ≡ true → ⊥
-no-value cmp key es none here =
-    (elim (entry_for cmp es key) as (λ o. None ≡ option_map (λ e. e.1) o → is_some o ≡ true → ⊥) [ None ↦ λ n h. never h refl | Some e ↦ λ n h. absurd (cc) ]) none here
 
 -- where the entry at a place is greater than the key, the key is less than the list from there on
 upto_at : {K X : Type 0} (cmp : K → K → Ordering) (key : K) (es : List (K × X)) (p e : _) → slice_get es p ≡ Some e → cmp e.0 key ≡ Greater → IsUpTo cmp (drop p es) key
@@ -87,27 +82,21 @@ module _ {K V : Type 0} {n : ℕ} (table : Table K V) (root : ℕ) (path : Path 
     behind-low p on = omega (arith, (on-leaf-in union path on).room)
 
   module _ (cmp : K → K → Ordering) (key : K) where
-    -- the answer of a search, and where the path stands afterwards
-    pub record Ended (answer : Option V) : Type 0 where
-      pub value : answer ≡ value_for cmp (list_under table root) key
-      pub present : is_present cmp (list_under table root) key ≡ true → StandsOn table root path (place cmp (list_under table root) key)
-      pub absent : is_present cmp (list_under table root) key ≡ false → IsPlaced table root path (place cmp (list_under table root) key)
-
     -- the search ended on the key's entry, or at its place where the key is absent
-    ended : {p found : _} → Finds cmp (list_under table root) key p found → (is_some found ≡ true → StandsOn table root path p) → (is_some found ≡ false → IsPlaced table root path p) → Ended (option_map (λ w. w.1) found)
+    ended : {p found : _} → Finds cmp (list_under table root) key p found → (is_some found ≡ true → StandsOn table root path p) → (is_some found ≡ false → IsPlaced table root path p) → GoesTo cmp table root key (option_map (λ w. w.1) found) path
     ended f on at = record { value = cc; present = λ yes. rw f.place_is (on cc); absent = λ none. rw f.place_is (at cc) }
 
 -- a path that moved to the entry before a place
 module _ {K V : Type 0} {n : ℕ} {cmp : K → K → Ordering} (o : IsTotalOrder cmp) (table : Table K V) {root : _} (key : _)
     (increasing : IsIncreasing cmp (list_under table root)) (path : Path K V n) {answer : Option (K × V)} where
   -- there is no entry before the place
-  pub before-none : (p : ℕ) → answer ≡ entry_before (list_under table root) p → StandsOn table root path (p - 1) → IsUnion n table → IsUpTo cmp (drop p (list_under table root)) key → answer ≡ None → Ended table root path cmp key None
+  pub before-none : (p : ℕ) → answer ≡ entry_before (list_under table root) p → StandsOn table root path (p - 1) → IsUnion n table → IsUpTo cmp (drop p (list_under table root)) key → answer ≡ None → GoesTo cmp table root key None path
   before-none zero value on union up none =
       ended table root path cmp key (finds_first o key (list_under table root) increasing up) (λ some. never some refl) (λ none. placed-first table root path union on)
   before-none (suc p) value on union up none = let r = read (list_under table root) p (omega (arith, on-within table path on)) in absurd (cc)
 
   -- the entry before the place has an equal key
-  pub before-equal : (p : ℕ) → answer ≡ entry_before (list_under table root) p → StandsOn table root path (p - 1) → {e : K × V} → answer ≡ Some e → cmp key e.0 ≡ Equal → Ended table root path cmp key (Some e.1)
+  pub before-equal : (p : ℕ) → answer ≡ entry_before (list_under table root) p → StandsOn table root path (p - 1) → {e : K × V} → answer ≡ Some e → cmp key e.0 ≡ Equal → GoesTo cmp table root key (Some e.1) path
   before-equal zero value on is t = let bad = sym is ∙ value in absurd (cc)
   before-equal (suc p) value on {e} is t =
       ended table root path cmp key (finds_here o _ _ p e (sym value ∙ is) increasing t) (λ some. subst (StandsOn table root path) (omega arith) on) (never refl)
@@ -115,7 +104,7 @@ module _ {K V : Type 0} {n : ℕ} {cmp : K → K → Ordering} (o : IsTotalOrder
   -- the entry before the place is less, and the path moved just past it
   pub before-greater : (p : ℕ) → answer ≡ entry_before (list_under table root) p → StandsOn table root path (p - 1) → {e : K × V} → answer ≡ Some e →
       (path' : Path K V n) → IsUnion n table → path'.node ≡ path.node → index_of path' ≡ index_of path + 1 → ((i : ℕ) → i ≢ 0 → get_or path'.entry i 0 ≡ get_or path.entry i 0) → path'.size ≡ path.size →
-      IsUpTo cmp (drop p (list_under table root)) key → cmp key e.0 ≡ Greater → Ended table root path' cmp key None
+      IsUpTo cmp (drop p (list_under table root)) key → cmp key e.0 ≡ Greater → GoesTo cmp table root key None path'
   before-greater zero value on is path' union same index_is above size_is up t = let bad = sym is ∙ value in absurd (cc)
   before-greater (suc p) value on {e} is path' union same index_is above size_is up t =
       ended table root path' cmp key (finds_behind o _ _ p e (sym value ∙ is) increasing t up)
@@ -150,7 +139,7 @@ module _ {K V : Type 0} {n : ℕ} {table : Table K V} {root : ℕ} {path : Path 
 
     module _ {cmp : K → K → Ordering} (o : IsTotalOrder cmp) (key : K) where
       -- the entry has an equal key
-      pub here-equal : IsIncreasing cmp (list_under table root) → cmp key e.0 ≡ Equal → Ended table root path cmp key (Some e.1)
+      pub here-equal : IsIncreasing cmp (list_under table root) → cmp key e.0 ≡ Equal → GoesTo cmp table root key (Some e.1) path
       here-equal increasing t = ended table root path cmp key (finds_here o _ _ p e here-entry increasing t) (λ some. on) (never refl)
 
       -- the entry is greater than the key

@@ -1,10 +1,10 @@
 //! Moving a path to a key.
-ghost use Rattle.std.specs.Prelude.{◌≡◌, ℕ, ◌+◌, ◌-◌, ◌<◌, ◌≤◌, IsTrue, false, true, List, ◌∷◌, ◌++◌, length, get_or, slice_get, slice_set, Some};
+ghost use Rattle.std.specs.Prelude.{◌≡◌, ℕ, ◌+◌, ◌-◌, ◌<◌, ◌≤◌, IsTrue, List, ◌∷◌, ◌++◌, length, get_or, slice_get, slice_set, Some};
 ghost use Rattle.bforest_nodes.specs.Content.{IsLeafCapacity};
 ghost use Rattle.bforest_core.specs.Levels.{LevelNode, flat, top_level};
 ghost use Rattle.bforest_core.specs.Descent.{Reached, SearchThrough};
 ghost use Rattle.bforest_core.specs.Leaves.{EndsIn};
-ghost use Rattle.bforest_nodes.specs.Entries.{is_present, IsIncreasing, place, value_for};
+ghost use Rattle.bforest_nodes.specs.Entries.{IsIncreasing};
 ghost use Rattle.bforest_core.specs.Trees.{IsUnion, is_root};
 
 use crate::access::{follow, look_up};
@@ -13,7 +13,7 @@ use crate::pool::NodePool;
 use bforest_nodes::{Comparator, Node};
 
 impl<K: Copy, V: Copy, const N: usize> Path<K, V, N> {
-    ghost use Rattle.bforest_core.specs.Paths.{IsPlaced, StandsOn, index_of, list_under};
+    ghost use Rattle.bforest_core.specs.Paths.{GoesTo, index_of, list_under};
 
     /// Goes to where a search for `key` ends in the tree under `root`, and returns the key's value. Where the key is absent, the path
     /// stands at the leaf's place for it, which may be past the leaf's last entry.
@@ -27,11 +27,7 @@ impl<K: Copy, V: Copy, const N: usize> Path<K, V, N> {
         requires union { IsUnion N pool.now }
         requires root { IsTrue (is_root pool.now.nodes root) }
         requires increasing { IsIncreasing (C.order comp.now) (list_under pool.now root) }
-        ensures value { result ≡ value_for (C.order comp.now) (list_under pool.now root) key }
-        ensures present { is_present (C.order comp.now) (list_under pool.now root) key ≡ true
-            → StandsOn pool.now root self.new (place (C.order comp.now) (list_under pool.now root) key) }
-        ensures absent { is_present (C.order comp.now) (list_under pool.now root) key ≡ false
-            → IsPlaced pool.now root self.new (place (C.order comp.now) (list_under pool.now root) key) }
+        ensures { GoesTo (C.order comp.now) pool.now root key result self.new }
     {
         let leaf = self.find_leaf(key, root, pool, comp);
         let (index, value) = look_up(pool, leaf, key, comp);

@@ -1,6 +1,6 @@
 //! Moving a path to a key near its entry.
-ghost use Rattle.std.specs.Prelude.{◌≡◌, ◌≤◌, IsTrue, false, length, true};
-ghost use Rattle.bforest_nodes.specs.Entries.{IsIncreasing, is_present, place, value_for};
+ghost use Rattle.std.specs.Prelude.{◌≡◌, ◌≤◌, IsTrue, length};
+ghost use Rattle.bforest_nodes.specs.Entries.{IsIncreasing, place};
 ghost use Rattle.bforest_core.specs.Climb.{KeyIs, OneAbove};
 ghost use Rattle.bforest_core.specs.Levels.{most_levels};
 ghost use Rattle.bforest_core.specs.Trees.{IsUnion, is_root};
@@ -12,7 +12,7 @@ use bforest_nodes::{Comparator, Node};
 use std::cmp::Ordering;
 
 impl<K: Copy, V: Copy, const N: usize> Path<K, V, N> {
-    ghost use Rattle.bforest_core.specs.Paths.{IsPlaced, StandingUnder, StandsBefore, StandsOn, list_under};
+    ghost use Rattle.bforest_core.specs.Paths.{GoesTo, StandingUnder, StandsBefore, list_under};
 
     /// Goes where `find` goes and returns the same, but looks first where the path stands: it compares `key` with the entry here, and then
     /// with the previous one where `key` is less, and with the leaf's last where it is greater. Behind the leaf's last it compares with the
@@ -29,11 +29,7 @@ impl<K: Copy, V: Copy, const N: usize> Path<K, V, N> {
         requires root { IsTrue (is_root pool.now.nodes root) }
         requires stands { StandingUnder pool.now root self.old }
         requires increasing { IsIncreasing (C.order comp.now) (list_under pool.now root) }
-        ensures value { result ≡ value_for (C.order comp.now) (list_under pool.now root) key }
-        ensures present { is_present (C.order comp.now) (list_under pool.now root) key ≡ true
-            → StandsOn pool.now root self.new (place (C.order comp.now) (list_under pool.now root) key) }
-        ensures absent { is_present (C.order comp.now) (list_under pool.now root) key ≡ false
-            → IsPlaced pool.now root self.new (place (C.order comp.now) (list_under pool.now root) key) }
+        ensures { GoesTo (C.order comp.now) pool.now root key result self.new }
     {
         if self.size > 0 {
             let here = self.entry_here(pool);
@@ -69,11 +65,7 @@ impl<K: Copy, V: Copy, const N: usize> Path<K, V, N> {
         requires root { IsTrue (is_root pool.now.nodes root) }
         requires behind { StandsBefore (C.order comp.now) pool.now root self.old key }
         requires increasing { IsIncreasing (C.order comp.now) (list_under pool.now root) }
-        ensures value { result ≡ value_for (C.order comp.now) (list_under pool.now root) key }
-        ensures present { is_present (C.order comp.now) (list_under pool.now root) key ≡ true
-            → StandsOn pool.now root self.new (place (C.order comp.now) (list_under pool.now root) key) }
-        ensures absent { is_present (C.order comp.now) (list_under pool.now root) key ≡ false
-            → IsPlaced pool.now root self.new (place (C.order comp.now) (list_under pool.now root) key) }
+        ensures { GoesTo (C.order comp.now) pool.now root key result self.new }
     {
         let leaf = self.node[0];
         let (last, last_key) = last_key(pool, leaf);
@@ -101,11 +93,7 @@ impl<K: Copy, V: Copy, const N: usize> Path<K, V, N> {
             × (count ≡ length b.on.stands.leaf.entries)
             × (place (C.order comp.now) b.on.stands.leaf.entries key ≡ count) }
         requires increasing { IsIncreasing (C.order comp.now) (list_under pool.now root) }
-        ensures value { result ≡ value_for (C.order comp.now) (list_under pool.now root) key }
-        ensures present { is_present (C.order comp.now) (list_under pool.now root) key ≡ true
-            → StandsOn pool.now root self.new (place (C.order comp.now) (list_under pool.now root) key) }
-        ensures absent { is_present (C.order comp.now) (list_under pool.now root) key ≡ false
-            → IsPlaced pool.now root self.new (place (C.order comp.now) (list_under pool.now root) key) }
+        ensures { GoesTo (C.order comp.now) pool.now root key result self.new }
     {
         if let Some(next) = self.key_behind(pool) {
             if !comp.cmp(key, next).is_lt() {

@@ -15,8 +15,8 @@ use std::ops::Bound;
 
 impl<K: Copy, V: Copy, const N: usize> Trees<K, V, N> {
     /// Removes the entries whose keys are within bounds, and returns whether there was one. Where a bound is lacking, at most one search,
-    /// and whole subtrees go. Else one search, and then whole leaves go, with one comparison for each, and the other entries one after
-    /// another, with one comparison for each; and two more.
+    /// and whole subtrees go. Else one search, and then one comparison for each leaf that goes whole, one for each other entry that goes, and
+    /// two more.
     pub fn remove_range<C: Comparator<K>>(
         &mut self,
         handle: &mut PackedNode,

@@ -20,5 +20,4 @@ returns g c =
       | in_default w ↦ rw w.in_default.is tt
     ]) in
     let set = c.set_index.ensures in
-    let e = ends-behind r.union o r.increasing r.behind.0 c.args.count r.behind.1 r.behind.2 low (search rules) (search rules) c.set_index.new.self set.node set.entry set.size in
-    record { value = e.0; present = e.1; absent = e.2 }
+    ends-behind r.union o r.increasing r.behind.0 c.args.count r.behind.1 r.behind.2 low (search rules) (search rules) c.set_index.new.self set.node set.entry set.size
