@@ -147,6 +147,8 @@ module _ {K V : Type 0} where
     pub account : GivesNodes (sizes_under old at.root) (without_next (length at.on.stands.leaf.before) (sizes_under old at.root)) old new
     pub stands : StandsOn new root' path' at.place
     pub same_root : (root' ≡ at.root) ↔ (length (without_next (length at.on.stands.leaf.before) (sizes_under old at.root)) ≡ length (sizes_under old at.root))
+    pub order : GivesInOrder (nodes_of path) (sizes_under old at.root) (without_next (length at.on.stands.leaf.before) (sizes_under old at.root)) old new
+    pub freed_root : root' ≢ at.root → 0 < count at.root new.chain
 
   -- What a cut at a path returns and leaves, on each entry where the path stands. The entries from there on are out of the list, and the
   -- nodes that held them alone are on the free list; `None` where the first entry went too, which ends the tree

@@ -1,10 +1,10 @@
 -- The effect of a removal from the tree under a root on the table.
 use Rattle.bforest_core.proofs.Words.{[], length-remove, IsTrue, ◌≡◌, ℕ, suc, ◌<◌, Option, Some, None, IfSome, List, ◌++◌, length, refl, sym, ap, ◌∙◌, subst}
-use Rattle.bforest_core.proofs.Words.{inl, inr, append_assoc, length-append, arith, eqb_tells, length-map, Table, flat, sizes, Tree, sizes_of, shrink, count}
+use Rattle.bforest_core.proofs.Words.{inl, inr, append_assoc, length-append, arith, eqb_tells, length-map, Table, flat, sizes, Tree, sizes_of, count}
 use Rattle.bforest_core.proofs.Words.{root_of, numbers_of, Stands, tree_of, IsUnion, is_root, Shrinks, StandsUnder, node_count, StandsIn, Removed, Emptied, Changes, Reduced}
 use Rattle.bforest_core.proofs.Words.{◌∷◌, node, leaf_of, without_next}
-use Rattle.bforest_core.specs.{Change.GivesNodes, Paths.RemovesNext}
-use Rattle.std.specs.Prelude.{◌↔◌}
+use Rattle.bforest_core.specs.{Change.{GivesInOrder, GivesNodes}, Paths.RemovesNext}
+use Rattle.std.specs.Prelude.{◌↔◌, ◌≢◌}
 use Rattle.bforest_core.proofs.{Words.{IsPathAt, OnEntry, Path, RemovesHere}, union.Roots.{exchanged-changes, exchanged-freed, uprooted-union}}
 use Rattle.bforest_core.proofs.{union.Account.{length-same, nodes-count}, union.Forests.root-among, union.Exchange.IsPlanted, union.Unions.rooted}
 use Rattle.bforest_core.proofs.{rows.LevelRows.flat-append, table.Tables.count-append}
@@ -25,10 +25,12 @@ module _ {K V : Type 0} where
   place_low path indices size tree place s = let at = s.leaf in rw at.row_is (simp (flat-append, length-append) (omega arith))
 
   -- the tree under a root became this one, which has this list and these sizes, under a root of its own
-  pub record Replaced (most : ℕ) (old new : Table K V) (root : ℕ) (list : List (K × V)) (after : List (List ℕ)) (tree' : Tree K V) (root' : ℕ) : Type 0 where
+  pub record Replaced (most : ℕ) (old new : Table K V) (path : List ℕ) (root : ℕ) (list : List (K × V)) (after : List (List ℕ)) (tree' : Tree K V) (root' : ℕ) : Type 0 where
     pub changes : Changes most old new root root' list after
     pub account : GivesNodes (sizes_of (tree_of old.nodes root)) after old new
     pub same_root : (root' ≡ root) ↔ (length after ≡ length (sizes_of (tree_of old.nodes root)))
+    pub order : GivesInOrder path (sizes_of (tree_of old.nodes root)) after old new
+    pub freed_root : root' ≢ root → 0 < count root new.chain
     pub tree_is : tree_of new.nodes root' ≡ tree'
 
   -- the effect of a removal on the table and the path, with the root that is left, if any
@@ -38,14 +40,14 @@ module _ {K V : Type 0} where
 
   module _ (most old new : _) {root place path indices size : _} (Now : Tree K V → Type 0) (union : IsUnion most old) (s : StandsUnder old.nodes root path indices size place) where
     -- the tree with another list
-    pub replaced : {list : List (K × V)} {after : List (List ℕ)} {root' : ℕ} (i : Reduced most old new path (tree_of old.nodes root) list after root') → Replaced most old new root list after i.tree' root'
+    pub replaced : {list : List (K × V)} {after : List (List ℕ)} {root' : ℕ} (i : Reduced most old new path (tree_of old.nodes root) list after root') → Replaced most old new path root list after i.tree' root'
     replaced {list} {after} i = let tree = tree_of old.nodes root in let r = rooted most old root union s.root_is in
         let planted : IsPlanted most new.nodes i.tree' = record { fit = i.fit; inside = i.inside; some = i.some; low = omega arith } in
         let e = exchanged-freed root union s.root_is planted i.frees in
         let levels : length after ≡ suc (length i.tree'.above) = omega (arith, ap length i.sizes_are, length-map i.tree'.above sizes) in
         let levels_were : length (sizes_of tree) ≡ suc (length tree.above) = omega (arith, length-map tree.above sizes) in
         let rooted_is = λ (z : root_of i.tree' ≡ root). ap (λ w. count w i.freed) (z ∙ sym r.root_is) in
-        subst (λ z. Replaced most old new root list after i.tree' z) i.root_is (record {
+        subst (λ z. Replaced most old new path root list after i.tree' z) i.root_is (record {
           changes = rw (← i.flat_is, ← i.sizes_are) (exchanged-changes e refl i.frees.limit_is);
           same_root = (
             λ same. elim (eqb_tells (length i.tree'.above) (length tree.above)) [
@@ -61,33 +63,33 @@ module _ {K V : Type 0} where
             memory_is = i.frees.memory_is;
             count_is = omega (arith, length-same (i.freed ++ numbers_of i.tree') (numbers_of tree) i.frees.numbers_are, length-append i.freed (numbers_of i.tree'), nodes-count tree, nodes-count i.tree' ∙ ap (λ z. node_count z) i.sizes_are);
           };
+          order = record {
+            roots = i.order.roots;
+            up = i.order.up;
+            chain_is = cc (append_assoc _ _ _);
+            roots_are = omega arith;
+          };
+          freed_root = λ ne. elim (eqb_tells (length i.tree'.above) (length tree.above)) [
+            | inl w ↦ absurd (ne (i.root_is ∙ i.same_root w.1 ∙ r.root_is))
+            | inr w ↦ omega (arith, ap (λ z. count z i.freed) r.root_is, ap (λ z. count root z) i.frees.chain_is, count-append root i.freed old.chain)
+          ];
           tree_is = e.tree_is;
         })
 
     -- removing an entry of a tree that has others
     pub removal : {root' : ℕ} → Removed most old new path Now (tree_of old.nodes root) place root' → Said most old new path root place Now (Some root')
-    removal i = let tree = tree_of old.nodes root in let r = rooted most old root union s.root_is in let p = replaced i.shrunk in
-        let levels : length (shrink most place (sizes_of tree)) ≡ suc (length i.tree'.above) = omega (arith, ap length i.sizes_are, length-map i.tree'.above sizes) in
-        let levels_were : length (sizes_of tree) ≡ suc (length tree.above) = omega (arith, length-map tree.above sizes) in
+    removal i = let tree = tree_of old.nodes root in let p = replaced i.shrunk in
         record {
           at = (p.changes.root_is, subst Now (sym p.tree_is) i.at);
           shrinks = record {
             changes = p.changes;
             same_root = p.same_root;
             account = p.account;
-            order = record {
-              roots = i.order.roots;
-              up = i.order.up;
-              chain_is = cc (append_assoc _ _ _);
-              roots_are = omega arith;
-            };
+            order = p.order;
             last = (λ is. absurd cc, λ one. absurd (let low = place_low _ _ _ tree place s.stands in omega (arith, length-remove (flat tree.leaves) place low, ap length i.flat_is)));
             ended = λ is. absurd cc;
             none_left = λ is. absurd cc;
-            freed_root = λ ne. elim (eqb_tells (length i.tree'.above) (length tree.above)) [
-              | inl w ↦ absurd (ne (ap Some (i.same_root w.1 ∙ r.root_is)))
-              | inr w ↦ omega (arith, ap (λ z. count z i.freed) r.root_is, ap (λ z. count root z) i.frees.chain_is, count-append root i.freed old.chain)
-            ];
+            freed_root = λ ne. p.freed_root (λ is. ne (ap Some is));
           };
         }
 
@@ -127,6 +129,8 @@ module _ {K V : Type 0} where
         removed = p.changes;
         account = p.account;
         same_root = p.same_root;
+        order = p.order;
+        freed_root = p.freed_root;
         stands = record { root_is = p.changes.root_is; stands = subst (λ z. Stands path'.node path'.entry path'.size z at.place) (sym p.tree_is) st };
       }
 

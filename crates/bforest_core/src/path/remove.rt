@@ -75,7 +75,8 @@ impl<K: Copy, V: Copy, const N: usize> Path<K, V, N> {
     /// Takes no memory.
     ///
     /// The other leaves stay as they are. A node above that falls under half full is filled from its right neighbour or merged into it, and
-    /// so on upwards; a root with a single child is discarded.
+    /// so on upwards; a root with a single child is discarded. Freed nodes are in front of the free list: those that were the path's, from
+    /// the leaf up, and in front of them the old root.
     pub fn remove_next_leaf(&mut self, next: Node, pool: &mut NodePool<K, V, N>) -> Node
         requires union { IsUnion N pool.old }
         requires next { (at : OnEntry pool.old self.old) × (gone : List (K × V))
