@@ -11,11 +11,12 @@ use Rattle.bforest.specs.Entries.{is_present, place, value_for}
 use Rattle.bforest.specs.Forest.{Becomes, Forest, Gives, IsFitFor, IsLive, Takes, growth, limit_of, list_of, need, need_of, room_of, shrink, sizes_of}
 use Rattle.bforest.specs.Refusal.{OutOfMemory}
 use Rattle.bforest.specs.Retain.{AsksEach, kept_by, sizes_by}
-use Rattle.bforest.specs.Union.{fits, kept_from, kept_of}
+use Rattle.bforest.specs.Union.{fits, kept_from, kept_of, new_to}
 use Rattle.bforest.specs.Room.{Balances, IsFitAt, node_count}
 use Rattle.bforest_nodes.proofs.Found.{place-present, put-absent, put-present}
 use Rattle.bforest_trees.proofs.Putting.{present-some}
 use Rattle.bforest_trees.proofs.ranges.Outside.{filter-behind, filter-from, filter-halves}
+use Rattle.bforest_trees.proofs.unions.New.{none-new}
 use Rattle.bforest_trees.specs.Calls.{as_inserted}
 use Rattle.std.specs.Fn.{Once}
 use Rattle.std.proofs.Common.{Bool, Err, List, None, Ok, Option, Result, Some, [], ap, arith, false, if◌then◌else◌, inl, inr, length, not, refl, remove, subst, suc, sym, true, ◌%◌, ◌+◌, ◌-◌, ◌<◌, ◌∙◌, ◌∷◌, ◌≡◌, ◌≢◌, ◌≤◌, ℕ}
@@ -144,18 +145,6 @@ module _ {K V : Type 0} where
           within = λ few. omega (arith, c.account.slots, c.same_list.limit, low, few);
         }
 
-    -- the nodes of the new tree were taken, and then those of the old one freed, by a union that changed something
-    pub unites-balance : {cmp : K → K → Ordering} {other : Option ℕ} → Unites most cmp f h other (Ok true) f' h' → Balances most f h f' h'
-    unites-balance {cmp} {other} c =
-        let account = c.account refl in
-        let low : need_of_union most cmp f h other ≤ room_of f = not-less (room_of f) (need_of_union most cmp f h other) (λ few. let full = c.full.1 few in cc) in
-        record {
-          fit = c.fit refl;
-          nodes = omega (arith, account.slots, account.free, c.nodes refl);
-          slots = omega (arith, account.slots);
-          within = λ few. omega (arith, account.slots, c.united.limit, low, few);
-        }
-
     removed : (p : ℕ) → p < length (list_of f h) → Becomes f h f' h' (remove (list_of f h) p) → sizes_of f' h' ≡ shrink most p (sizes_of f h) → Gives (sizes_of f h) (sizes_of f' h') f f' → Balances most f h f' h'
     removed p within b sizes g =
         let less : length (list_of f' h') ≡ length (list_of f h) - 1 = omega (arith, ap length b.list, length-remove (list_of f h) p within) in
@@ -236,3 +225,21 @@ module _ {K V : Type 0} where
           by : (o : Option V) → value_for cmp (list_of f h) k ≡ o → Balances most f h f' h'
           by None e = inserts-balance v (as_inserted result) (r.absent e)
           by (Some x) e = same-balance most f f' h h' fit (r.present_forest (rw e refl)) (r.present_handle (rw e refl))
+
+    -- a single new entry was inserted; for more of them the nodes of the new tree were taken, and then those of the old one freed
+    pub unites-balance : {cmp : K → K → Ordering} {other : Option ℕ} → Unites most cmp f h other (Ok true) f' h' → Balances most f h f' h'
+    unites-balance {cmp} {other} c = by (new_to cmp f h other) refl
+      where
+        by : (new : List (K × V)) → new_to cmp f h other ≡ new → Balances most f h f' h'
+        by [] none = absurd (let told = c.changed ∙ ap not (none-new cmp (list_of f h) (list_of f other) none) in cc)
+        by (e ∷ []) one = inserts-balance cmp e.0 e.1 (Ok None) (c.inserted e one)
+        by (e ∷ d ∷ new) more =
+            let many : 1 < length (new_to cmp f h other) = omega (arith, ap length more) in
+            let account = c.account many in
+            let low : need_of_union most cmp f h other ≤ room_of f = not-less (room_of f) (need_of_union most cmp f h other) (λ few. let full = c.full.1 few in cc) in
+            record {
+              fit = c.fit many;
+              nodes = omega (arith, account.slots, account.free, c.nodes many);
+              slots = omega (arith, account.slots);
+              within = λ few. omega (arith, account.slots, c.united.limit, low, few);
+            }

@@ -2,7 +2,7 @@
 use Rattle.bforest_trees.specs.Union.{kept_from, united}
 use Rattle.std.specs.Prelude.{List, false}
 use Rattle.std.specs.declared.cmp.Ordering.{Ordering}
-pub use Rattle.bforest_trees.specs.Union.{are_among, are_apart, fits, kept_from, kept_of, keeps_all, united}
+pub use Rattle.bforest_trees.specs.Union.{are_among, are_apart, fits, kept_from, kept_of, keeps_all, new_to, united}
 
 -- the entries of two lists whose keys are in one of them alone
 abbrev pub unshared : {K X : Type 0} → (K → K → Ordering) → List (K × X) → List (K × X) → List (K × X)

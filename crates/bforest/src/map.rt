@@ -397,16 +397,17 @@ impl<K: Copy, V: Copy> Map<K, V> {
     /// Puts each entry of `other` whose key is absent into this map, and returns whether there was one. A present key keeps its own value.
     ///
     /// Reads both maps side by side, with at most one comparison for each entry of either. Where nothing is new, that is all: no node
-    /// and no memory is taken, and nothing is written. Else it reads them once more, makes a tree of the union with the fewest nodes beside
-    /// the old one, and frees that. Until the call returns it takes memory for a list of the union.
+    /// and no memory is taken, and nothing is written. A single new entry is inserted, as [`Map::insert`] does it. Where there are more, the
+    /// call reads both once more, makes a tree of the union with the fewest nodes beside the old one, and frees that. Until it returns it
+    /// takes memory for a list of the union then.
     ///
-    /// Other handles to this map's tree are not live then. Where both are one map, nothing is new.
+    /// Other handles to this map's tree are not live where a key was new. Where both are one map, nothing is new.
     ///
     /// # Errors
     ///
-    /// [`OutOfMemory::Full`] where a key is new and the forest's limit does not allow the new tree's nodes beside the old ones.
-    /// [`OutOfMemory::Memory`] where a key is new and there was no memory for the list or for a table that had to grow. The map and the
-    /// forest are unchanged then.
+    /// [`OutOfMemory::Full`] where the forest's limit does not allow the nodes that are needed: those of an insertion, or for more than one
+    /// new entry those of the new tree beside the old ones. [`OutOfMemory::Memory`] where there was no memory for a table that had to grow, or
+    /// for the list. The map and the forest are unchanged then.
     pub fn union_with<C: Comparator<K>>(
         &mut self,
         other: &Map<K, V>,

@@ -323,16 +323,17 @@ impl<K: Copy> Set<K> {
     /// Puts each key of `other` that is absent into this set, and returns whether there was one. A stored key that compares equal stays.
     ///
     /// Reads both sets side by side, with at most one comparison for each key of either. Where nothing is new, that is all: no node
-    /// and no memory is taken, and nothing is written. Else it reads them once more, makes a tree of the union with the fewest nodes beside
-    /// the old one, and frees that. Until the call returns it takes memory for a list of the union.
+    /// and no memory is taken, and nothing is written. A single new key is inserted, as [`Set::insert`] does it. Where there are more, the
+    /// call reads both once more, makes a tree of the union with the fewest nodes beside the old one, and frees that. Until it returns it
+    /// takes memory for a list of the union then.
     ///
-    /// Other handles to this set's tree are not live then. Where both are one set, nothing is new.
+    /// Other handles to this set's tree are not live where a key was new. Where both are one set, nothing is new.
     ///
     /// # Errors
     ///
-    /// [`OutOfMemory::Full`] where a key is new and the forest's limit does not allow the new tree's nodes beside the old ones.
-    /// [`OutOfMemory::Memory`] where a key is new and there was no memory for the list or for a table that had to grow. The set and the
-    /// forest are unchanged then.
+    /// [`OutOfMemory::Full`] where the forest's limit does not allow the nodes that are needed: those of an insertion, or for more than one
+    /// new key those of the new tree beside the old ones. [`OutOfMemory::Memory`] where there was no memory for a table that had to grow, or
+    /// for the list. The set and the forest are unchanged then.
     pub fn union_with<C: Comparator<K>>(
         &mut self,
         other: &Set<K>,

@@ -3,7 +3,7 @@ use Rattle.bforest.specs.Bounds.{entries_between, entries_outside, start_place}
 use Rattle.bforest.specs.Calls.{Clears, Clones, Compacts, Inserts, KeepsFrom, Loads, Pops, Removes, RemovesAt, RemovesBetween, SplitsAt, Unites, need_of_union, sizes_outside, truncation}
 use Rattle.bforest.specs.Forest.{Becomes, Forest, Gives, IsFitFor, IsLive, IsTooMany, Takes, TakesAndGives, fewest, free_of, limit_of, list_of, need_of, nodes_of, sizes_of, slots_of}
 use Rattle.bforest.specs.Retain.{AsksEach, kept_by, sizes_by}
-use Rattle.bforest.specs.Union.{are_among, kept_from, kept_of, keeps_all, united}
+use Rattle.bforest.specs.Union.{are_among, kept_from, kept_of, keeps_all, new_to, united}
 use Rattle.bforest_calls.proofs.Packing.{loaded-fits, packed-same}
 use Rattle.bforest_calls.proofs.Updating.{updated-or-inserted}
 use Rattle.bforest_calls.specs.Looks.{place_after, sight_of}
@@ -18,7 +18,8 @@ use Rattle.bforest_core.specs.Change.{node_count, severed}
 use Rattle.bforest_core.specs.Sizes.{detached, growth, need, shrink}
 use Rattle.bforest.specs.Refusal.{Full, Memory, OutOfMemory}
 use Rattle.bforest.specs.Entries.{cut, is_present, place, put, value_for, with_value}
-use Rattle.bforest_trees.specs.Calls.{as_inserted}
+use Rattle.bforest_trees.proofs.unions.New.{none-new}
+use Rattle.bforest_trees.specs.Calls.{as_inserted, need_of_new}
 use Rattle.bforest_trees.specs.Shift.{Rekeys}
 use Rattle.std.proofs.Common.{Bool, Err, List, None, Ok, Option, Result, Some, [], ap, arith, drop, false, inl, inr, length, map, not, refl, subst, sym, take, true, ◌+◌, ◌++◌, ◌-◌, ◌<◌, ◌∙◌, ◌∷◌, ◌≡◌, ◌≢◌, ◌⊎◌, ℕ}
 use Rattle.std.specs.List.{AllByRecursion}
@@ -380,8 +381,16 @@ module _ {K V : Type 0} where
               },
             )
 
+        new-alike : new_to order other.forest other.number o' ≡ new_to order one.forest one.number o
+        new-alike = λ z. kept_from order false (e z) (r.list z)
+
+        need-of-new-alike : (entries : ℕ) (new : List (K × V)) → need_of_new most order other.forest other.number entries new ≡ need_of_new most order one.forest one.number entries new
+        need-of-new-alike entries [] = refl
+        need-of-new-alike entries (d ∷ []) = need-alike d.0
+        need-of-new-alike entries (d ∷ c ∷ new) = refl
+
         need-of-union-alike : need_of_union most order other.forest other.number o' ≡ need_of_union most order one.forest one.number o
-        need-of-union-alike = λ z. if are_among order (e z) (r.list z) then 0 else fewest most (length (united order (r.list z) (e z)))
+        need-of-union-alike = (λ z. need_of_new most order other.forest other.number (length (united order (r.list z) (e z))) (new-alike z)) ∙ need-of-new-alike _ _
 
         -- whether a union changes the first tree
         changes-alike : (changed changed' : Bool) → changed ≡ not (are_among order (list_of one.forest o) (entries one)) → changed' ≡ not (are_among order (list_of other.forest o') (entries other))
@@ -391,19 +400,24 @@ module _ {K V : Type 0} where
         pub unites-alike : most % 2 ≡ 1 → (result result' : Result Bool OutOfMemory) (one' other' : Held K V)
             → Unites most order one.forest one.number o result one'.forest one'.number → Unites most order other.forest other.number o' result' other'.forest other'.number
             → result ≢ Err Memory → result' ≢ Err Memory → (result' ≡ result) × Resembles one' other'
-        unites-alike odd (Ok true) (Ok true) one' other' u u' m m' =
-            let taken = renews-alike one other one'.forest other'.forest _ _ r need-of-union-alike (u.account refl) (u'.account refl) in
-            let list = u'.united.list ∙ (λ z. united order (r.list z) (e z)) ∙ sym u.united.list in (
-              refl,
-              record {
-                list = list;
-                sizes = packed-same most (length (entries one')) odd (sizes-in other') (sizes-in one') (u'.packed refl) (u.packed refl)
-                    (subst (λ (es : List (K × V)). IsFitFor most (length es) (sizes-in other')) list (u'.fit refl)) (u.fit refl);
-                slots = taken.0;
-                free = taken.1;
-                limit = u'.united.limit ∙ r.limit ∙ sym u.united.limit;
-              },
-            )
+        unites-alike odd (Ok true) (Ok true) one' other' u u' m m' = (refl, by (new_to order one.forest one.number o) refl)
+          where
+            by : (new : List (K × V)) → new_to order one.forest one.number o ≡ new → Resembles one' other'
+            by [] none = absurd (let told = u.changed ∙ ap not (none-new order (entries one) (list_of one.forest o) none) in cc)
+            by (d ∷ []) is = (inserts-alike d.0 d.1 (Ok None) (Ok None) one' other' (u.inserted d is) (u'.inserted d (new-alike ∙ is)) (λ bad. absurd (cc)) (λ bad. absurd (cc))).1
+            by (d ∷ c ∷ new) is =
+                let many : 1 < length (new_to order one.forest one.number o) = omega (arith, ap length is) in
+                let many' : 1 < length (new_to order other.forest other.number o') = omega (arith, ap length (new-alike ∙ is)) in
+                let taken = renews-alike one other one'.forest other'.forest _ _ r need-of-union-alike (u.account many) (u'.account many') in
+                let list = u'.united.list ∙ (λ z. united order (r.list z) (e z)) ∙ sym u.united.list in
+                record {
+                  list = list;
+                  sizes = packed-same most (length (entries one')) odd (sizes-in other') (sizes-in one') (u'.packed many') (u.packed many)
+                      (subst (λ (es : List (K × V)). IsFitFor most (length es) (sizes-in other')) list (u'.fit many')) (u.fit many);
+                  slots = taken.0;
+                  free = taken.1;
+                  limit = u'.united.limit ∙ r.limit ∙ sym u.united.limit;
+                }
         unites-alike odd (Ok false) (Ok false) one' other' u u' m m' =
             (refl, resembling-same one other one' other' r (held-same one one' (u.same_forest refl) (u.same_handle refl)) (held-same other other' (u'.same_forest refl) (u'.same_handle refl)))
         unites-alike odd (Ok true) (Ok false) one' other' u u' m m' = let no = changes-alike true false u.changed u'.changed in absurd (cc)

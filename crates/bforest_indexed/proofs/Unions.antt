@@ -6,9 +6,10 @@ use Rattle.bforest.specs.Forest.{Forest, Gives, list_of, sizes_of}
 use Rattle.bforest.specs.Refusal.{OutOfMemory}
 use Rattle.bforest.specs.Room.{node_count}
 use Rattle.bforest.specs.Union.{fits}
-use Rattle.bforest_indexed.proofs.Kept.{changes, changes-not, here, kept-set, list-here, read, unchanged, with_tree}
-use Rattle.bforest_indexed.specs.Indexed.{AreKept, Indexed, KeepsFromAt, UnitesAt, count, entries, handle, node_sizes, table}
-use Rattle.std.proofs.Common.{Bool, Err, List, None, Ok, Option, Result, ap, false, get_or, if◌then◌else◌, length, refl, subst, sym, true, ◌<◌, ◌∙◌, ◌≡◌, ℕ}
+use Rattle.bforest_indexed.proofs.Kept.{changes, changes-not, here, kept-set, list-here, put-at, read, unchanged, with_tree}
+use Rattle.bforest_indexed.specs.Indexed.{AreKept, Indexed, InsertsAt, KeepsFromAt, UnitesAt, as_inserted, count, entries, handle, new_in, node_sizes, table}
+use Rattle.std.proofs.Common.{Bool, Err, List, None, Ok, Option, Result, [], ap, false, get_or, if◌then◌else◌, length, refl, subst, sym, true, ◌<◌, ◌∙◌, ◌∷◌, ◌≡◌, ℕ}
+use Rattle.std.proofs.lemmas.List.{get_or_default}
 use Rattle.std.specs.declared.cmp.Ordering.{Ordering}
 
 module _ {K X C : Type 0} {most : ℕ} {cmp : K → K → Ordering} {m : Indexed K X C} {i : ℕ} (j : ℕ) (a : AreKept most cmp m) (within : i < count m) where
@@ -18,6 +19,11 @@ module _ {K X C : Type 0} {most : ℕ} {cmp : K → K → Ordering} {m : Indexed
         → AreKept most cmp (with_tree m i f' h') × UnitesAt most cmp m i j r (with_tree m i f' h')
     united-same same_forest same_handle told = let same = unchanged m i f' h' same_forest same_handle in (subst (AreKept most cmp) (sym same) a, told same)
 
+    -- a single new entry was inserted
+    one-here : {r : Result Bool OutOfMemory} → Unites most cmp (table m) (handle m i) (handle m j) r f' h'
+        → (e : K × X) → new_in most cmp m i j ≡ e ∷ [] → InsertsAt most cmp m i e.0 e.1 (as_inserted r) (with_tree m i f' h')
+    one-here call e is = (put-at a within (get_or_default m.handles i None (handle m i) within) (call.inserted e is)).1
+
     united-here : (r : Result Bool OutOfMemory) → Unites most cmp (table m) (handle m i) (handle m j) r f' h'
         → AreKept most cmp (with_tree m i f' h') × UnitesAt most cmp m i j r (with_tree m i f' h')
     united-here (Ok true) call = (
@@ -25,8 +31,9 @@ module _ {K X C : Type 0} {most : ℕ} {cmp : K → K → Ordering} {m : Indexed
       record {
         united = list-here a within call.united;
         changed = call.changed;
-        packed = λ is. rw (ap (sizes_of f') (here a within call.united)) (call.packed is);
-        nodes = λ is. ap (λ q. node_count (sizes_of f' q)) (here a within call.united) ∙ call.nodes is;
+        inserted = one-here call;
+        packed = λ many. rw (ap (sizes_of f') (here a within call.united)) (call.packed many);
+        nodes = λ many. ap (λ q. node_count (sizes_of f' q)) (here a within call.united) ∙ call.nodes many;
         account = call.account;
         beside = changes a within call.united;
         same = λ bad. absurd (cc);
@@ -38,9 +45,10 @@ module _ {K X C : Type 0} {most : ℕ} {cmp : K → K → Ordering} {m : Indexed
     united-here (Ok false) call = united-same (call.same_forest refl) (call.same_handle refl) (λ same. record {
       united = list-here a within call.united;
       changed = call.changed;
-      packed = λ bad. absurd (cc);
-      nodes = λ bad. absurd (cc);
-      account = λ bad. absurd (cc);
+      inserted = one-here call;
+      packed = λ many. rw (ap (sizes_of f') (here a within call.united)) (call.packed many);
+      nodes = λ many. ap (λ q. node_count (sizes_of f' q)) (here a within call.united) ∙ call.nodes many;
+      account = call.account;
       beside = changes a within call.united;
       same = λ is. same;
       full = call.full;
@@ -50,9 +58,10 @@ module _ {K X C : Type 0} {most : ℕ} {cmp : K → K → Ordering} {m : Indexed
     united-here (Err refused) call = united-same call.refused_forest call.refused_handle (λ same. record {
       united = tt;
       changed = tt;
-      packed = λ bad. absurd (cc);
-      nodes = λ bad. absurd (cc);
-      account = λ bad. absurd (cc);
+      inserted = one-here call;
+      packed = λ many. tt;
+      nodes = λ many. tt;
+      account = λ many. tt;
       beside = changes-not m (with_tree m i f' h') i same;
       same = λ bad. absurd (cc);
       full = call.full;

@@ -21,10 +21,7 @@ use Rattle.std.specs.Ordering.{is_eq}
 use Rattle.std.specs.declared.cmp.Ordering.{Ordering}
 use Rattle.std.specs.declared.ops.Bound.{Bound}
 
--- the answer of an insertion of an absent key, from that of a call that answers the value
-abbrev pub as_inserted : {X : Type 0} → Result X OutOfMemory → Result (Option X) OutOfMemory
-as_inserted (Ok x) = Ok None
-as_inserted (Err refused) = Err refused
+pub use Rattle.bforest.specs.Calls.{as_inserted}
 
 -- the table has a slot for each node that `lists` lists of at most `most_entries` entries can have, used ones included; a leaf has at most
 -- `most` entries
@@ -282,14 +279,20 @@ module _ {K X C : Type 0} where
       pub room : (lists most_entries : ℕ) → StaysWithin cmp lists most_entries m i k → HasRoom most lists most_entries (table m) → IsOk result
       pub never_full : (lists most_entries : ℕ) → StaysWithin cmp lists most_entries m i k → MayHave most lists most_entries (table m) → result ≢ Err Full
 
-    -- The entries of j whose key is absent in i were put there, and whether there was one is answered. Where there was one, the tree of i is
-    -- a packed one, which was made beside the old one; else nothing changed. Or the call was refused, and nothing changed.
+    -- the entries of j whose key is absent in i
+    abbrev pub new_in : Indexed K X C → ℕ → ℕ → List (K × X)
+    new_in m i j = kept_from cmp false (entries m j) (entries m i)
+
+    -- The entries of j whose key is absent in i were put there, and whether there was one is answered. A single one was inserted. Where there
+    -- were more, the tree of i is a packed one, which was made beside the old one; where there was none, nothing changed. Or the call was
+    -- refused, and nothing changed.
     pub record UnitesAt (m : Indexed K X C) (i j : ℕ) (result : Result Bool OutOfMemory) (m' : Indexed K X C) : Type 0 where
       pub united : OnOk result (entries m' i ≡ united cmp (entries m i) (entries m j))
       pub changed : IfOk result (λ changed. changed ≡ not (are_among cmp (entries m j) (entries m i)))
-      pub packed : result ≡ Ok true → ArePacked most (node_sizes m' i)
-      pub nodes : result ≡ Ok true → node_count (node_sizes m' i) ≡ need_of_union most cmp (table m) (handle m i) (handle m j)
-      pub account : result ≡ Ok true → TakesAndGives (need_of_union most cmp (table m) (handle m i) (handle m j)) (node_sizes m i) (table m) (table m')
+      pub inserted : (e : K × X) → new_in m i j ≡ e ∷ [] → InsertsAt m i e.0 e.1 (as_inserted result) m'
+      pub packed : 1 < length (new_in m i j) → OnOk result (ArePacked most (node_sizes m' i))
+      pub nodes : 1 < length (new_in m i j) → OnOk result (node_count (node_sizes m' i) ≡ need_of_union most cmp (table m) (handle m i) (handle m j))
+      pub account : 1 < length (new_in m i j) → OnOk result (TakesAndGives (need_of_union most cmp (table m) (handle m i) (handle m j)) (node_sizes m i) (table m) (table m'))
       pub beside : ChangesAt m i m'
       pub same : result ≡ Ok false → m' ≡ m
       pub full : (result ≡ Err Full) ↔ IsTooMany (need_of_union most cmp (table m) (handle m i) (handle m j)) (table m)

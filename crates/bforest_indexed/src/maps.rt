@@ -482,13 +482,13 @@ impl<K: Copy, V: Copy, C: Comparator<K>, I: Idx> Maps<K, V, C, I> {
     /// Puts each entry of the map at `other` whose key is absent into the map at `index`, and returns whether there was one. A present key
     /// keeps its own value. Where both are one, nothing changes.
     ///
-    /// As [`bforest::Map::union_with`]: reads both, and where nothing is new, that is all. Else makes a tree of the union with the fewest
-    /// nodes beside the old one, and frees that.
+    /// As [`bforest::Map::union_with`]: reads both, and where nothing is new, that is all. A single new entry is inserted; for more of them
+    /// the call makes a tree of the union with the fewest nodes beside the old one, and frees that.
     ///
     /// # Errors
     ///
-    /// [`OutOfMemory`] where a key is new and too few nodes are available beside the old ones, or there is no memory for a list of the
-    /// union; nothing has changed then.
+    /// [`OutOfMemory`] where a key is new and the nodes that are needed cannot be had, those of an insertion or those of the new tree
+    /// beside the old ones, or there is no memory for a list of the union; nothing has changed then.
     pub fn union_with(&mut self, index: I, other: I) -> Result<bool, OutOfMemory>
         requires within { I.number index < count self.old }
         requires other { I.number other < count self.old }

@@ -418,13 +418,13 @@ impl<K: Copy, C: Comparator<K>, I: Idx> Sets<K, C, I> {
     /// Puts each key of the set at `other` that is absent into the set at `index`, and returns whether there was one. A stored key that
     /// compares equal stays. Where both are one, nothing changes.
     ///
-    /// As [`bforest::Set::union_with`]: reads both, and where nothing is new, that is all. Else makes a tree of the union with the fewest
-    /// nodes beside the old one, and frees that.
+    /// As [`bforest::Set::union_with`]: reads both, and where nothing is new, that is all. A single new key is inserted; for more of them
+    /// the call makes a tree of the union with the fewest nodes beside the old one, and frees that.
     ///
     /// # Errors
     ///
-    /// [`OutOfMemory`] where a key is new and too few nodes are available beside the old ones, or there is no memory for a list of the
-    /// union; nothing has changed then.
+    /// [`OutOfMemory`] where a key is new and the nodes that are needed cannot be had, those of an insertion or those of the new tree
+    /// beside the old ones, or there is no memory for a list of the union; nothing has changed then.
     pub fn union_with(&mut self, index: I, other: I) -> Result<bool, OutOfMemory>
         requires within { I.number index < count self.old }
         requires other { I.number other < count self.old }

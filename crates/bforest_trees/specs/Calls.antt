@@ -10,7 +10,7 @@ use Rattle.bforest_trees.specs.Bounds.{entries_between, entries_outside, is_betw
 use Rattle.bforest_trees.specs.Forest.{Becomes, Forest, Gives, GrowsFor, IsLive, IsTooMany, Keeps, NeedsGrowth, Takes, TakesAndGives, free_of, limit_of, list_at, list_of, memory_of, need_of, nodes_of, sizes_at, sizes_of, sizes_with, sizes_without, slots_of}
 use Rattle.bforest_trees.specs.Retain.{Retains, sizes_by}
 use Rattle.bforest_trees.specs.Shift.{Rekeys}
-use Rattle.bforest_trees.specs.Union.{are_among, fits, kept_from, kept_of, keeps_all, united}
+use Rattle.bforest_trees.specs.Union.{are_among, fits, kept_from, kept_of, keeps_all, new_to, united}
 use Rattle.std.specs.Fn.{FnOnceReturns, Once}
 use Rattle.std.specs.List.{sum_by}
 use Rattle.std.specs.Prelude.{Bool, Err, IfOk, IfSome, IsOk, IsSome, List, None, Ok, OnErr, OnOk, Option, Result, Some, [], drop, false, if◌then◌else◌, length, nat_le, nat_lt, not, remove, slice_get, take, true, unwrap_or, zero, suc, ◌++◌, ◌∷◌, ◌+◌, ◌-◌, ◌<◌, ◌↔◌, ◌≡◌, ◌≢◌, ◌≤◌, ℕ}
@@ -256,8 +256,8 @@ pub record Shifts {K X : Type 0} (calls : K → K → Type 0) (place : ℕ) (f :
   pub memory : memory_of f' ≡ memory_of f
 
 -- the result of an insertion of an absent key, from that of a call that returns the value
-abbrev pub as_inserted : {X : Type 0} → Result X OutOfMemory → Result (Option X) OutOfMemory
-as_inserted (Ok x) = Ok None
+abbrev pub as_inserted : {A X : Type 0} → Result A OutOfMemory → Result (Option X) OutOfMemory
+as_inserted (Ok a) = Ok None
 as_inserted (Err refused) = Err refused
 
 -- `most` is the number of entries that a leaf has at most
@@ -319,20 +319,27 @@ module _ {K X : Type 0} (most : ℕ) (cmp : K → K → Ordering) where
     pub live : IsLive f' h'
     pub increasing : IsIncreasing cmp (list_of f' h')
 
-  -- the number of nodes that a union with the list of `other` takes: those of a packed tree, or none where no key of `other` is new
-  abbrev pub need_of_union : Forest K X → Option ℕ → Option ℕ → ℕ
-  need_of_union f h other =
-      if are_among cmp (list_of f other) (list_of f h) then 0 else fewest most (length (united cmp (list_of f h) (list_of f other)))
+  -- the number of nodes that a union takes, by the entries that are new: none, those of an insertion, or those of a packed tree of so many
+  abbrev pub need_of_new : Forest K X → Option ℕ → ℕ → List (K × X) → ℕ
+  need_of_new f h entries [] = 0
+  need_of_new f h entries (e ∷ []) = need_of most cmp f h e.0
+  need_of_new f h entries (e ∷ d ∷ es) = fewest most entries
 
-  -- The entries of `other` whose key is absent in h were put there, and whether there was one is returned. Where there was one, the tree is a
-  -- packed one, which was made beside the old one; else nothing changed. Or the call was refused, and nothing changed.
+  -- the number of nodes that a union with the list of `other` takes
+  abbrev pub need_of_union : Forest K X → Option ℕ → Option ℕ → ℕ
+  need_of_union f h other = need_of_new f h (length (united cmp (list_of f h) (list_of f other))) (new_to cmp f h other)
+
+  -- The entries of `other` whose key is absent in h were put there, and whether there was one is returned. A single one was inserted. Where
+  -- there were more, the tree is a packed one, which was made beside the old one; where there was none, nothing changed. Or the call was
+  -- refused, and nothing changed.
   pub record Unites (f : Forest K X) (h other : Option ℕ) (result : Result Bool OutOfMemory) (f' : Forest K X) (h' : Option ℕ) : Type 0 where
     pub united : OnOk result (Becomes f h f' h' (united cmp (list_of f h) (list_of f other)))
     pub changed : IfOk result (λ changed. changed ≡ not (are_among cmp (list_of f other) (list_of f h)))
-    pub packed : result ≡ Ok true → ArePacked most (sizes_of f' h')
-    pub nodes : result ≡ Ok true → nodes_of f' h' ≡ need_of_union f h other
-    pub fit : result ≡ Ok true → IsFitFor most (length (list_of f' h')) (sizes_of f' h')
-    pub account : result ≡ Ok true → TakesAndGives (need_of_union f h other) (sizes_of f h) f f'
+    pub inserted : (e : K × X) → new_to cmp f h other ≡ e ∷ [] → Inserts f h e.0 e.1 (as_inserted result) f' h'
+    pub packed : 1 < length (new_to cmp f h other) → OnOk result (ArePacked most (sizes_of f' h'))
+    pub nodes : 1 < length (new_to cmp f h other) → OnOk result (nodes_of f' h' ≡ need_of_union f h other)
+    pub fit : 1 < length (new_to cmp f h other) → OnOk result (IsFitFor most (length (list_of f' h')) (sizes_of f' h'))
+    pub account : 1 < length (new_to cmp f h other) → OnOk result (TakesAndGives (need_of_union f h other) (sizes_of f h) f f')
     pub same_forest : result ≡ Ok false → f' ≡ f
     pub same_handle : result ≡ Ok false → h' ≡ h
     pub increasing : IsIncreasing cmp (list_of f' h')

@@ -2,13 +2,15 @@
 use Rattle.bforest_trees.specs.Forest.{Becomes, Forest, IsTooMany, Takes, nodes_of, sizes_of}
 use Rattle.bforest_trees.specs.Layout.{IsReader, left_of}
 use Rattle.bforest_trees.specs.declared.reader.Reader.{Reader}
+use Rattle.bforest_trees.specs.declared.trees.unite.NewEntries.TheVariants.{More, One, Zero}
+use Rattle.bforest_trees.specs.declared.trees.unite.NewEntries.{NewEntries}
 use Rattle.bforest_core.specs.Packed.{ArePacked, fewest}
 use Rattle.bforest_core.specs.Sizes.{IsFitFor}
 use Rattle.bforest_core.specs.Table.{Table}
 use Rattle.bforest_core.specs.declared.pool.OutOfMemory.TheVariants.{Full}
 use Rattle.bforest_core.specs.declared.pool.OutOfMemory.{OutOfMemory}
 use Rattle.bforest_nodes.specs.Entries.{IsIncreasing, is_present}
-use Rattle.std.specs.Prelude.{Bool, Err, IfOk, List, None, OnErr, OnOk, Option, Result, Some, [], false, length, ◌<◌, ◌∷◌, ◌≡◌, ℕ}
+use Rattle.std.specs.Prelude.{Bool, Err, IfOk, List, None, OnErr, OnOk, Option, Result, Some, [], false, if◌then◌else◌, length, ◌<◌, ◌∷◌, ◌≡◌, ℕ}
 use Rattle.std.specs.Ordering.{is_gt}
 use Rattle.std.specs.declared.cmp.Ordering.TheVariants.{Equal, Greater, Less}
 use Rattle.std.specs.declared.cmp.Ordering.{Ordering}
@@ -25,6 +27,12 @@ abbrev pub TakesOff : {K X : Type 0} → Ordering → List (K × X) → List (K 
 TakesOff Less es others e es' others' = (es ≡ e ∷ es') × (others' ≡ others)
 TakesOff Greater es others e es' others' = (es' ≡ es) × (others ≡ e ∷ others')
 TakesOff {K} {X} Equal es others e es' others' = (es ≡ e ∷ es') × (other : K × X) × (others ≡ other ∷ others')
+
+-- how many entries there are: none, one, which is told, or more
+abbrev pub new_entries : {K X : Type 0} → List (K × X) → NewEntries K X
+new_entries [] = Zero
+new_entries (e ∷ []) = One e.0 e.1
+new_entries (e ∷ d ∷ es) = More
 
 module _ {K X : Type 0} {n : ℕ} where
   -- the next entry is in the leaf that the reader holds
@@ -65,6 +73,12 @@ module _ {K X : Type 0} {n : ℕ} where
       pub off : TakesOff order (left_of table first) (left_of table second) e (left_of table first') (left_of table second')
       pub reader : IsReader table first'
       pub second_reader : IsReader table second'
+
+-- an entry was taken off what is left to two readers, and returned where it is the second's alone
+pub record TakesNew {K X : Type 0} {n : ℕ} (order : Ordering) (first second : Reader K X n) (found : Option (K × X)) (first' second' : Reader K X n) : Type 0 where
+  pub entry : K × X
+  pub found_is : found ≡ (if is_gt order then Some entry else None)
+  pub taken : (table : Table K X) → IsReader table first → IsReader table second → TakesFrom table order first second entry first' second'
 
 -- a packed tree of the entries es was added under the handle that is returned; or the call was refused, also where memory for the list
 -- can't be had, and nothing changed

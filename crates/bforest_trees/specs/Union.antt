@@ -2,7 +2,7 @@
 use Rattle.bforest_nodes.specs.Entries.{IsIncreasing, is_present, put}
 use Rattle.bforest_trees.specs.Forest.{Forest, IsLive, list_of}
 use Rattle.std.specs.List.{list_all}
-use Rattle.std.specs.Prelude.{Bool, List, Option, [], filter, if◌then◌else◌, map, not, ◌∷◌, ℕ}
+use Rattle.std.specs.Prelude.{Bool, List, Option, [], false, filter, if◌then◌else◌, map, not, ◌∷◌, ℕ}
 use Rattle.std.specs.declared.cmp.Ordering.{Ordering}
 
 -- whether a key stays, where those that are found are to stay, or those that are not
@@ -34,6 +34,10 @@ module _ {K X : Type 0} (cmp : K → K → Ordering) where
   -- for each entry of es, whether that keeps it, and its value
   abbrev pub kept_of : Bool → List (K × X) → List (K × X) → List (Bool × X)
   kept_of present es others = map (λ e. (fits present (is_present cmp others e.0), e.1)) es
+
+  -- the entries of the tree of `other` whose key is absent in that of h
+  abbrev pub new_to : Forest K X → Option ℕ → Option ℕ → List (K × X)
+  new_to f h other = kept_from false (list_of f other) (list_of f h)
 
   -- two handles are live, and both lists increase
   pub record AreSearchable (f : Forest K X) (h other : Option ℕ) : Type 0 where

@@ -2,7 +2,7 @@
 ghost use Rattle.bforest_core.specs.Table.{Table};
 ghost use Rattle.bforest_nodes.specs.Entries.{IsIncreasing};
 ghost use Rattle.bforest_trees.specs.Layout.{IsReader, left_of};
-ghost use Rattle.bforest_trees.specs.Merge.{CanTake, Compares, Finds, HoldsNext, TakesFrom};
+ghost use Rattle.bforest_trees.specs.Merge.{CanTake, Compares, Finds, HoldsNext, TakesFrom, TakesNew};
 ghost use Rattle.std.specs.Prelude.{Some};
 
 use crate::reader::Reader;
@@ -70,6 +70,31 @@ pub(crate) fn take<'a, K: Copy, V: Copy, const N: usize>(
         Ordering::Equal => {
             second.pass();
             first.take_first()
+        }
+    }
+}
+
+/// Takes the lesser of the next entries of two readers off, as `take` does. Returns it where it is the second's alone, and else does not
+/// read it.
+#[inline(always)]
+pub(crate) fn take_new<'a, K: Copy, V: Copy, const N: usize>(
+    order: Ordering,
+    first: &mut Reader<'a, K, V, N>,
+    second: &mut Reader<'a, K, V, N>,
+) -> Option<(K, V)>
+    requires holds { CanTake (Some order) first.old second.old }
+    ensures { TakesNew order first.old second.old result first.new second.new }
+{
+    match order {
+        Ordering::Less => {
+            first.pass();
+            None
+        }
+        Ordering::Greater => Some(second.take_first()),
+        Ordering::Equal => {
+            first.pass();
+            second.pass();
+            None
         }
     }
 }

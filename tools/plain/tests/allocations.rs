@@ -235,6 +235,10 @@ fn of_two_maps_or_sets_only_a_union_calls_the_allocator() {
     // Where nothing is new there is no list.
     assert_eq!(calls_of(|| map.union_with(&odd.0, &mut forest, &()).unwrap()), 0);
     assert_eq!(calls_of(|| set.union_with(&odd.1, &mut set_forest, &()).unwrap()), 0);
+    // A single new key is inserted, and nodes lie free.
+    assert!(map.remove(1, &mut forest, &()).is_some() && set.remove(1, &mut set_forest, &()));
+    assert_eq!(calls_of(|| map.union_with(&odd.0, &mut forest, &()).unwrap()), 0);
+    assert_eq!(calls_of(|| set.union_with(&odd.1, &mut set_forest, &()).unwrap()), 0);
     assert_eq!(calls_of(|| map.intersect_with(&odd.0, &mut forest, &())), 0);
     assert_eq!(calls_of(|| set.intersect_with(&odd.1, &mut set_forest, &())), 0);
     let (map, set) = &mut odd;

@@ -217,6 +217,22 @@ fn a_union_one_node_short_changes_nothing() {
     }
 }
 
+/// A full leaf of seven is cut in two by one new entry, as an insertion does it. The tree with the fewest nodes would have two leaves of 7 and 1.
+#[test]
+fn a_single_new_entry_is_inserted() {
+    for (limit, answer) in [(3, Err(OutOfMemory::Full)), (4, Ok(true))] {
+        let mut forest = MapForest::with_node_limit(limit);
+        let mut map = map_of(0..7, 1, &mut forest);
+        let other = map_of([3, 50], 2, &mut forest);
+        assert_eq!((forest.slots(), forest.free_slots()), (2, 0));
+        assert_eq!(map.union_with(&other, &mut forest, &()), answer);
+        let added = answer.ok().map(|_| (50, 2));
+        assert!(map.iter(&forest).eq((0..7).map(|key| (key, 1)).chain(added)));
+        assert!(other.iter(&forest).eq([(3, 2), (50, 2)]));
+        assert_eq!((forest.slots(), forest.free_slots()), if answer.is_ok() { (4, 0) } else { (2, 0) });
+    }
+}
+
 #[test]
 fn unions_by_index() {
     let mut maps: Maps<u32, char> = Maps::new(());
@@ -286,12 +302,23 @@ fn sets_beside_btreeset() {
         assert!(mine.symmetric_difference(&other, &forest, &()).eq(a.symmetric_difference(&b).copied()));
         let union: BTreeSet<u32> = a.union(&b).copied().collect();
         let changes = union.len() > a.len();
-        let need = if changes { fewest(union.len(), 15) as u32 } else { 0 };
+        // A single new key is inserted. For more of them the tree is made anew, beside the old one.
+        let is_packed = union.len() > a.len() + 1;
+        let need = match union.difference(&a).next() {
+            Some(_) if is_packed => fewest(union.len(), 15) as u32,
+            Some(&key) => {
+                let (mut forest, [mut mine, _]) = made(u32::MAX);
+                let (slots, free) = (forest.slots(), forest.free_slots());
+                mine.insert(key, &mut forest, &()).unwrap();
+                forest.slots() - slots + free - forest.free_slots()
+            }
+            None => 0,
+        };
         let (slots, free, old) = (forest.slots(), forest.free_slots(), nodes_of(&mine, &forest));
         assert_eq!(mine.union_with(&other, &mut forest, &()), Ok(changes));
         assert!(mine.iter(&forest).eq(union.iter().copied()) && other.iter(&forest).eq(b.iter().copied()));
         assert_eq!(forest.slots(), slots + need.saturating_sub(free));
-        assert_eq!(forest.free_slots(), free.saturating_sub(need) + if changes { old } else { 0 });
+        assert_eq!(forest.free_slots(), free.saturating_sub(need) + if is_packed { old } else { 0 });
         // A limit that allows just the nodes that are needed, and one that allows one node fewer.
         for short in [0, 1] {
             if need < free + short {

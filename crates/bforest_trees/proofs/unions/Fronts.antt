@@ -1,7 +1,7 @@
 -- Two readers side by side: how their next entries compare, and taking one off.
 use Rattle.bforest_trees.proofs.Readers.{Taken, held-same, taken}
 use Rattle.bforest_trees.specs.Layout.{Entered, IsReader, left_of}
-use Rattle.bforest_trees.specs.Merge.{CanTake, Compares, HoldsNext, TakesFrom, TakesOff, front_order}
+use Rattle.bforest_trees.specs.Merge.{CanTake, Compares, HoldsNext, TakesFrom, TakesNew, TakesOff, front_order}
 use Rattle.bforest_trees.specs.declared.reader.Reader.{Reader}
 use Rattle.bforest_core.specs.Table.{Table}
 use Rattle.std.proofs.Common.{List, None, Option, Some, [], ap, arith, length, refl, slice_get, subst, suc, sym, zero, ◌+◌, ◌<◌, ◌∙◌, ◌∷◌, ◌≡◌, ℕ}
@@ -126,10 +126,36 @@ module _ {K X : Type 0} {n : ℕ} (table : Table K X) where
         let s = passed second second' k.0 second_is held k.1 second_moved in
         record { off = (t.left, (k.0, s.0), s.1.left); reader = t.reader; second_reader = s.1.reader }
 
-  -- one turn of a loop over two readers, whose next entries are compared before one is taken off
-  pub turn : (cmp : K → K → Ordering) {first second : Reader K X n} {order : Ordering} {first1 second1 : Reader K X n} {e : K × X} {first2 second2 : Reader K X n}
-      → Compares table cmp first second (Some order) first1 second1 → TakesFrom table order first1 second1 e first2 second2
-      → TakesOff order (left_of table first) (left_of table second) e (left_of table first2) (left_of table second2)
-  turn cmp {first} {second} {order} {first1} {second1} {e} {first2} {second2} c t =
-      subst (λ z. TakesOff order z (left_of table second) e (left_of table first2) (left_of table second2)) c.left
-      (subst (λ z. TakesOff order (left_of table first1) z e (left_of table first2) (left_of table second2)) c.second_left t.off)
+  -- one turn of a loop over two readers: their next entries were compared, and the first of them was taken off
+  pub record Turn (cmp : K → K → Ordering) (first second : Reader K X n) (order : Ordering) (e : K × X) (first' second' : Reader K X n) : Type 0 where
+    pub front_is : front_order cmp (left_of table first) (left_of table second) ≡ Some order
+    pub off : TakesOff order (left_of table first) (left_of table second) e (left_of table first') (left_of table second')
+    pub reader : IsReader table first'
+    pub second_reader : IsReader table second'
+
+  pub turn : {cmp : K → K → Ordering} {first second : Reader K X n} {answered : Option Ordering} {order : Ordering} {first1 second1 : Reader K X n} {e : K × X} {first2 second2 : Reader K X n}
+      → answered ≡ Some order → Compares table cmp first second answered first1 second1
+      → ((t : Table K X) → IsReader t first1 → IsReader t second1 → TakesFrom t order first1 second1 e first2 second2) → Turn cmp first second order e first2 second2
+  turn {first = first} {second} {order = order} {first1} {second1} {e} {first2} {second2} is c takes =
+      let t = takes table c.reader c.second_reader in record {
+        front_is = sym c.order_is ∙ is;
+        off = subst (λ z. TakesOff order z (left_of table second) e (left_of table first2) (left_of table second2)) c.left
+            (subst (λ z. TakesOff order (left_of table first1) z e (left_of table first2) (left_of table second2)) c.second_left t.off);
+        reader = t.reader;
+        second_reader = t.second_reader;
+      }
+
+module _ {K X : Type 0} {n : ℕ} (first second : Reader K X n) where
+  -- an entry that is passed is not read
+  pub passed-first : (first' : Reader K X n) → HoldsNext first → first' ≡ record first { index = first.index + 1 } → TakesNew Less first second None first' second
+  passed-first first' held moved =
+      let k = some-at first.keys.now first.index held.within in
+      let v = some-at first.vals.now first.index (omega (arith, held.within, held.same)) in
+      record { entry = (k.0, v.0); found_is = refl; taken = λ table is second_is. took-first table first second is second_is (k.0, v.0) first' k.1 v.1 moved }
+
+  pub passed-both : (first' second' : Reader K X n) → HoldsNext first × HoldsNext second → first' ≡ record first { index = first.index + 1 } → second' ≡ record second { index = second.index + 1 }
+      → TakesNew Equal first second None first' second'
+  passed-both first' second' held moved second_moved =
+      let k = some-at first.keys.now first.index held.0.within in
+      let v = some-at first.vals.now first.index (omega (arith, held.0.within, held.0.same)) in
+      record { entry = (k.0, v.0); found_is = refl; taken = λ table is second_is. took-both table first second is second_is (k.0, v.0) first' second' k.1 v.1 moved held.1 second_moved }

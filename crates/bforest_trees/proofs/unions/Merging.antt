@@ -1,9 +1,10 @@
 -- Two increasing lists, compared and united entry by entry.
 use Rattle.bforest_nodes.proofs.Ordered.{IsIncreasing-put, above, place-here, place-later}
 use Rattle.bforest_nodes.specs.Entries.{IsIncreasing, is_present, place, put, with_value}
-use Rattle.bforest_trees.specs.Merge.{TakesOff, front_order}
-use Rattle.bforest_trees.specs.Union.{are_among, fits, united}
-use Rattle.std.proofs.Common.{Bool, List, None, Some, [], ap, arith, false, if◌then◌else◌, insert, length, not, refl, slice_get, suc, sym, true, zero, append_assoc, append-nil, length-append, ◌||◌, ◌++◌, ◌<◌, ◌+◌, ◌≤◌, ◌∙◌, ◌∷◌, ◌≡◌, ◌&&◌, ℕ}
+use Rattle.bforest_trees.specs.Merge.{TakesOff, front_order, new_entries}
+use Rattle.bforest_trees.specs.Union.{are_among, fits, kept_from, united}
+use Rattle.bforest_trees.specs.declared.trees.unite.NewEntries.{NewEntries}
+use Rattle.std.proofs.Common.{Bool, List, None, Some, [], ap, arith, false, if◌then◌else◌, insert, length, not, refl, slice_get, suc, sym, true, zero, append_assoc, append-nil, length-append, ◌++◌, ◌<◌, ◌+◌, ◌≤◌, ◌∙◌, ◌∷◌, ◌≡◌, ◌&&◌, ℕ}
 use Rattle.std.specs.Cmp.{IsTotalOrder, tied_itself}
 use Rattle.std.specs.List.Sorted.{IsStrictlySortedBy}
 use Rattle.std.specs.List.{AllByRecursion, list_all}
@@ -91,6 +92,13 @@ module _ {K X : Type 0} (cmp : K → K → Ordering) where
           let rest = each-below es others present below.1 in
           ap (λ b. fits present b && each_is es (e ∷ others) present) first ∙ ap (λ z. fits present (is_present cmp others x.0) && z) rest
 
+      -- an entry below each key of a list changes nothing of which of its entries stay
+      kept-below : (xs es : List (K × X)) (present : Bool) → IsBelow e xs → kept_from cmp present xs (e ∷ es) ≡ kept_from cmp present xs es
+      kept-below [] es present below = refl
+      kept-below (x ∷ xs) es present below =
+          ap (λ b. if fits present b then x ∷ kept_from cmp present xs (e ∷ es) else kept_from cmp present xs (e ∷ es)) (present-later e es x.0 below.0)
+          ∙ ap (λ z. if fits present (is_present cmp es x.0) then x ∷ z else z) (kept-below xs es present below.1)
+
       -- what increases is below its first entry
       pub first-below : (es : List (K × X)) → IsIncreasing cmp (e ∷ es) → IsBelow e es
       unfolding IsStrictlySortedBy
@@ -116,6 +124,7 @@ module _ {K X : Type 0} (cmp : K → K → Ordering) where
       pub others_up : IsIncreasing cmp others'
       pub among : are_among cmp es others ≡ (not (is_lt order) && are_among cmp es' others')
       pub back : are_among cmp others es ≡ (not (is_gt order) && are_among cmp others' es')
+      pub new : kept_from cmp false others es ≡ (if is_gt order then first ∷ kept_from cmp false others' es' else kept_from cmp false others' es')
       pub unites : united cmp es others ≡ first ∷ united cmp es' others'
 
     goes-first : (e : K × X) (es others : List (K × X)) → IsIncreasing cmp (e ∷ es) → IsIncreasing cmp others → IsBefore e others → Goes (e ∷ es) others Less e es others
@@ -125,6 +134,7 @@ module _ {K X : Type 0} (cmp : K → K → Ordering) where
           others_up = others_up;
           among = ap (λ b. b && are_among cmp es others) (absent-below e others others_up below);
           back = each-below e others es true below;
+          new = kept-below e others es false below;
           unites = united-below e es others below;
         }
 
@@ -136,6 +146,7 @@ module _ {K X : Type 0} (cmp : K → K → Ordering) where
           others_up = rest-up other others others_up;
           among = each-below other es others true below;
           back = ap (λ b. b && are_among cmp others es) absent;
+          new = ap (λ b. if fits false b then other ∷ kept_from cmp false others es else kept_from cmp false others es) absent;
           unites = ap (λ b. united cmp (if b then es else put cmp es other.0 other.1) others) absent ∙ ap (λ z. united cmp z others) (put-below other es up below) ∙ united-below other es others (first-below other others others_up);
         }
 
@@ -150,6 +161,7 @@ module _ {K X : Type 0} (cmp : K → K → Ordering) where
           others_up = rest-up other others others_up;
           among = ap (λ b. b && are_among cmp es (other ∷ others)) here ∙ each-below other es others true below;
           back = ap (λ b. b && are_among cmp others (e ∷ es)) there ∙ each-below e others es true others_below;
+          new = ap (λ b. if fits false b then other ∷ kept_from cmp false others (e ∷ es) else kept_from cmp false others (e ∷ es)) there ∙ kept-below e others es false others_below;
           unites = ap (λ b. united cmp (if b then e ∷ es else put cmp (e ∷ es) other.0 other.1) others) there ∙ united-below e es others others_below;
         }
 
@@ -259,11 +271,13 @@ module _ {K X : Type 0} (cmp : K → K → Ordering) where
     pub same : each_is cmp es others present ≡ each_is cmp rest others_rest present
 
   -- the rest of two lists, of whose union the entries so far are counted
-  pub record Counting (es others : List (K × X)) (entries : ℕ) (new : Bool) (rest others_rest : List (K × X)) : Type 0 where
+  pub record Counting (es others : List (K × X)) (entries : ℕ) (new : NewEntries K X) (rest others_rest : List (K × X)) : Type 0 where
     pub up : IsIncreasing cmp rest
     pub others_up : IsIncreasing cmp others_rest
     pub count : entries + length (united cmp rest others_rest) ≡ length (united cmp es others)
-    pub told : are_among cmp others es ≡ (not new && are_among cmp others_rest rest)
+    pub seen : List (K × X)
+    pub new_is : new ≡ new_entries seen
+    pub whole : kept_from cmp false others es ≡ seen ++ kept_from cmp false others_rest rest
 
   -- the rest of two lists, of whose union the entries so far are given
   pub record Gathering (es others items rest others_rest : List (K × X)) : Type 0 where
@@ -282,21 +296,32 @@ module _ {K X : Type 0} (cmp : K → K → Ordering) where
     comparing-next c told = let g = goes cmp o order c.up c.others_up is t in
         record { up = g.up; others_up = g.others_up; same = c.same ∙ g.among ∙ ap (λ b. not b && are_among cmp rest' others_rest') told }
 
-    pub counting-low : {entries : ℕ} {new : Bool} → Counting es others entries new rest others_rest → entries < length (united cmp es others)
+    pub counting-low : {entries : ℕ} {new : NewEntries K X} → Counting es others entries new rest others_rest → entries < length (united cmp es others)
     counting-low c = let g = goes cmp o order c.up c.others_up is t in omega (arith, c.count, ap length g.unites)
 
-    pub counting-next : {entries : ℕ} {new : Bool} → Counting es others entries new rest others_rest → Counting es others (entries + 1) (new || is_gt order) rest' others_rest'
-    counting-next {entries} {new} c = let g = goes cmp o order c.up c.others_up is t in record {
-      up = g.up;
-      others_up = g.others_up;
-      count = omega (arith, c.count, ap length g.unites);
-      told = c.told ∙ ap (λ b. not new && b) g.back ∙ go new (is_gt order) (are_among cmp others_rest' rest');
-    }
-      where
-        go : (a b all : Bool) → (not a && (not b && all)) ≡ (not (a || b) && all)
-        go true b all = refl
-        go false true all = refl
-        go false false all = refl
+    module _ {entries : ℕ} {new : NewEntries K X} (c : Counting es others entries new rest others_rest) where
+      -- the entry that was taken off is not new
+      pub counting-old : is_gt order ≡ false → Counting es others (entries + 1) new rest' others_rest'
+      counting-old is_old = let g = goes cmp o order c.up c.others_up is t in record {
+        up = g.up;
+        others_up = g.others_up;
+        count = omega (arith, c.count, ap length g.unites);
+        seen = c.seen;
+        new_is = c.new_is;
+        whole = c.whole ∙ ap (λ z. c.seen ++ z) (g.new ∙ ap (λ b. if b then first ∷ kept_from cmp false others_rest' rest' else kept_from cmp false others_rest' rest') is_old);
+      }
+
+      -- it is new
+      pub counting-new : is_gt order ≡ true → {new' : NewEntries K X} → ((seen : List (K × X)) → new ≡ new_entries seen → new' ≡ new_entries (seen ++ first ∷ [])) → Counting es others (entries + 1) new' rest' others_rest'
+      counting-new is_new more = let g = goes cmp o order c.up c.others_up is t in record {
+        up = g.up;
+        others_up = g.others_up;
+        count = omega (arith, c.count, ap length g.unites);
+        seen = c.seen ++ first ∷ [];
+        new_is = more c.seen c.new_is;
+        whole = c.whole ∙ ap (λ z. c.seen ++ z) (g.new ∙ ap (λ b. if b then first ∷ kept_from cmp false others_rest' rest' else kept_from cmp false others_rest' rest') is_new)
+            ∙ sym (append_assoc c.seen (first ∷ []) (kept_from cmp false others_rest' rest'));
+      }
 
     pub gathering-next : {items : List (K × X)} → Gathering es others items rest others_rest → Gathering es others (items ++ first ∷ []) rest' others_rest'
     gathering-next {items} c = let g = goes cmp o order c.up c.others_up is t in record {
@@ -324,15 +349,11 @@ module _ {K X : Type 0} (cmp : K → K → Ordering) where
     comparing-end {present} c none = c.same ∙ ap (λ z. each_is cmp z others_rest present) none
 
     module _ (none : (rest ≡ []) × (others_rest ≡ [])) where
-      pub counting-end : {entries : ℕ} {new : Bool} → Counting es others entries new rest others_rest → (entries ≡ length (united cmp es others)) × (new ≡ not (are_among cmp others es))
+      pub counting-end : {entries : ℕ} {new : NewEntries K X} → Counting es others entries new rest others_rest → (entries ≡ length (united cmp es others)) × (new ≡ new_entries (kept_from cmp false others es))
       counting-end {entries} {new} c = (
         omega (arith, c.count, ap length (no-union none)),
-        go new (c.told ∙ ap (λ z. not new && are_among cmp z rest) none.1),
+        c.new_is ∙ ap new_entries (sym (append-nil c.seen) ∙ ap (λ z. c.seen ++ kept_from cmp false z rest) (sym none.1) ∙ sym c.whole),
       )
-        where
-          go : (b : Bool) → are_among cmp others es ≡ (not b && true) → b ≡ not (are_among cmp others es)
-          go true t = sym (ap not t)
-          go false t = sym (ap not t)
 
       pub gathering-end : {items : List (K × X)} → Gathering es others items rest others_rest → items ≡ united cmp es others
       gathering-end {items} c = sym (append-nil items) ∙ ap (λ z. items ++ z) (sym (no-union none)) ∙ c.whole

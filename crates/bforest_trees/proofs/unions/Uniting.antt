@@ -6,17 +6,19 @@ use Rattle.bforest_core.specs.Trees.{IsUnion}
 use Rattle.bforest_core.specs.declared.pool.OutOfMemory.TheVariants.{Full}
 use Rattle.bforest_core.specs.declared.pool.OutOfMemory.{OutOfMemory}
 use Rattle.bforest_core.proofs.union.Needs.{fewest-least, fewest-many}
-use Rattle.bforest_nodes.specs.Entries.{IsIncreasing}
+use Rattle.bforest_nodes.proofs.Found.{value_for-absent}
+use Rattle.bforest_nodes.specs.Entries.{IsIncreasing, is_present, put}
 use Rattle.bforest_trees.proofs.Accounts.{accounted}
 use Rattle.bforest_trees.proofs.Changed.{becomes-new, sizes-new, takes}
 use Rattle.bforest_trees.proofs.Cutting.{becomes-same}
 use Rattle.bforest_trees.proofs.Fits.{below-slots, fit-at}
-use Rattle.bforest_trees.proofs.unions.Merging.{among-itself, united-same, united-up}
-use Rattle.bforest_trees.specs.Calls.{Clears, Unites, need_of_union}
+use Rattle.bforest_trees.proofs.unions.Merging.{among-itself, united-same, united-some, united-up}
+use Rattle.bforest_trees.proofs.unions.New.{none-new, some-new, united-one}
+use Rattle.bforest_trees.specs.Calls.{Clears, Inserts, Unites, need_of_new, need_of_union}
 use Rattle.bforest_trees.specs.Forest.{Becomes, Forest, IsLive, IsTooMany, Takes, list_at, list_of, nodes_at, numbers_below, sizes_at, sizes_of, slots_of}
 use Rattle.bforest_trees.specs.Merge.{LoadsUnion}
-use Rattle.bforest_trees.specs.Union.{AreSearchable, are_among, united}
-use Rattle.std.proofs.Common.{Bool, Err, List, None, Ok, OnOk, Option, Result, Some, [], ap, arith, false, if◌then◌else◌, inl, inr, is_err, length, not, refl, subst, suc, sym, true, zero, ◌*◌, ◌<◌, ◌∙◌, ◌∷◌, ◌↔◌, ◌≡◌, ◌≢◌, ◌≤◌, ℕ}
+use Rattle.bforest_trees.specs.Union.{AreSearchable, are_among, new_to, united}
+use Rattle.std.proofs.Common.{Err, List, None, Ok, OnOk, Option, Result, Some, [], ap, arith, false, inl, inr, is_err, length, not, refl, subst, suc, sym, true, zero, ◌*◌, ◌<◌, ◌∙◌, ◌∷◌, ◌↔◌, ◌≡◌, ◌≢◌, ◌≤◌, ℕ}
 use Rattle.std.proofs.lemmas.Bool.{cases_lt}
 use Rattle.std.proofs.lemmas.List.Sums.{sum_by_push}
 use Rattle.std.specs.Cmp.{IsTotalOrder}
@@ -140,15 +142,6 @@ pub not-err : {A E P : Type 0} (r : Result A E) → is_err r ≡ false → OnOk 
 not-err (Ok x) t holds = holds
 not-err (Err e) t holds = absurd (cc)
 
--- what a test of its negation tells
-pub told-all : (new all : Bool) → new ≡ not all → not new ≡ true → all ≡ true
-told-all new true is t = refl
-told-all new false is t = absurd (let bad : false ≡ true = sym (ap not is) ∙ t in cc)
-
-pub told-new : (new all : Bool) → new ≡ not all → not new ≡ false → all ≡ false
-told-new new false is t = refl
-told-new new true is t = absurd (let bad : true ≡ false = sym (ap not is) ∙ t in cc)
-
 -- a table as its pool shows it, and entries as a slice shows them
 module _ {K X : Type 0} (most : ℕ) {p f : Forest K X} (is : p ≡ f) {items es : List (K × X)} (same : items ≡ es) where
   -- the tree was refused
@@ -180,40 +173,134 @@ module _ {K X : Type 0} (most : ℕ) {p f : Forest K X} (is : p ≡ f) {items es
       }))
 
 module _ {K X : Type 0} (most : ℕ) (cmp : K → K → Ordering) (o : IsTotalOrder cmp) (f : Forest K X) (h other : Option ℕ) (s : AreSearchable cmp f h other) where
-  -- nothing of the other list is new
-  pub unites-none : are_among cmp (list_of f other) (list_of f h) ≡ true → Unites most cmp f h other (Ok false) f h
-  unites-none all = record {
-    united = subst (λ es. Becomes f h f h es) (sym (united-same cmp (list_of f h) (list_of f other) all)) (becomes-same f h s.live);
-    changed = sym (ap not all);
-    packed = λ bad. absurd (cc);
-    nodes = λ bad. absurd (cc);
-    fit = λ bad. absurd (cc);
-    account = λ bad. absurd (cc);
-    same_forest = λ is. refl;
-    same_handle = λ is. refl;
-    increasing = s.increasing;
-    other_live = s.other_live;
-    other_list = refl;
-    other_sizes = refl;
-    full = (λ bad. absurd (cc), λ low. absurd (let none = ap (λ b. if b then 0 else fewest most (length (united cmp (list_of f h) (list_of f other)))) all in omega (arith, low, none)));
-    memory = λ bad. absurd (cc);
-    refused_forest = tt;
-    refused_handle = tt;
-  }
+  abbrev new : List (K × X)
+  new = new_to cmp f h other
 
-  module _ (new : are_among cmp (list_of f other) (list_of f h) ≡ false) where
+  need-by : {es : List (K × X)} → new ≡ es → need_of_union most cmp f h other ≡ need_of_new most cmp f h (length (united cmp (list_of f h) (list_of f other))) es
+  need-by is = ap (need_of_new most cmp f h (length (united cmp (list_of f h) (list_of f other)))) is
+
+  -- the other tree stays where one of its keys is new, since it is not the first one then
+  other-beside : are_among cmp (list_of f other) (list_of f h) ≡ false → {es : List (K × X)} {f' : Forest K X} {h' : Option ℕ} → Becomes f h f' h' es
+      → IsLive f' other × (list_of f' other ≡ list_of f other) × (sizes_of f' other ≡ sizes_of f other)
+  other-beside fresh b =
+      let apart : other ≢ h = λ e. absurd (let all : are_among cmp (list_of f other) (list_of f h) ≡ true = subst (λ z. are_among cmp (list_of f z) (list_of f h) ≡ true) (sym e) (among-itself cmp o (list_of f h) s.increasing) in cc) in
+      other-stays b other s.other_live apart
+
+  -- nothing of the other list is new
+  pub unites-none : new ≡ [] → Unites most cmp f h other (Ok false) f h
+  unites-none none =
+      let all : are_among cmp (list_of f other) (list_of f h) ≡ true = none-new cmp (list_of f h) (list_of f other) none in record {
+        united = subst (λ es. Becomes f h f h es) (sym (united-same cmp (list_of f h) (list_of f other) all)) (becomes-same f h s.live);
+        changed = sym (ap not all);
+        inserted = λ e is. absurd (let bad : e ∷ [] ≡ [] = sym is ∙ none in cc);
+        packed = λ many. absurd (omega (arith, many, ap length none));
+        nodes = λ many. absurd (omega (arith, many, ap length none));
+        account = λ many. absurd (omega (arith, many, ap length none));
+        fit = λ many. absurd (omega (arith, many, ap length none));
+        same_forest = λ is. refl;
+        same_handle = λ is. refl;
+        increasing = s.increasing;
+        other_live = s.other_live;
+        other_list = refl;
+        other_sizes = refl;
+        full = (λ bad. absurd (cc), λ low. absurd (omega (arith, low, need-by none)));
+        memory = λ bad. absurd (cc);
+        refused_forest = tt;
+        refused_handle = tt;
+      }
+
+  -- one entry is new
+  module _ (k : K) (x : X) (is : new ≡ (k, x) ∷ []) where
+    fresh-one : are_among cmp (list_of f other) (list_of f h) ≡ false
+    fresh-one = some-new cmp (list_of f h) (list_of f other) (omega (arith, ap length is))
+
+    told-one : (united cmp (list_of f h) (list_of f other) ≡ put cmp (list_of f h) k x) × (is_present cmp (list_of f h) k ≡ false)
+    told-one = united-one cmp o (list_of f h) (list_of f other) s.increasing s.other_increasing (k, x) is
+
+    only-one : (P : K × X → Type 0) → P (k, x) → (e : K × X) → new ≡ e ∷ [] → P e
+    only-one P holds e same = subst P (let alike : (k, x) ≡ e = cc in alike) holds
+
+    not-many : {P : Type 0} → 1 < length new → P
+    not-many many = absurd (omega (arith, many, ap length is))
+
+    -- it was inserted
+    pub unites-inserted : {old : Option X} {f' : Forest K X} {h' : Option ℕ} → Inserts most cmp f h k x (Ok old) f' h' → Unites most cmp f h other (Ok true) f' h'
+    unites-inserted {old} {f'} {h'} i =
+        let stays = other-beside fresh-one i.put in
+        let absent : old ≡ None = i.ok ∙ value_for-absent cmp (list_of f h) k told-one.1 in record {
+          united = subst (λ es. Becomes f h f' h' es) (sym told-one.0) i.put;
+          changed = sym (ap not fresh-one);
+          inserted = only-one (λ e. Inserts most cmp f h e.0 e.1 (Ok None) f' h') (subst (λ z. Inserts most cmp f h k x (Ok z) f' h') absent i);
+          packed = not-many;
+          nodes = not-many;
+          account = not-many;
+          fit = not-many;
+          same_forest = λ bad. absurd (cc);
+          same_handle = λ bad. absurd (cc);
+          increasing = i.increasing;
+          other_live = stays.0;
+          other_list = stays.1;
+          other_sizes = stays.2;
+          full = (λ bad. absurd (cc), λ low. absurd (let bad = i.full.1 (subst (λ d. IsTooMany d f) (need-by is) low) in cc));
+          memory = λ bad. absurd (cc);
+          refused_forest = tt;
+          refused_handle = tt;
+        }
+
+    -- the insertion was refused
+    pub insertion-refused : {refused : OutOfMemory} {f' : Forest K X} {h' : Option ℕ} → Inserts most cmp f h k x (Err refused) f' h' → Unites most cmp f h other (Err refused) f' h'
+    insertion-refused {refused} {f'} {h'} i = record {
+      united = tt;
+      changed = tt;
+      inserted = only-one (λ e. Inserts most cmp f h e.0 e.1 (Err refused) f' h') i;
+      packed = not-many;
+      nodes = not-many;
+      fit = not-many;
+      account = not-many;
+      same_forest = λ bad. absurd (cc);
+      same_handle = λ bad. absurd (cc);
+      increasing = i.increasing;
+      other_live = subst (λ z. IsLive z other) (sym i.refused_forest) s.other_live;
+      other_list = ap (λ z. list_of z other) i.refused_forest;
+      other_sizes = ap (λ z. sizes_of z other) i.refused_forest;
+      full = (
+        λ e. subst (λ d. IsTooMany d f) (sym (need-by is)) (i.full.0 (let alike : refused ≡ Full = cc in ap Err alike)),
+        λ low. let full = i.full.1 (subst (λ d. IsTooMany d f) (need-by is) low) in let alike : refused ≡ Full = cc in ap Err alike,
+      );
+      memory = λ e. fresh-one;
+      refused_forest = i.refused_forest;
+      refused_handle = i.refused_handle;
+    }
+
+  -- several entries are new
+  module _ (many : 1 < length new) where
+    fresh-many : are_among cmp (list_of f other) (list_of f h) ≡ false
+    fresh-many = some-new cmp (list_of f h) (list_of f other) (omega (arith, many))
+
     need-is : need_of_union most cmp f h other ≡ fewest most (length (united cmp (list_of f h) (list_of f other)))
-    need-is = ap (λ b. if b then 0 else fewest most (length (united cmp (list_of f h) (list_of f other)))) new
+    need-is = go new refl
+      where
+        go : (es : List (K × X)) → new ≡ es → need_of_union most cmp f h other ≡ fewest most (length (united cmp (list_of f h) (list_of f other)))
+        go [] is = absurd (omega (arith, many, ap length is))
+        go (e ∷ []) is = absurd (omega (arith, many, ap length is))
+        go (e ∷ d ∷ es) is = need-by is
+
+    not-one : (e : K × X) → new ≡ e ∷ [] → ⊥
+    not-one e is = omega (arith, many, ap length is)
+
+    pub union-some : 0 < length (united cmp (list_of f h) (list_of f other))
+    union-some = united-some cmp (list_of f h) (list_of f other) fresh-many
 
     -- the call was refused
     pub unites-refused : (refused : OutOfMemory) → ((refused ≡ Full) ↔ IsTooMany (fewest most (length (united cmp (list_of f h) (list_of f other)))) f) → Unites most cmp f h other (Err refused) f h
     unites-refused refused told = record {
       united = tt;
       changed = tt;
-      packed = λ bad. absurd (cc);
-      nodes = λ bad. absurd (cc);
-      fit = λ bad. absurd (cc);
-      account = λ bad. absurd (cc);
+      inserted = λ e is. absurd (not-one e is);
+      packed = λ many. tt;
+      nodes = λ many. tt;
+      fit = λ many. tt;
+      account = λ many. tt;
       same_forest = λ bad. absurd (cc);
       same_handle = λ bad. absurd (cc);
       increasing = s.increasing;
@@ -221,7 +308,7 @@ module _ {K X : Type 0} (most : ℕ) (cmp : K → K → Ordering) (o : IsTotalOr
       other_list = refl;
       other_sizes = refl;
       full = (λ e. subst (λ d. IsTooMany d f) (sym need-is) (told.0 (cc)), λ low. ap Err (told.1 (subst (λ d. IsTooMany d f) need-is low)));
-      memory = λ e. new;
+      memory = λ e. fresh-many;
       refused_forest = refl;
       refused_handle = refl;
     }
@@ -234,16 +321,15 @@ module _ {K X : Type 0} (most : ℕ) (cmp : K → K → Ordering) (o : IsTotalOr
         let b = becomes-made h s.live l.loaded ends in
         let made = made-stays h s.live l.loaded ends in
         let beside = made-beside h s.live l.loaded in
-        let apart : other ≢ h = λ e. absurd (let all : are_among cmp (list_of f other) (list_of f h) ≡ true = subst (λ z. are_among cmp (list_of f z) (list_of f h) ≡ true) (sym e) (among-itself cmp o (list_of f h) s.increasing) in cc) in
-        let stays = other-stays b other s.other_live apart in
+        let stays = other-beside fresh-many b in
         let g = l.account.memory in
         let gone = c.account in record {
           united = b;
-          changed = sym (ap not new);
-          packed = λ is. subst (ArePacked most) (sym made.2) l.packed;
-          nodes = λ is. ap node_count made.2 ∙ l.nodes ∙ sym need-is;
-          fit = λ is. rw (b.list, made.2) l.fit;
-          account = λ is. rw need-is (record {
+          changed = sym (ap not fresh-many);
+          inserted = λ e is. absurd (not-one e is);
+          packed = λ many. subst (ArePacked most) (sym made.2) l.packed;
+          nodes = λ many. ap node_count made.2 ∙ l.nodes ∙ sym need-is;
+          account = λ many. rw need-is (record {
             slots = gone.slots ∙ l.account.slots;
             free = omega (arith, gone.free, l.account.free, ap node_count beside.2);
             memory = record {
@@ -253,6 +339,7 @@ module _ {K X : Type 0} (most : ℕ) (cmp : K → K → Ordering) (o : IsTotalOr
               bounded = omega (arith, g.bounded, gone.memory);
             };
           });
+          fit = λ many. rw (b.list, made.2) l.fit;
           same_forest = λ bad. absurd (cc);
           same_handle = λ bad. absurd (cc);
           increasing = subst (IsIncreasing cmp) (sym b.list) (united-up cmp o (list_of f h) (list_of f other) s.increasing);

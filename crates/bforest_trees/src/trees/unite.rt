@@ -1,13 +1,13 @@
 //! Putting the entries of one tree into another one.
 ghost use Rattle.bforest_trees.specs.Calls.{Unites};
 ghost use Rattle.bforest_trees.specs.Forest.{list_at, list_of, room_of};
-ghost use Rattle.bforest_trees.specs.Merge.{LoadsUnion};
-ghost use Rattle.bforest_trees.specs.Union.{AreSearchable, are_among, united};
+ghost use Rattle.bforest_trees.specs.Merge.{LoadsUnion, new_entries};
+ghost use Rattle.bforest_trees.specs.Union.{AreSearchable, kept_from, united};
 ghost use Rattle.bforest_core.specs.Packed.{fewest};
 ghost use Rattle.bforest_nodes.specs.Content.{IsLeafCapacity};
-ghost use Rattle.std.specs.Prelude.{[], length, not, vec_capacity, vec_len, ◌+◌, ◌^◌, ◌<◌, ◌≡◌, ◌≤◌, ℕ};
+ghost use Rattle.std.specs.Prelude.{List, [], false, length, vec_capacity, vec_len, ◌+◌, ◌++◌, ◌^◌, ◌∷◌, ◌<◌, ◌≡◌, ◌≤◌, ℕ};
 
-use crate::merge::{next_order, take};
+use crate::merge::{next_order, take, take_new};
 use crate::reader::Reader;
 use crate::trees::Trees;
 use bforest_core::{Comparator, OutOfMemory, PackedNode};
@@ -15,16 +15,36 @@ use bforest_core::{Comparator, OutOfMemory, PackedNode};
 /// The most children of an inner node.
 const INNER_SIZE: usize = 8;
 
-// Of the union of two trees: how many entries it has, and whether one of them is new to the first tree.
+/// The entries of one tree whose key is absent in another.
 #[derive(Clone, Copy, Drop)]
-struct Count {
+enum NewEntries<K, V> {
+    Zero,
+    One(K, V),
+    More,
+}
+
+impl<K: Copy, V: Copy> NewEntries<K, V> {
+    // These, and one more.
+    fn with(self, entry: (K, V)) -> NewEntries<K, V>
+        ensures { (es : List (K × V)) → self ≡ new_entries es → result ≡ new_entries (es ++ entry ∷ []) }
+    {
+        match self {
+            NewEntries::Zero => NewEntries::One(entry.0, entry.1),
+            NewEntries::One(..) | NewEntries::More => NewEntries::More,
+        }
+    }
+}
+
+// Of the union of two trees: how many entries it has, and those of the second that are new to the first.
+#[derive(Clone, Copy, Drop)]
+struct Count<K, V> {
     entries: usize,
-    is_new: bool,
+    new: NewEntries<K, V>,
 }
 
 impl<K: Copy, V: Copy, const N: usize> Trees<K, V, N> {
-    /// Puts each entry of another tree whose key is absent into a tree, and returns whether there was one. Then the tree is made anew,
-    /// packed.
+    /// Puts each entry of another tree whose key is absent into a tree, and returns whether there was one. A single one is inserted; for
+    /// more of them the tree is made anew, packed.
     pub fn unite<C: Comparator<K>>(
         &mut self,
         handle: &mut PackedNode,
@@ -36,15 +56,20 @@ impl<K: Copy, V: Copy, const N: usize> Trees<K, V, N> {
     {
         let room = self.room();
         let count = self.count_union(*handle, other, comp);
-        if !count.is_new {
-            return Ok(false);
+        match count.new {
+            NewEntries::Zero => return Ok(false),
+            NewEntries::One(key, value) => {
+                self.put(handle, key, value, comp)?;
+            }
+            NewEntries::More => {
+                if room < fewest_nodes(count.entries, N) {
+                    return Err(OutOfMemory::Full);
+                }
+                let union = self.load_union(*handle, other, count.entries, comp)?;
+                self.free_tree(handle);
+                *handle = union;
+            }
         }
-        if room < fewest_nodes(count.entries, N) {
-            return Err(OutOfMemory::Full);
-        }
-        let union = self.load_union(*handle, other, count.entries, comp)?;
-        self.free_tree(handle);
-        *handle = union;
         Ok(true)
     }
 
@@ -63,25 +88,26 @@ impl<K: Copy, V: Copy, const N: usize> Trees<K, V, N> {
         handle: PackedNode,
         other: PackedNode,
         comp: &C,
-    ) -> Count
+    ) -> Count<K, V>
         requires searchable { AreSearchable (C.order comp.now) self.now handle other }
         requires few { length (united (C.order comp.now) (list_of self.now handle)
             (list_of self.now other)) < 2 ^ 63 }
         ensures entries { result.entries ≡ length (united (C.order comp.now) (list_of self.now handle)
             (list_of self.now other)) }
-        ensures is_new { result.is_new ≡ not (are_among (C.order comp.now) (list_of self.now other)
-            (list_of self.now handle)) }
+        ensures new { result.new ≡ new_entries (kept_from (C.order comp.now) false
+            (list_of self.now other) (list_of self.now handle)) }
     {
         let mut first = Reader::new(handle, self);
         let mut second = Reader::new(other, self);
         let mut entries = 0;
-        let mut is_new = false;
+        let mut new = NewEntries::Zero;
         while let Some(order) = next_order(&mut first, &mut second, self, comp) {
-            take(order, &mut first, &mut second);
+            if let Some(entry) = take_new(order, &mut first, &mut second) {
+                new = new.with(entry);
+            }
             entries += 1;
-            is_new |= order.is_gt();
         }
-        Count { entries, is_new }
+        Count { entries, new }
     }
 
     // Makes a packed tree of the union of two trees, which has so many entries, at least one.

@@ -7,7 +7,7 @@ use Rattle.std.proofs.Common.{length, ◌+◌}
 -- the entries that were taken off are counted
 abbrev pub invariant-loop-order : goal.invariant-loop-order
 invariant-loop-order g l = IsReader l.self l.first × IsReader l.self l.second
-    × Counting (g.C.Comparator.order l.comp) (list_of l.fn.self l.fn.handle) (list_of l.fn.self l.fn.other) l.entries l.is_new (left_of l.self l.first) (left_of l.self l.second)
+    × Counting (g.C.Comparator.order l.comp) (list_of l.fn.self l.fn.handle) (list_of l.fn.self l.fn.other) l.entries l.new (left_of l.self l.first) (left_of l.self l.second)
 
 -- the number of entries that are left
 abbrev pub decreases-loop-order : goal.decreases-loop-order

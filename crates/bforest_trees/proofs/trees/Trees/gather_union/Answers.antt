@@ -1,8 +1,7 @@
 use Rattle.bforest_trees.proofs.unions.Fronts.{turn}
 use Rattle.bforest_trees.proofs.unions.Merging.{front-none, gathering-end, gathering-low, gathering-next, steps-less}
 use Rattle.bforest_trees.proofs.trees.Trees.gather_union.Goals as goal
-use Rattle.bforest_trees.specs.Merge.{Compares}
-use Rattle.std.proofs.Common.{Some, ap, arith, length, length-append, refl, rules, sym, ◌∙◌, ◌∷◌, []}
+use Rattle.std.proofs.Common.{ap, arith, length, length-append, refl, rules, sym, ◌∙◌, ◌∷◌, []}
 
 pub loop-order-init : goal.loop-order-init
 loop-order-init g c = (
@@ -18,27 +17,20 @@ next_order-requires g c = (search rules, (search rules, (c.loop-order.invariant.
 
 pub push_reserved-requires : goal.push_reserved-requires
 push_reserved-requires g c =
-    let cmp = g.C.Comparator.order c.args.comp.now in
-    let d : Compares c.args.self.now cmp c.loop-order.first c.loop-order.second (Some c.in-Some.order) c.next_order.new.first c.next_order.new.second = rw (← c.in-Some.is) c.next_order.ensures in
-    let t = c.take.ensures.taken c.args.self.now d.reader d.second_reader in
-    let low = gathering-low cmp (g.met.C.Comparator.total c.args.comp.now) c.in-Some.order _ _ _ (sym d.order_is) (turn c.args.self.now cmp d t) c.loop-order.invariant.2 in
+    let t = turn c.args.self.now c.in-Some.is c.next_order.ensures c.take.ensures.taken in
+    let low = gathering-low _ (g.met.C.Comparator.total c.args.comp.now) c.in-Some.order _ _ _ t.front_is t.off c.loop-order.invariant.2 in
     omega (arith, low, c.requires.room, c.loop-order.invariant.3, c.loop-order.invariant.4)
 
 pub loop-order-smaller : goal.loop-order-smaller
 loop-order-smaller g c =
-    let cmp = g.C.Comparator.order c.args.comp.now in
-    let d : Compares c.args.self.now cmp c.loop-order.first c.loop-order.second (Some c.in-Some.order) c.next_order.new.first c.next_order.new.second = rw (← c.in-Some.is) c.next_order.ensures in
-    let t = c.take.ensures.taken c.args.self.now d.reader d.second_reader in
-    steps-less cmp _ _ _ _ _ _ (turn c.args.self.now cmp d t)
+    steps-less (g.C.Comparator.order c.args.comp.now) _ _ _ _ _ _ (turn c.args.self.now c.in-Some.is c.next_order.ensures c.take.ensures.taken).off
 
 pub loop-order-preserved : goal.loop-order-preserved
 loop-order-preserved g c =
-    let cmp = g.C.Comparator.order c.args.comp.now in
-    let d : Compares c.args.self.now cmp c.loop-order.first c.loop-order.second (Some c.in-Some.order) c.next_order.new.first c.next_order.new.second = rw (← c.in-Some.is) c.next_order.ensures in
-    let t = c.take.ensures.taken c.args.self.now d.reader d.second_reader in (
+    let t = turn c.args.self.now c.in-Some.is c.next_order.ensures c.take.ensures.taken in (
       t.reader,
       t.second_reader,
-      rw c.push_reserved.ensures.items (gathering-next cmp (g.met.C.Comparator.total c.args.comp.now) c.in-Some.order _ _ _ (sym d.order_is) (turn c.args.self.now cmp d t) c.loop-order.invariant.2),
+      rw c.push_reserved.ensures.items (gathering-next _ (g.met.C.Comparator.total c.args.comp.now) c.in-Some.order _ _ _ t.front_is t.off c.loop-order.invariant.2),
       omega (arith, c.push_reserved.ensures.len, c.loop-order.invariant.3, ap length c.push_reserved.ensures.items, length-append c.loop-order.union.items (c.take.result ∷ [])),
       c.push_reserved.ensures.capacity ∙ c.loop-order.invariant.4,
     )
