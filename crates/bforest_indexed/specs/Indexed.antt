@@ -20,7 +20,6 @@ use Rattle.std.specs.Prelude.{Bool, Err, IfOk, IfSome, IsOk, IsSome, List, None,
 use Rattle.std.specs.Ordering.{is_eq}
 use Rattle.std.specs.declared.cmp.Ordering.{Ordering}
 use Rattle.std.specs.declared.ops.Bound.{Bound}
-
 pub use Rattle.bforest.specs.Calls.{as_inserted}
 
 -- the table has a slot for each node that `lists` lists of at most `most_entries` entries can have, used ones included; a leaf has at most

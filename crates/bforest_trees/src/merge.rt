@@ -74,26 +74,26 @@ pub(crate) fn take<'a, K: Copy, V: Copy, const N: usize>(
     }
 }
 
-/// Takes the lesser of the next entries of two readers off, as `take` does. Returns it where it is the second's alone, and else does not
+/// Takes the lesser of the next entries of two readers off, as `take` does. Returns it where it is the other's alone, and else does not
 /// read it.
 #[inline(always)]
 pub(crate) fn take_new<'a, K: Copy, V: Copy, const N: usize>(
     order: Ordering,
-    first: &mut Reader<'a, K, V, N>,
-    second: &mut Reader<'a, K, V, N>,
+    own: &mut Reader<'a, K, V, N>,
+    other: &mut Reader<'a, K, V, N>,
 ) -> Option<(K, V)>
-    requires holds { CanTake (Some order) first.old second.old }
-    ensures { TakesNew order first.old second.old result first.new second.new }
+    requires holds { CanTake (Some order) own.old other.old }
+    ensures { TakesNew order own.old other.old result own.new other.new }
 {
     match order {
         Ordering::Less => {
-            first.pass();
+            own.pass();
             None
         }
-        Ordering::Greater => Some(second.take_first()),
+        Ordering::Greater => Some(other.take_first()),
         Ordering::Equal => {
-            first.pass();
-            second.pass();
+            own.pass();
+            other.pass();
             None
         }
     }

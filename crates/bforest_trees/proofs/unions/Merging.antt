@@ -311,7 +311,7 @@ module _ {K X : Type 0} (cmp : K → K → Ordering) where
         whole = c.whole ∙ ap (λ z. c.seen ++ z) (g.new ∙ ap (λ b. if b then first ∷ kept_from cmp false others_rest' rest' else kept_from cmp false others_rest' rest') is_old);
       }
 
-      -- it is new
+      -- the entry that was taken off is new
       pub counting-new : is_gt order ≡ true → {new' : NewEntries K X} → ((seen : List (K × X)) → new ≡ new_entries seen → new' ≡ new_entries (seen ++ first ∷ [])) → Counting es others (entries + 1) new' rest' others_rest'
       counting-new is_new more = let g = goes cmp o order c.up c.others_up is t in record {
         up = g.up;

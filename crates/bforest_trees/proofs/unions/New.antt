@@ -105,7 +105,7 @@ module _ {K X : Type 0} (cmp : K → K → Ordering) where
             let same : x ≡ e = cc in
             let none : kept_from cmp false others es ≡ [] = cc in (
               ap (λ b. united cmp (if b then es else put cmp es x.0 x.1) others) t
-              ∙ united-same cmp (put cmp es x.0 x.1) others (among-beside es others x up (first-below cmp o x others others_up) ∙ none-new es others none)
-              ∙ ap (λ z. put cmp es z.0 z.1) same,
+                  ∙ united-same cmp (put cmp es x.0 x.1) others (among-beside es others x up (first-below cmp o x others others_up) ∙ none-new es others none)
+                  ∙ ap (λ z. put cmp es z.0 z.1) same,
               ap (λ z. is_present cmp es z.0) (sym same) ∙ t,
             )

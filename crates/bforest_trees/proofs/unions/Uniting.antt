@@ -223,7 +223,7 @@ module _ {K X : Type 0} (most : ℕ) (cmp : K → K → Ordering) (o : IsTotalOr
     not-many : {P : Type 0} → 1 < length new → P
     not-many many = absurd (omega (arith, many, ap length is))
 
-    -- it was inserted
+    -- the single new entry was inserted
     pub unites-inserted : {old : Option X} {f' : Forest K X} {h' : Option ℕ} → Inserts most cmp f h k x (Ok old) f' h' → Unites most cmp f h other (Ok true) f' h'
     unites-inserted {old} {f'} {h'} i =
         let stays = other-beside fresh-one i.put in

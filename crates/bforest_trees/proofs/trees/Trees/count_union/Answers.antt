@@ -31,13 +31,13 @@ loop-order-preserved g c =
       t.second_reader,
       elim c.match-take_new.branch [
         | in-Some-take_new w ↦ (
-          let told = returned _ _ _ (sym w.in-Some-take_new.is ∙ c.take_new.ensures.found_is) in
-          rw w.new-is (counting-new _ (g.met.C.Comparator.total c.args.comp.now) c.in-Some.order _ _ _ t.front_is t.off c.loop-order.invariant.2 told.0 (λ seen is. rw told.1 (w.with-new.ensures seen is)))
-        )
+            let told = returned _ _ _ (sym w.in-Some-take_new.is ∙ c.take_new.ensures.found_is) in
+            rw w.new-is (counting-new _ (g.met.C.Comparator.total c.args.comp.now) c.in-Some.order _ _ _ t.front_is t.off c.loop-order.invariant.2 told.0 (λ seen is. rw told.1 (w.with-new.ensures seen is)))
+            )
         | in_default-take_new w ↦ (
-          let told = not-returned _ _ (sym w.in_default-take_new.is ∙ c.take_new.ensures.found_is) in
-          rw w.new-is (counting-old _ (g.met.C.Comparator.total c.args.comp.now) c.in-Some.order _ _ _ t.front_is t.off c.loop-order.invariant.2 told)
-        )
+            let told = not-returned _ _ (sym w.in_default-take_new.is ∙ c.take_new.ensures.found_is) in
+            rw w.new-is (counting-old _ (g.met.C.Comparator.total c.args.comp.now) c.in-Some.order _ _ _ t.front_is t.off c.loop-order.invariant.2 told)
+            )
       ],
     )
 
