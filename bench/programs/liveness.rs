@@ -146,6 +146,8 @@ pub mod standard {
         live: Vec<BTreeSet<u32>>,
         written: Vec<BTreeSet<u32>>,
         now: BTreeSet<u32>,
+        /// Variables on their way from set to set.
+        moved: Vec<u32>,
     }
 
     impl Sets for Live {
@@ -171,13 +173,11 @@ pub mod standard {
         }
 
         fn flow(&mut self, next: usize, block: usize) -> bool {
-            // A block that goes on to itself adds nothing, and its set is empty meanwhile.
-            let mut own = std::mem::take(&mut self.live[block]);
-            let before = own.len();
-            own.extend(self.live[next].iter().filter(|it| !self.written[block].contains(it)));
-            let grew = own.len() > before;
-            self.live[block] = own;
-            grew
+            let (own, written) = (&self.live[block], &self.written[block]);
+            self.moved.clear();
+            self.moved.extend(self.live[next].difference(own).filter(|it| !written.contains(it)));
+            self.live[block].extend(&self.moved);
+            !self.moved.is_empty()
         }
 
         fn end(&mut self, next: &[usize]) -> u32 {
@@ -243,9 +243,8 @@ pub mod package {
 
         fn flow(&mut self, next: usize, block: usize) -> bool {
             let (forest, own, written) = (&self.forest, &self.live[block], &self.written[block]);
-            let is_new = |it: &u32| !written.contains(*it, forest, &()) && !own.contains(*it, forest, &());
             self.moved.clear();
-            self.moved.extend(self.live[next].iter(forest).filter(is_new));
+            self.moved.extend(self.live[next].difference(own, forest, &()).filter(|it| !written.contains(*it, forest, &())));
             for variable in &self.moved {
                 self.live[block].insert(*variable, &mut self.forest, &()).expect(ROOM);
             }
@@ -254,15 +253,10 @@ pub mod package {
 
         fn end(&mut self, next: &[usize]) -> u32 {
             self.now.clear(&mut self.forest);
-            let mut count = 0;
             for at in next {
-                self.moved.clear();
-                self.moved.extend(self.live[*at].iter(&self.forest));
-                for variable in &self.moved {
-                    count += u32::from(self.now.insert(*variable, &mut self.forest, &()).expect(ROOM));
-                }
+                self.now.union_with(&self.live[*at], &mut self.forest, &()).expect(ROOM);
             }
-            count
+            self.now.len(&self.forest) as u32
         }
 
         fn set_live(&mut self, variable: u32, is_live: bool) -> bool {
