@@ -229,13 +229,13 @@ module _ {K V : Type 0} where
       inserts-alike k x result (Err Memory) one' other' i i' m m' = absurd (m' refl)
 
       -- results of a call that returns the value of a key, where that of the insertion is equal
-      results-alike : (x : V) (result result' : Result V OutOfMemory) → as_inserted result' ≡ as_inserted result → IfOk result (λ w. w ≡ x) → IfOk result' (λ w. w ≡ x) → result' ≡ result
+      results-alike : (x : V) (result result' : Result V OutOfMemory) → as_inserted {X = V} result' ≡ as_inserted result → IfOk result (λ w. w ≡ x) → IfOk result' (λ w. w ≡ x) → result' ≡ result
       results-alike x (Ok w) (Ok w') e is is' = ap (λ v. Ok v) (is' ∙ sym is)
       results-alike x (Err why) (Err why') e is is' = cc
       results-alike x (Ok w) (Err why') e is is' = absurd (cc)
       results-alike x (Err why) (Ok w') e is is' = absurd (cc)
 
-      had-memory : (result : Result V OutOfMemory) → result ≢ Err Memory → as_inserted result ≢ Err Memory
+      had-memory : (result : Result V OutOfMemory) → result ≢ Err Memory → as_inserted {X = V} result ≢ Err Memory
       had-memory (Ok w) m e = absurd (cc)
       had-memory (Err why) m e = m (cc)
 

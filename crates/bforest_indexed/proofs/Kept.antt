@@ -34,7 +34,7 @@ none-some y = λ e. cc
 pub ok-err : {A E : Type 0} (x : A) (y : E) → Ok x ≢ Err y
 ok-err x y = λ e. cc
 
-inserted-ok : {A : Type 0} (r : Result A OutOfMemory) → IsOk (as_inserted r) → IsOk r
+inserted-ok : {A : Type 0} (r : Result A OutOfMemory) → IsOk (as_inserted {X = A} r) → IsOk r
 inserted-ok (Ok x) ok = refl
 inserted-ok (Err e) ok = ok
 
