@@ -369,6 +369,34 @@ module _ {K X C : Type 0} where
       pub account : Gives (node_sizes m i) (node_sizes m' i) (table m) (table m')
       pub absent : result ≡ None → m' ≡ m
 
+    -- the number of free slots that an insertion of k into the list of j takes
+    abbrev pub put_need : Indexed K X C → ℕ → K → ℕ
+    put_need m j k = need_of most cmp (table m) (handle m j) k
+
+    -- The value of the key k of i was inserted at k of j, and k removed from i; whether it was present is answered. Where it was not, or both are
+    -- one index, nothing changed. Or the insertion was refused, and nothing changed.
+    pub record MovesAt (m : Indexed K X C) (i : ℕ) (k : K) (j : ℕ) (result : Result Bool OutOfMemory) (m' : Indexed K X C) : Type 0 where
+      pub found : IfOk result (λ moved. moved ≡ is_present cmp (entries m i) k)
+      pub put : i ≢ j → (x : X) → value_for cmp (entries m i) k ≡ Some x → OnOk result (entries m' j ≡ put cmp (entries m j) k x)
+      pub put_sizes : i ≢ j → is_present cmp (entries m i) k ≡ true → OnOk result (node_sizes m' j ≡ sizes_with most cmp (table m) (handle m j) k)
+      pub cut : i ≢ j → OnOk result (entries m' i ≡ cut cmp (entries m i) k)
+      pub cut_sizes : i ≢ j → OnOk result (node_sizes m' i ≡ sizes_without most cmp (table m) (handle m i) k)
+      pub others : (q : ℕ) → q ≢ i → q ≢ j → entries m' q ≡ entries m q
+      pub other_sizes : (q : ℕ) → q ≢ i → q ≢ j → node_sizes m' q ≡ node_sizes m q
+      pub same_count : count m' ≡ count m
+      pub same_comparator : comparator m' ≡ comparator m
+      pub same_limit : limit_of (table m') ≡ limit_of (table m)
+      pub same_memory : memory m' ≡ memory m
+      pub same_one : i ≡ j → m' ≡ m
+      pub absent : is_present cmp (entries m i) k ≡ false → m' ≡ m
+      pub slots : i ≢ j → is_present cmp (entries m i) k ≡ true → OnOk result (slots_of (table m') ≡ slots_of (table m) + (put_need m j k - free_of (table m)))
+      pub free : i ≢ j → is_present cmp (entries m i) k ≡ true → OnOk result (free_of (table m') + node_count (node_sizes m' i) ≡ (free_of (table m) - put_need m j k) + node_count (node_sizes m i))
+      pub growth : i ≢ j → is_present cmp (entries m i) k ≡ true → OnOk result (GrowsFor (put_need m j k) (table m) (table m'))
+      pub full : (result ≡ Err Full) ↔ ((i ≢ j) × (is_present cmp (entries m i) k ≡ true) × IsTooMany (put_need m j k) (table m))
+      pub memory : result ≡ Err Memory → NeedsGrowth (put_need m j k) (table m)
+      pub succeeds : put_need m j k ≤ free_of (table m) → IsOk result
+      pub refused : OnErr result (m' ≡ m)
+
     -- the value of the key k of i is answered: the one that was there, and nothing changed, or x, which was
     -- inserted; or the insertion was refused, and nothing changed
     pub record GetsOrInsertsAt (m : Indexed K X C) (i : ℕ) (k : K) (x : X) (result : Result X OutOfMemory) (m' : Indexed K X C) : Type 0 where

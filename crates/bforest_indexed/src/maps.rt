@@ -11,7 +11,7 @@ ghost use Rattle.bforest_indexed.specs.Indexed.{CompactsAt, HoldsFor, RemovesBet
 ghost use Rattle.bforest_indexed.specs.Lending.{lends_value_at};
 ghost use Rattle.bforest_indexed.specs.Loads.{LoadsAt};
 ghost use Rattle.bforest_indexed.specs.Written.{WritesAt, with_value_at};
-ghost use Rattle.bforest_indexed.specs.Indexed.{ClearsAll, ClearsAt, CopiesAt, FiltersAt, GetsOrInsertsAt, InsertsAt, IntersectsAt, SubtractsAt, UnitesAt, UpdatesAt, UpdatesOrInsertsAt};
+ghost use Rattle.bforest_indexed.specs.Indexed.{ClearsAll, ClearsAt, CopiesAt, FiltersAt, GetsOrInsertsAt, InsertsAt, IntersectsAt, MovesAt, SubtractsAt, UnitesAt, UpdatesAt, UpdatesOrInsertsAt};
 ghost use Rattle.bforest_indexed.specs.Indexed.{KeepsAll, PopsAt, RemovesAt, Swaps, Truncates};
 ghost use Rattle.bforest.specs.declared.map_forest.TheConstants.{MAP_LEAF};
 ghost use Rattle.bforest_indexed.specs.Indexed.{comparator, count, entries, handle, memory, node_sizes, nodes_in_use, table};
@@ -549,6 +549,34 @@ impl<K: Copy, V: Copy, C: Comparator<K>, I: Idx> Maps<K, V, C, I> {
         let mut before = mem::replace(&mut self.maps[to.index()], tail);
         before.clear(&mut self.forest);
         Ok(())
+    }
+
+    /// Moves the entry whose key compares equal to `key` from the map at `from` to that at `to`, and returns whether there was one. As
+    /// [`Maps::insert`] of `key` and its value there, and [`Maps::remove`] here: a value that was there is replaced, and its key stays. Where
+    /// both are one, nothing changes.
+    ///
+    /// A search in the map at `from`, one in that at `to`, and one to remove the entry, which comes last: where the insertion is refused, the
+    /// entry is where it was.
+    ///
+    /// # Errors
+    ///
+    /// [`OutOfMemory`] where the entry is there, its key is absent in the map at `to`, and too few nodes are available for an insertion;
+    /// nothing has changed then.
+    pub fn move_entry(&mut self, from: I, key: K, to: I) -> Result<bool, OutOfMemory>
+        requires from { I.number from < count self.old }
+        requires to { I.number to < count self.old }
+        ensures { MovesAt MAP_LEAF (C.order (comparator self.old)) self.old (I.number from) key
+            (I.number to) result self.new }
+    {
+        let Some(value) = self.get(from, key) else {
+            return Ok(false);
+        };
+        if from.index() == to.index() {
+            return Ok(true);
+        }
+        self.insert(to, key, value)?;
+        self.remove(from, key);
+        Ok(true)
     }
 
     /// Removes the entries of a map whose keys are within both bounds, and returns whether there was one.

@@ -9,7 +9,7 @@ ghost use Rattle.bforest.specs.Set.{AnswersKey, MayAskKey, as_popped, as_put, as
 ghost use Rattle.bforest.specs.Union.{are_among, are_apart, kept_from, united, unshared};
 ghost use Rattle.bforest_indexed.specs.Indexed.{CompactsAt, HoldsFor, RemovesBetweenAt, SplitsOffAt, ReservesFor};
 ghost use Rattle.bforest_indexed.specs.Loads.{LoadsAt};
-ghost use Rattle.bforest_indexed.specs.Indexed.{ClearsAll, ClearsAt, CopiesAt, FiltersAt, InsertsAt, IntersectsAt, KeepsAll, PopsAt, RemovesAt, SubtractsAt, Swaps, Truncates, UnitesAt};
+ghost use Rattle.bforest_indexed.specs.Indexed.{ClearsAll, ClearsAt, CopiesAt, FiltersAt, InsertsAt, IntersectsAt, KeepsAll, MovesAt, PopsAt, RemovesAt, SubtractsAt, Swaps, Truncates, UnitesAt};
 ghost use Rattle.bforest.specs.declared.set_forest.TheConstants.{SET_LEAF};
 ghost use Rattle.bforest_indexed.specs.Indexed.{comparator, count, entries, handle, keys, memory, node_sizes, nodes_in_use, table};
 ghost use Rattle.std.specs.List.Sorted.{IsStrictlySortedBy};
@@ -485,6 +485,33 @@ impl<K: Copy, C: Comparator<K>, I: Idx> Sets<K, C, I> {
         let mut before = mem::replace(&mut self.sets[to.index()], tail);
         before.clear(&mut self.forest);
         Ok(())
+    }
+
+    /// Moves the key that compares equal to `key` from the set at `from` to that at `to`, and returns whether there was one. As
+    /// [`Sets::insert`] of `key` there, and [`Sets::remove`] here: an equal key that was there stays. Where both are one, nothing changes.
+    ///
+    /// A search in the set at `from`, one in that at `to`, and one to remove the key, which comes last: where the insertion is refused, the
+    /// key is where it was.
+    ///
+    /// # Errors
+    ///
+    /// [`OutOfMemory`] where the key is there, it is absent in the set at `to`, and too few nodes are available for an insertion; nothing
+    /// has changed then.
+    pub fn move_key(&mut self, from: I, key: K, to: I) -> Result<bool, OutOfMemory>
+        requires from { I.number from < count self.old }
+        requires to { I.number to < count self.old }
+        ensures { MovesAt SET_LEAF (C.order (comparator self.old)) self.old (I.number from) key
+            (I.number to) result self.new }
+    {
+        if !self.contains(from, key) {
+            return Ok(false);
+        }
+        if from.index() == to.index() {
+            return Ok(true);
+        }
+        self.insert(to, key)?;
+        self.remove(from, key);
+        Ok(true)
     }
 
     /// Removes the keys of a set that are within both bounds, and returns whether there was one.

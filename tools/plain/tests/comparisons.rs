@@ -613,6 +613,14 @@ fn calls_on_whole_maps_and_sets_by_an_index() {
         within(0);
         assert!(maps.intersect_with(2, 0) && sets.intersect_with(2, 0));
         within(6 * count);
+        // A search here, one there, and one to remove it; where it is not here, one search.
+        let searches = |times: u32| times * (count.ilog2() + 4) * 2;
+        assert_eq!((maps.move_entry(0, 1, 2), sets.move_key(0, 1, 2)), (Ok(false), Ok(false)));
+        within(searches(2));
+        assert_eq!((maps.move_entry(0, 3, 2), sets.move_key(0, 3, 2)), (Ok(true), Ok(true)));
+        within(searches(6));
+        assert_eq!((maps.move_entry(2, 3, 0), sets.move_key(2, 3, 0)), (Ok(true), Ok(true)));
+        within(searches(6));
         // 6 is in both.
         assert_eq!((maps.difference_with(2, 1), sets.difference_with(2, 1)), (count > 1, count > 1));
         within(4 * count);

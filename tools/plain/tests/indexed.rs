@@ -114,6 +114,21 @@ fn change(maps: &mut Maps<u32, u32>, model: &mut Model, call: u32, at: usize, ke
                 assert!(model[at].range(..key).count() > 0 && model[at].range(key..).count() > 0);
             }
         }
+        34 => {
+            let other = key as usize % model.len();
+            match maps.move_entry(at, key, other) {
+                Ok(moved) => {
+                    assert_eq!(moved, model[at].contains_key(&key));
+                    if let Some(value) = model[at].remove(&key) {
+                        model[other].insert(key, value);
+                    }
+                }
+                Err(refused) => {
+                    assert!(refused == OutOfMemory::Full && at != other);
+                    assert!(model[at].contains_key(&key) && !model[other].contains_key(&key));
+                }
+            }
+        }
         29 => {
             let other = key as usize % model.len();
             let copied = maps.copy(at, other);
@@ -145,7 +160,7 @@ fn maps_answer_as_a_vector_of_maps() {
         for step in 0..STEPS / 4 {
             let (at, key) = (random.below(9) as usize, random.below(KEYS));
             read(&maps, &model, at, key);
-            change(&mut maps, &mut model, random.below(34), at, key, step);
+            change(&mut maps, &mut model, random.below(35), at, key, step);
             if step % 4096 == 4095 {
                 assert_eq!(format!("{maps:?}"), format!("{model:?}"));
                 let copy = maps.clone();
@@ -179,7 +194,7 @@ fn sets_answer_as_a_vector_of_sets() {
             let other = key as usize % 9;
             assert_eq!(sets.is_subset(at, other), model[at].is_subset(&model[other]));
             assert_eq!(sets.is_disjoint(at, other), model[at].is_disjoint(&model[other]));
-            match random.below(28) {
+            match random.below(29) {
                 0..10 => match if key % 2 == 0 { sets.insert(at, key) } else { sets.try_insert(at, key) } {
                     Ok(new) => assert_eq!(new, model[at].insert(key)),
                     Err(refused) => assert!(refused == OutOfMemory::Full && !model[at].contains(&key)),
@@ -198,6 +213,21 @@ fn sets_answer_as_a_vector_of_sets() {
                 22 => {
                     sets.swap(at, key as usize % 9);
                     model.swap(at, key as usize % 9);
+                }
+                27 => {
+                    let other = key as usize % 9;
+                    match sets.move_key(at, key, other) {
+                        Ok(moved) => {
+                            assert_eq!(moved, model[at].remove(&key));
+                            if moved {
+                                model[other].insert(key);
+                            }
+                        }
+                        Err(refused) => {
+                            assert!(refused == OutOfMemory::Full && at != other);
+                            assert!(model[at].contains(&key) && !model[other].contains(&key));
+                        }
+                    }
                 }
                 24 => {
                     let within = model[at].range(key..key + 9).count() > 0;
