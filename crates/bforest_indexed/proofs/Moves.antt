@@ -88,7 +88,7 @@ module _ {K X C : Type 0} {most : ℕ} {cmp : K → K → Ordering} {m : Indexed
       refused = t.refused;
     }
 
-    -- it was inserted, and then removed where it was
+    -- the key was inserted at the second index, and then removed at the first
     pub moves : {old gone : Option X} {m2 : Indexed K X C} → InsertsAt most cmp m j k x (Ok old) m1 → RemovesAt most cmp m1 i k gone m2 → MovesAt most cmp m i k j (Ok true) m2
     moves {old} t r =
         let here = present-is cmp (entries m i) k ∙ ap is_some value in
