@@ -50,6 +50,8 @@ module _ {K X C : Type 0} {most : ℕ} {cmp : K → K → Ordering} {m : Indexed
     full = (λ bad. absurd (ok-err _ Full bad), λ asked. not-here cmp (entries m i) k (none asked.0) asked.1);
     memory = λ bad. absurd (cc);
     succeeds = λ enough. refl;
+    room = λ lists most_entries stays room. refl;
+    never_full = λ lists most_entries stays room bad. absurd (ok-err _ Full bad);
     refused = tt;
   }
 
@@ -85,6 +87,8 @@ module _ {K X C : Type 0} {most : ℕ} {cmp : K → K → Ordering} {m : Indexed
       );
       memory = λ e. t.memory (let alike : refused ≡ Memory = cc in ap Err alike);
       succeeds = t.succeeds;
+      room = t.room;
+      never_full = λ lists most_entries stays room e. t.never_full lists most_entries stays room (let alike : refused ≡ Full = cc in ap Err alike);
       refused = t.refused;
     }
 
@@ -119,5 +123,7 @@ module _ {K X C : Type 0} {most : ℕ} {cmp : K → K → Ordering} {m : Indexed
           full = (λ bad. absurd (ok-err _ Full bad), λ asked. absurd (ok-err old Full (t.full.1 asked.2)));
           memory = λ bad. absurd (cc);
           succeeds = λ enough. refl;
+          room = λ lists most_entries stays room. refl;
+          never_full = λ lists most_entries stays room bad. absurd (ok-err _ Full bad);
           refused = tt;
         }

@@ -395,6 +395,8 @@ module _ {K X C : Type 0} where
       pub full : (result ≡ Err Full) ↔ ((i ≢ j) × (is_present cmp (entries m i) k ≡ true) × IsTooMany (put_need m j k) (table m))
       pub memory : result ≡ Err Memory → NeedsGrowth (put_need m j k) (table m)
       pub succeeds : put_need m j k ≤ free_of (table m) → IsOk result
+      pub room : (lists most_entries : ℕ) → StaysWithin cmp lists most_entries m j k → HasRoom most lists most_entries (table m) → IsOk result
+      pub never_full : (lists most_entries : ℕ) → StaysWithin cmp lists most_entries m j k → MayHave most lists most_entries (table m) → result ≢ Err Full
       pub refused : OnErr result (m' ≡ m)
 
     -- the value of the key k of i is answered: the one that was there, and nothing changed, or x, which was

@@ -561,7 +561,7 @@ impl<K: Copy, V: Copy, C: Comparator<K>, I: Idx> Maps<K, V, C, I> {
     /// # Errors
     ///
     /// [`OutOfMemory`] where the entry is there, its key is absent in the map at `to`, and too few nodes are available for an insertion;
-    /// nothing has changed then.
+    /// nothing has changed then. It does not come where [`Maps::reserve_for`] made room for the map at `to` with one entry more.
     pub fn move_entry(&mut self, from: I, key: K, to: I) -> Result<bool, OutOfMemory>
         requires from { I.number from < count self.old }
         requires to { I.number to < count self.old }

@@ -496,7 +496,7 @@ impl<K: Copy, C: Comparator<K>, I: Idx> Sets<K, C, I> {
     /// # Errors
     ///
     /// [`OutOfMemory`] where the key is there, it is absent in the set at `to`, and too few nodes are available for an insertion; nothing
-    /// has changed then.
+    /// has changed then. It does not come where [`Sets::reserve_for`] made room for the set at `to` with one key more.
     pub fn move_key(&mut self, from: I, key: K, to: I) -> Result<bool, OutOfMemory>
         requires from { I.number from < count self.old }
         requires to { I.number to < count self.old }

@@ -123,7 +123,6 @@ module _ {K X : Type 0} (cmp : K → K → Ordering) where
       pub up : IsIncreasing cmp es'
       pub others_up : IsIncreasing cmp others'
       pub among : are_among cmp es others ≡ (not (is_lt order) && are_among cmp es' others')
-      pub back : are_among cmp others es ≡ (not (is_gt order) && are_among cmp others' es')
       pub new : kept_from cmp false others es ≡ (if is_gt order then first ∷ kept_from cmp false others' es' else kept_from cmp false others' es')
       pub unites : united cmp es others ≡ first ∷ united cmp es' others'
 
@@ -133,7 +132,6 @@ module _ {K X : Type 0} (cmp : K → K → Ordering) where
           up = rest-up e es up;
           others_up = others_up;
           among = ap (λ b. b && are_among cmp es others) (absent-below e others others_up below);
-          back = each-below e others es true below;
           new = kept-below e others es false below;
           unites = united-below e es others below;
         }
@@ -145,7 +143,6 @@ module _ {K X : Type 0} (cmp : K → K → Ordering) where
           up = up;
           others_up = rest-up other others others_up;
           among = each-below other es others true below;
-          back = ap (λ b. b && are_among cmp others es) absent;
           new = ap (λ b. if fits false b then other ∷ kept_from cmp false others es else kept_from cmp false others es) absent;
           unites = ap (λ b. united cmp (if b then es else put cmp es other.0 other.1) others) absent ∙ ap (λ z. united cmp z others) (put-below other es up below) ∙ united-below other es others (first-below other others others_up);
         }
@@ -160,7 +157,6 @@ module _ {K X : Type 0} (cmp : K → K → Ordering) where
           up = rest-up e es up;
           others_up = rest-up other others others_up;
           among = ap (λ b. b && are_among cmp es (other ∷ others)) here ∙ each-below other es others true below;
-          back = ap (λ b. b && are_among cmp others (e ∷ es)) there ∙ each-below e others es true others_below;
           new = ap (λ b. if fits false b then other ∷ kept_from cmp false others (e ∷ es) else kept_from cmp false others (e ∷ es)) there ∙ kept-below e others es false others_below;
           unites = ap (λ b. united cmp (if b then e ∷ es else put cmp (e ∷ es) other.0 other.1) others) there ∙ united-below e es others others_below;
         }

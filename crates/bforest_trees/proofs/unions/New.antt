@@ -1,15 +1,16 @@
 -- The entries of a list whose key is absent in another: how many there are, and the union where there is one.
+use Rattle.bforest_core.proofs.walks.LeafSearch.{some-mapped}
 use Rattle.bforest_nodes.proofs.Lookups.{value_for-put_other}
 use Rattle.bforest_nodes.specs.Entries.{IsIncreasing, is_present, put}
 use Rattle.bforest_trees.proofs.unions.Merging.{first-below, rest-up, united-same}
 use Rattle.bforest_trees.specs.Merge.{new_entries}
 use Rattle.bforest_trees.specs.Union.{are_among, fits, kept_from, united}
 use Rattle.bforest_trees.specs.declared.trees.unite.NewEntries.TheVariants.{More, One, Zero}
-use Rattle.std.proofs.Common.{Bool, List, None, Option, Some, [], ap, arith, false, if◌then◌else◌, length, refl, sym, true, ◌++◌, ◌<◌, ◌∙◌, ◌∷◌, ◌≡◌, ◌&&◌}
+use Rattle.std.proofs.Common.{Bool, List, None, Option, Some, [], ap, arith, false, if◌then◌else◌, length, refl, sym, true, ◌<◌, ◌∙◌, ◌∷◌, ◌≡◌, ◌&&◌}
 use Rattle.std.specs.Cmp.{IsTotalOrder}
 use Rattle.std.specs.List.{AllByRecursion}
 use Rattle.std.specs.Map.{keys_of}
-use Rattle.std.specs.Option.{is_some, option_map}
+use Rattle.std.specs.Option.{is_some}
 use Rattle.std.specs.Ordering.{is_eq}
 use Rattle.std.specs.declared.cmp.Ordering.TheVariants.{Less}
 use Rattle.std.specs.declared.cmp.Ordering.{Ordering}
@@ -30,15 +31,6 @@ module _ {K X : Type 0} where
   new-more [] is = absurd (cc)
   new-more (e ∷ []) is = absurd (cc)
   new-more (e ∷ d ∷ es) is = omega arith
-
-  -- one entry more
-  pub first-new : (es : List (K × X)) (e : K × X) → new_entries es ≡ Zero → One e.0 e.1 ≡ new_entries (es ++ e ∷ [])
-  first-new es e is = ap (λ z. new_entries (z ++ e ∷ [])) (sym (new-zero es is))
-
-  pub next-new : (es : List (K × X)) (e : K × X) → 0 < length es → More ≡ new_entries (es ++ e ∷ [])
-  next-new [] e some = absurd (omega (arith, some))
-  next-new (d ∷ []) e some = refl
-  next-new (d ∷ c ∷ es) e some = refl
 
   -- whether a list has no entry
   abbrev none_of : List (K × X) → Bool
@@ -76,14 +68,10 @@ module _ {K X : Type 0} (cmp : K → K → Ordering) where
       go (e ∷ new) low = refl
 
   module _ (o : IsTotalOrder cmp) where
-    some-of-value : (f : Option (K × X)) → is_some (option_map (λ (e : K × X). e.1) f) ≡ is_some f
-    some-of-value None = refl
-    some-of-value (Some e) = refl
-
     -- a greater key is present where it was before a key was put in
     present-beside : (es : List (K × X)) (k : K) (x : X) (q : K) → IsIncreasing cmp es → cmp k q ≡ Less → is_present cmp (put cmp es k x) q ≡ is_present cmp es q
     present-beside es k x q up less =
-        sym (some-of-value _) ∙ ap is_some (value_for-put_other cmp o k q x (ap is_eq less) es up) ∙ some-of-value _
+        let is_value = λ (f : Option (K × X)). some-mapped (λ (e : K × X). e.1) f in sym (is_value _) ∙ ap is_some (value_for-put_other cmp o k q x (ap is_eq less) es up) ∙ is_value _
 
     -- greater keys stay among the others
     among-beside : (es others : List (K × X)) (e : K × X) → IsIncreasing cmp es → AllByRecursion (λ y. cmp e.0 y ≡ Less) (keys_of others) → are_among cmp others (put cmp es e.0 e.1) ≡ are_among cmp others es
