@@ -228,7 +228,7 @@ EDITS = {
     "bforest_trees/trees/copy.rt": [NEW_TREE],
     "bforest_trees/trees/load.rt": [NEW_TREE],
     "bforest_trees/trees/pack.rt": [
-        (r"^use crate::trees::unite::fewest_nodes;\n", r"\g<0>use alloc::vec::Vec;\n", 1),
+        (r"^use crate::trees::Trees;\n", r"\g<0>use alloc::vec::Vec;\n", 1),
         (r"Vec::new\(self\.pool\.allocator\(\)\)", "Vec::new()", 1),
         (r"list\.reserve_exact\(", "list.try_reserve_exact(", 1),
         (r"list\.push_reserved\(", "list.push(", 1),
@@ -260,9 +260,9 @@ EDITS = {
     ],
     "bforest_trees/trees/get_or_insert.rt": [LOOKED_UP],
     "bforest_trees/trees/unite.rt": [
-        (r"^use crate::trees::Trees;\n", "use crate::trees::Trees;\nuse alloc::vec::Vec;\n", 1),
+        (r"^use crate::trees::\{Trees, fewest_nodes\};\n", r"\g<0>use alloc::vec::Vec;\n", 1),
         (r"Vec::new\(self\.pool\.allocator\(\)\)", "Vec::new()", 1),
-        (r"union\.reserve_exact\(", "union.try_reserve_exact(", 1),
+        (r"union\.reserve\(", "union.try_reserve(", 1),
         (r"union\.push_reserved\(", "union.push(", 1),
     ],
     # a condition beside a `let` is newer than the package's rust-version

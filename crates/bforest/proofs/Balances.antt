@@ -6,8 +6,8 @@ use Rattle.bforest.proofs.BehindFits.{detached-fits}
 use Rattle.bforest.proofs.Truncating.{truncation-fits}
 pub use Rattle.bforest.proofs.Lengths.{length-written}
 use Rattle.bforest.specs.Bounds.{entries_between, is_between, is_from_start, is_past_end, start_place}
-use Rattle.bforest.specs.Calls.{Clears, Compacts, Filters, GetsOrInserts, Inserts, KeepsFrom, Pops, Removes, RemovesAt, RemovesBetween, Unites, Updates, fewest, need_of_union, sizes_behind, sizes_outside, truncation}
-use Rattle.bforest.specs.Entries.{is_present, place, value_for}
+use Rattle.bforest.specs.Calls.{Clears, Compacts, Filters, Inserts, KeepsFrom, Pops, Removes, RemovesAt, RemovesBetween, Unites, Updates, fewest, need_of_union, sizes_behind, sizes_outside, truncation}
+use Rattle.bforest.specs.Entries.{is_present, place}
 use Rattle.bforest.specs.Forest.{Becomes, Forest, Gives, IsFitFor, IsLive, Takes, growth, limit_of, list_of, need, need_of, room_of, shrink, sizes_of}
 use Rattle.bforest.specs.Refusal.{OutOfMemory}
 use Rattle.bforest.specs.Retain.{AsksEach, kept_by, sizes_by}
@@ -17,7 +17,6 @@ use Rattle.bforest_nodes.proofs.Found.{place-present, put-absent, put-present}
 use Rattle.bforest_trees.proofs.Putting.{present-some}
 use Rattle.bforest_trees.proofs.ranges.Outside.{filter-behind, filter-from, filter-halves}
 use Rattle.bforest_trees.proofs.unions.New.{none-new}
-use Rattle.bforest_trees.specs.Calls.{as_inserted}
 use Rattle.std.specs.Fn.{Once}
 use Rattle.std.proofs.Common.{Bool, Err, List, None, Ok, Option, Result, Some, [], ap, arith, false, if◌then◌else◌, inl, inr, length, not, refl, remove, subst, suc, sym, true, ◌%◌, ◌+◌, ◌-◌, ◌<◌, ◌∙◌, ◌∷◌, ◌≡◌, ◌≢◌, ◌≤◌, ℕ}
 use Rattle.std.proofs.lemmas.Bool.Decides.{leb_tells}
@@ -218,13 +217,6 @@ module _ {K V : Type 0} where
             slots = omega (arith, u.slots);
             within = λ low. omega (arith, u.slots, u.put.limit, low);
           }
-
-      pub gets-or-inserts-balance : (v : V) (result : Result V OutOfMemory) → GetsOrInserts most cmp f h k v result f' h' → Balances most f h f' h'
-      gets-or-inserts-balance v result r = by (value_for cmp (list_of f h) k) refl
-        where
-          by : (o : Option V) → value_for cmp (list_of f h) k ≡ o → Balances most f h f' h'
-          by None e = inserts-balance v (as_inserted result) (r.absent e)
-          by (Some x) e = same-balance most f f' h h' fit (r.present_forest (rw e refl)) (r.present_handle (rw e refl))
 
     -- a single new entry was inserted; for more of them the nodes of the new tree were taken, and then those of the old one freed
     pub unites-balance : {cmp : K → K → Ordering} {other : Option ℕ} → Unites most cmp f h other (Ok true) f' h' → Balances most f h f' h'

@@ -2,10 +2,6 @@
 use Rattle.bforest.specs.Room.{IsEnoughFor, IsMetBy}
 use Rattle.std.proofs.Common.{arith, ◌≤◌, ℕ}
 
--- what is enough for some entries is enough for fewer
-pub enough-fewer : (most entries fewer nodes : ℕ) → IsEnoughFor most entries nodes → fewer ≤ entries → IsEnoughFor most fewer nodes
-enough-fewer most entries fewer nodes enough within = λ n sizes few fit. enough n sizes (omega (arith, few, within)) fit
-
 -- the most nodes never decrease as the entries grow in number
 pub never-fewer : (most entries fewer nodes least : ℕ) → IsEnoughFor most entries nodes → IsMetBy most fewer least → fewer ≤ entries → least ≤ nodes
 never-fewer most entries fewer nodes least enough met within = omega (arith, enough fewer met.0 within met.1, met.2)

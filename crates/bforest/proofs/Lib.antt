@@ -16,7 +16,6 @@ pub mod Sets
 pub mod Sides
 pub mod Shrinking
 pub mod RangeFits
-pub mod Fewest
 pub mod Standard
 pub mod Truncating
 pub mod BehindFits

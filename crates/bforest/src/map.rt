@@ -20,9 +20,9 @@ use crate::map_into_iter::MapIntoIter;
 use crate::map_iter::MapIter;
 use crate::map_iter_back::MapIterBack;
 use crate::map_range::MapRange;
-use crate::room::{fewest_nodes, most_nodes};
+use crate::room::most_nodes;
 use bforest_core::{Comparator, OutOfMemory, PackedNode, Path};
-use bforest_trees::Asked;
+use bforest_trees::{Asked, fewest_nodes};
 use std::cmp::Ordering;
 use std::default::Default;
 use std::marker::{Model, PhantomData};
@@ -396,10 +396,10 @@ impl<K: Copy, V: Copy> Map<K, V> {
 
     /// Puts each entry of `other` whose key is absent into this map, and returns whether there was one. A present key keeps its own value.
     ///
-    /// Reads both maps side by side, with at most one comparison for each entry of either. Where nothing is new, that is all: no node
-    /// and no memory is taken, and nothing is written. A single new entry is inserted, as [`Map::insert`] does it. Where there are more, the
-    /// call reads both once more, makes a tree of the union with the fewest nodes beside the old one, and frees that. Until it returns it
-    /// takes memory for a list of the union then.
+    /// Reads both maps side by side, up to the second new entry, with at most one comparison for each entry of either. Where nothing is new, that
+    /// is all: no node and no memory is taken, and nothing is written. A single new entry is inserted, as [`Map::insert`] does it. Where
+    /// there are more, the call reads both anew, makes a tree of the union with the fewest nodes beside the old one, and frees that. Until it
+    /// returns it takes memory for a list of the union then, which grows as it is filled.
     ///
     /// Other handles to this map's tree are not live where a key was new. Where both are one map, nothing is new.
     ///

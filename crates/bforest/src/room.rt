@@ -1,14 +1,9 @@
 //! How many nodes a tree of so many entries can have.
-ghost use Rattle.bforest.specs.Calls.{fewest};
 ghost use Rattle.bforest.specs.Room.{IsEnoughAbove, IsEnoughFor, IsMetAbove, IsMetBy};
-ghost use Rattle.bforest_core.specs.Packed.{nodes_over};
 ghost use Rattle.std.specs.Prelude.{◌*◌, ◌<◌, ◌≡◌, ◌≤◌, ℕ};
 
 /// The least number of children of an inner node that is not the last of its level.
 const MIN_CHILDREN: usize = 4;
-
-/// The most children of an inner node.
-const MAX_CHILDREN: usize = 8;
 
 /// Returns the most nodes that a tree of `entries` entries or fewer can have, whose leaves have at most `capacity` each.
 pub(crate) fn most_nodes(entries: usize, capacity: usize) -> usize
@@ -36,26 +31,4 @@ fn nodes_from(count: usize) -> usize
         return 1;
     }
     count + nodes_from(count.div_ceil(MIN_CHILDREN))
-}
-
-/// Returns the fewest nodes that a tree of `entries` entries can have, whose leaves have at most `capacity` each.
-pub(crate) fn fewest_nodes(entries: usize, capacity: usize) -> usize
-    requires { 3 ≤ capacity }
-    ensures count { result ≡ fewest capacity entries }
-{
-    let leaves = entries.div_ceil(capacity);
-    leaves + nodes_above(leaves)
-}
-
-// Returns how many nodes are above a level of `count` nodes, where each has as many children as it can: up to a level of one.
-fn nodes_above(count: usize) -> usize
-    requires { count ≤ 9223372036854775808 }
-    ensures over { (levels : ℕ) → count ≤ levels → result ≡ nodes_over levels count }
-    ensures few { result ≤ count }
-{
-    if count <= 1 {
-        return 0;
-    }
-    let parents = count.div_ceil(MAX_CHILDREN);
-    parents + nodes_above(parents)
 }

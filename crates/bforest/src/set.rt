@@ -17,7 +17,7 @@ ghost use Rattle.std.specs.Prelude.{IsTrue, List, ℕ, None, [], false, is_some,
 use crate::asked_key::AskedKey;
 use crate::entry::key_of;
 use crate::map::follows;
-use crate::room::{fewest_nodes, most_nodes};
+use crate::room::most_nodes;
 use crate::set_algebra::{SetDifference, SetIntersection, SetSymmetricDifference, SetUnion};
 use crate::set_cursor::SetCursor;
 use crate::set_forest::{SET_LEAF, SetForest};
@@ -26,6 +26,7 @@ use crate::set_iter_back::SetIterBack;
 use crate::set_merge::Merge;
 use crate::set_range::SetRange;
 use bforest_core::{Comparator, OutOfMemory, PackedNode, Path, SetValue};
+use bforest_trees::fewest_nodes;
 use std::default::Default;
 use std::marker::{Model, PhantomData};
 use std::ops::Bound;
@@ -322,10 +323,10 @@ impl<K: Copy> Set<K> {
 
     /// Puts each key of `other` that is absent into this set, and returns whether there was one. A stored key that compares equal stays.
     ///
-    /// Reads both sets side by side, with at most one comparison for each key of either. Where nothing is new, that is all: no node
-    /// and no memory is taken, and nothing is written. A single new key is inserted, as [`Set::insert`] does it. Where there are more, the
-    /// call reads both once more, makes a tree of the union with the fewest nodes beside the old one, and frees that. Until it returns it
-    /// takes memory for a list of the union then.
+    /// Reads both sets side by side, up to the second new key, with at most one comparison for each key of either. Where nothing is new, that
+    /// is all: no node and no memory is taken, and nothing is written. A single new key is inserted, as [`Set::insert`] does it. Where
+    /// there are more, the call reads both anew, makes a tree of the union with the fewest nodes beside the old one, and frees that. Until it
+    /// returns it takes memory for a list of the union then, which grows as it is filled.
     ///
     /// Other handles to this set's tree are not live where a key was new. Where both are one set, nothing is new.
     ///

@@ -14,13 +14,9 @@ use Rattle.std.proofs.Common.{IsErrAnd, Err, List, None, Ok, Option, Result, Som
 use Rattle.std.proofs.lemmas.Bool.Decides.{eqb_tells}
 use Rattle.std.proofs.lemmas.List.{get_or-set_other, get_or-set_same, get_or_past, get_or_read, length-append, length-set}
 use Rattle.std.proofs.lemmas.List.Edits.{swap_is}
-use Rattle.std.proofs.lemmas.List.Sums.{sum_by-append}
 use Rattle.std.proofs.lemmas.Result.{err_from_is_err_and}
 use Rattle.std.specs.List.{SwappedAt, swap}
 use Rattle.std.specs.declared.cmp.Ordering.{Ordering}
-
-pub node_count-append : (a b : List (List ℕ)) → node_count (a ++ b) ≡ node_count a + node_count b
-node_count-append a b = sum_by-append length a b
 
 -- two elements changed places
 swapped-at : {A : Type 0} (xs : List A) (a b : ℕ) → a < length xs → b < length xs → SwappedAt xs (swap xs a b) a b

@@ -37,3 +37,4 @@ pub mod Loading
 pub mod Unordered
 pub mod unions
 pub mod Packing
+pub mod Fewest

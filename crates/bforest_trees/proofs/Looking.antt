@@ -28,7 +28,6 @@ use Rattle.std.specs.Iterator.{YieldsFirst}
 use Rattle.std.specs.List.Sorted.{IsStrictlySortedBy}
 use Rattle.std.specs.Ordering.{is_lt}
 use Rattle.std.specs.declared.cmp.Ordering.{Ordering}
-use Rattle.std.specs.declared.ops.Bound.{Bound}
 
 module _ {K V : Type 0} {table : Table K V} {handle : Option ℕ} {look : Look K V} {place : ℕ} (l : IsLook table handle look place) where
   pub paired : IsPaired look
@@ -194,14 +193,6 @@ module _ {K V : Type 0} {table : Table K V} {handle : Option ℕ} {look : Look K
   -- a place that is in no entry of the leaf is behind the leaf
   pub place-behind : length look.keys.now ≤ index → IsBehind table handle look place
   place-behind past = inl (record { start = h.start; holds = h.holds; place_is = omega (arith, h.place_is, h.within, past) })
-
--- a place that is told of a root and of a bound, of the handle that has the root and of an equal bound
-pub at-bound : {K V : Type 0} {table : Table K V} {handle : Option ℕ} {root : ℕ} {look : Look K V}
-    (place : Bound K → List (K × V) → ℕ) {bound other : Bound K} → handle ≡ Some root → bound ≡ other
-    → IsLook table (Some root) look (place other (list_of table (Some root)))
-    → IsLook table handle look (place bound (list_of table handle))
-at-bound {K} {V} {table} {handle} {root} {look} place {bound} {other} is same l =
-    subst (λ (b : Bound K). IsLook table handle look (place b (list_of table handle))) (sym same) (subst (λ (h : Option ℕ). IsLook table h look (place other (list_of table h))) (sym is) l)
 
 -- a look that goes back through a list
 module _ {K V : Type 0} {table : Table K V} {handle : Option ℕ} {look : Look K V} where

@@ -1,6 +1,6 @@
 -- What a tree that is made anew answers and leaves, and a part that goes to a tree of its own.
 use Rattle.bforest_core.proofs.table.Allocating.{grows-not}
-use Rattle.bforest_core.proofs.union.Needs.{fewest-least, fewest-none}
+use Rattle.bforest_core.proofs.union.Needs.{fewest-none}
 use Rattle.bforest_core.specs.Change.{node_count}
 use Rattle.bforest_core.specs.Packed.{ArePacked, fewest}
 use Rattle.bforest_core.specs.Sizes.{IsFitFor}
@@ -13,7 +13,7 @@ use Rattle.bforest_trees.proofs.ranges.Between.{end-unbounded, slice-between, st
 use Rattle.bforest_trees.proofs.ranges.Outside.{outside-is}
 use Rattle.bforest_trees.proofs.unions.Uniting.{becomes-made, made-beside, made-stays}
 use Rattle.bforest_trees.specs.Bounds.{entries_between, entries_outside, is_between, is_from_start}
-use Rattle.bforest_trees.specs.Calls.{Clears, Compacts, Loads, SplitsAt, SplitsOff}
+use Rattle.bforest_trees.specs.Calls.{Clears, Compacts, SplitsAt, SplitsOff}
 use Rattle.bforest_trees.specs.Forest.{Becomes, Forest, GrowsFor, IsLive, IsTooMany, list_of}
 use Rattle.bforest_trees.specs.Merge.{LoadsUnion}
 use Rattle.std.proofs.Common.{Err, List, None, Ok, Option, Some, [], ap, slice_range, append-nil, arith, drop, false, length, not, refl, subst, sym, take, true, ◌++◌, ◌-◌, ◌∙◌, ◌∷◌, ◌↔◌, ◌≡◌, ◌≢◌, ◌≤◌, ℕ, ◌<◌, suc, zero}
@@ -44,22 +44,6 @@ module _ {K X : Type 0} {d : ℕ} {f g k : Forest K X} where
     suffices = λ enough. same ∙ t.suffices enough;
     bounded = omega (arith, t.bounded, same);
   }
-
--- a tree that was made of a list
-loads-so : {K X : Type 0} {most : ℕ} {f f' : Forest K X} {es : List (K × X)} {t : Option ℕ} → 0 < most → ¬ IsTooMany (fewest most (length es)) f → LoadsUnion most f es (Ok t) f' → Loads most f es (Ok t) f'
-loads-so {most = most} {f} {f'} {es} {t} one low l = record {
-  loaded = l.loaded;
-  packed = l.packed;
-  fit = l.fit;
-  nodes = l.nodes;
-  least = fewest-least most (length es) one;
-  increasing = λ order up. subst (IsIncreasing order) (sym l.loaded.list) up;
-  account = l.account;
-  full = (λ bad. absurd (cc), λ short. absurd (low short));
-  memory = λ bad. absurd (cc);
-  succeeds = λ enough. refl;
-  refused = tt;
-}
 
 module _ {K X : Type 0} (most : ℕ) (f : Forest K X) (h : Option ℕ) (live : IsLive f h) where
   -- a live handle of no entry is empty

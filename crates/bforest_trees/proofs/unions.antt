@@ -1,7 +1,6 @@
 -- Lemmas on two trees read side by side, on the union of two lists, and on what one keeps of the other.
 pub mod Merging
 pub mod New
-pub mod Rising
 pub mod Fronts
 pub mod Finding
 pub mod Uniting

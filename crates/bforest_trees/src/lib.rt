@@ -19,4 +19,4 @@ pub use look::Look;
 pub use order::first_unordered;
 pub use predicate::{Asked, Predicate};
 pub use reader::Reader;
-pub use trees::{Ends, Trees};
+pub use trees::{Ends, Trees, fewest_nodes};

@@ -35,6 +35,7 @@ mod walk;
 use crate::predicate::Predicate;
 use crate::{retain, shift};
 use bforest_core::{Comparator, Node, NodePool, OutOfMemory, PackedNode, Path};
+pub use pack::fewest_nodes;
 pub use range::Ends;
 use std::alloc::Global;
 use std::marker::Model;

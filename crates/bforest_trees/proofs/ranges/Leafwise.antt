@@ -168,13 +168,6 @@ module _ {K X : Type 0} (most : ℕ) (cmp : K → K → Ordering) (lo hi : Bound
     front-low : end-front ≤ length front
     front-low = count_by-le-length (λ y. not (t y)) front
 
-    gone-some : (gone ≡ [] → ⊥) → 0 < length gone
-    gone-some some = go gone refl
-      where
-        go : (g : List (K × X)) → gone ≡ g → 0 < length gone
-        go [] is = absurd (some is)
-        go (e ∷ g) is = omega (arith, ap length is)
-
     few : total dropped ≤ (p + n) - (total before + size)
     few = go gone refl
       where

@@ -1,5 +1,5 @@
 -- Two readers side by side: how their next entries compare, and taking one off.
-use Rattle.bforest_trees.proofs.Readers.{Taken, held-same, taken}
+use Rattle.bforest_trees.proofs.Readers.{Taken, taken}
 use Rattle.bforest_trees.specs.Layout.{Entered, IsReader, left_of}
 use Rattle.bforest_trees.specs.Merge.{CanTake, Compares, HoldsNext, TakesFrom, TakesNew, TakesOff, front_order}
 use Rattle.bforest_trees.specs.declared.reader.Reader.{Reader}
@@ -15,10 +15,6 @@ some-at (x ∷ xs) zero low = (x, refl)
 some-at (x ∷ xs) (suc i) low = some-at xs i (omega (arith, low))
 
 module _ {K X : Type 0} {n : ℕ} (table : Table K X) where
-  -- a reader that has entries of its leaf left holds the next one
-  pub entered-here : (r : Reader K X n) → IsReader table r → r.index < length r.keys.now → Entered table (left_of table r) r
-  entered-here r is low = record { left_is = refl; reader_is = is; within = low; same = held-same table r is }
-
   -- what is left begins with the key at hand
   pub record Begins (r : Reader K X n) (k : K) : Type 0 where
     pub value : X

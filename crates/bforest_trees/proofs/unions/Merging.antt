@@ -266,20 +266,21 @@ module _ {K X : Type 0} (cmp : K → K → Ordering) where
     pub others_up : IsIncreasing cmp others_rest
     pub same : each_is cmp es others present ≡ each_is cmp rest others_rest present
 
-  -- the rest of two lists, of whose union the entries so far are counted
-  pub record Counting (es others : List (K × X)) (entries : ℕ) (new : NewEntries K X) (rest others_rest : List (K × X)) : Type 0 where
+  -- the rest of two lists, and the entries so far of the second that are new to the first
+  pub record Seeking (es others : List (K × X)) (new : NewEntries K X) (rest others_rest : List (K × X)) : Type 0 where
     pub up : IsIncreasing cmp rest
     pub others_up : IsIncreasing cmp others_rest
-    pub count : entries + length (united cmp rest others_rest) ≡ length (united cmp es others)
     pub seen : List (K × X)
     pub new_is : new ≡ new_entries seen
     pub whole : kept_from cmp false others es ≡ seen ++ kept_from cmp false others_rest rest
 
-  -- the rest of two lists, of whose union the entries so far are given
-  pub record Gathering (es others items rest others_rest : List (K × X)) : Type 0 where
+  -- the rest of two lists, of whose union so many entries were taken off, and put into a list as far as memory was had
+  pub record Gathering (es others items : List (K × X)) (entries : ℕ) (rest others_rest : List (K × X)) : Type 0 where
     pub up : IsIncreasing cmp rest
     pub others_up : IsIncreasing cmp others_rest
-    pub whole : items ++ united cmp rest others_rest ≡ united cmp es others
+    pub count : entries + length (united cmp rest others_rest) ≡ length (united cmp es others)
+    pub most : length items ≤ entries
+    pub whole : length items ≡ entries → items ++ united cmp rest others_rest ≡ united cmp es others
 
   -- a key that is less than the next one of the others is not among them
   pub comparing-no : (o : IsTotalOrder cmp) {es others rest others_rest : List (K × X)} (order : Ordering) → front_order cmp rest others_rest ≡ Some order → Comparing es others true rest others_rest → is_lt order ≡ true → are_among cmp es others ≡ false
@@ -292,43 +293,51 @@ module _ {K X : Type 0} (cmp : K → K → Ordering) where
     comparing-next c told = let g = goes cmp o order c.up c.others_up is t in
         record { up = g.up; others_up = g.others_up; same = c.same ∙ g.among ∙ ap (λ b. not b && are_among cmp rest' others_rest') told }
 
-    pub counting-low : {entries : ℕ} {new : NewEntries K X} → Counting es others entries new rest others_rest → entries < length (united cmp es others)
-    counting-low c = let g = goes cmp o order c.up c.others_up is t in omega (arith, c.count, ap length g.unites)
-
-    module _ {entries : ℕ} {new : NewEntries K X} (c : Counting es others entries new rest others_rest) where
+    module _ {new : NewEntries K X} (c : Seeking es others new rest others_rest) where
       -- the entry that was taken off is not new
-      pub counting-old : is_gt order ≡ false → Counting es others (entries + 1) new rest' others_rest'
-      counting-old is_old = let g = goes cmp o order c.up c.others_up is t in record {
+      pub seeking-old : is_gt order ≡ false → Seeking es others new rest' others_rest'
+      seeking-old is_old = let g = goes cmp o order c.up c.others_up is t in record {
         up = g.up;
         others_up = g.others_up;
-        count = omega (arith, c.count, ap length g.unites);
         seen = c.seen;
         new_is = c.new_is;
         whole = c.whole ∙ ap (λ z. c.seen ++ z) (g.new ∙ ap (λ b. if b then first ∷ kept_from cmp false others_rest' rest' else kept_from cmp false others_rest' rest') is_old);
       }
 
       -- the entry that was taken off is new
-      pub counting-new : is_gt order ≡ true → {new' : NewEntries K X} → ((seen : List (K × X)) → new ≡ new_entries seen → new' ≡ new_entries (seen ++ first ∷ [])) → Counting es others (entries + 1) new' rest' others_rest'
-      counting-new is_new more = let g = goes cmp o order c.up c.others_up is t in record {
+      pub seeking-new : is_gt order ≡ true → {new' : NewEntries K X} → ((seen : List (K × X)) → new ≡ new_entries seen → new' ≡ new_entries (seen ++ first ∷ [])) → Seeking es others new' rest' others_rest'
+      seeking-new is_new more = let g = goes cmp o order c.up c.others_up is t in record {
         up = g.up;
         others_up = g.others_up;
-        count = omega (arith, c.count, ap length g.unites);
         seen = c.seen ++ first ∷ [];
         new_is = more c.seen c.new_is;
         whole = c.whole ∙ ap (λ z. c.seen ++ z) (g.new ∙ ap (λ b. if b then first ∷ kept_from cmp false others_rest' rest' else kept_from cmp false others_rest' rest') is_new)
             ∙ sym (append_assoc c.seen (first ∷ []) (kept_from cmp false others_rest' rest'));
       }
 
-    pub gathering-next : {items : List (K × X)} → Gathering es others items rest others_rest → Gathering es others (items ++ first ∷ []) rest' others_rest'
-    gathering-next {items} c = let g = goes cmp o order c.up c.others_up is t in record {
-      up = g.up;
-      others_up = g.others_up;
-      whole = append_assoc items (first ∷ []) (united cmp rest' others_rest') ∙ ap (λ z. items ++ z) (sym g.unites) ∙ c.whole;
-    }
+    module _ {items : List (K × X)} {entries : ℕ} (c : Gathering es others items entries rest others_rest) where
+      pub gathering-low : entries < length (united cmp es others)
+      gathering-low = let g = goes cmp o order c.up c.others_up is t in omega (arith, c.count, ap length g.unites)
 
-    pub gathering-low : {items : List (K × X)} → Gathering es others items rest others_rest → length items < length (united cmp es others)
-    gathering-low {items} c = let g = goes cmp o order c.up c.others_up is t in
-        omega (arith, sym (length-append items (united cmp rest others_rest)) ∙ ap length c.whole, ap length g.unites)
+      -- the entry that was taken off was put into the list
+      pub gathering-put : Gathering es others (items ++ first ∷ []) (entries + 1) rest' others_rest'
+      gathering-put = let g = goes cmp o order c.up c.others_up is t in let longer = length-append items (first ∷ []) in record {
+        up = g.up;
+        others_up = g.others_up;
+        count = omega (arith, c.count, ap length g.unites);
+        most = omega (arith, c.most, longer);
+        whole = λ all. append_assoc items (first ∷ []) (united cmp rest' others_rest') ∙ ap (λ z. items ++ z) (sym g.unites) ∙ c.whole (omega (arith, all, longer));
+      }
+
+      -- there was no memory for it
+      pub gathering-past : Gathering es others items (entries + 1) rest' others_rest'
+      gathering-past = let g = goes cmp o order c.up c.others_up is t in record {
+        up = g.up;
+        others_up = g.others_up;
+        count = omega (arith, c.count, ap length g.unites);
+        most = omega (arith, c.most);
+        whole = λ all. absurd (omega (arith, all, c.most));
+      }
 
   no-union : {rest others_rest : List (K × X)} → (rest ≡ []) × (others_rest ≡ []) → united cmp rest others_rest ≡ []
   no-union none = rw (none.0, none.1) refl
@@ -345,11 +354,9 @@ module _ {K X : Type 0} (cmp : K → K → Ordering) where
     comparing-end {present} c none = c.same ∙ ap (λ z. each_is cmp z others_rest present) none
 
     module _ (none : (rest ≡ []) × (others_rest ≡ [])) where
-      pub counting-end : {entries : ℕ} {new : NewEntries K X} → Counting es others entries new rest others_rest → (entries ≡ length (united cmp es others)) × (new ≡ new_entries (kept_from cmp false others es))
-      counting-end {entries} {new} c = (
-        omega (arith, c.count, ap length (no-union none)),
-        c.new_is ∙ ap new_entries (sym (append-nil c.seen) ∙ ap (λ z. c.seen ++ kept_from cmp false z rest) (sym none.1) ∙ sym c.whole),
-      )
+      pub seeking-end : {new : NewEntries K X} → Seeking es others new rest others_rest → new ≡ new_entries (kept_from cmp false others es)
+      seeking-end c = c.new_is ∙ ap new_entries (sym (append-nil c.seen) ∙ ap (λ z. c.seen ++ kept_from cmp false z rest) (sym none.1) ∙ sym c.whole)
 
-      pub gathering-end : {items : List (K × X)} → Gathering es others items rest others_rest → items ≡ united cmp es others
-      gathering-end {items} c = sym (append-nil items) ∙ ap (λ z. items ++ z) (sym (no-union none)) ∙ c.whole
+      pub gathering-end : {items : List (K × X)} {entries : ℕ} → Gathering es others items entries rest others_rest
+          → (entries ≡ length (united cmp es others)) × (length items ≡ entries → items ≡ united cmp es others)
+      gathering-end {items} c = (omega (arith, c.count, ap length (no-union none)), λ all. sym (append-nil items) ∙ ap (λ z. items ++ z) (sym (no-union none)) ∙ c.whole all)

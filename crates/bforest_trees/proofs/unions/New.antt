@@ -2,11 +2,12 @@
 use Rattle.bforest_core.proofs.walks.LeafSearch.{some-mapped}
 use Rattle.bforest_nodes.proofs.Lookups.{value_for-put_other}
 use Rattle.bforest_nodes.specs.Entries.{IsIncreasing, is_present, put}
-use Rattle.bforest_trees.proofs.unions.Merging.{first-below, rest-up, united-same}
+use Rattle.bforest_trees.proofs.unions.Merging.{Seeking, first-below, rest-up, united-same}
 use Rattle.bforest_trees.specs.Merge.{new_entries}
 use Rattle.bforest_trees.specs.Union.{are_among, fits, kept_from, united}
 use Rattle.bforest_trees.specs.declared.trees.unite.NewEntries.TheVariants.{More, One, Zero}
-use Rattle.std.proofs.Common.{Bool, List, None, Option, Some, [], ap, arith, false, if◌then◌else◌, length, refl, sym, true, ◌<◌, ◌∙◌, ◌∷◌, ◌≡◌, ◌&&◌}
+use Rattle.bforest_trees.specs.declared.trees.unite.NewEntries.{NewEntries}
+use Rattle.std.proofs.Common.{Bool, List, None, Option, Some, [], ap, arith, false, if◌then◌else◌, length, refl, sym, true, ◌++◌, ◌<◌, ◌∙◌, ◌∷◌, ◌≡◌, ◌&&◌}
 use Rattle.std.specs.Cmp.{IsTotalOrder}
 use Rattle.std.specs.List.{AllByRecursion}
 use Rattle.std.specs.Map.{keys_of}
@@ -31,6 +32,15 @@ module _ {K X : Type 0} where
   new-more [] is = absurd (cc)
   new-more (e ∷ []) is = absurd (cc)
   new-more (e ∷ d ∷ es) is = omega arith
+
+  -- where two entries were seen, those behind them tell nothing more
+  more-behind : (seen rest : List (K × X)) → new_entries seen ≡ More → new_entries (seen ++ rest) ≡ More
+  more-behind [] rest is = absurd (cc)
+  more-behind (e ∷ []) rest is = absurd (cc)
+  more-behind (e ∷ d ∷ seen) rest is = refl
+
+  pub seeking-more : {cmp : K → K → Ordering} {es others rest others_rest : List (K × X)} {new : NewEntries K X} → Seeking cmp es others new rest others_rest → new ≡ More → new ≡ new_entries (kept_from cmp false others es)
+  seeking-more c is = is ∙ sym (ap new_entries c.whole ∙ more-behind c.seen _ (sym c.new_is ∙ is))
 
   -- whether a list has no entry
   abbrev none_of : List (K × X) → Bool

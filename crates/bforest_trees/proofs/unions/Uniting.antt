@@ -18,7 +18,7 @@ use Rattle.bforest_trees.specs.Calls.{Clears, Inserts, Unites, need_of_new, need
 use Rattle.bforest_trees.specs.Forest.{Becomes, Forest, IsLive, IsTooMany, Takes, list_at, list_of, nodes_at, numbers_below, sizes_at, sizes_of, slots_of}
 use Rattle.bforest_trees.specs.Merge.{LoadsUnion}
 use Rattle.bforest_trees.specs.Union.{AreSearchable, are_among, new_to, united}
-use Rattle.std.proofs.Common.{Err, List, None, Ok, OnOk, Option, Result, Some, [], ap, arith, false, inl, inr, is_err, length, not, refl, subst, suc, sym, true, zero, ◌*◌, ◌<◌, ◌∙◌, ◌∷◌, ◌↔◌, ◌≡◌, ◌≢◌, ◌≤◌, ℕ}
+use Rattle.std.proofs.Common.{Err, List, None, Ok, OnOk, Option, Result, Some, [], ap, arith, false, inl, inr, is_err, is_ok, length, not, refl, subst, suc, sym, true, zero, ◌*◌, ◌<◌, ◌∙◌, ◌∷◌, ◌↔◌, ◌≡◌, ◌≢◌, ◌≤◌, ℕ}
 use Rattle.std.proofs.lemmas.Bool.{cases_lt}
 use Rattle.std.proofs.lemmas.List.Sums.{sum_by_push}
 use Rattle.std.specs.Cmp.{IsTotalOrder}
@@ -141,6 +141,10 @@ module _ {K X : Type 0} {f : Forest K X} where
 pub not-err : {A E P : Type 0} (r : Result A E) → is_err r ≡ false → OnOk r P → P
 not-err (Ok x) t holds = holds
 not-err (Err e) t holds = absurd (cc)
+
+pub when-ok : {A E P : Type 0} (r : Result A E) → is_ok r ≡ true → OnOk r P → P
+when-ok (Ok x) t holds = holds
+when-ok (Err e) t holds = absurd (cc)
 
 -- a table as its pool shows it, and entries as a slice shows them
 module _ {K X : Type 0} (most : ℕ) {p f : Forest K X} (is : p ≡ f) {items es : List (K × X)} (same : items ≡ es) where

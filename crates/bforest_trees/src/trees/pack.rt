@@ -1,12 +1,15 @@
 //! Making a tree anew, packed.
 ghost use Rattle.bforest_trees.specs.Calls.{Compacts};
 ghost use Rattle.bforest_trees.specs.Forest.{IsLive, list_of};
-ghost use Rattle.std.specs.Prelude.{Err, IfOk, length, ◌≡◌, ◌≢◌};
+ghost use Rattle.bforest_core.specs.Packed.{fewest, nodes_over};
+ghost use Rattle.std.specs.Prelude.{Err, IfOk, length, ◌≡◌, ◌≢◌, ◌≤◌, ℕ};
 
 use crate::reader::Reader;
 use crate::trees::Trees;
-use crate::trees::unite::fewest_nodes;
 use bforest_core::{OutOfMemory, PackedNode};
+
+/// The most children of an inner node.
+const MAX_CHILDREN: usize = 8;
 
 impl<K: Copy, V: Copy, const N: usize> Trees<K, V, N> {
     /// Makes a tree anew with the fewest nodes, beside the old one, which is freed then.
@@ -46,4 +49,26 @@ impl<K: Copy, V: Copy, const N: usize> Trees<K, V, N> {
         }
         Ok(list)
     }
+}
+
+/// Returns the fewest nodes that a tree of `entries` entries can have, whose leaves have at most `capacity` each.
+pub fn fewest_nodes(entries: usize, capacity: usize) -> usize
+    requires { 3 ≤ capacity }
+    ensures count { result ≡ fewest capacity entries }
+{
+    let leaves = entries.div_ceil(capacity);
+    leaves + nodes_above(leaves)
+}
+
+// Returns how many nodes are above a level of `count` nodes, where each has as many children as it can: up to a level of one.
+fn nodes_above(count: usize) -> usize
+    requires { count ≤ 9223372036854775808 }
+    ensures over { (levels : ℕ) → count ≤ levels → result ≡ nodes_over levels count }
+    ensures few { result ≤ count }
+{
+    if count <= 1 {
+        return 0;
+    }
+    let parents = count.div_ceil(MAX_CHILDREN);
+    parents + nodes_above(parents)
 }

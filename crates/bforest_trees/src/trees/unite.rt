@@ -1,19 +1,19 @@
 //! Putting the entries of one tree into another one.
 ghost use Rattle.bforest_trees.specs.Calls.{Unites};
-ghost use Rattle.bforest_trees.specs.Forest.{list_at, list_of, room_of};
+ghost use Rattle.bforest_trees.specs.Forest.{IsTooMany, list_at, list_of, room_of};
 ghost use Rattle.bforest_trees.specs.Merge.{LoadsUnion, new_entries};
 ghost use Rattle.bforest_trees.specs.Union.{AreSearchable, kept_from, united};
-ghost use Rattle.bforest_core.specs.Packed.{fewest};
 ghost use Rattle.bforest_nodes.specs.Content.{IsLeafCapacity};
-ghost use Rattle.std.specs.Prelude.{List, [], false, length, vec_capacity, vec_len, ◌+◌, ◌++◌, ◌^◌, ◌∷◌, ◌<◌, ◌≡◌, ◌≤◌, ℕ};
+ghost use Rattle.bforest_core.specs.Packed.{fewest};
+ghost use Rattle.std.specs.Prelude.{Err, List, [], false, length, vec_len, ◌+◌, ◌++◌, ◌^◌, ◌∷◌, ◌<◌, ◌≡◌, ◌≤◌, ℕ};
 
 use crate::merge::{next_order, take, take_new};
 use crate::reader::Reader;
-use crate::trees::Trees;
+use crate::trees::{Trees, fewest_nodes};
 use bforest_core::{Comparator, OutOfMemory, PackedNode};
 
-/// The most children of an inner node.
-const INNER_SIZE: usize = 8;
+/// For how many entries a full list takes memory, at least.
+const MORE_ENTRIES: usize = 64;
 
 /// The entries of one tree whose key is absent in another.
 #[derive(Clone, Copy, Drop)]
@@ -35,13 +35,6 @@ impl<K: Copy, V: Copy> NewEntries<K, V> {
     }
 }
 
-// Of the union of two trees: how many entries it has, and those of the second that are new to the first.
-#[derive(Clone, Copy, Drop)]
-struct Count<K, V> {
-    entries: usize,
-    new: NewEntries<K, V>,
-}
-
 impl<K: Copy, V: Copy, const N: usize> Trees<K, V, N> {
     /// Puts each entry of another tree whose key is absent into a tree, and returns whether there was one. A single one is inserted; for
     /// more of them the tree is made anew, packed.
@@ -54,18 +47,13 @@ impl<K: Copy, V: Copy, const N: usize> Trees<K, V, N> {
         requires { AreSearchable (C.order comp.now) self.old handle.old other }
         ensures { Unites N (C.order comp.now) self.old handle.old other result self.new handle.new }
     {
-        let room = self.room();
-        let count = self.count_union(*handle, other, comp);
-        match count.new {
+        match self.new_entries(*handle, other, comp) {
             NewEntries::Zero => return Ok(false),
             NewEntries::One(key, value) => {
                 self.put(handle, key, value, comp)?;
             }
             NewEntries::More => {
-                if room < fewest_nodes(count.entries, N) {
-                    return Err(OutOfMemory::Full);
-                }
-                let union = self.load_union(*handle, other, count.entries, comp)?;
+                let union = self.load_union(*handle, other, comp)?;
                 self.free_tree(handle);
                 *handle = union;
             }
@@ -82,92 +70,89 @@ impl<K: Copy, V: Copy, const N: usize> Trees<K, V, N> {
         (self.pool.free() + (self.pool.limit() - self.pool.slots())) as usize
     }
 
-    // Counts the union of two trees.
-    fn count_union<C: Comparator<K>>(
+    // The entries of the second tree whose key is absent in the first. Reads both until a second one is found.
+    fn new_entries<C: Comparator<K>>(
         &self,
         handle: PackedNode,
         other: PackedNode,
         comp: &C,
-    ) -> Count<K, V>
+    ) -> NewEntries<K, V>
         requires searchable { AreSearchable (C.order comp.now) self.now handle other }
-        requires few { length (united (C.order comp.now) (list_of self.now handle)
-            (list_of self.now other)) < 2 ^ 63 }
-        ensures entries { result.entries ≡ length (united (C.order comp.now) (list_of self.now handle)
-            (list_of self.now other)) }
-        ensures new { result.new ≡ new_entries (kept_from (C.order comp.now) false
+        ensures new { result ≡ new_entries (kept_from (C.order comp.now) false
             (list_of self.now other) (list_of self.now handle)) }
     {
         let mut first = Reader::new(handle, self);
         let mut second = Reader::new(other, self);
-        let mut entries = 0;
         let mut new = NewEntries::Zero;
         while let Some(order) = next_order(&mut first, &mut second, self, comp) {
             if let Some(entry) = take_new(order, &mut first, &mut second) {
                 new = new.with(entry);
+                if let NewEntries::More = new {
+                    return new;
+                }
             }
-            entries += 1;
         }
-        Count { entries, new }
+        new
     }
 
-    // Makes a packed tree of the union of two trees, which has so many entries, at least one.
+    // Makes a packed tree of the union of two trees, which has an entry.
     fn load_union<C: Comparator<K>>(
         &mut self,
         handle: PackedNode,
         other: PackedNode,
-        entries: usize,
         comp: &C,
     ) -> Result<PackedNode, OutOfMemory>
         requires searchable { AreSearchable (C.order comp.now) self.old handle other }
-        requires some { 0 < entries }
-        requires entries { entries ≡ length (united (C.order comp.now) (list_of self.old handle)
+        requires some { 0 < length (united (C.order comp.now) (list_of self.old handle)
             (list_of self.old other)) }
-        ensures { LoadsUnion N self.old (united (C.order comp.now) (list_of self.old handle)
+        ensures loaded { LoadsUnion N self.old (united (C.order comp.now) (list_of self.old handle)
             (list_of self.old other)) result self.new }
+        ensures full { IsTooMany (fewest N (length (united (C.order comp.now)
+            (list_of self.old handle) (list_of self.old other)))) self.old
+            → result ≡ Err OutOfMemory.Full }
     {
+        let room = self.room();
         let mut union = Vec::new(self.pool.allocator());
-        if union.reserve_exact(entries).is_err() {
+        let entries = self.gather_union(handle, other, &mut union, comp);
+        if room < fewest_nodes(entries, N) {
+            return Err(OutOfMemory::Full);
+        }
+        if union.len() < entries {
             return Err(OutOfMemory::Memory);
         }
-        self.gather_union(handle, other, &mut union, comp);
         let root = self.pool.build_tree(union.as_slice())?;
         Ok(PackedNode::some(root))
     }
 
-    // Puts the entries of the union of two trees into an empty vector that has room for them.
+    // Puts the entries of the union of two trees into an empty vector, and returns how many there are. Where memory is refused, the vector
+    // has fewer.
     fn gather_union<C: Comparator<K>>(
         &self,
         handle: PackedNode,
         other: PackedNode,
         union: &mut Vec<(K, V)>,
         comp: &C,
-    )
+    ) -> usize
         requires searchable { AreSearchable (C.order comp.now) self.now handle other }
+        requires few { length (united (C.order comp.now) (list_of self.now handle)
+            (list_of self.now other)) < 2 ^ 63 }
         requires empty { union.old.items ≡ [] }
-        requires room { length (united (C.order comp.now) (list_of self.now handle)
-            (list_of self.now other)) ≤ vec_capacity union.old }
-        ensures entries { union.new.items ≡ united (C.order comp.now) (list_of self.now handle)
-            (list_of self.now other) }
+        ensures entries { result ≡ length (united (C.order comp.now) (list_of self.now handle)
+            (list_of self.now other)) }
+        ensures most { vec_len union.new ≤ result }
+        ensures gathered { vec_len union.new ≡ result → union.new.items
+            ≡ united (C.order comp.now) (list_of self.now handle) (list_of self.now other) }
     {
         let mut first = Reader::new(handle, self);
         let mut second = Reader::new(other, self);
+        let mut entries = 0;
         while let Some(order) = next_order(&mut first, &mut second, self, comp) {
-            union.push_reserved(take(order, &mut first, &mut second));
+            let entry = take(order, &mut first, &mut second);
+            if union.len() < union.capacity() || union.reserve(MORE_ENTRIES).is_ok() {
+                union.push_reserved(entry);
+            }
+            entries += 1;
         }
+        entries
     }
-}
-
-// The number of nodes of a packed tree of so many entries, whose leaves have at most `capacity`.
-pub(super) fn fewest_nodes(entries: usize, capacity: usize) -> usize
-    requires capacity { 0 < capacity }
-    requires few { entries < 2 ^ 62 }
-    ensures fewest { result ≡ fewest capacity entries }
-{
-    let mut level = entries.div_ceil(capacity);
-    let mut nodes = level;
-    while 1 < level {
-        level = level.div_ceil(INNER_SIZE);
-        nodes += level;
-    }
-    nodes
 }

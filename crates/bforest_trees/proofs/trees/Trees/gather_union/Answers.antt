@@ -1,40 +1,60 @@
 use Rattle.bforest_trees.proofs.unions.Fronts.{turn}
-use Rattle.bforest_trees.proofs.unions.Merging.{front-none, gathering-end, gathering-low, gathering-next, steps-less}
+use Rattle.bforest_trees.proofs.unions.Merging.{front-none, gathering-end, gathering-low, gathering-past, gathering-put, steps-less}
+use Rattle.bforest_trees.proofs.unions.Uniting.{when-ok}
 use Rattle.bforest_trees.proofs.trees.Trees.gather_union.Goals as goal
-use Rattle.std.proofs.Common.{ap, arith, length, length-append, refl, rules, sym, ◌∙◌, ◌∷◌, []}
+use Rattle.bforest_trees.proofs.trees.Trees.gather_union.Goals.{then-len-capacity, then-len-capacity-via-then-len-capacity, then-len-capacity-via-else-len-capacity+then-is_ok, else-len-capacity+else-is_ok}
+use Rattle.std.proofs.Common.{ap, arith, length-append, refl, rules, sym, vec_len, ◌∙◌, ◌∷◌, []}
 
 pub loop-order-init : goal.loop-order-init
 loop-order-init g c = (
   c.new-first.ensures.reader,
   c.new-second.ensures.reader,
-  rw (c.new-first.ensures.left, c.new-second.ensures.left, c.requires.empty) (record { up = c.requires.searchable.increasing; others_up = c.requires.searchable.other_increasing; whole = refl }),
+  rw (c.new-first.ensures.left, c.new-second.ensures.left, c.requires.empty) (record {
+    up = c.requires.searchable.increasing;
+    others_up = c.requires.searchable.other_increasing;
+    count = omega arith;
+    most = omega arith;
+    whole = λ all. refl;
+  }),
   search rules,
-  refl,
 )
 
 pub next_order-requires : goal.next_order-requires
 next_order-requires g c = (search rules, (search rules, (c.loop-order.invariant.0, c.loop-order.invariant.1)))
 
 pub push_reserved-requires : goal.push_reserved-requires
-push_reserved-requires g c =
-    let t = turn c.args.self.now c.in-Some.is c.next_order.ensures c.take.ensures.taken in
-    let low = gathering-low _ (g.met.C.Comparator.total c.args.comp.now) c.in-Some.order _ _ _ t.front_is t.off c.loop-order.invariant.2 in
-    omega (arith, low, c.requires.room, c.loop-order.invariant.3, c.loop-order.invariant.4)
+push_reserved-requires g c = elim c.then-len-capacity.branch [
+  | then-len-capacity-via-then-len-capacity w ↦ rw w.union-is (omega (arith, w.if-len-capacity.true, c.len.ensures, c.capacity.ensures))
+  | then-len-capacity-via-else-len-capacity+then-is_ok w ↦ rw w.union-is (let room = when-ok w.reserve.result (sym w.is_ok.ensures.value ∙ w.if-is_ok.true) w.reserve.ensures.ok in omega (arith, room))
+]
+
+pub overflow_add-entries : goal.overflow_add-entries
+overflow_add-entries g c =
+    let t = turn c.args.self.now c.in-Some.is c.next_order.ensures c.take-entry.ensures.taken in
+    omega (arith, gathering-low _ (g.met.C.Comparator.total c.args.comp.now) c.in-Some.order _ _ _ t.front_is t.off c.loop-order.invariant.2, c.requires.few)
 
 pub loop-order-smaller : goal.loop-order-smaller
 loop-order-smaller g c =
-    steps-less (g.C.Comparator.order c.args.comp.now) _ _ _ _ _ _ (turn c.args.self.now c.in-Some.is c.next_order.ensures c.take.ensures.taken).off
+    steps-less (g.C.Comparator.order c.args.comp.now) _ _ _ _ _ _ (turn c.args.self.now c.in-Some.is c.next_order.ensures c.take-entry.ensures.taken).off
 
 pub loop-order-preserved : goal.loop-order-preserved
 loop-order-preserved g c =
-    let t = turn c.args.self.now c.in-Some.is c.next_order.ensures c.take.ensures.taken in (
-      t.reader,
-      t.second_reader,
-      rw c.push_reserved.ensures.items (gathering-next _ (g.met.C.Comparator.total c.args.comp.now) c.in-Some.order _ _ _ t.front_is t.off c.loop-order.invariant.2),
-      omega (arith, c.push_reserved.ensures.len, c.loop-order.invariant.3, ap length c.push_reserved.ensures.items, length-append c.loop-order.union.items (c.take.result ∷ [])),
-      c.push_reserved.ensures.capacity ∙ c.loop-order.invariant.4,
-    )
+    let t = turn c.args.self.now c.in-Some.is c.next_order.ensures c.take-entry.ensures.taken in
+    let put = gathering-put _ (g.met.C.Comparator.total c.args.comp.now) c.in-Some.order _ _ _ t.front_is t.off c.loop-order.invariant.2 in
+    let past = gathering-past _ (g.met.C.Comparator.total c.args.comp.now) c.in-Some.order _ _ _ t.front_is t.off c.loop-order.invariant.2 in
+    let longer = length-append c.loop-order.union.items (c.take-entry.result ∷ []) in
+    elim c.if-len-capacity.branch [
+      | then-len-capacity w ↦ elim w.then-len-capacity.branch [
+        | then-len-capacity-via-then-len-capacity w' ↦ rw (w.union-is, w.push_reserved.ensures.items, w'.union-is) (t.reader, t.second_reader, put, omega (arith, w.push_reserved.ensures.len, ap vec_len w'.union-is, c.loop-order.invariant.3, longer))
+        | then-len-capacity-via-else-len-capacity+then-is_ok w' ↦ rw (w.union-is, w.push_reserved.ensures.items, w'.union-is, w'.reserve.ensures.items) (t.reader, t.second_reader, put, omega (arith, w.push_reserved.ensures.len, ap vec_len w'.union-is, w'.reserve.ensures.len, c.loop-order.invariant.3, longer))
+      ]
+      | else-len-capacity+else-is_ok w ↦ rw (w.union-is, w.reserve.ensures.items) (t.reader, t.second_reader, past, omega (arith, w.reserve.ensures.len, c.loop-order.invariant.3))
+    ]
 
-pub returns : goal.returns
-returns g c = let cmp = g.C.Comparator.order c.args.comp.now in
-    record { entries = gathering-end cmp (front-none cmp _ _ (sym c.next_order.ensures.order_is ∙ c.in_default.is)) c.loop-order.invariant.2 }
+pub returns-clause-entries : goal.returns-clause-entries
+returns-clause-entries g c = let cmp = g.C.Comparator.order c.args.comp.now in
+    (gathering-end cmp (front-none cmp _ _ (sym c.next_order.ensures.order_is ∙ c.in_default.is)) c.loop-order.invariant.2).0
+
+pub returns-clause-gathered : goal.returns-clause-gathered
+returns-clause-gathered g c = let cmp = g.C.Comparator.order c.args.comp.now in
+    λ all. (gathering-end cmp (front-none cmp _ _ (sym c.next_order.ensures.order_is ∙ c.in_default.is)) c.loop-order.invariant.2).1 (sym c.loop-order.invariant.3 ∙ all)

@@ -1,7 +1,7 @@
 -- The fewest nodes of a tree, counted level by level.
-use Rattle.bforest_core.proofs.union.Needs.{ceil-low, over-more, over-one}
+use Rattle.bforest_core.proofs.union.Needs.{ceil-low, over-one}
 use Rattle.bforest_core.specs.Packed.{fewest, nodes_over}
-use Rattle.std.proofs.Common.{ap, arith, subst, suc, sym, zero, ◌*◌, ◌+◌, ◌<◌, ◌≡◌, ◌≤◌, ℕ}
+use Rattle.std.proofs.Common.{ap, arith, subst, sym, ◌*◌, ◌+◌, ◌<◌, ◌≡◌, ◌≤◌, ℕ}
 use Rattle.std.proofs.lemmas.Grind.{div_ceil_times}
 use Rattle.std.specs.Int.{div_ceil}
 
@@ -11,11 +11,6 @@ parents-few count parents many is = let z = div_ceil_times count 8 (omega arith)
 
 pub over-first : (count : ℕ) → count ≤ 1 → (levels : ℕ) → count ≤ levels → 0 ≡ nodes_over levels count
 over-first count few levels within = sym (over-one levels count few)
-
-pub over-next : (count parents above : ℕ) → 1 < count → parents ≡ div_ceil count 8 → ((levels : ℕ) → parents ≤ levels → above ≡ nodes_over levels parents) → (levels : ℕ) → count ≤ levels → parents + above ≡ nodes_over levels count
-over-next count parents above many is told zero within = absurd (omega (arith, many, within))
-over-next count parents above many is told (suc levels) within = let few = parents-few count parents many is in
-    omega (arith, over-more levels count many, is, ap (nodes_over levels) is, told levels (omega (arith, few, within, many)))
 
 pub fewest-is : (most entries leaves above : ℕ) → 0 < most → leaves ≡ div_ceil entries most → ((levels : ℕ) → leaves ≤ levels → above ≡ nodes_over levels leaves) → leaves + above ≡ fewest most entries
 fewest-is most entries leaves above some is told = let z = div_ceil_times entries most some in
