@@ -139,7 +139,7 @@ fn told(entry: Option<(u32, u32)>) -> u64 {
 fn loaded<M: Uses>(maps: &mut M, job: Job) -> u64 {
     let entries: Vec<(u32, u32)> = (0..job.entries).map(|index| (2 * index, index)).collect();
     (0..job.maps).for_each(|map| maps.load(map, &entries));
-    job.maps.checked_sub(1).map_or(0, |last| maps.walk(last, 0))
+    job.maps.checked_sub(1).map_or(0, |last| told(maps.at_or_after(last, job.entries)))
 }
 
 fn fill<M: Uses>(maps: &mut M, job: Job) {

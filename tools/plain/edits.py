@@ -33,7 +33,7 @@ LEFT_OUT = ["bforest_indexed/edit.rt"]
 UNUSED = {
     "bforest_indexed/maps.rt": ["edit"],
     "forest_run/main.rt": ["arguments", "main"],
-    "bforest_nodes/node.rt": ["leaf_of", "unwrap_leaf_mut"],
+    "bforest_nodes/node.rt": ["unwrap_leaf_mut"],
     "bforest_nodes/entries.rt": ["parts_mut"],
     "bforest_nodes/row.rt": ["front_mut"],
     "bforest_nodes/lent.rt": ["front_mut"],
@@ -170,7 +170,7 @@ EDITS = {
         (r"pub fn new\(_alloc: Global\) -> Result<Self, AllocError>", "pub fn new() -> Self", 1),
         (r"Ok\((NodeData \{\s*state: State::Vacant\(PackedNode::none\(\)\),\s*\})\)", r"\1", 1),
         (r" It takes no memory and always succeeds[^.]*\.", " It takes no memory.", None),
-        (r"\bunreachable!\(\)", MISUSED, 29),
+        (r"\bunreachable!\(\)", MISUSED, 30),
         # what only a caller of the prover reads
         (r"(?:\n    //[^\n]*)+\n    pub rhs_entries: usize,", "", 1),
         (r"\n *rhs_entries: len - \w+,", "", 2),
@@ -180,7 +180,7 @@ EDITS = {
     ],
     "bforest_core/lib.rt": [
         BEHIND_FIRST,
-        (r"Comparator, Node, NodeData, PackedNode, Removed, SetValue, SplitOff,?", "Comparator, Node, PackedNode, SetValue", 1),
+        (r"\n    Comparator, Node, NodeData, PackedNode, Removed, SetValue, Source, SplitOff,\n", "Comparator, Node, PackedNode, SetValue, Source", 1),
     ],
     # What the search alone uses, which goes with it.
     "bforest_core/pool.rt": [

@@ -5,7 +5,7 @@ use Rattle.std.specs.Fn.{Called, Mut, Takes}
 use Rattle.std.specs.Map.{keys_of}
 use Rattle.std.specs.Prelude.{Bool, Err, List, None, Ok, Option, Result, Some, false, if◌then◌else◌, true, ℕ}
 -- `with_unit keys`: the entries of a set with these keys, in this order.
-pub use Rattle.bforest_core.specs.Packed.{with_unit}
+pub use Rattle.bforest_nodes.specs.Entries.{with_unit}
 
 -- the keys of a set
 abbrev pub elements : {K : Type 0} → Forest K (Unit {0}) → Option ℕ → List K

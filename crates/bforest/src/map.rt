@@ -396,10 +396,10 @@ impl<K: Copy, V: Copy> Map<K, V> {
 
     /// Puts each entry of `other` whose key is absent into this map, and returns whether there was one. A present key keeps its own value.
     ///
-    /// Reads both maps side by side, up to the second new entry, with at most one comparison for each entry of either. Where nothing is new, that
-    /// is all: no node and no memory is taken, and nothing is written. A single new entry is inserted, as [`Map::insert`] does it. Where
-    /// there are more, the call reads both anew, makes a tree of the union with the fewest nodes beside the old one, and frees that. Until it
-    /// returns it takes memory for a list of the union then, which grows as it is filled.
+    /// Reads both maps side by side, up to the second new entry, with at most one comparison for each entry of either. Where nothing is
+    /// new, that is all: no node and no memory is taken, and nothing is written. A single new entry is inserted, as [`Map::insert`] does
+    /// it. Where there are more, the call reads both anew, makes a tree of the union with the fewest nodes beside the old one, and frees
+    /// that. Until it returns it takes memory for a list of the union then, which grows as it is filled.
     ///
     /// Other handles to this map's tree are not live where a key was new. Where both are one map, nothing is new.
     ///

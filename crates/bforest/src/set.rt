@@ -323,10 +323,10 @@ impl<K: Copy> Set<K> {
 
     /// Puts each key of `other` that is absent into this set, and returns whether there was one. A stored key that compares equal stays.
     ///
-    /// Reads both sets side by side, up to the second new key, with at most one comparison for each key of either. Where nothing is new, that
-    /// is all: no node and no memory is taken, and nothing is written. A single new key is inserted, as [`Set::insert`] does it. Where
-    /// there are more, the call reads both anew, makes a tree of the union with the fewest nodes beside the old one, and frees that. Until it
-    /// returns it takes memory for a list of the union then, which grows as it is filled.
+    /// Reads both sets side by side, up to the second new key, with at most one comparison for each key of either. Where nothing is new,
+    /// that is all: no node and no memory is taken, and nothing is written. A single new key is inserted, as [`Set::insert`] does it.
+    /// Where there are more, the call reads both anew, makes a tree of the union with the fewest nodes beside the old one, and frees
+    /// that. Until it returns it takes memory for a list of the union then, which grows as it is filled.
     ///
     /// Other handles to this set's tree are not live where a key was new. Where both are one set, nothing is new.
     ///

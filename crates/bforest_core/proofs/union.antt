@@ -35,4 +35,3 @@ pub mod FrontTree
 pub mod CutTree
 pub mod Needs
 pub mod Building
-pub mod Filling

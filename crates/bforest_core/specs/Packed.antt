@@ -7,10 +7,6 @@ use Rattle.bforest_core.specs.Removal.{numbers_under}
 use Rattle.bforest_core.specs.Table.{Table}
 use Rattle.bforest_core.specs.Trades.{Draws}
 
--- the entries of a set with these keys: the value of each is the unit
-abbrev pub with_unit : {K : Type 0} → List K → List (K × Unit {0})
-with_unit keys = map (λ k. (k, tt)) keys
-
 -- all nodes of the level have `most` entries or children but the last, which has at most so many
 abbrev pub IsPackedLevel : ℕ → List ℕ → Type 0
 IsPackedLevel most [] = Unit {0}

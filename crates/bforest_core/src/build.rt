@@ -9,8 +9,7 @@ ghost use Rattle.bforest_core.specs.Table.{IsUsed, NeedsGrowth, free_count, fron
 
 use crate::access::put_child;
 use crate::pool::{NodePool, OutOfMemory};
-use crate::source::Source;
-use bforest_nodes::{Node, NodeData};
+use bforest_nodes::{Node, Source};
 
 /// The most children of an inner node.
 const INNER_SIZE: usize = 8;
@@ -99,7 +98,7 @@ impl<K: Copy, V: Copy, const N: usize> NodePool<K, V, N> {
         ensures used { IsUsed self.new result }
     {
         let leaf = self.take_slot();
-        fill(self.node_mut(leaf), entries);
+        self.node_mut(leaf).leaf_of(entries);
         leaf
     }
 }
@@ -129,19 +128,4 @@ fn first_key<K: Copy, V: Copy, S: Source<K, V>>(entries: S) -> K
     ensures { (entry : K × V) → slice_get (S.list entries) 0 ≡ Some entry → result ≡ entry.0 }
 {
     entries.entry(0).0
-}
-
-// Makes a slot a leaf of these entries, whatever it held.
-#[inline(always)]
-fn fill<K: Copy, V: Copy, const N: usize, S: Source<K, V>>(node: &mut NodeData<K, V, N>, entries: S)
-    requires some { 0 < length (S.list entries) }
-    requires few { length (S.list entries) ≤ N }
-    ensures node { node.new ≡ leaf_content (S.list entries) }
-{
-    let (key, value) = entries.entry(0);
-    node.leaf(key, value);
-    for index in 1..entries.len() {
-        let (key, value) = entries.entry(index);
-        node.try_leaf_insert(index, key, value);
-    }
 }

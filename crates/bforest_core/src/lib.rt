@@ -13,13 +13,13 @@ mod count;
 mod leaf;
 mod path;
 mod pool;
-mod source;
 mod spot;
 mod trees;
 mod value;
 
-pub use bforest_nodes::{Comparator, Node, NodeData, PackedNode, Removed, SetValue, SplitOff};
+pub use bforest_nodes::{
+    Comparator, Node, NodeData, PackedNode, Removed, SetValue, Source, SplitOff,
+};
 pub use path::{Path, Way};
 pub use pool::{NodePool, OutOfMemory};
-pub use source::Source;
 pub use spot::Spot;

@@ -15,3 +15,4 @@ pub mod Scanned
 pub mod Bounds
 mod Halves
 mod Puts
+pub mod Filling

@@ -2,8 +2,12 @@
 use Rattle.std.specs.List.Sorted.{IsStrictlySortedBy}
 use Rattle.std.specs.Map.{keys_of}
 use Rattle.std.specs.Ordering.{is_eq, is_lt}
-use Rattle.std.specs.Prelude.{Bool, Err, List, Ok, Option, None, Result, Some, [], count_by, if◌then◌else◌, insert, is_some, option_and_then, option_map, remove, slice_get, suc, zero, ◌∷◌, ℕ}
+use Rattle.std.specs.Prelude.{Bool, Err, List, Ok, Option, None, Result, Some, [], count_by, if◌then◌else◌, insert, is_some, map, option_and_then, option_map, remove, slice_get, suc, zero, ◌∷◌, ℕ}
 use Rattle.std.specs.declared.cmp.Ordering.{Ordering}
+
+-- the entries of a set with these keys: the value of each is the unit
+abbrev pub with_unit : {K : Type 0} → List K → List (K × Unit {0})
+with_unit keys = map (λ k. (k, tt)) keys
 
 -- the list with v as the value of the entry at p
 abbrev pub with_value : {K X : Type 0} → List (K × X) → ℕ → X → List (K × X)

@@ -1,8 +1,9 @@
 -- How a `NodeData` keeps its content. No public clause cites this module.
 use Rattle.bforest_nodes.specs.Content.{Content, Free, Inner, Leaf}
+use Rattle.bforest_nodes.specs.declared.entries.Entries.{Entries as LeafEntries}
 use Rattle.bforest_nodes.specs.declared.node.State.TheVariants.{Branch, Entries, Vacant}
 use Rattle.bforest_nodes.specs.declared.node.State.{State}
-use Rattle.std.specs.Prelude.{take, ◌+◌, ◌≤◌, ℕ}
+use Rattle.std.specs.Prelude.{List, map, take, ◌+◌, ◌≡◌, ◌≤◌, ℕ}
 
 module _ {K V : Type 0} {n : ℕ} where
   -- the content that a state represents
@@ -16,3 +17,8 @@ module _ {K V : Type 0} {n : ℕ} where
   Fits (Branch size keys tree) = size ≤ 7
   Fits (Entries size e) = size ≤ n
   Fits (Vacant next) = Unit {0}
+
+  -- the first entries are the first of these
+  pub record HasFront (count : ℕ) (entries : List (K × V)) (e : LeafEntries K V n) : Type 0 where
+    pub keys : take count e.keys.items ≡ map (λ entry. entry.0) (take count entries)
+    pub vals : take count e.vals.items ≡ map (λ entry. entry.1) (take count entries)

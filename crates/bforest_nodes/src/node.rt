@@ -10,6 +10,7 @@ use crate::entries::Entries;
 use crate::half::{answer_of, left_half_of};
 use crate::number::{Node, PackedNode};
 use crate::row::Row;
+use crate::source::Source;
 use std::alloc::{AllocError, Global};
 use std::marker::Model;
 
@@ -206,16 +207,19 @@ impl<K: Copy, V: Copy, const N: usize> NodeData<K, V, N> {
     }
 
     /// Makes the slot a leaf of these entries, 1 to `N`, whatever it held.
-    pub fn leaf_of(&mut self, entries: &[(K, V)])
-        requires some { 0 < length entries.now }
-        requires few { length entries.now ≤ N }
-        ensures node { self.new ≡ Leaf (map (λ e. e.0) entries.now) (map (λ e. e.1) entries.now) }
+    pub fn leaf_of<S: Source<K, V>>(&mut self, entries: S)
+        requires some { 0 < length (S.list entries) }
+        requires few { length (S.list entries) ≤ N }
+        ensures node { self.new ≡ Leaf (map (λ e. e.0) (S.list entries)) (map (λ e. e.1) (S.list entries)) }
     {
-        let (key, value) = entries[0];
+        let (key, value) = entries.entry(0);
         self.leaf(key, value);
-        for index in 1..entries.len() {
-            let (key, value) = entries[index];
-            self.try_leaf_insert(index, key, value);
+        match &mut self.state {
+            State::Entries(size, leaf) => {
+                leaf.fill(entries);
+                *size = entries.len() as u8;
+            }
+            _ => unreachable!(),
         }
     }
 

@@ -37,4 +37,3 @@ pub mod Loading
 pub mod Unordered
 pub mod unions
 pub mod Packing
-pub mod Fewest

@@ -6,8 +6,10 @@ use Rattle.bforest_core.specs.Place.{count}
 use Rattle.bforest_core.specs.Sizes.{loss, loss_above, shrink, trimmed, without_next}
 use Rattle.bforest_core.specs.Table.{Table}
 use Rattle.bforest_core.specs.declared.path.Path.{Path}
+use Rattle.bforest_core.proofs.table.Lists.{drop_remove}
+use Rattle.bforest_nodes.proofs.Seams.{slice_get-drop}
 use Rattle.bforest_nodes.specs.Entries.{with_value}
-use Rattle.std.proofs.Common.{Bool, IfSome, List, None, Option, Some, [], ap, arith, drop, false, length, refl, remove, slice_get, suc, take, zero, ◌++◌, ◌<◌, ◌∷◌, ◌≡◌, ◌≢◌, ◌≤◌, ◌↔◌, ℕ}
+use Rattle.std.proofs.Common.{Bool, IfSome, List, None, Option, Some, [], ap, arith, drop, false, length, refl, remove, slice_get, suc, sym, take, zero, ◌++◌, ◌<◌, ◌∙◌, ◌∷◌, ◌≡◌, ◌≢◌, ◌≤◌, ◌↔◌, ℕ}
 
 module _ {K X : Type 0} where
   pub length_written : (xs : List (K × X)) (p : ℕ) (w : X) → length (with_value xs p w) ≡ length xs
@@ -25,6 +27,13 @@ module _ {K X : Type 0} where
   take_written [] (suc p) w e here ks = absurd (cc)
   take_written (x ∷ xs) zero w e here ks = let same : x ≡ e = cc in ap (λ z. (z.0, w) ∷ ks) same
   take_written (x ∷ xs) (suc p) w e here ks = ap (λ l. x ∷ l) (take_written xs p w e here ks)
+
+  -- the entry behind one that is written, or that goes
+  pub read-written : (xs : List (K × X)) (p : ℕ) (w : X) → slice_get (with_value xs p w) (suc p) ≡ slice_get xs (suc p)
+  read-written xs p w = sym (slice_get-drop (with_value xs p w) (suc p)) ∙ ap (λ l. slice_get l 0) (drop_written xs p w) ∙ slice_get-drop xs (suc p)
+
+  pub read-removed : (xs : List (K × X)) (p : ℕ) → p < length xs → slice_get (remove xs p) p ≡ slice_get xs (suc p)
+  read-removed xs p low = sym (slice_get-drop (remove xs p) p) ∙ ap (λ l. slice_get l 0) (drop_remove xs p low) ∙ slice_get-drop xs (suc p)
 
 -- trimming levels adds none
 trimmed_fewer : (levels : List (List ℕ)) → length (trimmed levels) ≤ length levels

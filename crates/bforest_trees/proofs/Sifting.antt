@@ -16,8 +16,9 @@ use Rattle.bforest_core.specs.Sizes.{shrink}
 use Rattle.bforest_core.specs.Table.{Table}
 use Rattle.bforest_core.specs.Trees.{IsUnion, is_root}
 use Rattle.bforest_core.specs.declared.path.Path.{Path}
+use Rattle.bforest_nodes.proofs.Seams.{slice_get-drop}
 use Rattle.bforest_nodes.specs.Entries.{with_value}
-use Rattle.std.proofs.Common.{Bool, IsTrue, List, None, Some, [], ap, append-nil, arith, drop, false, if◌then◌else◌, inl, inr, length, refl, remove, slice_get, subst, suc, sym, take, true, ◌++◌, ◌-◌, ◌<◌, ◌∙◌, ◌∷◌, ◌≡◌, ◌≢◌, ◌≤◌, ◌↔◌, ℕ}
+use Rattle.std.proofs.Common.{Bool, IsTrue, List, None, Option, Some, [], ap, append-nil, arith, drop, false, if◌then◌else◌, inl, inr, length, refl, remove, slice_get, subst, suc, sym, take, true, ◌++◌, ◌-◌, ◌<◌, ◌∙◌, ◌∷◌, ◌≡◌, ◌≢◌, ◌≤◌, ◌↔◌, ℕ}
 use Rattle.std.proofs.lemmas.Bool.Decides.{eqb_tells}
 use Rattle.std.proofs.lemmas.Bool.{cases_lt}
 use Rattle.std.proofs.lemmas.List.{drop_all, length-drop, take_all}
@@ -50,6 +51,11 @@ module _ {F K X : Type 0} {most : ℕ} {step : F → K → X → Bool → X → 
     same = λ e. refl;
     gone = λ ne. absurd (ne refl);
   }
+
+  pub sifting-first-read : {path : Path K X most} (union : IsUnion most old) (s : StandsOn old first path 0) (ready : MayAskEach step may f₀ (list_under old first)) {e : K × X}
+      → slice_get (list_under old first) 0 ≡ Some e → Some e ≡ slice_get (list_under old first) (sifting-first union s ready).place
+  unfolding sifting-first
+  sifting-first-read union s ready is = sym is
 
   module _ {now : Table K X} {root : ℕ} {f : F} {path : Path K X most} (s : Sifting most step may old first f₀ now root f path) where
     -- after the last step all entries are asked
@@ -171,6 +177,16 @@ module _ {F K X : Type 0} {most : ℕ} {step : F → K → X → Bool → X → 
               omega (arith, less, ap length list_is),
             )
 
+        module _ (t : Stepped most step now new root root' path' f f' (list_under now root) (sizes_under now root) s.place k v) where
+          -- the entries that are left after a step are those behind the one here
+          pub sifting-rest : entries_from new path' ≡ drop (suc s.place) (list_under now root)
+          sifting-rest = go t.stays t.left t.changes.list_is t.at
+            where
+              go : (b : Bool) (w : X) → list_under new root' ≡ (if b then with_value (list_under now root) s.place w else remove (list_under now root) s.place)
+                  → StandsAt new root' path' (if b then suc s.place else s.place) → entries_from new path' ≡ drop (suc s.place) (list_under now root)
+              go true w is at = left-at new root' path' (suc s.place) t.changes.union at ∙ ap (drop (suc s.place)) is ∙ drop_written (list_under now root) s.place w
+              go false w is at = left-at new root' path' s.place t.changes.union at ∙ ap (drop s.place) is ∙ drop_remove (list_under now root) s.place (slice_get_within (list_under now root) s.place (k, v) (sym here))
+
         -- a step at the entry here leads to the next state of the loop
         pub sifting-next : Stepped most step now new root root' path' f f' (list_under now root) (sizes_under now root) s.place k v → (n : Sifting most step may old first f₀ new root' f' path') × (length (list_under new root') - n.place < length (list_under now root) - s.place)
         sifting-next t = go t.stays t.left t.stepped t.changes t.gives t.at t.same_root t.freed_root
@@ -193,3 +209,10 @@ module _ {F K X : Type 0} {most : ℕ} {step : F → K → X → Bool → X → 
                 (drop_remove (list_under now root) s.place low)
                 (λ ks. take_remove (list_under now root) s.place low ks) ch gv at level freed
                 (omega (arith, low, length_remove (list_under now root) s.place low))
+
+        -- and to the entry that is the next one
+        pub sifting-read : (t : Stepped most step now new root root' path' f f' (list_under now root) (sizes_under now root) s.place k v) → {read : Option (K × X)}
+            → read ≡ slice_get (list_under now root) (suc s.place) → read ≡ slice_get (list_under new root') (sifting-next t).0.place
+        sifting-read t is = let n = (sifting-next t).0 in
+            is ∙ sym (slice_get-drop (list_under now root) (suc s.place)) ∙ ap (λ l. slice_get l 0) (sym (sifting-rest t) ∙ left-at new root' path' n.place n.changes.union n.at)
+            ∙ slice_get-drop (list_under new root') n.place

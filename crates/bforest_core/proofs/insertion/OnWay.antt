@@ -28,10 +28,6 @@ inserted-at put same = record {
 module _ {K V : Type 0} {most : ℕ} {t : Table K V} {root place index : ℕ} {way : Way} (union : IsUnion most t) (w : PlacedOn t root way index place) where
   open w use {path, indices, size, follows as f}
 
-  -- the same, of the tree under the root
-  abbrev pub placed-in : PlacedIn most t way index (tree_of t.nodes root) place
-  placed-in = record { path = path; indices = indices; size = size; follows = f; index_is = w.index_is; placed = placed-under most t union w.placed }
-
   p : Placed most t path indices size (tree_of t.nodes root) place
   p = placed-under most t union w.placed
 

@@ -2,9 +2,9 @@
 use Rattle.bforest_core.proofs.Words.{◌≡◌, ℕ, suc, ◌+◌, ◌≤◌, List, [], ◌∷◌, ◌++◌, map, length, refl, sym, ap, ◌∙◌, length-append, arith, Row, Rows, flat_map}
 use Rattle.bforest_core.proofs.Words.{flat_map-append, Table, node, flat, heads, sizes, numbers, Stacked, RowsIn, count, root_above, UpTo, Trimmed, zero, Reduced, subst, trimmed}
 use Rattle.bforest_core.proofs.Words.{nodes_up, FitRow, RowIn, Frees, remove, Tree, half_of, leaf_content, root_of, numbers_of, Stands, IsPathAt, StandsIn}
-use Rattle.bforest_core.proofs.Words.{Bool, Keeps, Removed, sizes_of, ◌<◌, Some, get_or, loss_above, TwoAbove, Rebuilt, Healed, Joined, ◌⊎◌, inr, LeafLoss, Solid}
-use Rattle.bforest_core.proofs.removal.Collapse.{length-sizes, rows-parts, topped-above, trimmed-is, trim_none, stands-below, topped-sizes}
-use Rattle.bforest_core.proofs.removal.Merge.{lost, Restored, Restores, Stays, healed_restored, joined_restored, kept_restored, lost_is, low, merge_asks, placed}
+use Rattle.bforest_core.proofs.Words.{Keeps, Removed, sizes_of, ◌<◌, Some, get_or, loss_above, TwoAbove, Rebuilt, Healed, Joined, ◌⊎◌, inr, LeafLoss, Solid}
+use Rattle.bforest_core.proofs.removal.Collapse.{length-sizes, rows-parts, trimmed-is, trim_none, stands-below, topped-sizes}
+use Rattle.bforest_core.proofs.removal.Merge.{lost, Restored, Restores, Stays, healed_restored, joined_restored, kept_restored, low, merge_asks}
 use Rattle.bforest_core.proofs.{removal.Rebalance.judged, table.Tables.{count-append, rows-same, row-same}, rows.Tops.{root-stands, top_tree}}
 use Rattle.bforest_core.proofs.{rows.LevelRows.{least-pos, flat-append, FitRow-split, Solid-full}, walks.RowNodes.fit_full, table.Trading.frees-then}
 
@@ -215,18 +215,6 @@ module _ {K V : Type 0} {most : ℕ} {old mid : Table K V} {path indices size tr
 
       pub collapse_asks : (rows : _) × (list : _) × UpTo new size2 rows list root
       collapse_asks = (joined.1.0.0.rows, heads joined.1.0.0.row, up_here s half root_is joined.1.0.0 joined.1.0.1 size2_is)
-
-      -- the removal is complete where the level of the parents keeps its nodes: no root is discarded
-      pub joined_kept : {low low' : List ℕ} {high : List (List ℕ)} → map sizes l.rest ≡ low ∷ high → loss_above (Some (length (heads l.before))) (map sizes l.rest) ≡ low' ∷ high
-          → length low' ≡ length low → 2 ≤ length l.before + suc (length j.after')
-          → Removed most old new path (λ z. place < length (flat z.leaves) → IsPathAt path' indices' size2 z place) tree place root
-      joined_kept {low' = low'} {high} was is same two = let r = joined.1 in let row = r.0.0 in let len = Solid-full (half_of most) most half l.before l.solid in
-          let sizes_are : sizes row.row ∷ map sizes row.rows ≡ (sizes l.before ++ (length (l.entries ++ j.right_entries) ∷ sizes j.after')) ∷ loss_above (Some (length l.before)) (map sizes l.rest) =
-          row.sizes_are ∙ lost_is l.loss ∙ ap (λ (w : Bool × List ℕ). (sizes l.before ++ w.1) ∷ loss_above (placed (length l.before) w.0) (map sizes l.rest)) j.outcome in
-          let above : map sizes row.rows ≡ low' ∷ high = cc in
-          let leaves : sizes row.row ≡ sizes l.before ++ (length (l.entries ++ j.right_entries) ∷ sizes j.after') = cc in
-          let many : 2 ≤ length (heads row.row) = omega (arith, fit_full _ _ half _ row.fit, length-sizes row.row, ap length leaves, length-append (sizes l.before) (length (l.entries ++ j.right_entries) ∷ sizes j.after'), length-sizes l.before, length-sizes j.after') in
-          completed r.0 (suc joined.0) refl r.1 (trim_none (up_here s half root_is r.0.0 r.0.1 size2_is) (topped-above _ _ _ _ s.fit.stacked row.above.stacked many (sizes_were.1 ∙ was) above same s.fit.topped)) size2_is
 
       -- the removal is complete after roots with a single child were discarded
       pub joined_removed : {new2 path2 indices2 size3 root' : _}

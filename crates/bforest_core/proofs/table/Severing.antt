@@ -1,5 +1,5 @@
 -- Severing a node: its rest stays in a copy that was the front of the chain, and its first part in the node.
-use Rattle.bforest_core.proofs.Words.{◌≡◌, ◌≢◌, ℕ, [], ◌∷◌, length, length-set, refl, sym, ap, ◌∙◌, arith, Some, slice_get, slice_get_within}
+use Rattle.bforest_core.proofs.Words.{◌≡◌, ◌≢◌, ℕ, [], ◌∷◌, length, refl, sym, ap, ◌∙◌, arith, Some, slice_get, slice_get_within}
 use Rattle.bforest_core.proofs.Words.{Content, Table, IsUsed, count, front_of, with_front, with_node}
 use Rattle.bforest_core.proofs.table.{Pools.{apart_front, off-without_front, with_front-is}, Stored.some_same, Tables.{count-append, length-with_front}, Trading.{Puts, Takes, apart_from, draws-after, puts, takes}}
 use Rattle.bforest_core.specs.Detach.{Severs}
@@ -42,10 +42,4 @@ module _ {K V : Type 0} {t t1 : Table K V} {node behind : ℕ} {content : Conten
       there = p.others behind (apart_from behind node apart) ∙ cut-copy.here ∙ ap Some back-is;
       draws = draws-after (node ∷ []) (node ∷ behind ∷ []) (λ m. omega (arith, count-append m (node ∷ []) (behind ∷ [])))
           (draws-after [] (behind ∷ []) (λ m. omega arith) took.draws cut-copy.frees) p.frees;
-    }
-
-    pub behind-used : (first : Content K V) → IsUsed (with_node (with_node t1 behind back) node first) behind
-    behind-used first = record {
-      within = omega (arith, there.within, length-set t1.nodes behind back, length-set (with_node t1 behind back).nodes node first);
-      off_chain = there.off_chain;
     }

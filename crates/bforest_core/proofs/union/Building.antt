@@ -69,9 +69,6 @@ module _ {K V : Type 0} where
   pub over-room : {most : ℕ} {old mid : Table K V} {es : List (K × V)} {level number : ℕ} → Built most old mid es level number → need_of most level (length es) < length old.chain → 0 < length mid.chain
   over-room {mid = mid} b room = omega (arith, room, b.packs.many, length-same (numbers_under b.leaves b.lower) (b.taken ++ []) b.draws.numbers_are, length-append b.taken [], ap length b.draws.chain_is, length-append b.taken mid.chain)
 
-  pub built-apart : {most : ℕ} {old mid : Table K V} {es : List (K × V)} {level number : ℕ} → Built most old mid es level number → Distinct old.chain → Distinct mid.chain
-  built-apart b apart m = omega (arith, apart m, ap (count m) b.draws.chain_is, count-append)
-
   -- packed nodes lie in any table that agrees on their slots
   packs-later : {most : ℕ} {old : Table K V} (new : Table K V) {entries : List (K × V)} {level : ℕ} {leaves : Row K V} {lower : Rows K} {top : Heads K} → Packs most old entries level leaves lower top
       → ((m : ℕ) → 0 < count m (numbers_under leaves lower) → slice_get new.nodes m ≡ slice_get old.nodes m) → Packs most new entries level leaves lower top

@@ -182,20 +182,6 @@ module _ {K V : Type 0} {most : ℕ} (capacity : IsLeafCapacity most) {old : Tab
         let only : Says (node number es ∷ []) [] = omega (arith, ap (λ z. node_count (z ∷ [])) front_is, ap (λ z. node_count (z ∷ [])) behind_is) in
         subst (λ z. Says z lower) (sym (leaf-row capacity b at_leaf)) (subst (λ z. Says (node number es ∷ []) z) (sym bare) only)
 
-    -- how many of its nodes have entries on both sides
-    pub leaf-severed : (r : ℕ) → (get_or indices level 0 ≡ 0 → r ≡ 0) → (get_or indices level 0 ≢ 0 → r ≡ 1) →
-        (r + node_count (row_sizes leaves lower) ≡ node_count (fronts place (row_sizes leaves lower)) + node_count (backs place (row_sizes leaves lower))) × ((r ≡ 0) ↔ (place ≡ 0))
-    leaf-severed r none some = elim (cases_lt 0 place) [
-      | inl more ↦ (
-          let ne : place ≢ 0 = λ z. omega (arith, z, more) in let is = some (λ z. ne (few.0 ∙ z)) in
-          (omega (arith, is, leaf-tally ne), (λ z. omega (arith, z, is), λ z. absurd (ne z)))
-          )
-      | inr not ↦ (
-          let zero_is : place ≡ 0 = omega arith in let is = none (sym few.0 ∙ zero_is) in
-          (omega (arith, is, whole-tally leaves lower place zero_is), (λ z. zero_is, λ z. is))
-          )
-    ]
-
     pub leaf-room : (free : ℕ) → node_count (fronts place (row_sizes leaves lower)) + node_count (backs place (row_sizes leaves lower)) ≤ node_count (row_sizes leaves lower) + free → get_or indices level 0 ≢ 0 → 0 < free
     leaf-room free room some = omega (arith, room, leaf-tally (λ z. some (sym few.0 ∙ z)))
 

@@ -1,7 +1,7 @@
 -- A leaf of one entry in a free node, or in a new slot where no node is free: the answers of `alloc_node` and `push_leaf`.
 use Rattle.bforest_core.proofs.Words.{◌≡◌, ℕ, ◌+◌, ◌-◌, ◌≤◌, ◌<◌, List, [], ◌∷◌, ◌++◌, length, Err, None, Ok, Some, refl, sym, ap, arith, length-append, set_at}
-use Rattle.bforest_core.proofs.Words.{AllocatesLeaf, Content, Free, IsDistinct, IsPool, IsUsed, Leaf, Table, chain_from, free_count, front_of, reserved, with_front, with_node, without_front, ◌∙◌}
-use Rattle.bforest_core.proofs.{table.Allocating.{finds_room, grows-by, grows-not, needs_growth, reserved-enough, taken-memory, taken_is, used_written}, table.Pools.IsPool-made, union.Planting.planted-alloc}
+use Rattle.bforest_core.proofs.Words.{AllocatesLeaf, Content, Free, IsPool, IsUsed, Leaf, Table, chain_from, free_count, front_of, reserved, with_front, with_node, without_front, ◌∙◌}
+use Rattle.bforest_core.proofs.{table.Allocating.{finds_room, grows-by, grows-not, needs_growth, reserved-enough, taken-memory, taken_is, used_written}, union.Planting.planted-alloc}
 use Rattle.bforest_core.specs.declared.pool.OutOfMemory.TheVariants.{Memory}
 use Rattle.std.proofs.Common.{max, ◌*◌}
 
@@ -32,12 +32,6 @@ module _ {K V : Type 0} {most : ℕ} {nodes : List (Content K V)} {first : _} {f
   -- the number of the new slot is the front of a free list to which one slot was added
   new-front : (held : ℕ) → front_of (reserved t 1 held).chain ≡ Some (length nodes)
   new-front held = let end : length nodes + 0 ≡ length nodes = omega arith in rw (← view, none-free) (ap Some end)
-
-  -- the pool with the new slot
-  pub pushed-pool : (leaf : Content K V) → length nodes < limit → IsPool most (nodes ++ leaf ∷ []) first free limit
-  unfolding IsDistinct
-  pushed-pool leaf low = rw none-free (IsPool-made (nodes ++ leaf ∷ []) [] first 0 limit pool.capacity (rw none-free at pool).linked refl tt
-      (omega (arith, low, length-append nodes (leaf ∷ []))) pool.limit_within).0
 
   -- the table with the new slot
   abbrev pushed : (leaf : Content K V) → ℕ → Table K V

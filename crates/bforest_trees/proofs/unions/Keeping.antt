@@ -1,5 +1,5 @@
 -- What the loop of `keep` has done: a path in the tree whose entries are kept, and one beside it in the other tree.
-use Rattle.bforest_core.proofs.table.Lists.{drop-read, drop_remove, length_remove}
+use Rattle.bforest_core.proofs.table.Lists.{drop-read, length_remove}
 use Rattle.bforest_core.proofs.walks.Standing.{at-on, on-at, on-within}
 use Rattle.bforest_core.specs.Levels.{flat}
 use Rattle.bforest_core.specs.Paths.{OnEntry, RemovesHere, Standing, StandsAt, StandsOn, list_under, sizes_under}
@@ -12,8 +12,8 @@ use Rattle.bforest_nodes.proofs.Seams.{slice_get-drop}
 use Rattle.bforest_nodes.specs.Entries.{IsIncreasing, is_present, place, with_value}
 use Rattle.bforest_trees.proofs.Cutting.{changes-none, gives-none}
 use Rattle.bforest_trees.proofs.Reading.{left-at}
-use Rattle.bforest_trees.proofs.Sifted.{drop_written, sifted-out}
-use Rattle.bforest_trees.proofs.Sifting.{Sifting, sifting-first, sifting-last, sifting-next, sifting-none, sifting-stands}
+use Rattle.bforest_trees.proofs.Sifted.{read-removed, sifted-out}
+use Rattle.bforest_trees.proofs.Sifting.{Sifting, sifting-first, sifting-last, sifting-next, sifting-none, sifting-rest, sifting-stands}
 use Rattle.bforest_trees.proofs.unions.Choosing.{place-at, place-behind, place-end, place-grows}
 use Rattle.bforest_trees.specs.Keep.{Kept, Nears, Reaches, Steps, Tells}
 use Rattle.bforest_trees.specs.Layout.{entries_from}
@@ -82,8 +82,7 @@ module _ {K X : Type 0} {most : ℕ} {old : Table K X} {root : ℕ} {path path' 
       read_is = λ place stands.
           let at : OnEntry old path = record { root = root; place = place; on = stands } in
           let list = list_under old root in
-          value (record { root = root'; place = place; at = r.stands at }) ∙ ap (λ l. slice_get l place) (r.removed at).list_is ∙ sym (slice_get-drop (remove list place) place)
-          ∙ ap (λ l. slice_get l 0) (drop_remove list place (on-within old path stands)) ∙ slice_get-drop list (suc place);
+          value (record { root = root'; place = place; at = r.stands at }) ∙ ap (λ l. slice_get l place) (r.removed at).list_is ∙ read-removed list place (on-within old path stands);
       stepped = λ cmp present others place k v told stands here.
           let at : OnEntry old path = record { root = root; place = place; on = stands } in
           sifted-out most (Tells cmp present others) old new root path' tt tt (list_under old root) (sizes_under old root) place k v v
@@ -298,11 +297,7 @@ module _ {K X : Type 0} {most : ℕ} {cmp : K → K → Ordering} {present : Boo
 
             -- the entries that are left are those behind the one here
             rest : entries_from new path' ≡ drop (suc s.sift.place) (list_under now root)
-            rest = go t.stays t.left t.changes.list_is t.at
-              where
-                go : (b : Bool) (w : X) → list_under new root' ≡ (if b then with_value (list_under now root) s.sift.place w else remove (list_under now root) s.sift.place) → StandsAt new root' path' (if b then suc s.sift.place else s.sift.place) → entries_from new path' ≡ drop (suc s.sift.place) (list_under now root)
-                go true w is at = left-at new root' path' (suc s.sift.place) t.changes.union at ∙ ap (drop (suc s.sift.place)) is ∙ drop_written (list_under now root) s.sift.place w
-                go false w is at = left-at new root' path' s.sift.place t.changes.union at ∙ ap (drop s.sift.place) is ∙ drop_remove (list_under now root) s.sift.place low
+            rest = sifting-rest s.sift here t
 
             up_here : IsIncreasing cmp ((k, v) ∷ drop (suc s.sift.place) (list_under now root))
             up_here = subst (IsIncreasing cmp) left s.up

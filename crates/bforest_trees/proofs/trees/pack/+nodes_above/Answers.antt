@@ -1,5 +1,5 @@
 use Rattle.std.proofs.Common.{arith}
-use Rattle.bforest_trees.proofs.Fewest.{parents-few}
+use Rattle.bforest_trees.proofs.unions.Fewest.{parents-few}
 use Rattle.bforest_trees.proofs.trees.pack.+nodes_above.Goals as goal
 
 pub nodes_above-requires : goal.nodes_above-requires

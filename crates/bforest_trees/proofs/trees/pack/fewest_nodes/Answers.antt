@@ -1,5 +1,5 @@
 use Rattle.std.proofs.Common.{arith}
-use Rattle.bforest_trees.proofs.Fewest.{fewest-is}
+use Rattle.bforest_trees.proofs.unions.Fewest.{fewest-is}
 use Rattle.bforest_trees.proofs.trees.pack.fewest_nodes.Goals as goal
 
 pub returns : goal.returns

@@ -1,8 +1,8 @@
 //! Entries that are given in order.
-ghost use Rattle.bforest_core.specs.Packed.{with_unit};
+ghost use Rattle.bforest_nodes.specs.Entries.{with_unit};
 ghost use Rattle.std.specs.Prelude.{List, Some, drop, length, slice_get, take, ◌<◌, ◌≡◌, ◌≤◌};
 
-use bforest_nodes::SetValue;
+use crate::set_value::SetValue;
 
 /// A list of entries that is asked for its length, for the entry at an index, and for a part.
 pub trait Source<K, V>: Copy {
