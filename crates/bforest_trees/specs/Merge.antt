@@ -74,6 +74,12 @@ module _ {K X : Type 0} {n : ℕ} where
       pub reader : IsReader table first'
       pub second_reader : IsReader table second'
 
+    -- the entry that comes first of what is left to two readers was taken off, if there is one
+    pub record TakesLeast (cmp : K → K → Ordering) (first second : Reader K X n) (found : Option (K × X)) (first' second' : Reader K X n) : Type 0 where
+      pub none : found ≡ None → front_order cmp (left_of table first) (left_of table second) ≡ None
+      pub some : (e : K × X) → found ≡ Some e
+          → (order : Ordering) × (front_order cmp (left_of table first) (left_of table second) ≡ Some order) × TakesFrom order first second e first' second'
+
 -- an entry was taken off what is left to two readers, and returned where it is the second's alone
 pub record TakesNew {K X : Type 0} {n : ℕ} (order : Ordering) (first second : Reader K X n) (found : Option (K × X)) (first' second' : Reader K X n) : Type 0 where
   pub entry : K × X

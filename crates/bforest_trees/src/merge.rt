@@ -1,8 +1,7 @@
 //! Reading two trees side by side, in the order of their keys.
-ghost use Rattle.bforest_core.specs.Table.{Table};
 ghost use Rattle.bforest_nodes.specs.Entries.{IsIncreasing};
 ghost use Rattle.bforest_trees.specs.Layout.{IsReader, left_of};
-ghost use Rattle.bforest_trees.specs.Merge.{CanTake, Compares, Finds, HoldsNext, TakesFrom, TakesNew};
+ghost use Rattle.bforest_trees.specs.Merge.{CanTake, Compares, Finds, HoldsNext, TakesLeast, TakesNew};
 ghost use Rattle.std.specs.Prelude.{Some};
 
 use crate::reader::Reader;
@@ -52,30 +51,37 @@ pub(crate) fn next_order<'a, K: Copy, V: Copy, const N: usize, C: Comparator<K>>
     }
 }
 
-/// Takes the lesser of the next entries of two readers off. Where they compare equal, both are taken off, and that of the first is
-/// returned.
+/// Takes the lesser of the next entries of two readers off, and returns it, or `None` where neither has one left. Where they compare equal,
+/// both are taken off, and that of the first is returned.
 #[inline(always)]
-pub(crate) fn take<'a, K: Copy, V: Copy, const N: usize>(
-    order: Ordering,
+pub(crate) fn take_least<'a, K: Copy, V: Copy, const N: usize, C: Comparator<K>>(
     first: &mut Reader<'a, K, V, N>,
     second: &mut Reader<'a, K, V, N>,
-) -> (K, V)
-    requires holds { CanTake (Some order) first.old second.old }
-    ensures taken { (table : Table K V) → IsReader table first.old → IsReader table second.old
-        → TakesFrom table order first.old second.old result first.new second.new }
+    trees: &'a Trees<K, V, N>,
+    comp: &C,
+) -> Option<(K, V)>
+    requires first { IsReader trees.now first.old }
+    requires second { IsReader trees.now second.old }
+    ensures { TakesLeast trees.now (C.order comp.now) first.old second.old result first.new second.new }
 {
-    match order {
-        Ordering::Less => first.take_first(),
-        Ordering::Greater => second.take_first(),
-        Ordering::Equal => {
-            second.pass();
-            first.take_first()
-        }
+    if !first.has_next(trees) {
+        return second.next(trees);
     }
+    if !second.has_next(trees) {
+        return Some(first.take_first());
+    }
+    let order = comp.cmp(first.key(), second.key());
+    if order.is_gt() {
+        return Some(second.take_first());
+    }
+    if order.is_eq() {
+        second.pass();
+    }
+    Some(first.take_first())
 }
 
-/// Takes the lesser of the next entries of two readers off, as `take` does. Returns it where it is the other's alone, and else does not
-/// read it.
+/// Takes the lesser of the next entries of two readers off, or both where they compare equal. Returns that of the other where it is the
+/// lesser, and else reads none.
 #[inline(always)]
 pub(crate) fn take_new<'a, K: Copy, V: Copy, const N: usize>(
     order: Ordering,

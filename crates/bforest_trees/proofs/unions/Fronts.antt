@@ -1,10 +1,12 @@
 -- Two readers side by side: how their next entries compare, and taking one off.
 use Rattle.bforest_trees.proofs.Readers.{Taken, taken}
 use Rattle.bforest_trees.specs.Layout.{Entered, IsReader, left_of}
-use Rattle.bforest_trees.specs.Merge.{CanTake, Compares, HoldsNext, TakesFrom, TakesNew, TakesOff, front_order}
+use Rattle.bforest_trees.specs.Merge.{CanTake, Compares, HoldsNext, TakesFrom, TakesLeast, TakesNew, TakesOff, front_order}
 use Rattle.bforest_trees.specs.declared.reader.Reader.{Reader}
 use Rattle.bforest_core.specs.Table.{Table}
-use Rattle.std.proofs.Common.{List, None, Option, Some, [], ap, arith, length, refl, slice_get, subst, suc, sym, zero, ◌+◌, ◌<◌, ◌∙◌, ◌∷◌, ◌≡◌, ℕ}
+use Rattle.std.proofs.Common.{List, None, Option, Some, [], ap, arith, false, length, refl, slice_get, subst, suc, sym, true, zero, ◌+◌, ◌<◌, ◌∙◌, ◌∷◌, ◌≡◌, ℕ}
+use Rattle.std.specs.Iterator.{YieldsFirst}
+use Rattle.std.specs.Ordering.{is_eq, is_gt}
 use Rattle.std.specs.declared.cmp.Ordering.TheVariants.{Equal, Greater, Less}
 use Rattle.std.specs.declared.cmp.Ordering.{Ordering}
 
@@ -122,6 +124,20 @@ module _ {K X : Type 0} {n : ℕ} (table : Table K X) where
         let s = passed second second' k.0 second_is held k.1 second_moved in
         record { off = (t.left, (k.0, s.0), s.1.left); reader = t.reader; second_reader = s.1.reader }
 
+  -- the next entries of two readers were compared, and the first of them was taken off
+  took : {cmp : K → K → Ordering} {first second : Reader K X n} {answered : Option Ordering} {order : Ordering} {first1 second1 : Reader K X n} {e : K × X} {first2 second2 : Reader K X n}
+      → answered ≡ Some order → Compares table cmp first second answered first1 second1 → TakesFrom table order first1 second1 e first2 second2
+      → (front_order cmp (left_of table first) (left_of table second) ≡ Some order) × TakesFrom table order first second e first2 second2
+  took {second = second} {order = order} {first1} {e = e} {first2} {second2} is c t = (
+    sym c.order_is ∙ is,
+    record {
+      off = subst (λ z. TakesOff order z (left_of table second) e (left_of table first2) (left_of table second2)) c.left
+          (subst (λ z. TakesOff order (left_of table first1) z e (left_of table first2) (left_of table second2)) c.second_left t.off);
+      reader = t.reader;
+      second_reader = t.second_reader;
+    },
+  )
+
   -- one turn of a loop over two readers: their next entries were compared, and the first of them was taken off
   pub record Turn (cmp : K → K → Ordering) (first second : Reader K X n) (order : Ordering) (e : K × X) (first' second' : Reader K X n) : Type 0 where
     pub front_is : front_order cmp (left_of table first) (left_of table second) ≡ Some order
@@ -132,14 +148,73 @@ module _ {K X : Type 0} {n : ℕ} (table : Table K X) where
   pub turn : {cmp : K → K → Ordering} {first second : Reader K X n} {answered : Option Ordering} {order : Ordering} {first1 second1 : Reader K X n} {e : K × X} {first2 second2 : Reader K X n}
       → answered ≡ Some order → Compares table cmp first second answered first1 second1
       → ((t : Table K X) → IsReader t first1 → IsReader t second1 → TakesFrom t order first1 second1 e first2 second2) → Turn cmp first second order e first2 second2
-  turn {first = first} {second} {order = order} {first1} {second1} {e} {first2} {second2} is c takes =
-      let t = takes table c.reader c.second_reader in record {
-        front_is = sym c.order_is ∙ is;
-        off = subst (λ z. TakesOff order z (left_of table second) e (left_of table first2) (left_of table second2)) c.left
-            (subst (λ z. TakesOff order (left_of table first1) z e (left_of table first2) (left_of table second2)) c.second_left t.off);
-        reader = t.reader;
-        second_reader = t.second_reader;
-      }
+  turn is c takes = let t = took is c (takes table c.reader c.second_reader) in record { front_is = t.0; off = t.1.off; reader = t.1.reader; second_reader = t.1.second_reader }
+
+  module _ (cmp : K → K → Ordering) (first second : Reader K X n) where
+    -- the entry that comes first was taken off
+    pub least-took : (order : Ordering) {first1 second1 : Reader K X n} (e : K × X) {first2 second2 : Reader K X n} → Compares table cmp first second (Some order) first1 second1
+        → TakesFrom table order first1 second1 e first2 second2 → TakesLeast table cmp first second (Some e) first2 second2
+    least-took order e {first2} {second2} c t = record {
+      none = λ bad. absurd cc;
+      some = λ d is. let same : e ≡ d = cc in subst (λ z. (order : Ordering) × (front_order cmp (left_of table first) (left_of table second) ≡ Some order) × TakesFrom table order first second z first2 second2) same (let both = took refl c t in (order, both.0, both.1));
+    }
+
+    -- the second reader has no next entry
+    pub least-first : IsReader table first → {first1 : Reader K X n} → Entered table (left_of table first) first1 → IsReader table second → left_of table second ≡ [] → (second1 : Reader K X n) → second1 ≡ second
+        → (e : K × X) (first2 : Reader K X n) → slice_get first1.keys.now first1.index ≡ Some e.0 → slice_get first1.vals.now first1.index ≡ Some e.1 → first2 ≡ record first1 { index = first1.index + 1 }
+        → TakesLeast table cmp first second (Some e) first2 second1
+    least-first is {first1} d second_is over second1 same e first2 key value moved =
+        least-took Less e (compared-entered cmp first second is first1 d (Some Less) second1 (compared-first cmp first1 second d.reader_is (record { within = d.within; same = d.same }) second1 second_is over same))
+        (took-first first1 second1 d.reader_is (subst (IsReader table) (sym same) second_is) e first2 key value moved)
+
+    -- both went to their next entries, and their keys were compared
+    module _ (is : IsReader table first) {first1 second1 : Reader K X n} (d : Entered table (left_of table first) first1) (d2 : Entered table (left_of table second) second1) {k q : K}
+        (key : slice_get first1.keys.now first1.index ≡ Some k) (other : slice_get second1.keys.now second1.index ≡ Some q) {order : Ordering} (told : order ≡ cmp k q) (e : K × X) where
+      both : (r : Ordering) → order ≡ r → Compares table cmp first second (Some r) first1 second1
+      both r is_r = subst (λ z. Compares table cmp first second (Some z) first1 second1) is_r
+          (compared-entered cmp first second is first1 d (Some order) second1 (compared-both cmp first1 second d.reader_is (record { within = d.within; same = d.same }) second1 d2 k q key other order told))
+
+      pub least-greater : is_gt order ≡ true → (second2 : Reader K X n) → slice_get second1.keys.now second1.index ≡ Some e.0 → slice_get second1.vals.now second1.index ≡ Some e.1
+          → second2 ≡ record second1 { index = second1.index + 1 } → TakesLeast table cmp first second (Some e) first1 second2
+      least-greater greater second2 here value moved = go order refl greater
+        where
+          go : (r : Ordering) → order ≡ r → is_gt r ≡ true → TakesLeast table cmp first second (Some e) first1 second2
+          go Less is_r t = absurd cc
+          go Equal is_r t = absurd cc
+          go Greater is_r t = least-took Greater e (both Greater is_r) (took-second first1 second1 d.reader_is d2.reader_is e second2 here value moved)
+
+      module _ (not_greater : is_gt order ≡ false) (first2 second2 : Reader K X n) (here : slice_get first1.keys.now first1.index ≡ Some e.0) (value : slice_get first1.vals.now first1.index ≡ Some e.1)
+          (moved : first2 ≡ record first1 { index = first1.index + 1 }) where
+        pub least-equal : is_eq order ≡ true → second2 ≡ record second1 { index = second1.index + 1 } → TakesLeast table cmp first second (Some e) first2 second2
+        least-equal equal passes = go order refl equal
+          where
+            go : (r : Ordering) → order ≡ r → is_eq r ≡ true → TakesLeast table cmp first second (Some e) first2 second2
+            go Less is_r t = absurd cc
+            go Greater is_r t = absurd cc
+            go Equal is_r t = least-took Equal e (both Equal is_r) (took-both first1 second1 d.reader_is d2.reader_is e first2 second2 here value moved (record { within = d2.within; same = d2.same }) passes)
+
+        pub least-less : is_eq order ≡ false → second2 ≡ second1 → TakesLeast table cmp first second (Some e) first2 second2
+        least-less not_equal same = go order refl not_greater not_equal
+          where
+            go : (r : Ordering) → order ≡ r → is_gt r ≡ false → is_eq r ≡ false → TakesLeast table cmp first second (Some e) first2 second2
+            go Greater is_r t u = absurd cc
+            go Equal is_r t u = absurd cc
+            go Less is_r t u = subst (λ (z : Reader K X n). TakesLeast table cmp first second (Some e) first2 z) (sym same)
+                (least-took Less e (both Less is_r) (took-first first1 second1 d.reader_is d2.reader_is e first2 here value moved))
+
+    -- the first reader has no next entry
+    pub least-second : IsReader table first → left_of table first ≡ [] → (first' : Reader K X n) → first' ≡ first → (found : Option (K × X)) (second' : Reader K X n)
+        → YieldsFirst (left_of table) second found second' → IsReader table second' → TakesLeast table cmp first second found first' second'
+    least-second is over first' same None second' none reader =
+        subst (λ (z : Reader K X n). TakesLeast table cmp first second None z second') (sym same) (record { none = λ e. (λ j. front_order cmp (over j) (none.0 j)); some = λ e bad. absurd cc })
+    least-second is over first' same (Some x) second' some reader = subst (λ (z : Reader K X n). TakesLeast table cmp first second (Some x) z second') (sym same) (record {
+      none = λ bad. absurd cc;
+      some = λ e found. let x_is : x ≡ e = cc in (
+        Greater,
+        (λ j. front_order cmp (over j) (some j)),
+        record { off = (refl, some ∙ ap (λ z. z ∷ left_of table second') x_is); reader = is; second_reader = reader },
+      );
+    })
 
 module _ {K X : Type 0} {n : ℕ} (first second : Reader K X n) where
   -- an entry that is passed is not read

@@ -3,7 +3,7 @@ ghost use Rattle.bforest_trees.specs.Forest.{list_of};
 ghost use Rattle.bforest_trees.specs.Union.{AreSearchable, are_among, are_apart};
 ghost use Rattle.std.specs.Prelude.{◌≡◌};
 
-use crate::merge::{finds, order_of, take};
+use crate::merge::{finds, order_of, take_new};
 use crate::reader::Reader;
 use crate::trees::Trees;
 use bforest_core::{Comparator, PackedNode};
@@ -27,7 +27,7 @@ impl<K: Copy, V: Copy, const N: usize> Trees<K, V, N> {
             if order.is_lt() {
                 return false;
             }
-            take(order, &mut first, &mut second);
+            take_new(order, &mut first, &mut second);
         }
         true
     }

@@ -7,7 +7,7 @@ ghost use Rattle.bforest_nodes.specs.Content.{IsLeafCapacity};
 ghost use Rattle.bforest_core.specs.Packed.{fewest};
 ghost use Rattle.std.specs.Prelude.{Err, List, [], false, length, vec_len, ◌+◌, ◌++◌, ◌^◌, ◌∷◌, ◌<◌, ◌≡◌, ◌≤◌, ℕ};
 
-use crate::merge::{next_order, take, take_new};
+use crate::merge::{next_order, take_least, take_new};
 use crate::reader::Reader;
 use crate::trees::{Trees, fewest_nodes};
 use bforest_core::{Comparator, OutOfMemory, PackedNode};
@@ -146,8 +146,7 @@ impl<K: Copy, V: Copy, const N: usize> Trees<K, V, N> {
         let mut first = Reader::new(handle, self);
         let mut second = Reader::new(other, self);
         let mut entries = 0;
-        while let Some(order) = next_order(&mut first, &mut second, self, comp) {
-            let entry = take(order, &mut first, &mut second);
+        while let Some(entry) = take_least(&mut first, &mut second, self, comp) {
             if union.len() < union.capacity() || union.reserve(MORE_ENTRIES).is_ok() {
                 union.push_reserved(entry);
             }

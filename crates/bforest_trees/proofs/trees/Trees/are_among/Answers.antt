@@ -30,14 +30,14 @@ loop-first-smaller g c =
     let cmp = g.C.Comparator.order c.args.comp.now in
     let e = c.has_next.ensures.entered c.loop-first-test.true in
     let d = compared-entered c.args.self.now cmp c.loop-first.first c.loop-first.second c.loop-first.invariant.0 c.has_next.new.self e (Some c.order_of-order.result) c.order_of-order.new.second c.order_of-order.ensures in
-    steps-less cmp _ _ _ _ _ _ (turn c.args.self.now refl d c.take.ensures.taken).off
+    steps-less cmp _ _ _ _ _ _ (turn c.args.self.now refl d c.take_new.ensures.taken).off
 
 pub loop-first-preserved : goal.loop-first-preserved
 loop-first-preserved g c =
     let cmp = g.C.Comparator.order c.args.comp.now in
     let e = c.has_next.ensures.entered c.loop-first-test.true in
     let d = compared-entered c.args.self.now cmp c.loop-first.first c.loop-first.second c.loop-first.invariant.0 c.has_next.new.self e (Some c.order_of-order.result) c.order_of-order.new.second c.order_of-order.ensures in
-    let t = turn c.args.self.now refl d c.take.ensures.taken in (
+    let t = turn c.args.self.now refl d c.take_new.ensures.taken in (
       t.reader,
       t.second_reader,
       comparing-next cmp (g.met.C.Comparator.total c.args.comp.now) c.order_of-order.result _ _ _ t.front_is t.off c.loop-first.invariant.2 (sym c.is_lt.ensures ∙ c.if-is_lt.false),
