@@ -210,7 +210,7 @@ module _ {F K X : Type 0} {most : ℕ} {step : F → K → X → Bool → X → 
                 (λ ks. take_remove (list_under now root) s.place low ks) ch gv at level freed
                 (omega (arith, low, length_remove (list_under now root) s.place low))
 
-        -- and to the entry that is the next one
+        -- the entry behind the one here is at the place of the next state of the loop
         pub sifting-read : (t : Stepped most step now new root root' path' f f' (list_under now root) (sizes_under now root) s.place k v) → {read : Option (K × X)}
             → read ≡ slice_get (list_under now root) (suc s.place) → read ≡ slice_get (list_under new root') (sifting-next t).0.place
         sifting-read t is = let n = (sifting-next t).0 in
