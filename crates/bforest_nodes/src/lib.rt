@@ -1,8 +1,8 @@
 //! Orders of keys, and single nodes of B+-trees.
 //!
-//! A [`Comparator`] orders keys, which need no order of their own. A [`NodeData`] is an inner node, a leaf or a free slot, with its entries
-//! inline; contracts see it as two lists (`specs/Content.antt`). A [`Source`] is a list of entries, of which a leaf can be made. A [`Node`] is the number of a node in a table, which this crate does not
-//! know. Users name `bforest_core`, which has all of it.
+//! A [`Comparator`] orders keys, which need no order of their own. A [`NodeData`] is an inner node, a leaf or a free slot, with its
+//! entries inline; contracts see it as two lists (`specs/Content.antt`). A [`Source`] is a list of entries, of which a leaf can be made.
+//! A [`Node`] is the number of a node in a table, which this crate does not know. Users name `bforest_core`, which has all of it.
 #![tactic(auto)]
 
 mod comparator;

@@ -1,6 +1,6 @@
 use Rattle.std.proofs.Common.{ap, rules, sym, ◌∙◌}
 use Rattle.bforest_nodes.specs.Layout.{content_of}
-use Rattle.bforest_nodes.proofs.Filling.{front-first}
+use Rattle.bforest_nodes.proofs.Filling.{front-all, front-first}
 use Rattle.bforest_nodes.proofs.node.NodeData.leaf_of.Goals as goal
 
 pub fill-requires : goal.fill-requires
@@ -14,3 +14,6 @@ fill-requires g c = (
     ),
   ),
 )
+
+pub returns : goal.returns
+returns g c = record { node = front-all (g.S.Source.list c.args.entries) c.len.result c.len.ensures c.fill.ensures.filled }
