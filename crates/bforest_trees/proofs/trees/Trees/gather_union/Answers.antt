@@ -18,9 +18,6 @@ loop-entry-init g c = (
   search rules,
 )
 
-pub take_least-requires : goal.take_least-requires
-take_least-requires g c = (search rules, (search rules, (c.loop-entry.invariant.0, c.loop-entry.invariant.1)))
-
 pub push_reserved-requires : goal.push_reserved-requires
 push_reserved-requires g c = elim c.then-len-capacity.branch [
   | then-len-capacity-via-then-len-capacity w ↦ rw w.union-is (omega (arith, w.if-len-capacity.true, c.len.ensures, c.capacity.ensures))
