@@ -170,7 +170,7 @@ EDITS = {
         (r"pub fn new\(_alloc: Global\) -> Result<Self, AllocError>", "pub fn new() -> Self", 1),
         (r"Ok\((NodeData \{\s*state: State::Vacant\(PackedNode::none\(\)\),\s*\})\)", r"\1", 1),
         (r" It takes no memory and always succeeds[^.]*\.", " It takes no memory.", None),
-        (r"\bunreachable!\(\)", MISUSED, 30),
+        (r"\bunreachable!\(\)", MISUSED, 29),
         # what only a caller of the prover reads
         (r"(?:\n    //[^\n]*)+\n    pub rhs_entries: usize,", "", 1),
         (r"\n *rhs_entries: len - \w+,", "", 2),
@@ -178,9 +178,10 @@ EDITS = {
         # in `put` and `take`, and not in `look_up`
         (r"\bcomp\.search_prefix\(key, &keys\.items, (\w+)\)(?= \{\n *Ok\(index\) => \{)", r"place_of(key, &keys.items, \1, comp)", 2),
     ],
+    "bforest_nodes/node/fill.rt": [(r"\bunreachable!\(\)", MISUSED, 2)],
     "bforest_core/lib.rt": [
         BEHIND_FIRST,
-        (r"\n    Comparator, Node, NodeData, PackedNode, Removed, SetValue, Source, SplitOff,\n", "Comparator, Node, PackedNode, SetValue, Source", 1),
+        (r"\n    Comparator, Node, NodeData, PackedNode, Removed, SetValue, Source, SplitOff,\n", "Comparator, Node, NodeData, PackedNode, SetValue, Source", 1),
     ],
     # Else rustc makes a call of it, and inlines what it calls.
     "bforest_core/access.rt": [(r"^(?=pub\(crate\) fn put_entry\b)", "#[inline(always)]\n", 1)],
@@ -200,7 +201,7 @@ EDITS = {
         (r"Result<PackedNode, AllocError>", "Result<PackedNode, TryReserveError>", 1),
         (r"slots\.reserve_exact\(", "slots.try_reserve_exact(", 1),
         (r"fn hold<T>\(slots: &mut Vec<T>, more: usize\) -> Result<\(\), AllocError>", "fn hold<T>(slots: &mut Vec<T>, more: usize) -> Result<(), TryReserveError>", 1),
-        (r"NodeData::new\(alloc\)\.unwrap\(\)", "NodeData::new()", 1),
+        (r"NodeData::new\((?:self\.)?alloc\)\.unwrap\(\)", "NodeData::new()", 2),
         (r"nodes\.push_reserved\(", "nodes.push(", 2),
     ],
     "bforest_trees/lib.rt": [
@@ -210,9 +211,9 @@ EDITS = {
     # Where an index is tested, the compiler drops the test if the entry is read on each way by itself; where none is, reading it once is less.
     "bforest_trees/reader.rt": [
         (
-            r"if self\.has_next\(trees\) \{\n {12}Some\(self\.take_first\(\)\)\n",
+            r"if self\.goes_on\(pool\) \{\n {12}Some\(self\.take_first\(\)\)\n",
             "if self.index < self.keys.len() {\n            return Some(self.take_first());\n        }\n"
-            "        if self.enter_next(&trees.pool) {\n            Some(self.take_first())\n",
+            "        if self.enter_next(pool) {\n            Some(self.take_first())\n",
             1,
         ),
     ],
@@ -229,12 +230,6 @@ EDITS = {
     ],
     "bforest_trees/trees/copy.rt": [NEW_TREE],
     "bforest_trees/trees/load.rt": [NEW_TREE],
-    "bforest_trees/trees/pack.rt": [
-        (r"^use crate::trees::Trees;\n", r"\g<0>use alloc::vec::Vec;\n", 1),
-        (r"Vec::new\(self\.pool\.allocator\(\)\)", "Vec::new()", 1),
-        (r"list\.reserve_exact\(", "list.try_reserve_exact(", 1),
-        (r"list\.push_reserved\(", "list.push(", 1),
-    ],
     "bforest_trees/trees/part.rt": [
         (r"^        Ok\(behind\)$", "        Ok(self.marked(behind))", 1),
         (
@@ -334,8 +329,8 @@ MANY = ["new", "with_node_limit", "typed", "typed_with_node_limit", "len", "slot
 SET_TELLING = [*(it for it in TELLING if it not in ("get", "increases")), "is_subset", "is_disjoint"]
 COUNTING = ["nodes_for", "fewest_nodes_for"]
 MUST_USE = {
-    "bforest/map.rt": ["new", "clone", "cursor", "cursor_mut", "len", "is_subset", "is_disjoint", *COUNTING, *(it for it in TELLING if it != "contains")],
-    "bforest/set.rt": ["new", "clone", "cursor", "len", "is_subset", "is_disjoint", *COUNTING, *(it for it in TELLING if it != "get")],
+    "bforest/map.rt": ["new", "clone", "is_same_handle", "cursor", "cursor_mut", "len", "is_subset", "is_disjoint", *COUNTING, *(it for it in TELLING if it != "contains")],
+    "bforest/set.rt": ["new", "clone", "is_same_handle", "cursor", "len", "is_subset", "is_disjoint", *COUNTING, *(it for it in TELLING if it != "get")],
     "bforest/forest.rt": ["slots", "nodes_in_use", "free_slots", "node_limit"],
     "bforest/map_forest.rt": ["new", "with_node_limit", "holds", "get_mut"],
     "bforest/set_forest.rt": ["new", "with_node_limit", "holds"],

@@ -35,3 +35,4 @@ pub mod FrontTree
 pub mod CutTree
 pub mod Needs
 pub mod Building
+pub mod Feeding

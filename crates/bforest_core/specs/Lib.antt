@@ -20,3 +20,4 @@ pub mod Ways
 pub mod Copies
 pub mod Cut
 pub mod Packed
+pub mod Sources

@@ -1,15 +1,15 @@
-//! Making a tree of entries that are given in order.
+//! Making a tree of entries that are given in order, leaf after leaf.
 ghost use Rattle.std.specs.Prelude.{◌≡◌, ℕ, ◌+◌, ◌^◌, ◌<◌, ◌≤◌, IfOk, IsOk, OnErr, Err, ◌↔◌, Some, List, [], ◌∷◌, length, slice_get, take};
 ghost use Rattle.bforest_nodes.specs.Content.{IsLeafCapacity};
 ghost use Rattle.bforest_core.specs.Change.{PlantsTree, node_count};
-ghost use Rattle.bforest_core.specs.Packed.{ArePacked, Built, IsPlan, fewest, need_of, width};
+ghost use Rattle.bforest_core.specs.Packed.{ArePacked, IsPlan, fewest, need_of, width};
+ghost use Rattle.bforest_core.specs.Sources.{Builds, Feeds, Gives};
 ghost use Rattle.bforest_core.specs.Trees.{IsUnion};
-ghost use Rattle.bforest_core.specs.Place.{Distinct, leaf_content};
-ghost use Rattle.bforest_core.specs.Table.{IsUsed, NeedsGrowth, free_count, front_of, room, with_front};
+ghost use Rattle.bforest_core.specs.Table.{NeedsGrowth, Table, free_count, room};
 
-use crate::access::put_child;
+use crate::leaf_source::LeafSource;
 use crate::pool::{NodePool, OutOfMemory};
-use bforest_nodes::{Node, Source};
+use bforest_nodes::Node;
 
 /// The most children of an inner node.
 const INNER_SIZE: usize = 8;
@@ -23,7 +23,7 @@ struct Plan {
 }
 
 impl<K: Copy, V: Copy, const N: usize> NodePool<K, V, N> {
-    /// Makes a tree of these entries, in this order, and returns its root. All nodes of a level are full but the last, so no tree of so
+    /// Makes a tree of so many entries, in their order, and returns its root. All nodes of a level are full but the last, so no tree of so
     /// many entries has fewer nodes. No key is compared.
     ///
     /// Takes as many nodes as the tree has; one `reserve` before the first change provides them.
@@ -31,75 +31,77 @@ impl<K: Copy, V: Copy, const N: usize> NodePool<K, V, N> {
     /// # Errors
     ///
     /// The errors of `reserve` of that many nodes. After either the pool is as before.
-    pub fn build_tree<S: Source<K, V>>(&mut self, entries: S) -> Result<Node, OutOfMemory>
+    pub fn build_tree<S: LeafSource<K, V, N>>(
+        &mut self,
+        source: &mut S,
+        entries: usize,
+    ) -> Result<Node, OutOfMemory>
         requires union { IsUnion N self.old }
-        requires some { 0 < length (S.list entries) }
+        requires reads { S.reads source.old self.old }
+        requires some { 0 < entries }
+        requires all { entries ≡ length (S.left source.old self.old) }
         ensures planted { IfOk result (λ root. (sizes : List (List ℕ)) × ArePacked N sizes
-            × (node_count sizes ≡ fewest N (length (S.list entries)))
-            × PlantsTree N self.old self.new root (S.list entries) sizes) }
+            × (node_count sizes ≡ fewest N entries)
+            × PlantsTree N self.old self.new root (S.left source.old self.old) sizes) }
         ensures err { OnErr result (self.new ≡ self.old) }
-        ensures full { (result ≡ Err OutOfMemory.Full)
-            ↔ (room self.old < fewest N (length (S.list entries))) }
-        ensures memory { result ≡ Err OutOfMemory.Memory
-            → NeedsGrowth (fewest N (length (S.list entries))) self.old }
-        ensures enough { fewest N (length (S.list entries)) ≤ free_count self.old → IsOk result }
+        ensures full { (result ≡ Err OutOfMemory.Full) ↔ (room self.old < fewest N entries) }
+        ensures memory { result ≡ Err OutOfMemory.Memory → NeedsGrowth (fewest N entries) self.old }
+        ensures enough { fewest N entries ≤ free_count self.old → IsOk result }
     {
         let room = (self.free() + (self.limit() - self.slots())) as usize;
-        let len = entries.len();
-        if len > room * N {
+        if entries > room * N {
             return Err(OutOfMemory::Full);
         }
-        let plan = plan_for(len, N);
+        let plan = plan_for(entries, N);
         if plan.nodes > room {
             return Err(OutOfMemory::Full);
         }
         self.reserve(plan.nodes as u32)?;
-        Ok(self.build_below(entries, plan.level, plan.room))
+        let (_, root) = self.build_below(source, entries, plan.level, plan.room);
+        Ok(root)
     }
 
-    // Makes a node of these entries, and everything below it; `level` levels are below it, with room for so many entries.
-    fn build_below<S: Source<K, V>>(&mut self, entries: S, level: usize, room: usize) -> Node
+    // Makes a node of the next entries of a source, and everything below it; `level` levels are below it, with room for so many entries.
+    // Returns the first key, too. The source is asked while all that is built are whole trees.
+    fn build_below<S: LeafSource<K, V, N>>(
+        &mut self,
+        source: &mut S,
+        entries: usize,
+        level: usize,
+        room: usize,
+    ) -> (K, Node)
         requires capacity { IsLeafCapacity N }
-        requires some { 0 < length (S.list entries) }
-        requires within { length (S.list entries) ≤ room }
+        requires some { 0 < entries }
+        requires within { entries ≤ room }
         requires room { room ≡ width N level }
         requires small { room < 2 ^ 60 }
-        requires free { need_of N level (length (S.list entries)) ≤ free_count self.old }
-        requires apart { Distinct self.old.chain }
-        ensures { Built N self.old self.new (S.list entries) level result }
+        requires low { level ≤ 16 }
+        requires free { need_of N level entries ≤ free_count self.old }
+        requires feeds { (base : Table K V)
+            × Feeds N (S.reads source.old) (S.left source.old) base self.old entries }
+        ensures gives { (base : Table K V)
+            → Feeds N (S.reads source.old) (S.left source.old) base self.old entries
+            → Gives (S.left source.old base) (S.left source.new base) entries (S.reads source.new base) result.0 }
+        ensures builds { (base : Table K V)
+            → Feeds N (S.reads source.old) (S.left source.old) base self.old entries
+            → Builds N base self.old self.new (S.left source.old base) entries level result.1 }
     {
         if level == 0 {
-            return self.build_leaf(entries);
+            return source.next_leaf(self, entries);
         }
         let part = room / INNER_SIZE;
-        let head = entries.part(0, part);
-        let first = self.build_below(head, level - 1, part);
-        let node = self.build_over(first_key(entries), first);
+        let (first_key, first) = self.build_below(source, part.min(entries), level - 1, part);
+        let mut node = self.over(first_key, first);
         let mut done = part;
         let mut index = 0;
-        while done < entries.len() {
-            let next = entries.part(done, part);
-            let child = self.build_below(next, level - 1, part);
-            let key = first_key(next);
-            put_child(self, node, index, key, child);
+        while done < entries {
+            let next = part.min(entries - done);
+            let (key, child) = self.build_below(source, next, level - 1, part);
+            node.try_inner_insert(index, key, child);
             done += part;
             index += 1;
         }
-        node
-    }
-
-    // Makes the front of the free list a leaf of these entries, and returns its number. Takes no memory.
-    fn build_leaf<S: Source<K, V>>(&mut self, entries: S) -> Node
-        requires some { 0 < length (S.list entries) }
-        requires few { length (S.list entries) ≤ N }
-        requires room { 0 < free_count self.old }
-        ensures node { front_of self.old.chain ≡ Some result }
-        ensures table { self.new ≡ with_front self.old self.old.chain (leaf_content (S.list entries)) }
-        ensures used { IsUsed self.new result }
-    {
-        let leaf = self.take_slot();
-        self.node_mut(leaf).leaf_of(entries);
-        leaf
+        (first_key, self.add_node(node))
     }
 }
 
@@ -119,13 +121,4 @@ fn plan_for(entries: usize, capacity: usize) -> Plan
         level += 1;
     }
     Plan { nodes, level, room }
-}
-
-// The key of the first entry.
-#[inline(always)]
-fn first_key<K: Copy, V: Copy, S: Source<K, V>>(entries: S) -> K
-    requires { 0 < length (S.list entries) }
-    ensures { (entry : K × V) → slice_get (S.list entries) 0 ≡ Some entry → result ≡ entry.0 }
-{
-    entries.entry(0).0
 }

@@ -11,6 +11,7 @@ mod build;
 mod copy;
 mod count;
 mod leaf;
+mod leaf_source;
 mod path;
 mod pool;
 mod spot;
@@ -20,6 +21,7 @@ mod value;
 pub use bforest_nodes::{
     Comparator, Node, NodeData, PackedNode, Removed, SetValue, Source, SplitOff,
 };
+pub use leaf_source::{InOrder, LeafSource};
 pub use path::{Path, Way};
 pub use pool::{NodePool, OutOfMemory};
 pub use spot::Spot;

@@ -4,9 +4,10 @@ ghost use Rattle.std.specs.Borrow.{sem, LendsBoth, Array};
 ghost use Rattle.bforest_nodes.specs.Content.{Content, Inner, Leaf, IsLeafCapacity, children_of};
 ghost use Rattle.bforest_core.specs.Change.{AllocatesLeaf, KeepsTrees};
 ghost use Rattle.bforest_core.specs.Trees.{IsUnion};
+ghost use Rattle.bforest_core.specs.Place.{leaf_content};
 ghost use Rattle.bforest_core.specs.Table.{slot_count, free_count, room, GrowsFor, NeedsGrowth, IsUsed, IsTable, reserved, without_front, with_front, with_freed, fresh_nodes, front_of, front_of_new, IsFullAt, IsSplitAt, IsHalfFullAt, IsBalancedAt, IsEntryAt, value_at};
 
-use bforest_nodes::{Node, NodeData, PackedNode, SplitOff};
+use bforest_nodes::{Node, NodeData, PackedNode, Source, SplitOff};
 use std::alloc::{AllocError, Global};
 use std::marker::Model;
 
@@ -231,6 +232,18 @@ impl<K: Copy, V: Copy, const N: usize> NodePool<K, V, N> {
         node
     }
 
+    /// Makes the front of the free list this node, and returns its number. Takes no memory.
+    pub fn add_node(&mut self, content: NodeData<K, V, N>) -> Node
+        requires room { 0 < free_count self.old }
+        ensures node { front_of self.old.chain ≡ Some result }
+        ensures table { self.new ≡ with_front self.old self.old.chain content }
+        ensures used { IsUsed self.new result }
+    {
+        let node = self.take_slot();
+        *self.node_mut(node) = content;
+        node
+    }
+
     // Makes the front of the free list what a used slot is, and returns its number. Takes no memory.
     pub(crate) fn copy_node(&mut self, node: Node) -> Node
         requires used { IsUsed self.old node }
@@ -241,21 +254,30 @@ impl<K: Copy, V: Copy, const N: usize> NodePool<K, V, N> {
         ensures used { IsUsed self.new result }
     {
         let content = self.node(node).copied();
-        let copy = self.take_slot();
-        *self.node_mut(copy) = content;
-        copy
+        self.add_node(content)
     }
 
-    // Makes the front of the free list an inner node of one child, and returns its number. The key fills room that does not count. Takes no
-    // memory.
-    pub(crate) fn build_over(&mut self, key: K, child: Node) -> Node
+    // Makes the front of the free list a leaf of these entries, 1 to `N`, and returns its number. Takes no memory.
+    #[inline(always)]
+    pub(crate) fn add_leaf<S: Source<K, V>>(&mut self, entries: S) -> Node
+        requires some { 0 < length (S.list entries) }
+        requires few { length (S.list entries) ≤ N }
         requires room { 0 < free_count self.old }
         ensures node { front_of self.old.chain ≡ Some result }
-        ensures table { self.new ≡ with_front self.old self.old.chain (Inner [] (child ∷ [])) }
+        ensures table { self.new ≡ with_front self.old self.old.chain (leaf_content (S.list entries)) }
         ensures used { IsUsed self.new result }
     {
-        let node = self.take_slot();
-        self.node_mut(node).only_child(key, child);
+        let leaf = self.take_slot();
+        self.node_mut(leaf).leaf_of(entries);
+        leaf
+    }
+
+    // An inner node of one child, which is in no slot yet. The key fills room that does not count.
+    pub(crate) fn over(&self, key: K, child: Node) -> NodeData<K, V, N>
+        ensures node { result ≡ Inner [] (child ∷ []) }
+    {
+        let mut node = NodeData::new(self.alloc).unwrap();
+        node.only_child(key, child);
         node
     }
 

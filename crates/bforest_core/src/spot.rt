@@ -50,6 +50,24 @@ impl Spot {
         self.code
     }
 
+    /// The leaf. One index, where it has a parent.
+    #[inline(always)]
+    pub fn leaf<K: Copy, V: Copy, const N: usize>(
+        &self,
+        root: Node,
+        pool: &NodePool<K, V, N>,
+    ) -> Node
+        requires union { IsUnion N pool.now }
+        requires spot { (place : ℕ) × IsSpotAt pool.now root self.now place }
+        ensures leaf { (place : ℕ) → IsSpotAt pool.now root self.now place
+            → IsLeafAt pool.now root place result }
+    {
+        if self.height == 0 {
+            return root;
+        }
+        child(pool, self.parent, (self.code % 8) as usize)
+    }
+
     /// The first leaf below a root, and its place.
     #[inline(always)]
     pub fn first<K: Copy, V: Copy, const N: usize>(

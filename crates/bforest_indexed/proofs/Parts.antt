@@ -45,6 +45,7 @@ module _ {K X C : Type 0} {most : ℕ} {cmp : K → K → Ordering} {m : Indexed
       account = call.account;
       full = call.full;
       memory = call.memory;
+      succeeds = call.succeeds;
       refused = tt;
     },
   )
@@ -59,6 +60,7 @@ module _ {K X C : Type 0} {most : ℕ} {cmp : K → K → Ordering} {m : Indexed
           account = tt;
           full = call.full;
           memory = call.memory;
+          succeeds = call.succeeds;
           refused = same;
         },
       )

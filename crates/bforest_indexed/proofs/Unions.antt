@@ -39,6 +39,7 @@ module _ {K X C : Type 0} {most : ℕ} {cmp : K → K → Ordering} {m : Indexed
         same = λ bad. absurd (cc);
         full = call.full;
         memory = call.memory;
+        succeeds = call.succeeds;
         refused = tt;
       },
     )
@@ -53,6 +54,7 @@ module _ {K X C : Type 0} {most : ℕ} {cmp : K → K → Ordering} {m : Indexed
       same = λ is. same;
       full = call.full;
       memory = call.memory;
+      succeeds = call.succeeds;
       refused = tt;
     })
     united-here (Err refused) call = united-same call.refused_forest call.refused_handle (λ same. record {
@@ -66,6 +68,7 @@ module _ {K X C : Type 0} {most : ℕ} {cmp : K → K → Ordering} {m : Indexed
       same = λ bad. absurd (cc);
       full = call.full;
       memory = call.memory;
+      succeeds = call.succeeds;
       refused = same;
     })
 

@@ -178,7 +178,8 @@ module _ {K X C : Type 0} where
     pub beside : ChangesAt m i m'
     pub account : OnOk result (TakesAndGives (fewest most (length (entries m i))) (node_sizes m i) (table m) (table m'))
     pub full : (result ≡ Err Full) ↔ IsTooMany (fewest most (length (entries m i))) (table m)
-    pub memory : result ≡ Err Memory → entries m i ≢ []
+    pub memory : result ≡ Err Memory → NeedsGrowth (fewest most (length (entries m i))) (table m)
+    pub succeeds : fewest most (length (entries m i)) ≤ free_of (table m) → IsOk result
     pub refused : OnErr result (m' ≡ m)
 
   -- the list of i was copied to j, and that of j ended; or the call was refused, and nothing changed. A leaf has at most `most` entries
@@ -295,7 +296,8 @@ module _ {K X C : Type 0} where
       pub beside : ChangesAt m i m'
       pub same : result ≡ Ok false → m' ≡ m
       pub full : (result ≡ Err Full) ↔ IsTooMany (need_of_union most cmp (table m) (handle m i) (handle m j)) (table m)
-      pub memory : result ≡ Err Memory → are_among cmp (entries m j) (entries m i) ≡ false
+      pub memory : result ≡ Err Memory → NeedsGrowth (need_of_union most cmp (table m) (handle m i) (handle m j)) (table m)
+      pub succeeds : need_of_union most cmp (table m) (handle m i) (handle m j) ≤ free_of (table m) → IsOk result
       pub refused : OnErr result (m' ≡ m)
 
     -- The entries of i whose key is in j stay, or those whose key is not, as `present` says, with their values. The others were removed, in the

@@ -488,7 +488,7 @@ impl<K: Copy, V: Copy, C: Comparator<K>, I: Idx> Maps<K, V, C, I> {
     /// # Errors
     ///
     /// [`OutOfMemory`] where a key is new and the nodes that are needed cannot be had, those of an insertion or those of the new tree
-    /// beside the old ones, or there is no memory for a list of the union; nothing has changed then.
+    /// beside the old ones; nothing has changed then.
     pub fn union_with(&mut self, index: I, other: I) -> Result<bool, OutOfMemory>
         requires within { I.number index < count self.old }
         requires other { I.number other < count self.old }
@@ -598,8 +598,7 @@ impl<K: Copy, V: Copy, C: Comparator<K>, I: Idx> Maps<K, V, C, I> {
     ///
     /// # Errors
     ///
-    /// [`OutOfMemory`] where too few nodes are available beside the old ones, or there is no memory for a list of the entries; nothing has
-    /// changed then.
+    /// [`OutOfMemory`] where too few nodes are available beside the old ones; nothing has changed then.
     pub fn compact(&mut self, index: I) -> Result<(), OutOfMemory>
         requires within { I.number index < count self.old }
         ensures { CompactsAt MAP_LEAF self.old (I.number index) result self.new }

@@ -424,7 +424,7 @@ impl<K: Copy, C: Comparator<K>, I: Idx> Sets<K, C, I> {
     /// # Errors
     ///
     /// [`OutOfMemory`] where a key is new and the nodes that are needed cannot be had, those of an insertion or those of the new tree
-    /// beside the old ones, or there is no memory for a list of the union; nothing has changed then.
+    /// beside the old ones; nothing has changed then.
     pub fn union_with(&mut self, index: I, other: I) -> Result<bool, OutOfMemory>
         requires within { I.number index < count self.old }
         requires other { I.number other < count self.old }
@@ -533,8 +533,7 @@ impl<K: Copy, C: Comparator<K>, I: Idx> Sets<K, C, I> {
     ///
     /// # Errors
     ///
-    /// [`OutOfMemory`] where too few nodes are available beside the old ones, or there is no memory for a list of the keys; nothing has
-    /// changed then.
+    /// [`OutOfMemory`] where too few nodes are available beside the old ones; nothing has changed then.
     pub fn compact(&mut self, index: I) -> Result<(), OutOfMemory>
         requires within { I.number index < count self.old }
         ensures { CompactsAt SET_LEAF self.old (I.number index) result self.new }

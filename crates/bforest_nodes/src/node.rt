@@ -3,14 +3,15 @@ ghost use Rattle.bforest_nodes.specs.Content.{Balances, Free, HasShape, Inner, I
 ghost use Rattle.bforest_nodes.specs.Search.{count_up_to, search_of};
 ghost use Rattle.std.specs.Borrow.{sem};
 ghost use Rattle.std.specs.List.Sorted.{IsStrictlySortedBy};
-ghost use Rattle.std.specs.Prelude.{Err, IfOk, IfSome, IsSome, IsTrue, None, Some, Ok, [], if◌then◌else◌, length, map, option_map, slice_get, ◌*◌, ◌+◌, ◌-◌, ◌/◌, ◌<◌, ◌↔◌, ◌∷◌, ◌≡◌, ◌≤◌, ℕ};
+ghost use Rattle.std.specs.Prelude.{Err, IfOk, IfSome, IsSome, IsTrue, None, Some, Ok, [], if◌then◌else◌, length, map, option_map, slice_get, ◌*◌, ◌+◌, ◌++◌, ◌-◌, ◌/◌, ◌<◌, ◌↔◌, ◌∷◌, ◌≡◌, ◌≤◌, ℕ};
+
+mod fill;
 
 use crate::comparator::Comparator;
 use crate::entries::Entries;
 use crate::half::{answer_of, left_half_of};
 use crate::number::{Node, PackedNode};
 use crate::row::Row;
-use crate::source::Source;
 use std::alloc::{AllocError, Global};
 use std::marker::Model;
 
@@ -204,23 +205,6 @@ impl<K: Copy, V: Copy, const N: usize> NodeData<K, V, N> {
                 vals: Row { items: [value; N] },
             },
         );
-    }
-
-    /// Makes the slot a leaf of these entries, 1 to `N`, whatever it held.
-    pub fn leaf_of<S: Source<K, V>>(&mut self, entries: S)
-        requires some { 0 < length (S.list entries) }
-        requires few { length (S.list entries) ≤ N }
-        ensures node { self.new ≡ Leaf (map (λ e. e.0) (S.list entries)) (map (λ e. e.1) (S.list entries)) }
-    {
-        let (key, value) = entries.entry(0);
-        self.leaf(key, value);
-        match &mut self.state {
-            State::Entries(size, leaf) => {
-                leaf.fill(entries);
-                *size = entries.len() as u8;
-            }
-            _ => unreachable!(),
-        }
     }
 
     /// The keys and the children of an inner node.

@@ -1,39 +1,25 @@
 -- What a tree that is made anew answers and leaves, and a part that goes to a tree of its own.
-use Rattle.bforest_core.proofs.table.Allocating.{grows-not}
-use Rattle.bforest_core.proofs.union.Needs.{fewest-none}
 use Rattle.bforest_core.specs.Change.{node_count}
-use Rattle.bforest_core.specs.Packed.{ArePacked, fewest}
+use Rattle.bforest_core.specs.Packed.{ArePacked}
 use Rattle.bforest_core.specs.Sizes.{IsFitFor}
-use Rattle.bforest_core.specs.declared.pool.OutOfMemory.TheVariants.{Full}
+use Rattle.bforest_core.specs.declared.pool.OutOfMemory.TheVariants.{Full, Memory}
 use Rattle.bforest_core.specs.declared.pool.OutOfMemory.{OutOfMemory}
 use Rattle.bforest_nodes.specs.Entries.{IsIncreasing, place}
-use Rattle.bforest_trees.proofs.Cutting.{becomes-same}
 use Rattle.bforest_trees.proofs.ranges.Parting.{tested-up}
 use Rattle.bforest_trees.proofs.ranges.Between.{end-unbounded, slice-between, start-included, start-rises}
 use Rattle.bforest_trees.proofs.ranges.Outside.{outside-is}
 use Rattle.bforest_trees.proofs.unions.Uniting.{becomes-made, made-beside, made-stays}
 use Rattle.bforest_trees.specs.Bounds.{entries_between, entries_outside, is_between, is_from_start}
-use Rattle.bforest_trees.specs.Calls.{Clears, Compacts, SplitsAt, SplitsOff}
-use Rattle.bforest_trees.specs.Forest.{Becomes, Forest, GrowsFor, IsLive, IsTooMany, list_of}
-use Rattle.bforest_trees.specs.Merge.{LoadsUnion}
-use Rattle.std.proofs.Common.{Err, List, None, Ok, Option, Some, [], ap, slice_range, append-nil, arith, drop, false, length, not, refl, subst, sym, take, true, ◌++◌, ◌-◌, ◌∙◌, ◌∷◌, ◌↔◌, ◌≡◌, ◌≢◌, ◌≤◌, ℕ, ◌<◌, suc, zero}
+use Rattle.bforest_trees.specs.Calls.{Clears, Compacts, Loads, SplitsAt, SplitsOff}
+use Rattle.bforest_trees.specs.Forest.{Becomes, Forest, GrowsFor, IsLive, list_of}
+use Rattle.std.proofs.Common.{Err, List, Ok, Option, [], ap, slice_range, append-nil, arith, drop, false, length, not, refl, subst, sym, take, true, ◌++◌, ◌-◌, ◌∙◌, ◌≡◌, ◌≤◌, ℕ}
 use Rattle.std.proofs.lemmas.List.Sums.{count_by-le-length}
 use Rattle.std.proofs.lemmas.List.{drop_all, length-drop, take_all}
+use Rattle.std.proofs.lemmas.Bool.{false≢true}
 use Rattle.std.specs.Cmp.{IsTotalOrder}
 use Rattle.std.specs.List.{AllByRecursion}
 use Rattle.std.specs.declared.cmp.Ordering.{Ordering}
 use Rattle.std.specs.declared.ops.Bound.TheVariants.{Included, Unbounded}
-
-no-entry : {A : Type 0} (es : List A) → length es ≡ 0 → es ≡ []
-no-entry [] none = refl
-no-entry (e ∷ es) none = absurd (omega (arith, none))
-
-above-none : (n : ℕ) → n ≢ 0 → 0 < n
-above-none zero ne = absurd (ne refl)
-above-none (suc n) ne = omega arith
-
-one-entry : {A : Type 0} (es : List A) → length es ≢ 0 → es ≢ []
-one-entry es some e = some (ap length e)
 
 -- what taking slots changes of the memory, where what follows changes nothing of it
 module _ {K X : Type 0} {d : ℕ} {f g k : Forest K X} where
@@ -46,33 +32,9 @@ module _ {K X : Type 0} {d : ℕ} {f g k : Forest K X} where
   }
 
 module _ {K X : Type 0} (most : ℕ) (f : Forest K X) (h : Option ℕ) (live : IsLive f h) where
-  -- a live handle of no entry is empty
-  empty-handle : length (list_of f h) ≡ 0 → h ≡ None
-  empty-handle none = go h refl
-    where
-      go : (q : Option ℕ) → h ≡ q → q ≡ None
-      go None is = refl
-      go (Some n) is = absurd (subst (λ z. IsLive f z) is live (no-entry (list_of f (Some n)) (ap (λ z. length (list_of f z)) (sym is) ∙ none)))
-
-  -- nothing is there to pack
-  pub compacts-none : length (list_of f h) ≡ 0 → Compacts most f h (Ok tt) f h
-  compacts-none none = let empty = empty-handle none in let need : fewest most (length (list_of f h)) ≡ 0 = ap (fewest most) none ∙ fewest-none most in rw empty (record {
-    same_list = becomes-same f None tt;
-    packed = tt;
-    nodes = sym (fewest-none most);
-    fit = refl;
-    account = rw (fewest-none most) (record { slots = omega arith; free = omega arith; memory = grows-not refl });
-    live = tt;
-    increasing = λ order up. up;
-    full = (λ bad. absurd (cc), λ bad. absurd (omega (arith, bad, fewest-none most)));
-    memory = λ bad. absurd (cc);
-    refused_forest = tt;
-    refused_handle = tt;
-  })
-
   -- the call was refused
-  pub compacts-refused : (refused : OutOfMemory) → length (list_of f h) ≢ 0 → ((refused ≡ Full) ↔ IsTooMany (fewest most (length (list_of f h))) f) → Compacts most f h (Err refused) f h
-  compacts-refused refused some told = record {
+  pub compacts-refused : (refused : OutOfMemory) {f1 : Forest K X} → Loads most f (list_of f h) (Err refused) f1 → Compacts most f h (Err refused) f h
+  compacts-refused refused told = record {
     same_list = tt;
     packed = tt;
     nodes = tt;
@@ -80,16 +42,19 @@ module _ {K X : Type 0} (most : ℕ) (f : Forest K X) (h : Option ℕ) (live : I
     account = tt;
     live = live;
     increasing = λ order up. up;
-    full = (λ e. told.0 (cc), λ low. ap Err (told.1 low));
-    memory = λ e. one-entry (list_of f h) some;
+    full = (
+      λ e. told.full.0 (let alike : refused ≡ Full = cc in ap Err alike),
+      λ low. let full = told.full.1 low in let alike : refused ≡ Full = cc in ap Err alike,
+    );
+    memory = λ e. told.memory (let alike : refused ≡ Memory = cc in ap Err alike);
+    succeeds = λ enough. absurd (false≢true (told.succeeds enough));
     refused_forest = refl;
     refused_handle = refl;
   }
 
   -- the packed tree took the place of the old one
-  pub compacts-ok : {f1 f2 : Forest K X} {h1 h2 : Option ℕ} → ¬ IsTooMany (fewest most (length (list_of f h))) f
-      → LoadsUnion most f (list_of f h) (Ok h1) f1 → Clears f1 h f2 h2 → Compacts most f h (Ok tt) f2 h1
-  compacts-ok {f1} {f2} {h1} {h2} low l c =
+  pub compacts-ok : {f1 f2 : Forest K X} {h1 h2 : Option ℕ} → Loads most f (list_of f h) (Ok h1) f1 → Clears f1 h f2 h2 → Compacts most f h (Ok tt) f2 h1
+  compacts-ok {f1} {f2} {h1} {h2} l c =
       let ends = subst (λ z. Becomes f1 h f2 z []) c.handle c.cleared in
       let b = becomes-made h live l.loaded ends in
       let made = made-stays h live l.loaded ends in
@@ -106,8 +71,9 @@ module _ {K X : Type 0} (most : ℕ) (f : Forest K X) (h : Option ℕ) (live : I
         };
         live = b.live;
         increasing = λ order up. subst (IsIncreasing order) (sym b.list) up;
-        full = (λ bad. absurd (cc), λ short. absurd (low short));
+        full = (λ bad. absurd (cc), λ short. absurd (let bad = l.full.1 short in cc));
         memory = λ bad. absurd (cc);
+        succeeds = λ enough. refl;
         refused_forest = tt;
         refused_handle = tt;
       }

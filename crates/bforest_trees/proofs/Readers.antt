@@ -24,7 +24,7 @@ pub held-leaf : {K V : Type 0} (slots : List (Content K V)) (number : ℕ) (cont
 held-leaf slots number content entries found leaf = subst IsLeaf (read_same slots number found leaf) tt
 
 -- a node that is read by a leaf's number has the leaf's keys and values
-held : {K V : Type 0} (slots : List (Content K V)) (number : ℕ) (content : Content K V) (entries : List (K × V)) (keys : List K)
+pub held : {K V : Type 0} (slots : List (Content K V)) (number : ℕ) (content : Content K V) (entries : List (K × V)) (keys : List K)
     (vals : List V) → slice_get slots number ≡ Some content → slice_get slots number ≡ Some (leaf_content entries)
     → content ≡ Leaf keys vals → (keys ≡ entry_keys entries) × (vals ≡ entry_items entries)
 held slots number content entries keys vals found leaf is =
@@ -47,17 +47,17 @@ module _ {K V : Type 0} (table : Table K V) where
       ap (λ z. flat z) front_at ∙ ap (λ z. z ++ flat leaf.after) o.entries_are ∙ ap (λ z. entries ++ flat z) (sym behind)
 
   -- what is left where a leaf is held
-  left-some : (keys : List K) (index : ℕ) (entries : List (K × V)) → 1 ≤ length keys → unread keys index entries ≡ drop index entries
+  pub left-some : (keys : List K) (index : ℕ) (entries : List (K × V)) → 1 ≤ length keys → unread keys index entries ≡ drop index entries
   left-some [] index entries some = absurd (omega (arith, some))
   left-some (first ∷ keys) index entries some = refl
 
-  left-none : (keys : List K) (index : ℕ) (entries : List (K × V)) → length keys ≡ 0 → unread keys index entries ≡ []
+  pub left-none : (keys : List K) (index : ℕ) (entries : List (K × V)) → length keys ≡ 0 → unread keys index entries ≡ []
   left-none [] index entries none = refl
   left-none (first ∷ keys) index entries none = absurd (omega (arith, none))
 
   module _ {n : ℕ} (reader : Reader K V n) (r : IsReader table reader) where
     -- a reader holds as many keys as its leaf has entries
-    key-count : length reader.keys.now ≡ length r.entries
+    pub key-count : length reader.keys.now ≡ length r.entries
     key-count = ap length r.keys ∙ length-map r.entries (λ e. e.0)
 
     -- a reader holds as many values as keys

@@ -8,3 +8,5 @@ pub mod Uniting
 pub mod Choosing
 pub mod Keeping
 pub mod Restricting
+pub mod Marks
+pub mod Gathering

@@ -207,7 +207,8 @@ module _ {K X : Type 0} where
     pub live : IsLive f' h'
     pub increasing : (order : K → K → Ordering) → IsIncreasing order (list_of f h) → IsIncreasing order (list_of f' h')
     pub full : (result ≡ Err Full) ↔ IsTooMany (fewest most (length (list_of f h))) f
-    pub memory : result ≡ Err Memory → list_of f h ≢ []
+    pub memory : result ≡ Err Memory → NeedsGrowth (fewest most (length (list_of f h))) f
+    pub succeeds : fewest most (length (list_of f h)) ≤ free_of f → IsOk result
     pub refused_forest : OnErr result (f' ≡ f)
     pub refused_handle : OnErr result (h' ≡ h)
 
@@ -347,7 +348,8 @@ module _ {K X : Type 0} (most : ℕ) (cmp : K → K → Ordering) where
     pub other_list : list_of f' other ≡ list_of f other
     pub other_sizes : sizes_of f' other ≡ sizes_of f other
     pub full : (result ≡ Err Full) ↔ IsTooMany (need_of_union f h other) f
-    pub memory : result ≡ Err Memory → are_among cmp (list_of f other) (list_of f h) ≡ false
+    pub memory : result ≡ Err Memory → NeedsGrowth (need_of_union f h other) f
+    pub succeeds : need_of_union f h other ≤ free_of f → IsOk result
     pub refused_forest : OnErr result (f' ≡ f)
     pub refused_handle : OnErr result (h' ≡ h)
 

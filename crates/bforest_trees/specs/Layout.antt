@@ -1,5 +1,5 @@
 -- How an iterator keeps the entries that are left. No public clause of a forest cites this module.
-use Rattle.bforest_core.specs.Levels.{flat}
+use Rattle.bforest_core.specs.Levels.{LevelNode, flat, node}
 use Rattle.bforest_core.specs.Paths.{IsAtEnd, OnEntry, list_under, path_root, spot}
 use Rattle.bforest_core.specs.Place.{entry_items, entry_keys}
 use Rattle.bforest_core.specs.Spots.{HasNoParent, IsLeafAt, IsSpotAt, leaf_place}
@@ -7,8 +7,9 @@ use Rattle.bforest_core.specs.Table.{Table}
 use Rattle.bforest_core.specs.Trees.{IsUnion, tree_of}
 use Rattle.bforest_core.specs.declared.path.Path.{Path}
 use Rattle.bforest_core.specs.declared.spot.Spot.{Spot}
+use Rattle.bforest_trees.specs.declared.reader.Mark.{Mark}
 use Rattle.bforest_trees.specs.declared.reader.Reader.{Reader}
-use Rattle.std.specs.Prelude.{List, [], drop, length, ◌<◌, ◌∷◌, ◌≡◌, ◌≤◌, ℕ}
+use Rattle.std.specs.Prelude.{List, [], drop, if◌then◌else◌, length, true, ◌++◌, ◌<◌, ◌∷◌, ◌≡◌, ◌≤◌, ℕ}
 
 module _ {K X : Type 0} where
   -- the entries of a path's tree from the place where it stands
@@ -50,6 +51,26 @@ module _ {K X : Type 0} where
     pub none : length entries ≡ 0 → HasNoParent reader.spot
     pub keys : reader.keys.now ≡ entry_keys entries
     pub vals : reader.vals.now ≡ entry_items entries
+
+  -- the entries that are left where a reader stopped
+  abbrev pub behind : Table K X → Mark → List (K × X)
+  behind table mark = if mark.some then drop mark.index (entries_on table mark.root mark.spot) else []
+
+  -- the next entry is in the leaf of a mark's spot, whose tree has these leaves
+  pub record IsMarkOn (table : Table K X) (mark : Mark) : Type 0 where
+    pub place : ℕ
+    pub on : IsSpotAt table mark.root mark.spot place
+    pub before : List (LevelNode K X)
+    pub number : ℕ
+    pub entries : List (K × X)
+    pub after : List (LevelNode K X)
+    pub leaves_are : (tree_of table.nodes mark.root).leaves ≡ before ++ node number entries ∷ after
+    pub at : length before ≡ place
+    pub within : mark.index < length entries
+
+  -- a reader stopped on an entry, or nothing is left
+  abbrev pub IsMark : Table K X → Mark → Type 0
+  IsMark table mark = mark.some ≡ true → IsMarkOn table mark
 
 module _ {K X : Type 0} (most : ℕ) (table : Table K X) (left : List (K × X)) where
   -- the spot is that of this leaf, and `left` are the entries of the leaf and of those behind it

@@ -1,16 +1,13 @@
 -- Steps along two lists, side by side. No public clause cites this module.
-use Rattle.bforest_trees.specs.Forest.{Becomes, Forest, IsTooMany, Takes, nodes_of, sizes_of}
 use Rattle.bforest_trees.specs.Layout.{IsReader, left_of}
 use Rattle.bforest_trees.specs.declared.reader.Reader.{Reader}
 use Rattle.bforest_trees.specs.declared.trees.unite.NewEntries.TheVariants.{More, One, Zero}
 use Rattle.bforest_trees.specs.declared.trees.unite.NewEntries.{NewEntries}
-use Rattle.bforest_core.specs.Packed.{ArePacked, fewest}
-use Rattle.bforest_core.specs.Sizes.{IsFitFor}
+use Rattle.bforest_core.specs.Place.{leaf_content}
 use Rattle.bforest_core.specs.Table.{Table}
-use Rattle.bforest_core.specs.declared.pool.OutOfMemory.TheVariants.{Full}
-use Rattle.bforest_core.specs.declared.pool.OutOfMemory.{OutOfMemory}
+use Rattle.bforest_nodes.specs.Content.{Content}
 use Rattle.bforest_nodes.specs.Entries.{IsIncreasing, is_present}
-use Rattle.std.specs.Prelude.{Bool, Err, IfOk, List, None, OnErr, OnOk, Option, Result, Some, [], false, if◌then◌else◌, length, ◌<◌, ◌∷◌, ◌≡◌, ℕ}
+use Rattle.std.specs.Prelude.{Bool, List, None, Option, Some, [], drop, false, if◌then◌else◌, length, take, ◌<◌, ◌∷◌, ◌≡◌, ◌≤◌, ℕ}
 use Rattle.std.specs.Ordering.{is_gt}
 use Rattle.std.specs.declared.cmp.Ordering.TheVariants.{Equal, Greater, Less}
 use Rattle.std.specs.declared.cmp.Ordering.{Ordering}
@@ -86,13 +83,14 @@ pub record TakesNew {K X : Type 0} {n : ℕ} (order : Ordering) (first second : 
   pub found_is : found ≡ (if is_gt order then Some entry else None)
   pub taken : (table : Table K X) → IsReader table first → IsReader table second → TakesFrom table order first second entry first' second'
 
--- a packed tree of the entries es was added under the handle that is returned; or the call was refused, also where memory for the list
--- can't be had, and nothing changed
-pub record LoadsUnion {K X : Type 0} (most : ℕ) (f : Forest K X) (es : List (K × X)) (result : Result (Option ℕ) OutOfMemory) (f' : Forest K X) : Type 0 where
-  pub loaded : IfOk result (λ h'. Becomes f None f' h' es)
-  pub packed : IfOk result (λ h'. ArePacked most (sizes_of f' h'))
-  pub nodes : IfOk result (λ h'. nodes_of f' h' ≡ fewest most (length es))
-  pub fit : IfOk result (λ h'. IsFitFor most (length es) (sizes_of f' h'))
-  pub account : OnOk result (Takes (fewest most (length es)) f f')
-  pub full : result ≡ Err Full → IsTooMany (fewest most (length es)) f
-  pub refused : OnErr result (f' ≡ f)
+-- the first `count` of all entries were taken off, and are those of a leaf
+pub record Gathers {K X : Type 0} (all rest : List (K × X)) (leaf : Content K X) (count : ℕ) : Type 0 where
+  pub leaf_is : leaf ≡ leaf_content (take count all)
+  pub rest_is : rest ≡ drop count all
+
+-- entries were taken off a reader of increasing entries, which stays in its tree
+pub record GoesOn {K X : Type 0} {n : ℕ} (table : Table K X) (cmp : K → K → Ordering) (reader reader' : Reader K X n) : Type 0 where
+  pub reader_is : IsReader table reader'
+  pub up : IsIncreasing cmp (left_of table reader')
+  pub fewer : length (left_of table reader') ≤ length (left_of table reader)
+  pub root : reader'.root ≡ reader.root

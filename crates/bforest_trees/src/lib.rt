@@ -12,6 +12,7 @@ mod predicate;
 mod reader;
 mod retain;
 mod shift;
+mod source;
 mod trees;
 
 pub use bforest_core::{Comparator, Node, NodePool, OutOfMemory, PackedNode, Path, Source};

@@ -2,11 +2,11 @@
 ghost use Rattle.bforest_nodes.specs.Entries.{IsIncreasing};
 ghost use Rattle.bforest_trees.specs.Layout.{IsReader, left_of};
 ghost use Rattle.bforest_trees.specs.Merge.{CanTake, Compares, Finds, HoldsNext, TakesLeast, TakesNew};
-ghost use Rattle.std.specs.Prelude.{Some};
+ghost use Rattle.std.specs.Prelude.{Some, ◌≡◌};
 
 use crate::reader::Reader;
 use crate::trees::Trees;
-use bforest_core::Comparator;
+use bforest_core::{Comparator, NodePool};
 use std::cmp::Ordering;
 
 /// How the next keys of two readers compare, of which the first has one. Where the second has none left, the first is the lesser.
@@ -57,17 +57,19 @@ pub(crate) fn next_order<'a, K: Copy, V: Copy, const N: usize, C: Comparator<K>>
 pub(crate) fn take_least<'a, K: Copy, V: Copy, const N: usize, C: Comparator<K>>(
     first: &mut Reader<'a, K, V, N>,
     second: &mut Reader<'a, K, V, N>,
-    trees: &'a Trees<K, V, N>,
+    pool: &'a NodePool<K, V, N>,
     comp: &C,
 ) -> Option<(K, V)>
-    requires first { IsReader trees.now first.old }
-    requires second { IsReader trees.now second.old }
-    ensures { TakesLeast trees.now (C.order comp.now) first.old second.old result first.new second.new }
+    requires first { IsReader pool.now first.old }
+    requires second { IsReader pool.now second.old }
+    ensures least { TakesLeast pool.now (C.order comp.now) first.old second.old result first.new second.new }
+    ensures root { first.new.root ≡ first.old.root }
+    ensures second_root { second.new.root ≡ second.old.root }
 {
-    if !first.has_next(trees) {
-        return second.next(trees);
+    if !first.goes_on(pool) {
+        return second.take_next(pool);
     }
-    if !second.has_next(trees) {
+    if !second.goes_on(pool) {
         return Some(first.take_first());
     }
     let order = comp.cmp(first.key(), second.key());

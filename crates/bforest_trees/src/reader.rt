@@ -2,7 +2,7 @@
 ghost use Rattle.bforest_core.specs.Paths.{list_under};
 ghost use Rattle.bforest_core.specs.Trees.{IsUnion, is_root};
 ghost use Rattle.bforest_trees.specs.Forest.{IsLive, list_of};
-ghost use Rattle.bforest_trees.specs.Layout.{Entered, IsReader, Opens, left_of};
+ghost use Rattle.bforest_trees.specs.Layout.{Entered, IsMark, IsReader, Opens, behind, left_of};
 ghost use Rattle.std.specs.Iterator.{YieldsFirst};
 ghost use Rattle.std.specs.Prelude.{IsTrue, List, Some, [], false, length, slice_get, true, ◌+◌, ◌<◌, ◌≡◌, ◌≤◌};
 
@@ -20,6 +20,17 @@ pub struct Reader<'a, K: Copy, V: Copy, const N: usize> {
     root: Node,
     // The place of the leaf.
     spot: Spot,
+}
+
+/// Where a reader stopped, with nothing borrowed.
+#[derive(Clone, Copy, Drop)]
+pub(crate) struct Mark {
+    root: Node,
+    spot: Spot,
+    // The index of the leaf's next entry.
+    index: usize,
+    // Whether there is one.
+    some: bool,
 }
 
 impl<'a, K: Copy, V: Copy, const N: usize> Reader<'a, K, V, N> {
@@ -42,6 +53,52 @@ impl<'a, K: Copy, V: Copy, const N: usize> Reader<'a, K, V, N> {
         }
     }
 
+    /// A reader that goes on where one stopped.
+    #[inline(always)]
+    pub(crate) fn resume(mark: Mark, pool: &'a NodePool<K, V, N>) -> Reader<'a, K, V, N>
+        requires union { IsUnion N pool.now }
+        requires mark { IsMark pool.now mark }
+        ensures left { left_of pool.now result ≡ behind pool.now mark }
+        ensures reader { IsReader pool.now result }
+        ensures root { result.root ≡ mark.root }
+    {
+        if !mark.some {
+            return Reader {
+                keys: &[],
+                vals: &[],
+                index: 0,
+                root: mark.root,
+                spot: Spot::root(mark.root),
+            };
+        }
+        let leaf = mark.spot.leaf(mark.root, pool);
+        let (keys, vals) = pool.node(leaf).unwrap_leaf();
+        Reader {
+            keys,
+            vals,
+            index: mark.index,
+            root: mark.root,
+            spot: mark.spot,
+        }
+    }
+
+    /// Where the reader stops.
+    #[inline(always)]
+    pub(crate) fn mark(&mut self, pool: &'a NodePool<K, V, N>) -> Mark
+        requires reader { IsReader pool.now self.old }
+        ensures mark { IsMark pool.now result }
+        ensures left { behind pool.now result ≡ left_of pool.now self.old }
+        ensures root { result.root ≡ self.old.root }
+    {
+        let some = self.goes_on(pool);
+        Mark {
+            root: self.root,
+            spot: self.spot,
+            index: self.index,
+            some,
+        }
+    }
+
     // A reader of all entries of the tree under a root.
     #[inline(always)]
     fn of(root: Node, pool: &'a NodePool<K, V, N>) -> Reader<'a, K, V, N>
@@ -60,6 +117,7 @@ impl<'a, K: Copy, V: Copy, const N: usize> Reader<'a, K, V, N> {
         requires opens { (left : List (K × V)) × Opens N pool.now left root spot leaf }
         ensures entered { (left : List (K × V)) → Opens N pool.now left root spot leaf
             → Entered pool.now left result }
+        ensures root { result.root ≡ root }
     {
         let (keys, vals) = pool.node(leaf).unwrap_leaf();
         Reader {
@@ -78,7 +136,18 @@ impl<'a, K: Copy, V: Copy, const N: usize> Reader<'a, K, V, N> {
         ensures steps { YieldsFirst (left_of trees.now) self.old result self.new }
         ensures reader { IsReader trees.now self.new }
     {
-        if self.has_next(trees) {
+        self.take_next(&trees.pool)
+    }
+
+    /// Removes the first of the entries that are left, and returns it.
+    #[inline(always)]
+    pub(crate) fn take_next(&mut self, pool: &'a NodePool<K, V, N>) -> Option<(K, V)>
+        requires reader { IsReader pool.now self.old }
+        ensures steps { YieldsFirst (left_of pool.now) self.old result self.new }
+        ensures reader { IsReader pool.now self.new }
+        ensures root { self.new.root ≡ self.old.root }
+    {
+        if self.goes_on(pool) {
             Some(self.take_first())
         } else {
             None
@@ -93,10 +162,22 @@ impl<'a, K: Copy, V: Copy, const N: usize> Reader<'a, K, V, N> {
         ensures none { result ≡ false → left_of trees.now self.old ≡ [] }
         ensures same { result ≡ false → self.new ≡ self.old }
     {
+        self.goes_on(&trees.pool)
+    }
+
+    /// Whether an entry is left. Where those of the leaf are read, goes to the next leaf.
+    #[inline(always)]
+    pub(crate) fn goes_on(&mut self, pool: &'a NodePool<K, V, N>) -> bool
+        requires reader { IsReader pool.now self.old }
+        ensures entered { result ≡ true → Entered pool.now (left_of pool.now self.old) self.new }
+        ensures none { result ≡ false → left_of pool.now self.old ≡ [] }
+        ensures same { result ≡ false → self.new ≡ self.old }
+        ensures root { self.new.root ≡ self.old.root }
+    {
         if self.index < self.keys.len() {
             return true;
         }
-        self.enter_next(&trees.pool)
+        self.enter_next(pool)
     }
 
     /// The key of the first entry, which is in the leaf that the reader holds.
@@ -116,6 +197,7 @@ impl<'a, K: Copy, V: Copy, const N: usize> Reader<'a, K, V, N> {
         ensures entered { result ≡ true → Entered pool.now (left_of pool.now self.old) self.new }
         ensures none { result ≡ false → left_of pool.now self.old ≡ [] }
         ensures same { result ≡ false → self.new ≡ self.old }
+        ensures root { self.new.root ≡ self.old.root }
     {
         match self.spot.next(self.root, pool) {
             Some((spot, leaf)) => {

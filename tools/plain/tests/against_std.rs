@@ -1211,6 +1211,25 @@ fn copies_of_handles() {
             map.remove(key, &mut forest, &());
         }
         assert_eq!(forest.holds(&copy), levels == 0 || levels == map.levels(&forest));
+        assert_eq!(map.is_same_handle(&copy), levels == map.levels(&forest));
         assert!(forest.holds(&map) && map.increases(&forest, &()));
+    }
+}
+
+/// So are copies of handles of sets.
+#[test]
+fn copies_of_handles_of_sets() {
+    let mut forest = SetForest::new();
+    let mut set = Set::new();
+    let mut random = Random(2);
+    for step in 0..4000 {
+        let (copy, levels) = (set.clone(), set.levels(&forest));
+        let key = random.below(800);
+        if random.below(10) < if step < 2000 { 7 } else { 3 } {
+            set.insert(key, &mut forest, &()).unwrap();
+        } else {
+            set.remove(key, &mut forest, &());
+        }
+        assert_eq!(set.is_same_handle(&copy), levels == set.levels(&forest));
     }
 }

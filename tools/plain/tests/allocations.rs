@@ -199,11 +199,11 @@ fn a_new_forest_and_handles_take_nothing() {
     let calls = calls_of(|| {
         let forest: MapForest<u32, u32> = MapForest::new();
         let map = Map::new();
-        assert!(map.iter(&forest).next().is_none() && map.clone().is_empty() && Map::<u32, u32>::default().is_empty());
+        assert!(map.iter(&forest).next().is_none() && map.clone().is_empty() && map.is_same_handle(&map.clone()) && Map::<u32, u32>::default().is_empty());
         assert_eq!((forest.node_limit(), forest.nodes_in_use()), (u32::MAX, 0));
         let forest: SetForest<u32> = SetForest::with_node_limit(3);
         let set = Set::new();
-        assert!(set.iter(&forest).next().is_none() && set.clone().is_empty() && Set::<u32>::default().is_empty());
+        assert!(set.iter(&forest).next().is_none() && set.clone().is_empty() && set.is_same_handle(&set.clone()) && Set::<u32>::default().is_empty());
         assert_eq!((forest.node_limit(), forest.nodes_in_use()), (3, 0));
         assert!(Map::<u32, u32>::nodes_for(9) > Map::<u32, u32>::fewest_nodes_for(9));
         assert!(Set::<u32>::nodes_for(99) > Set::<u32>::fewest_nodes_for(99));
@@ -251,10 +251,9 @@ fn of_two_maps_or_sets_only_a_union_calls_the_allocator() {
     assert_eq!(calls_of(|| set.union_with(&all.1, &mut set_forest, &()).unwrap()), calls);
 }
 
-/// A split and a compaction take memory for a list, which they give back, and for their nodes. A removal takes none, and where no entry goes
-/// there is no list.
+/// A split and a compaction take memory for their nodes alone. A removal takes none.
 #[test]
-fn of_parts_only_a_compaction_calls_the_allocator() {
+fn parts_call_no_allocator_where_nodes_lie_free() {
     let (mut forest, mut set_forest) = (MapForest::new(), SetForest::new());
     let (mut map, mut set) = (Map::new(), Set::new());
     for key in 0..ENTRIES {
@@ -270,8 +269,8 @@ fn of_parts_only_a_compaction_calls_the_allocator() {
     assert_eq!(calls_of(|| map.remove_range(..10, &mut forest, &())), 0);
     assert_eq!(calls_of(|| set.remove_range(..10, &mut set_forest, &())), 0);
     // The nodes lie free.
-    assert_eq!(calls_of(|| map.compact(&mut forest).unwrap()), 2);
-    assert_eq!(calls_of(|| set.compact(&mut set_forest).unwrap()), 2);
+    assert_eq!(calls_of(|| map.compact(&mut forest).unwrap()), 0);
+    assert_eq!(calls_of(|| set.compact(&mut set_forest).unwrap()), 0);
     assert_eq!(calls_of(|| map.remove_range(.., &mut forest, &())), 0);
     assert_eq!(calls_of(|| set.remove_range(.., &mut set_forest, &())), 0);
     assert_eq!(calls_of(|| map.compact(&mut forest).unwrap()), 0);

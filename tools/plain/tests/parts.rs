@@ -477,11 +477,11 @@ fn each_refusal<H: Handle>(needed: u32, call: fn(&mut H, &mut H::Forest) -> Resu
 }
 
 #[test]
-fn lists_and_tables_that_are_refused() {
+fn tables_that_are_refused() {
     each_refusal::<Map<u32, u32>>(1, |map, forest| map.split_off(100, forest, &()).map(drop));
-    each_refusal::<Map<u32, u32>>(2, |map, forest| map.compact(forest));
+    each_refusal::<Map<u32, u32>>(1, |map, forest| map.compact(forest));
     each_refusal::<Set<u32>>(1, |set, forest| set.split_off(100, forest, &()).map(drop));
-    each_refusal::<Set<u32>>(2, |set, forest| set.compact(forest));
+    each_refusal::<Set<u32>>(1, |set, forest| set.compact(forest));
 }
 
 /// What takes no node asks for no memory: a removal, and a split and a compaction of nothing.
@@ -496,4 +496,58 @@ fn calls_that_are_refused_nothing() {
         assert_eq!((Map::<u32, u32>::new().compact(&mut maps), Set::<u32>::new().compact(&mut sets)), (Ok(()), Ok(())));
     });
     assert_eq!((map.len(&maps), set.len(&sets)), (200, 200));
+}
+
+/// Some keys below a bound.
+fn some_keys(random: &mut Random, most: u32, bound: u32) -> BTreeSet<u32> {
+    (0..random.below(most)).map(|_| random.below(bound)).collect()
+}
+
+/// A union asks for memory for a list of its entries. Where none, or not all, is granted, and the nodes lie free, it is the same.
+#[test]
+fn unions_that_are_granted_no_list() {
+    let mut random = Random(41);
+    for step in 0..3000 {
+        let (most, requests) = ([3, 12, 60, 300, 1500][step % 5], [0, 0, 1, 2][step % 4]);
+        let (own, others) = (some_keys(&mut random, most, 2 * most), some_keys(&mut random, most, 2 * most));
+        let union: BTreeMap<u32, u32> = others.iter().map(|key| (*key, 0)).chain(own.iter().map(|key| (*key, 10 * key))).collect();
+
+        let mut forest = MapForest::new();
+        let (mut map, mut other): (Map<u32, u32>, Map<u32, u32>) = (made(own.iter().copied(), &mut forest), Map::new());
+        others.iter().for_each(|key| _ = other.insert(*key, 0, &mut forest, &()));
+        forest.reserve_nodes(Map::<u32, u32>::fewest_nodes_for(union.len()) as u32 + 2).unwrap();
+        assert_eq!(granted(requests, || map.union_with(&other, &mut forest, &())), Ok(!others.is_subset(&own)));
+        assert!(map.iter(&forest).eq(union.iter().map(|(key, value)| (*key, *value))) && forest.holds(&map));
+        assert!(other.iter(&forest).eq(others.iter().map(|key| (*key, 0))) && forest.holds(&other));
+        if others.difference(&own).count() > 1 {
+            other.clear(&mut forest);
+            assert_eq!((forest.slots() - forest.free_slots()) as usize, Map::<u32, u32>::fewest_nodes_for(union.len()));
+        }
+
+        let mut forest = SetForest::new();
+        let (mut set, mut other): (Set<u32>, Set<u32>) = (made(own.iter().copied(), &mut forest), made(others.iter().copied(), &mut forest));
+        forest.reserve_nodes(Set::<u32>::fewest_nodes_for(union.len()) as u32 + 2).unwrap();
+        assert_eq!(granted(requests, || set.union_with(&other, &mut forest, &())), Ok(!others.is_subset(&own)));
+        assert!(set.iter(&forest).eq(union.keys().copied()) && forest.holds(&set));
+        assert!(other.iter(&forest).eq(others.iter().copied()) && forest.holds(&other));
+        if others.difference(&own).count() > 1 {
+            other.clear(&mut forest);
+            assert_eq!((forest.slots() - forest.free_slots()) as usize, Set::<u32>::fewest_nodes_for(union.len()));
+        }
+    }
+}
+
+/// Where no node lies free and the table can't grow, a union is refused, and nothing has changed.
+#[test]
+fn unions_that_are_granted_no_nodes() {
+    let mut forest = MapForest::new();
+    let (mut map, other): (Map<u32, u32>, Map<u32, u32>) = (made((0..500).step_by(2), &mut forest), made((0..500).step_by(3), &mut forest));
+    let (mut forest, before) = (forest.clone(), (forest.slots(), forest.free_slots()));
+    assert_eq!(granted(0, || map.union_with(&other, &mut forest, &())), Err(OutOfMemory::Memory));
+    assert_eq!((forest.slots(), forest.free_slots()), before);
+    assert!(map.keys(&forest).into_iter().eq((0..500).step_by(2)) && other.keys(&forest).into_iter().eq((0..500).step_by(3)));
+    // The table is granted, and no list.
+    forest.reserve_nodes(200).unwrap();
+    assert_eq!(granted(0, || map.union_with(&other, &mut forest, &())), Ok(true));
+    assert!(map.keys(&forest).into_iter().eq((0..500).filter(|key| key % 2 == 0 || key % 3 == 0)));
 }

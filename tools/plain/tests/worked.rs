@@ -621,10 +621,11 @@ fn a_clone_names_the_same_tree_until_the_root_changes<C: Comparator<u32>>(comp: 
     let b = a.clone();
     assert_eq!(a.insert(2, 20, &mut forest, comp), Ok(None));
     assert_eq!(b.get(2, &forest, comp), Some(20));
+    assert!(a.is_same_handle(&b));
     for key in 3..=8 {
         assert_eq!(a.insert(key, 10 * key, &mut forest, comp), Ok(None));
     }
-    assert!(!forest.holds(&b));
+    assert!(!forest.holds(&b) && !a.is_same_handle(&b));
 }
 
 fn clearing_a_map_leaves_the_other<C: Comparator<u32>>(comp: &C) {

@@ -48,6 +48,7 @@ fn a_copy_of_a_set_and_a_second_handle() {
     let mut set = two_leaves(&mut forest);
     let (copy, second) = (set.deep_clone(&mut forest).unwrap(), set.clone());
     assert_eq!((forest.slots(), forest.nodes_in_use()), (6, 6));
+    assert_eq!((set.is_same_handle(&second), set.is_same_handle(&copy)), (true, false));
     set.clear(&mut forest);
     assert_eq!((forest.nodes_in_use(), forest.holds(&copy), forest.holds(&second)), (3, true, false));
     assert_eq!((copy.levels(&forest), copy.len(&forest)), (2, 16));

@@ -1,7 +1,7 @@
 -- The step of a spot to the next leaf and to the one before, and the place of a spot's leaf.
 use Rattle.bforest_core.proofs.Words.{Coded, HasNext, HasPrev, IsBesideOf, IsLeafAt, IsSpotAt, IsWay, NumberAt, Way, backwards, leaf_count, leaf_place, onwards, place_by, ◌≡◌}
 use Rattle.bforest_core.proofs.Words.{ℕ, suc, ◌+◌, ◌-◌, ◌*◌, ◌/◌, ◌%◌, ◌≤◌, ◌<◌, List, [], ◌∷◌, drop, get_or, length, take, Some, inl, inr, refl, sym, ap}
-use Rattle.bforest_core.proofs.walks.Branches.{Branch, branch-asks, branch-child, branch-way, first-of, last-asks, last-of, last-some, next-own}
+use Rattle.bforest_core.proofs.walks.Branches.{Branch, branch-asks, branch-child, branch-way, first-of, last-asks, last-of, last-some, next-own, own}
 use Rattle.bforest_core.proofs.{Words.{◌∙◌, arith, Rows, cases_lt, take_at, IsUnion, Table, tree_of}, table.Stored.item_count}
 use Rattle.bforest_core.proofs.walks.Branches.{none-next, none-prev, prev-own, prev-some}
 use Rattle.bforest_core.proofs.walks.Codes.{Parent, above, count-asks, deeper, here, last-leaf, leaf-at, leaf-parent, leaf-way, node-here, spot-over, way-none}
@@ -55,6 +55,18 @@ module _ {K V : Type 0} {n : ℕ} {table : Table K V} (union : IsUnion n table) 
   -- where none is before it, it is the first
   nought : (HasPrev spot → ⊥) → spot.code % 8 ≤ 0
   nought first = elim (cases_lt 0 (spot.code % 8)) [ inl low ↦ absurd (first (some, low)) | inr none ↦ none ]
+
+-- the leaf itself
+module _ {K V : Type 0} {n : ℕ} {table : Table K V} (union : IsUnion n table) {root : ℕ} {spot : Spot} {place : ℕ} (s : IsSpotAt table root spot place) where
+  module _ (some : 0 < spot.height) where
+    pub own-asks : ChildAsked table.nodes spot.parent (spot.code % 8)
+    own-asks = branch-asks (own (own-parent union s some))
+
+    pub own-leaf : {child : ℕ} → ChildRead table.nodes spot.parent (spot.code % 8) child → IsLeafAt table root place child
+    own-leaf reads = leaf-at union root s.root_is (branch-child (own (own-parent union s some)) reads)
+
+  pub root-leaf : spot.height ≡ 0 → IsLeafAt table root place root
+  root-leaf none = leaf-at union root s.root_is (way-none (spot-over union s).over none).0
 
 -- the leaves with the same parent
 module _ {K V : Type 0} {n : ℕ} {table : Table K V} (union : IsUnion n table) {root : ℕ} {spot : Spot} {place : ℕ} (s : IsSpotAt table root spot place) where

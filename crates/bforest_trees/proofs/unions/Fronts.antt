@@ -216,6 +216,11 @@ module _ {K X : Type 0} {n : ℕ} (table : Table K X) where
       );
     })
 
+-- what was taken off in a table is what was taken off in one that is the same
+pub least-seen : {K X : Type 0} {n : ℕ} {pool table : Table K X} {cmp : K → K → Ordering} {first second : Reader K X n} {found : Option (K × X)} {first' second' : Reader K X n}
+    → pool ≡ table → TakesLeast pool cmp first second found first' second' → TakesLeast table cmp first second found first' second'
+least-seen {cmp = cmp} {first} {second} {found} {first'} {second'} is l = subst (λ z. TakesLeast z cmp first second found first' second') is l
+
 module _ {K X : Type 0} {n : ℕ} (first second : Reader K X n) where
   -- an entry that is passed is not read
   pub passed-first : (first' : Reader K X n) → HoldsNext first → first' ≡ record first { index = first.index + 1 } → TakesNew Less first second None first' second

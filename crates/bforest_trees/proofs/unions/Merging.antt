@@ -339,7 +339,7 @@ module _ {K X : Type 0} (cmp : K → K → Ordering) where
         whole = λ all. absurd (omega (arith, all, c.most));
       }
 
-  no-union : {rest others_rest : List (K × X)} → (rest ≡ []) × (others_rest ≡ []) → united cmp rest others_rest ≡ []
+  pub no-union : {rest others_rest : List (K × X)} → (rest ≡ []) × (others_rest ≡ []) → united cmp rest others_rest ≡ []
   no-union none = rw (none.0, none.1) refl
 
   -- both lists are over

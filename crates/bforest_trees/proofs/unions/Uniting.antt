@@ -1,25 +1,22 @@
 -- What a union of two trees answers and leaves, as one record.
-use Rattle.bforest_core.specs.Change.{PlantsTree, node_count}
+use Rattle.bforest_core.specs.Change.{node_count}
 use Rattle.bforest_core.specs.Packed.{ArePacked, fewest}
-use Rattle.bforest_core.specs.Sizes.{IsFitFor}
 use Rattle.bforest_core.specs.Trees.{IsUnion}
-use Rattle.bforest_core.specs.declared.pool.OutOfMemory.TheVariants.{Full}
+use Rattle.bforest_core.specs.declared.pool.OutOfMemory.TheVariants.{Full, Memory}
 use Rattle.bforest_core.specs.declared.pool.OutOfMemory.{OutOfMemory}
 use Rattle.bforest_core.proofs.union.Needs.{fewest-least, fewest-many}
 use Rattle.bforest_nodes.proofs.Found.{value_for-absent}
 use Rattle.bforest_nodes.specs.Entries.{IsIncreasing, is_present, put}
 use Rattle.bforest_trees.proofs.Accounts.{accounted}
-use Rattle.bforest_trees.proofs.Changed.{becomes-new, sizes-new, takes}
 use Rattle.bforest_trees.proofs.Cutting.{becomes-same}
 use Rattle.bforest_trees.proofs.Fits.{below-slots, fit-at}
 use Rattle.bforest_trees.proofs.unions.Merging.{among-itself, united-same, united-some, united-up}
 use Rattle.bforest_trees.proofs.unions.New.{none-new, some-new, united-one}
-use Rattle.bforest_trees.specs.Calls.{Clears, Inserts, Unites, need_of_new, need_of_union}
-use Rattle.bforest_trees.specs.Forest.{Becomes, Forest, IsLive, IsTooMany, Takes, list_at, list_of, nodes_at, numbers_below, sizes_at, sizes_of, slots_of}
-use Rattle.bforest_trees.specs.Merge.{LoadsUnion}
+use Rattle.bforest_trees.specs.Calls.{Clears, Inserts, Loads, Unites, need_of_new, need_of_union}
+use Rattle.bforest_trees.specs.Forest.{Becomes, Forest, IsLive, IsTooMany, NeedsGrowth, list_at, list_of, nodes_at, numbers_below, sizes_at, sizes_of, slots_of}
 use Rattle.bforest_trees.specs.Union.{AreSearchable, are_among, new_to, united}
-use Rattle.std.proofs.Common.{Err, List, None, Ok, OnOk, Option, Result, Some, [], ap, arith, false, inl, inr, is_err, is_ok, length, not, refl, subst, suc, sym, true, zero, ◌*◌, ◌<◌, ◌∙◌, ◌∷◌, ◌↔◌, ◌≡◌, ◌≢◌, ◌≤◌, ℕ}
-use Rattle.std.proofs.lemmas.Bool.{cases_lt}
+use Rattle.std.proofs.Common.{Err, List, None, Ok, OnOk, Option, Result, Some, [], ap, arith, false, inl, inr, is_err, is_ok, length, not, refl, subst, suc, sym, true, zero, ◌*◌, ◌<◌, ◌∙◌, ◌∷◌, ◌≡◌, ◌≢◌, ◌≤◌, ℕ}
+use Rattle.std.proofs.lemmas.Bool.{cases_lt, false≢true}
 use Rattle.std.proofs.lemmas.List.Sums.{sum_by_push}
 use Rattle.std.specs.Cmp.{IsTotalOrder}
 use Rattle.std.specs.List.{sum_by}
@@ -146,36 +143,6 @@ pub when-ok : {A E P : Type 0} (r : Result A E) → is_ok r ≡ true → OnOk r 
 when-ok (Ok x) t holds = holds
 when-ok (Err e) t holds = absurd (cc)
 
--- a table as its pool shows it, and entries as a slice shows them
-module _ {K X : Type 0} (most : ℕ) {p f : Forest K X} (is : p ≡ f) {items es : List (K × X)} (same : items ≡ es) where
-  -- the tree was refused
-  pub loads-refused : {refused : OutOfMemory} → (◌≡◌ {A = Result ℕ OutOfMemory} (Err refused) (Err Full) → IsTooMany (fewest most (length items)) p) → LoadsUnion most f es (Err refused) f
-  loads-refused {refused} full = record {
-    loaded = tt;
-    packed = tt;
-    nodes = tt;
-    fit = tt;
-    account = tt;
-    full = λ e. subst (λ z. IsTooMany (fewest most (length es)) z) is (subst (λ z. IsTooMany (fewest most (length z)) p) same (full (let alike : refused ≡ Full = cc in ap Err alike)));
-    refused = refl;
-  }
-
-  -- the tree was made
-  pub loads-made : {f' : Forest K X} {root : ℕ} → (sizes : List (List ℕ)) × ArePacked most sizes × (node_count sizes ≡ fewest most (length items)) × PlantsTree most p f' root items sizes
-      → LoadsUnion most f es (Ok (Some root)) f'
-  loads-made {f'} {root} (sizes, packed, count, plants) =
-      let b = becomes-new most p f' root items sizes plants.fresh plants.changes in
-      let are = sizes-new most p f' root root items sizes plants.changes in
-      subst (λ z. LoadsUnion most z es (Ok (Some root)) f') is (subst (λ z. LoadsUnion most p z (Ok (Some root)) f') same (record {
-        loaded = b;
-        packed = rw are packed;
-        nodes = ap node_count are ∙ count;
-        fit = subst (λ l. IsFitFor most (length l) (sizes_at f' root)) b.list (fit-at most f' plants.changes.union root);
-        account = subst (λ d. Takes d p f') count (takes _ p f' plants.takes);
-        full = λ bad. absurd (cc);
-        refused = tt;
-      }))
-
 module _ {K X : Type 0} (most : ℕ) (cmp : K → K → Ordering) (o : IsTotalOrder cmp) (f : Forest K X) (h other : Option ℕ) (s : AreSearchable cmp f h other) where
   abbrev new : List (K × X)
   new = new_to cmp f h other
@@ -209,6 +176,7 @@ module _ {K X : Type 0} (most : ℕ) (cmp : K → K → Ordering) (o : IsTotalOr
         other_sizes = refl;
         full = (λ bad. absurd (cc), λ low. absurd (omega (arith, low, need-by none)));
         memory = λ bad. absurd (cc);
+        succeeds = λ enough. refl;
         refused_forest = tt;
         refused_handle = tt;
       }
@@ -247,6 +215,7 @@ module _ {K X : Type 0} (most : ℕ) (cmp : K → K → Ordering) (o : IsTotalOr
           other_sizes = stays.2;
           full = (λ bad. absurd (cc), λ low. absurd (let bad = i.full.1 (subst (λ d. IsTooMany d f) (need-by is) low) in cc));
           memory = λ bad. absurd (cc);
+          succeeds = λ enough. refl;
           refused_forest = tt;
           refused_handle = tt;
         }
@@ -271,7 +240,8 @@ module _ {K X : Type 0} (most : ℕ) (cmp : K → K → Ordering) (o : IsTotalOr
         λ e. subst (λ d. IsTooMany d f) (sym (need-by is)) (i.full.0 (let alike : refused ≡ Full = cc in ap Err alike)),
         λ low. let full = i.full.1 (subst (λ d. IsTooMany d f) (need-by is) low) in let alike : refused ≡ Full = cc in ap Err alike,
       );
-      memory = λ e. fresh-one;
+      memory = λ e. subst (λ d. NeedsGrowth d f) (sym (need-by is)) (i.memory (let alike : refused ≡ Memory = cc in ap Err alike));
+      succeeds = λ enough. absurd (false≢true (i.succeeds (omega (arith, enough, need-by is))));
       refused_forest = i.refused_forest;
       refused_handle = i.refused_handle;
     }
@@ -296,7 +266,7 @@ module _ {K X : Type 0} (most : ℕ) (cmp : K → K → Ordering) (o : IsTotalOr
     union-some = united-some cmp (list_of f h) (list_of f other) fresh-many
 
     -- the call was refused
-    pub unites-refused : (refused : OutOfMemory) → ((refused ≡ Full) ↔ IsTooMany (fewest most (length (united cmp (list_of f h) (list_of f other)))) f) → Unites most cmp f h other (Err refused) f h
+    pub unites-refused : (refused : OutOfMemory) {f1 : Forest K X} → Loads most f (united cmp (list_of f h) (list_of f other)) (Err refused) f1 → Unites most cmp f h other (Err refused) f h
     unites-refused refused told = record {
       united = tt;
       changed = tt;
@@ -311,16 +281,19 @@ module _ {K X : Type 0} (most : ℕ) (cmp : K → K → Ordering) (o : IsTotalOr
       other_live = s.other_live;
       other_list = refl;
       other_sizes = refl;
-      full = (λ e. subst (λ d. IsTooMany d f) (sym need-is) (told.0 (cc)), λ low. ap Err (told.1 (subst (λ d. IsTooMany d f) need-is low)));
-      memory = λ e. fresh-many;
+      full = (
+        λ e. subst (λ d. IsTooMany d f) (sym need-is) (told.full.0 (let alike : refused ≡ Full = cc in ap Err alike)),
+        λ low. let full = told.full.1 (subst (λ d. IsTooMany d f) need-is low) in let alike : refused ≡ Full = cc in ap Err alike,
+      );
+      memory = λ e. subst (λ d. NeedsGrowth d f) (sym need-is) (told.memory (let alike : refused ≡ Memory = cc in ap Err alike));
+      succeeds = λ enough. absurd (false≢true (told.succeeds (omega (arith, enough, need-is))));
       refused_forest = refl;
       refused_handle = refl;
     }
 
     -- the packed tree took the place of the old one
-    pub unites-ok : {f1 f2 : Forest K X} {h1 h2 : Option ℕ} → ¬ IsTooMany (fewest most (length (united cmp (list_of f h) (list_of f other)))) f
-        → LoadsUnion most f (united cmp (list_of f h) (list_of f other)) (Ok h1) f1 → Clears f1 h f2 h2 → Unites most cmp f h other (Ok true) f2 h1
-    unites-ok {f1} {f2} {h1} {h2} low l c =
+    pub unites-ok : {f1 f2 : Forest K X} {h1 h2 : Option ℕ} → Loads most f (united cmp (list_of f h) (list_of f other)) (Ok h1) f1 → Clears f1 h f2 h2 → Unites most cmp f h other (Ok true) f2 h1
+    unites-ok {f1} {f2} {h1} {h2} l c =
         let ends = subst (λ z. Becomes f1 h f2 z []) c.handle c.cleared in
         let b = becomes-made h s.live l.loaded ends in
         let made = made-stays h s.live l.loaded ends in
@@ -350,8 +323,9 @@ module _ {K X : Type 0} (most : ℕ) (cmp : K → K → Ordering) (o : IsTotalOr
           other_live = stays.0;
           other_list = stays.1;
           other_sizes = stays.2;
-          full = (λ bad. absurd (cc), λ short. absurd (low (subst (λ d. IsTooMany d f) need-is short)));
+          full = (λ bad. absurd (cc), λ short. absurd (let bad = l.full.1 (subst (λ d. IsTooMany d f) need-is short) in cc));
           memory = λ bad. absurd (cc);
+          succeeds = λ enough. refl;
           refused_forest = tt;
           refused_handle = tt;
         }

@@ -1,10 +1,11 @@
 //! Making a tree anew, packed.
 ghost use Rattle.bforest_trees.specs.Calls.{Compacts};
-ghost use Rattle.bforest_trees.specs.Forest.{IsLive, list_of};
+ghost use Rattle.bforest_trees.specs.Forest.{IsLive};
 ghost use Rattle.bforest_core.specs.Packed.{fewest, nodes_over};
-ghost use Rattle.std.specs.Prelude.{Err, IfOk, length, ◌≡◌, ◌≢◌, ◌≤◌, ℕ};
+ghost use Rattle.std.specs.Prelude.{◌≡◌, ◌≤◌, ℕ};
 
 use crate::reader::Reader;
+use crate::source::OneTree;
 use crate::trees::Trees;
 use bforest_core::{OutOfMemory, PackedNode};
 
@@ -17,37 +18,12 @@ impl<K: Copy, V: Copy, const N: usize> Trees<K, V, N> {
         requires live { IsLive self.old handle.old }
         ensures { Compacts N self.old handle.old result self.new handle.new }
     {
-        let room = self.room();
         let entries = self.len(*handle);
-        if entries == 0 {
-            return Ok(());
-        }
-        if room < fewest_nodes(entries, N) {
-            return Err(OutOfMemory::Full);
-        }
-        let list = self.gather(*handle, entries)?;
-        let root = self.pool.build_tree(list.as_slice())?;
+        let mut all = OneTree::new(Reader::new(*handle, self).mark(&self.pool));
+        let packed = self.load_from(&mut all, entries)?;
         self.free_tree(handle);
-        *handle = PackedNode::some(root);
+        *handle = packed;
         Ok(())
-    }
-
-    // The entries of a tree, which are so many, in a vector.
-    fn gather(&self, handle: PackedNode, entries: usize) -> Result<Vec<(K, V)>, OutOfMemory>
-        requires live { IsLive self.now handle }
-        requires entries { entries ≡ length (list_of self.now handle) }
-        ensures list { IfOk result (λ list. list.items ≡ list_of self.now handle) }
-        ensures memory { result ≢ Err OutOfMemory.Full }
-    {
-        let mut list = Vec::new(self.pool.allocator());
-        if list.reserve_exact(entries).is_err() {
-            return Err(OutOfMemory::Memory);
-        }
-        let mut reader = Reader::new(handle, self);
-        while let Some(entry) = reader.next(self) {
-            list.push_reserved(entry);
-        }
-        Ok(list)
     }
 }
 

@@ -1,14 +1,14 @@
 //! Putting the entries of one tree into another one.
-ghost use Rattle.bforest_trees.specs.Calls.{Unites};
-ghost use Rattle.bforest_trees.specs.Forest.{IsTooMany, list_at, list_of, room_of};
-ghost use Rattle.bforest_trees.specs.Merge.{LoadsUnion, new_entries};
+ghost use Rattle.bforest_trees.specs.Calls.{Loads, Unites};
+ghost use Rattle.bforest_trees.specs.Forest.{list_at, list_of, room_of};
+ghost use Rattle.bforest_trees.specs.Merge.{new_entries};
 ghost use Rattle.bforest_trees.specs.Union.{AreSearchable, kept_from, united};
 ghost use Rattle.bforest_nodes.specs.Content.{IsLeafCapacity};
-ghost use Rattle.bforest_core.specs.Packed.{fewest};
-ghost use Rattle.std.specs.Prelude.{Err, List, [], false, length, vec_len, ◌+◌, ◌++◌, ◌^◌, ◌∷◌, ◌<◌, ◌≡◌, ◌≤◌, ℕ};
+ghost use Rattle.std.specs.Prelude.{List, [], false, length, vec_len, ◌+◌, ◌++◌, ◌^◌, ◌∷◌, ◌<◌, ◌≡◌, ◌≤◌, ℕ};
 
 use crate::merge::{next_order, take_least, take_new};
 use crate::reader::Reader;
+use crate::source::UnionOf;
 use crate::trees::{Trees, fewest_nodes};
 use bforest_core::{Comparator, OutOfMemory, PackedNode};
 
@@ -95,7 +95,8 @@ impl<K: Copy, V: Copy, const N: usize> Trees<K, V, N> {
         new
     }
 
-    // Makes a packed tree of the union of two trees, which has an entry.
+    // Makes a packed tree of the union of two trees. Where no memory can be had for a list of its entries, they are read once more, from the
+    // trees.
     fn load_union<C: Comparator<K>>(
         &mut self,
         handle: PackedNode,
@@ -103,13 +104,8 @@ impl<K: Copy, V: Copy, const N: usize> Trees<K, V, N> {
         comp: &C,
     ) -> Result<PackedNode, OutOfMemory>
         requires searchable { AreSearchable (C.order comp.now) self.old handle other }
-        requires some { 0 < length (united (C.order comp.now) (list_of self.old handle)
-            (list_of self.old other)) }
-        ensures loaded { LoadsUnion N self.old (united (C.order comp.now) (list_of self.old handle)
+        ensures { Loads N self.old (united (C.order comp.now) (list_of self.old handle)
             (list_of self.old other)) result self.new }
-        ensures full { IsTooMany (fewest N (length (united (C.order comp.now)
-            (list_of self.old handle) (list_of self.old other)))) self.old
-            → result ≡ Err OutOfMemory.Full }
     {
         let room = self.room();
         let mut union = Vec::new(self.pool.allocator());
@@ -117,11 +113,12 @@ impl<K: Copy, V: Copy, const N: usize> Trees<K, V, N> {
         if room < fewest_nodes(entries, N) {
             return Err(OutOfMemory::Full);
         }
-        if union.len() < entries {
-            return Err(OutOfMemory::Memory);
+        if union.len() == entries {
+            return self.load(union.as_slice());
         }
-        let root = self.pool.build_tree(union.as_slice())?;
-        Ok(PackedNode::some(root))
+        let first = Reader::new(handle, self).mark(&self.pool);
+        let second = Reader::new(other, self).mark(&self.pool);
+        self.load_from(&mut UnionOf::new(first, second, comp), entries)
     }
 
     // Puts the entries of the union of two trees into an empty vector, and returns how many there are. Where memory is refused, the vector
@@ -146,7 +143,7 @@ impl<K: Copy, V: Copy, const N: usize> Trees<K, V, N> {
         let mut first = Reader::new(handle, self);
         let mut second = Reader::new(other, self);
         let mut entries = 0;
-        while let Some(entry) = take_least(&mut first, &mut second, self, comp) {
+        while let Some(entry) = take_least(&mut first, &mut second, &self.pool, comp) {
             if union.len() < union.capacity() || union.reserve(MORE_ENTRIES).is_ok() {
                 union.push_reserved(entry);
             }

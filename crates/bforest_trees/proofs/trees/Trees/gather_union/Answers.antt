@@ -1,3 +1,4 @@
+use Rattle.bforest_trees.proofs.unions.Fronts.{least-seen}
 use Rattle.bforest_trees.proofs.unions.Merging.{front-none, gathering-end, gathering-low, gathering-past, gathering-put, steps-less}
 use Rattle.bforest_trees.proofs.unions.Uniting.{when-ok}
 use Rattle.bforest_trees.proofs.trees.Trees.gather_union.Goals as goal
@@ -26,16 +27,16 @@ push_reserved-requires g c = elim c.then-len-capacity.branch [
 
 pub overflow_add-entries : goal.overflow_add-entries
 overflow_add-entries g c =
-    let t = c.take_least.ensures.some c.in-Some.entry c.in-Some.is in
+    let t = (least-seen c.self.view_is c.take_least.ensures.least).some c.in-Some.entry c.in-Some.is in
     omega (arith, gathering-low _ (g.met.C.Comparator.total c.args.comp.now) t.0 _ _ _ t.1 t.2.off c.loop-entry.invariant.2, c.requires.few)
 
 pub loop-entry-smaller : goal.loop-entry-smaller
 loop-entry-smaller g c =
-    steps-less (g.C.Comparator.order c.args.comp.now) _ _ _ _ _ _ (c.take_least.ensures.some c.in-Some.entry c.in-Some.is).2.off
+    steps-less (g.C.Comparator.order c.args.comp.now) _ _ _ _ _ _ ((least-seen c.self.view_is c.take_least.ensures.least).some c.in-Some.entry c.in-Some.is).2.off
 
 pub loop-entry-preserved : goal.loop-entry-preserved
 loop-entry-preserved g c =
-    let t = c.take_least.ensures.some c.in-Some.entry c.in-Some.is in
+    let t = (least-seen c.self.view_is c.take_least.ensures.least).some c.in-Some.entry c.in-Some.is in
     let put = gathering-put _ (g.met.C.Comparator.total c.args.comp.now) t.0 _ _ _ t.1 t.2.off c.loop-entry.invariant.2 in
     let past = gathering-past _ (g.met.C.Comparator.total c.args.comp.now) t.0 _ _ _ t.1 t.2.off c.loop-entry.invariant.2 in
     let longer = length-append c.loop-entry.union.items (c.in-Some.entry ∷ []) in
@@ -49,8 +50,8 @@ loop-entry-preserved g c =
 
 pub returns-clause-entries : goal.returns-clause-entries
 returns-clause-entries g c = let cmp = g.C.Comparator.order c.args.comp.now in
-    (gathering-end cmp (front-none cmp _ _ (c.take_least.ensures.none c.in_default.is)) c.loop-entry.invariant.2).0
+    (gathering-end cmp (front-none cmp _ _ ((least-seen c.self.view_is c.take_least.ensures.least).none c.in_default.is)) c.loop-entry.invariant.2).0
 
 pub returns-clause-gathered : goal.returns-clause-gathered
 returns-clause-gathered g c = let cmp = g.C.Comparator.order c.args.comp.now in
-    λ all. (gathering-end cmp (front-none cmp _ _ (c.take_least.ensures.none c.in_default.is)) c.loop-entry.invariant.2).1 (sym c.loop-entry.invariant.3 ∙ all)
+    λ all. (gathering-end cmp (front-none cmp _ _ ((least-seen c.self.view_is c.take_least.ensures.least).none c.in_default.is)) c.loop-entry.invariant.2).1 (sym c.loop-entry.invariant.3 ∙ all)

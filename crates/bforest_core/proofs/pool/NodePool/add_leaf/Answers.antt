@@ -1,5 +1,5 @@
 use Rattle.bforest_core.proofs.{Words.rules, table.Allocating.{taken_is, used_written}}
-use Rattle.bforest_core.proofs.pool.NodePool.build_leaf.Goals as goal
+use Rattle.bforest_core.proofs.pool.NodePool.add_leaf.Goals as goal
 
 pub node_mut-requires : goal.node_mut-requires
 node_mut-requires g c = (search rules, (search rules, c.take_slot-leaf.ensures.used))
