@@ -93,6 +93,15 @@ impl<K: Copy, V: Copy> Map<K, V> {
         self.root.is_none()
     }
 
+    /// Returns whether two handles are one: handles to the same tree, or both empty. Constant time. Lists are not compared.
+    ///
+    /// It tells a copy: one of the handles may not be live after a change through the other.
+    pub fn is_same_handle(&self, other: &Self) -> bool
+        ensures same { IsTrue result ↔ (self.now ≡ other.now) }
+    {
+        self.root.expand() == other.root.expand()
+    }
+
     /// Returns the value of the entry whose key compares equal to `key`, or `None`.
     ///
     /// One search. It visits one node of each level, at most `1 + log4(n)` nodes for `n` entries, and compares about 3 times in each, or
@@ -399,15 +408,15 @@ impl<K: Copy, V: Copy> Map<K, V> {
     /// Reads both maps side by side, up to the second new entry, with at most one comparison for each entry of either. Where nothing is
     /// new, that is all: no node and no memory is taken, and nothing is written. A single new entry is inserted, as [`Map::insert`] does
     /// it. Where there are more, the call reads both anew, makes a tree of the union with the fewest nodes beside the old one, and frees
-    /// that. Until it returns it takes memory for a list of the union then, which grows as it is filled.
+    /// that. Where memory can be had for a list of the union, which is given back then, it saves a third reading.
     ///
     /// Other handles to this map's tree are not live where a key was new. Where both are one map, nothing is new.
     ///
     /// # Errors
     ///
     /// [`OutOfMemory::Full`] where the forest's limit does not allow the nodes that are needed: those of an insertion, or for more than one
-    /// new entry those of the new tree beside the old ones. [`OutOfMemory::Memory`] where there was no memory for a table that had to grow, or
-    /// for the list. The map and the forest are unchanged then.
+    /// new entry those of the new tree beside the old ones. [`OutOfMemory::Memory`] where there was no memory for a table that had to grow:
+    /// where so many nodes lie free, the call succeeds. The map and the forest are unchanged then.
     pub fn union_with<C: Comparator<K>>(
         &mut self,
         other: &Map<K, V>,
@@ -519,12 +528,13 @@ impl<K: Copy, V: Copy> Map<K, V> {
     /// entries stay.
     ///
     /// Counts the entries, reads each once, and writes each once. No comparison. The new tree is made beside the old one, which is freed
-    /// then, and until the call returns it takes memory for a list of the entries. Other handles to this map's tree are not live then.
+    /// then. Other handles to this map's tree are not live then.
     ///
     /// # Errors
     ///
     /// [`OutOfMemory::Full`] where the forest's limit does not allow the new tree's nodes beside the old ones. [`OutOfMemory::Memory`]
-    /// where there was no memory for the list or for a table that had to grow. The map and the forest are unchanged then.
+    /// where there was no memory for a table that had to grow: where so many nodes lie free, the call succeeds. The map and the forest are
+    /// unchanged then.
     pub fn compact(&mut self, forest: &mut MapForest<K, V>) -> Result<(), OutOfMemory>
         requires live { IsLive forest.old self.old }
         ensures { Compacts MAP_LEAF forest.old self.old result forest.new self.new }

@@ -12,6 +12,13 @@ use Rattle.bforest_calls.specs.declared.call.Seen.{Seen}
 use Rattle.std.proofs.Common.{Bool, List, None, [], ap, false, inl, inr, true, ◌%◌, ◌∷◌, ◌≡◌, ℕ}
 use Rattle.std.specs.declared.cmp.Ordering.{Ordering}
 
+module _ {K V : Type 0} where
+  -- a call that is not offered changes nothing
+  pub lacks-same : (there : Type 0) (old : State K V) (given : Answer K V) (new : State K V) → Lacks there old given new → new ≡ old
+  lacks-same there old answer.NoIndex new h = h.1
+  lacks-same there old answer.NotOffered new h = h.1
+  lacks-same there old given new h = absurd h
+
 module _ {K V : Type 0} (most : ℕ) (odd : most % 2 ≡ 1) where
   pub act-adds : (order : K → K → Ordering) (old : Held K V) (p : ℕ) (step : Act K V) (sight : Seen K V) (new : Held K V) (q : ℕ) → Acts most order old p step sight new q → StillAddsUp most old.forest new.forest
   act-adds order old p act.Empty sight new q made a = still most old.forest new.forest (ap (λ s. s.forest) made.1) a
@@ -34,11 +41,6 @@ module _ {K V : Type 0} (most : ℕ) (odd : most % 2 ≡ 1) where
 
   same-forest : (old new : State K V) → new ≡ old → StillAddsUp most old.forest new.forest
   same-forest old new is a = still most old.forest new.forest (ap (λ s. s.forest) is) a
-
-  lacks-same : (there : Type 0) (old : State K V) (given : Answer K V) (new : State K V) → Lacks there old given new → new ≡ old
-  lacks-same there old answer.NoIndex new h = h.1
-  lacks-same there old answer.NotOffered new h = h.1
-  lacks-same there old given new h = absurd h
 
   pub step-adds : (reads : Bool) (orders : Orders K) (old : State K V) (made : Call K V) (given : Answer K V) (new : State K V) → Step most reads orders old made given new → StillAddsUp most old.forest new.forest
   step-adds reads orders old (call.Get h c k) given new step a = elim step [ inl w ↦ same-forest old new w.1 a | inr w ↦ same-forest old new w.3.1 a ]

@@ -2,6 +2,7 @@ pub mod Accounts
 pub mod Acting
 pub mod Adding
 pub mod Chains
+pub mod Changes
 pub mod Comparing
 pub mod Indexed
 pub mod Kept
@@ -10,6 +11,8 @@ pub mod Offers
 pub mod Packing
 pub mod Pairing
 pub mod Runs
+pub mod Slots
+pub mod Spared
 pub mod Sums
 pub mod Telling
 pub mod Units

@@ -33,7 +33,7 @@ module _ {K V : Type 0} where
   IsComparing reads h c (call.RemoveRange a b lo hi) = (a ≡ h) × (b ≡ c)
   IsComparing reads h c other = ⊥
 
-  -- the call is such a call, and leaves a list that increases under the comparator
+  -- the call compares keys by comparator c, and leaves handle h a list that increases under it
   abbrev pub IsKeeping : ℕ → ℕ → Call K V → Type 0
   IsKeeping h c (call.Get a b k) = (a ≡ h) × (b ≡ c)
   IsKeeping h c (call.GetOrLess a b k) = (a ≡ h) × (b ≡ c)
@@ -46,6 +46,12 @@ module _ {K V : Type 0} where
   IsKeeping h c (call.Read a b steps) = (a ≡ h) × (b ≡ c)
   IsKeeping h c (call.Range a b lo hi ends) = (a ≡ h) × (b ≡ c)
   IsKeeping h c (call.RemoveRange a b lo hi) = (a ≡ h) × (b ≡ c)
+  IsKeeping h c (call.Edit a b steps) = (a ≡ h) × (b ≡ c)
+  IsKeeping h c (call.Unite a o b) = (a ≡ h) × (b ≡ c)
+  IsKeeping h c (call.Intersect a o b) = (a ≡ h) × (b ≡ c)
+  IsKeeping h c (call.Subtract a o b) = (a ≡ h) × (b ≡ c)
+  IsKeeping h c (call.IsSubset a o b) = (a ≡ h) × (b ≡ c)
+  IsKeeping h c (call.IsDisjoint a o b) = (a ≡ h) × (b ≡ c)
   IsKeeping h c other = ⊥
 
   -- the call is such a call, and only maps offer it

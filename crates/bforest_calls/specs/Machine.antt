@@ -10,11 +10,12 @@ use Rattle.bforest_calls.specs.declared.call.Answer.{Answer}
 use Rattle.bforest_calls.specs.declared.call.Call.TheVariants as call
 use Rattle.bforest_calls.specs.declared.call.Call.{Call}
 use Rattle.bforest_calls.specs.declared.call.Seen.{Seen}
+use Rattle.bforest_calls.specs.declared.known.Known.{Known}
 use Rattle.bforest_core.specs.declared.pool.OutOfMemory.{OutOfMemory}
 use Rattle.bforest_nodes.specs.Entries.{IsIncreasing, value_for}
 use Rattle.std.proofs.Math.Logic.{◌⊎◌}
 use Rattle.std.specs.Global.{Global}
-use Rattle.std.specs.Prelude.{Bool, Err, List, None, Ok, Option, Result, Some, Vec, [], false, get_or, length, reverse, slice_get, slice_set, true, ◌-◌, ◌<◌, ◌≡◌, ◌≢◌, ◌∷◌, ℕ}
+use Rattle.std.specs.Prelude.{All, Bool, Err, List, None, Ok, Option, Result, Some, Vec, [], false, get_or, length, reverse, slice_get, slice_set, true, ◌-◌, ◌<◌, ◌≡◌, ◌≢◌, ◌∷◌, ℕ}
 use Rattle.std.specs.declared.cmp.Ordering.TheVariants.{Equal}
 use Rattle.std.specs.declared.cmp.Ordering.{Ordering}
 
@@ -44,6 +45,10 @@ as_made (Err refused) = Err refused
 abbrev pub with_made : ℕ → Result (Option ℕ) OutOfMemory → List (Option ℕ) → List (Option ℕ)
 with_made h (Ok number) handles = slice_set handles h number
 with_made h (Err refused) handles = handles
+
+-- nothing is known of any handle
+abbrev pub KnowsNothing : Known → Type 0
+KnowsNothing known = All (λ slot. slot ≡ None) known.slots
 
 module _ {K V : Type 0} where
   -- the number of a handle, what it holds, and its list
@@ -130,6 +135,10 @@ module _ {K V : Type 0} where
   abbrev pub IsKnown : Orders K → State K V → Option (ℕ × ℕ) → Type 0
   IsKnown orders state None = Unit {0}
   IsKnown orders state (Some known) = Passes orders state known.0 known.1
+
+  -- what is known of a state, of each handle that is remembered
+  abbrev pub AreKnown : Orders K → State K V → Known → Type 0
+  AreKnown orders state known = All (IsKnown orders state) known.slots
 
   -- Memory is requested: for the answer of a call, which is a list, where the call is offered and passes its tests; and for the keys of a
   -- set that is loaded. `reads` is whether the calls that only maps have are offered.

@@ -171,6 +171,10 @@ pub trait Collection<K: Copy, V: Copy>: Drop {
     fn alias(&self) -> Self
         ensures same { result ≡ self.now };
 
+    /// Whether two handles are one, which is whether they have one number.
+    fn is_same_handle(&self, other: &Self) -> bool
+        ensures same { IsTrue result ↔ (number self.now ≡ number other.now) };
+
     /// Removes all trees of a forest.
     fn clear_all(forest: &mut Self::Forest)
         requires fits { fits }

@@ -2,23 +2,24 @@
 ghost use Rattle.bforest_calls.specs.Beside.{IsBeside};
 ghost use Rattle.bforest_calls.specs.Compared.{IsComparing, IsKeeping, IsOfMaps};
 ghost use Rattle.bforest_calls.specs.Alone.{IsAlone};
-ghost use Rattle.bforest_calls.specs.Machine.{AsksRoom, IsKnown, Lacks, Live, Ordered, Passes, Refuses, State, Step};
+ghost use Rattle.bforest_calls.specs.Machine.{AreKnown, AsksRoom, IsKnown, Lacks, Live, Ordered, Passes, Refuses, State, Step};
 ghost use Rattle.bforest_calls.specs.declared.call.Answer.TheVariants as answer;
 ghost use Rattle.bforest_calls.specs.declared.call.Call.TheVariants as call;
 ghost use Rattle.std.specs.Prelude.{Err, IfErr, IfOk, IfSome, None, Ok, Bool, OnErr, false, length, map, slice_set, ◌<◌, ◌≡◌, ℕ};
 
 use crate::call::{Answer, Call};
 use crate::collection::Collection;
+use crate::known::Known;
 use bforest::{Comparator, OutOfMemory};
 use std::alloc::{AllocError, Global};
 
 /// Makes one call, on maps or on sets. Handles and orders may be any: the call tests them. Room for its answer is taken before anything
 /// changes.
 ///
-/// `known` is a handle that is live, and a comparator under which its list increases, by their indices, or `None`. What it names is not
-/// tested again. Afterwards it is what the call tells: the handle and the comparator of a call that compared keys, if it was made and is
-/// no shift and no script of a writing cursor. So in a row of such calls on one handle by one comparator, the first alone reads the whole
-/// list.
+/// `known` are handles that are live, each with a comparator under which its list increases. These are not tested again. Afterwards it is
+/// what the call leaves of it, and what the call tells: the handle and the comparator of a call that compared keys, if it was made and is
+/// no shift and no split. A handle is forgotten where a call may change its tree through a copy, or may make it name another tree. So
+/// calls on a few handles in turn read each whole list once, as long as they keep to one comparator for each handle.
 ///
 /// # Errors
 ///
@@ -29,10 +30,10 @@ pub fn make<K: Copy, V: Copy, C: Comparator<K>, T: Collection<K, V>>(
     comps: &[C],
     handles: &mut [T],
     forest: &mut T::Forest,
-    known: &mut Option<(usize, usize)>,
+    known: &mut Known,
 ) -> Result<Answer<K, V>, AllocError>
     requires fits { T.fits }
-    requires known { IsKnown (map C.order comps.now)
+    requires known { AreKnown (map C.order comps.now)
         (record { forest = T.trees forest.old; handles = T.numbers handles.old }) known.old }
     ensures step { IfOk result (λ given. Step T.most T.READS (map C.order comps.now)
         (record { forest = T.trees forest.old; handles = T.numbers handles.old }) call.now given
@@ -41,11 +42,14 @@ pub fn make<K: Copy, V: Copy, C: Comparator<K>, T: Collection<K, V>>(
         (record { forest = T.trees forest.old; handles = T.numbers handles.old }) call.now) }
     ensures err_forest { OnErr result (forest.new ≡ forest.old) }
     ensures err_handles { OnErr result (handles.new ≡ handles.old) }
-    ensures known { IsKnown (map C.order comps.now)
+    ensures known { AreKnown (map C.order comps.now)
         (record { forest = T.trees forest.new; handles = T.numbers handles.new }) known.new }
 {
-    let given = make_by(alloc, call, comps, handles, forest, *known)?;
-    *known = known_by(call, &given);
+    let mut left = *known;
+    left.forget(call, handles);
+    let given = make_by(alloc, call, comps, handles, forest, known)?;
+    left.learn(known_by(call, &given));
+    *known = left;
     Ok(given)
 }
 
@@ -74,6 +78,12 @@ fn kept_by<K: Copy, V: Copy>(call: &Call<K, V>) -> Option<(usize, usize)>
         | Call::UpdateOrInsert { h, c, .. }
         | Call::Remove { h, c, .. }
         | Call::Read { h, c, .. }
+        | Call::Edit { h, c, .. }
+        | Call::Unite { h, c, .. }
+        | Call::Intersect { h, c, .. }
+        | Call::Subtract { h, c, .. }
+        | Call::IsSubset { h, c, .. }
+        | Call::IsDisjoint { h, c, .. }
         | Call::Range { h, c, .. }
         | Call::RemoveRange { h, c, .. } => Some((*h, *c)),
         _ => None,
@@ -87,11 +97,11 @@ fn make_by<K: Copy, V: Copy, C: Comparator<K>, T: Collection<K, V>>(
     comps: &[C],
     handles: &mut [T],
     forest: &mut T::Forest,
-    known: Option<(usize, usize)>,
+    known: &Known,
 ) -> Result<Answer<K, V>, AllocError>
     requires fits { T.fits }
-    requires known { IsKnown (map C.order comps.now)
-        (record { forest = T.trees forest.old; handles = T.numbers handles.old }) known }
+    requires known { AreKnown (map C.order comps.now)
+        (record { forest = T.trees forest.old; handles = T.numbers handles.old }) known.now }
     ensures step { IfOk result (λ given. Step T.most T.READS (map C.order comps.now)
         (record { forest = T.trees forest.old; handles = T.numbers handles.old }) call.now given
         (record { forest = T.trees forest.new; handles = T.numbers handles.new })) }
@@ -177,14 +187,14 @@ fn unnamed<K: Copy, V: Copy, T: Collection<K, V>>(
 fn refusal<K: Copy, V: Copy, C: Comparator<K>, T: Collection<K, V>>(
     h: usize,
     c: usize,
-    known: Option<(usize, usize)>,
+    known: &Known,
     comps: &[C],
     handles: &[T],
     forest: &T::Forest,
 ) -> Option<Answer<K, V>>
     requires fits { T.fits }
-    requires known { IsKnown (map C.order comps.now)
-        (record { forest = T.trees forest.now; handles = T.numbers handles.now }) known }
+    requires known { AreKnown (map C.order comps.now)
+        (record { forest = T.trees forest.now; handles = T.numbers handles.now }) known.now }
     ensures made { result ≡ None → Passes (map C.order comps.now)
         (record { forest = T.trees forest.now; handles = T.numbers handles.now }) h c }
     ensures refused { IfSome result (Refuses
@@ -193,6 +203,7 @@ fn refusal<K: Copy, V: Copy, C: Comparator<K>, T: Collection<K, V>>(
         (Ordered (map C.order comps.now)
         (record { forest = T.trees forest.now; handles = T.numbers handles.now }) h c)) }
 {
+    let known = known.of(h);
     if known == Some((h, c)) {
         return None;
     }
@@ -214,14 +225,14 @@ fn compare<K: Copy, V: Copy, C: Comparator<K>, T: Collection<K, V>>(
     call: &Call<K, V>,
     h: usize,
     c: usize,
-    known: Option<(usize, usize)>,
+    known: &Known,
     comps: &[C],
     handles: &mut [T],
     forest: &mut T::Forest,
 ) -> Result<Answer<K, V>, AllocError>
     requires fits { T.fits }
-    requires known { IsKnown (map C.order comps.now)
-        (record { forest = T.trees forest.old; handles = T.numbers handles.old }) known }
+    requires known { AreKnown (map C.order comps.now)
+        (record { forest = T.trees forest.old; handles = T.numbers handles.old }) known.now }
     requires compares { IsComparing T.READS h c call.now }
     ensures step { IfOk result (λ given. Step T.most T.READS (map C.order comps.now)
         (record { forest = T.trees forest.old; handles = T.numbers handles.old }) call.now given
@@ -443,14 +454,14 @@ fn split_off<K: Copy, V: Copy, C: Comparator<K>, T: Collection<K, V>>(
     c: usize,
     k: K,
     to: usize,
-    known: Option<(usize, usize)>,
+    known: &Known,
     comps: &[C],
     handles: &mut [T],
     forest: &mut T::Forest,
 ) -> Answer<K, V>
     requires fits { T.fits }
-    requires known { IsKnown (map C.order comps.now)
-        (record { forest = T.trees forest.old; handles = T.numbers handles.old }) known }
+    requires known { AreKnown (map C.order comps.now)
+        (record { forest = T.trees forest.old; handles = T.numbers handles.old }) known.now }
     ensures { Step T.most T.READS (map C.order comps.now)
         (record { forest = T.trees forest.old; handles = T.numbers handles.old }) (call.SplitOff h c k to) result
         (record { forest = T.trees forest.new; handles = T.numbers handles.new }) }

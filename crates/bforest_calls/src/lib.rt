@@ -4,6 +4,7 @@
 mod call;
 mod collection;
 mod engine;
+mod known;
 mod maps;
 mod run;
 mod sets;
@@ -13,5 +14,6 @@ mod steps;
 pub use call::{Act, Answer, Call, Look, Seen, Side};
 pub use collection::Collection;
 pub use engine::make;
+pub use known::Known;
 pub use maps::run_map;
 pub use sets::run_set;

@@ -202,6 +202,10 @@ impl<K: Copy, V: Copy> Collection<K, V> for Map<K, V> {
         self.clone()
     }
 
+    fn is_same_handle(&self, other: &Map<K, V>) -> bool {
+        self.is_same_handle(other)
+    }
+
     fn clear_all(forest: &mut MapForest<K, V>) {
         forest.clear();
     }

@@ -5,6 +5,7 @@ ghost use Rattle.std.specs.Prelude.{IfOk, OnErr, map, take, ℕ};
 use crate::call::{Answer, Call};
 use crate::collection::Collection;
 use crate::engine::make;
+use crate::known::Known;
 use bforest::Comparator;
 use std::alloc::{AllocError, Global};
 
@@ -27,7 +28,7 @@ pub(crate) fn run<K: Copy, V: Copy, C: Comparator<K>, T: Collection<K, V>>(
         (record { forest = T.trees forest.new; handles = T.numbers handles.new }) calls.now n) }
 {
     let mut answers = Vec::with_capacity(alloc, calls.len())?;
-    let mut known = None;
+    let mut known = Known::new();
     for call in calls {
         let given = make(alloc, call, comps, handles, forest, &mut known)?;
         answers.push(given).unwrap();

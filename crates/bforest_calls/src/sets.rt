@@ -208,6 +208,10 @@ impl<K: Copy> Collection<K, ()> for Set<K> {
         self.clone()
     }
 
+    fn is_same_handle(&self, other: &Set<K>) -> bool {
+        self.is_same_handle(other)
+    }
+
     fn clear_all(forest: &mut SetForest<K>) {
         forest.clear();
     }

@@ -11,7 +11,7 @@ use Rattle.bforest_calls.specs.declared.call.Answer.TheVariants as answer
 use Rattle.bforest_calls.specs.declared.call.Answer.{Answer}
 use Rattle.bforest_calls.specs.declared.call.Call.TheVariants as call
 use Rattle.bforest_calls.specs.declared.call.Call.{Call}
-use Rattle.bforest_calls_tests.proofs.Changes.{compacted, got-inserted, inserted, retold, scripted, shifted, updated, updated-inserted, united-with}
+use Rattle.bforest_calls.proofs.Changes.{compacted, got-inserted, inserted, retold, scripted, shifted, updated, updated-inserted, united-with}
 use Rattle.bforest_calls_tests.proofs.Resembling.{IsMade, Resembles, between-alike, clears-alike, clones-made, clones-sizes, compacts-alike, gets-or-inserts-alike, inserts-alike, keeps-alike, loads-made, loads-sizes, made-alike, parts-alike, pops-alike, removes-alike, retains-alike, scripts-alike, shifts-alike, unites-alike, updates-alike, updates-or-inserts-alike}
 use Rattle.bforest_calls_tests.specs.Determined.{AreAlike, AreDetermined, GoInStep, HadMemory, IsSameAnswer, RunsThrough}
 use Rattle.bforest_core.specs.Change.{node_count}

@@ -1,5 +1,4 @@
 pub mod Aliases
-pub mod Changes
 pub mod Counted
 pub mod Determined
 pub mod Exchange

@@ -6,7 +6,7 @@ use Rattle.bforest_calls.specs.declared.call.Answer.TheVariants as answer
 use Rattle.bforest_calls.specs.declared.call.Answer.{Answer}
 use Rattle.bforest_calls.specs.declared.call.Call.TheVariants as call
 use Rattle.bforest_calls.specs.declared.call.Call.{Call}
-use Rattle.bforest_calls_tests.proofs.Changes.{compacted, got-inserted, inserted, scripted, shifted, updated, updated-inserted, united-with}
+use Rattle.bforest_calls.proofs.Changes.{compacted, got-inserted, inserted, scripted, shifted, updated, updated-inserted, united-with}
 use Rattle.bforest_calls_tests.specs.Sparing.{IsSpared, Spares}
 use Rattle.bforest.specs.Refusal.{OutOfMemory}
 use Rattle.std.proofs.Common.{Bool, Err, List, None, Ok, Option, Result, Some, [], ap, false, get_or, inl, inr, length, refl, subst, suc, sym, take, true, zero, ◌<◌, ◌∙◌, ◌∷◌, ◌≡◌, ◌≢◌, ℕ}

@@ -1,6 +1,6 @@
 //! The handles that lines name, of maps or of sets, and their answers to lines.
 ghost use Rattle.bforest.specs.Forest.{IsLive, free_of, sizes_of, slots_of};
-ghost use Rattle.bforest_calls.specs.Machine.{IsKnown, Live, State, Step, number_at};
+ghost use Rattle.bforest_calls.specs.Machine.{AreKnown, Live, State, Step, number_at};
 ghost use Rattle.bforest_run.specs.Answers.{IsBadBy, Tells, TellsBy, all_orders};
 ghost use Rattle.bforest_run.specs.Grammar.{Says, Spells};
 ghost use Rattle.bforest_run.specs.Shown.{answer_text, told_text};
@@ -14,7 +14,7 @@ use crate::parse::{Spelled, line};
 use crate::shown::Counts;
 use crate::shown_answer::Told;
 use crate::word::HANDLE_COUNT;
-use bforest_calls::{Answer, Call, Collection, make};
+use bforest_calls::{Answer, Call, Collection, Known, make};
 use std::alloc::{AllocError, Global};
 use std::marker::Model;
 
@@ -38,8 +38,8 @@ pub(crate) trait Handle<V: Spelled>: Collection<u32, V> {
 pub(crate) struct Handles<V: Spelled, T: Handle<V>> {
     pub(crate) forest: T::Forest,
     pub(crate) handles: [T; HANDLE_COUNT],
-    /// What the last call told: which handle is live, and an order under which its list increases, by their indices.
-    pub(crate) known: Option<(usize, usize)>,
+    /// Which handles are live, each with an order under which its list increases.
+    pub(crate) known: Known,
 }
 
 impl<V: Spelled, T: Handle<V>> Model for Handles<V, T> {
@@ -47,7 +47,7 @@ impl<V: Spelled, T: Handle<V>> Model for Handles<V, T> {
 
     ghost view = { λ it. record { forest = T.trees it.forest; handles = T.numbers it.handles } };
 
-    ghost invariant = { λ it. T.fits × IsKnown all_orders
+    ghost invariant = { λ it. T.fits × AreKnown all_orders
         (record { forest = T.trees it.forest; handles = T.numbers it.handles }) it.known };
 }
 

@@ -5,6 +5,7 @@ ghost use Rattle.std.specs.Prelude.{◌≡◌};
 use crate::handles::{Handle, Handles};
 use crate::shown::Counts;
 use bforest::{Map, MapForest};
+use bforest_calls::Known;
 use std::alloc::Global;
 use std::array;
 
@@ -15,7 +16,7 @@ pub(crate) fn maps(alloc: Global, limit: u32) -> Handles<u32, Map<u32, u32>>
     Handles {
         forest: MapForest::with_node_limit(alloc, limit),
         handles: array::from_fn(|_| Map::new()),
-        known: None,
+        known: Known::new(),
     }
 }
 

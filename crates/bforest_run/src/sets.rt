@@ -5,6 +5,7 @@ ghost use Rattle.std.specs.Prelude.{◌≡◌};
 use crate::handles::{Handle, Handles};
 use crate::shown::Counts;
 use bforest::{Set, SetForest};
+use bforest_calls::Known;
 use std::alloc::Global;
 use std::array;
 
@@ -15,7 +16,7 @@ pub(crate) fn sets(alloc: Global, limit: u32) -> Handles<(), Set<u32>>
     Handles {
         forest: SetForest::with_node_limit(alloc, limit),
         handles: array::from_fn(|_| Set::new()),
-        known: None,
+        known: Known::new(),
     }
 }
 

@@ -54,6 +54,7 @@ fn read(map: &Map<u32, u32>, forest: &MapForest<u32, u32>) -> bool {
     let mut range = map.range((Bound::Excluded(4), Bound::Included(20)), forest, &());
     count == LAST
         && !map.clone().is_empty()
+        && map.is_same_handle(&map.clone())
         && map.levels(forest) == 2
         && map.get(LAST, forest, &()) == Some(LAST)
         && map.get_or_less(99, forest, &()) == Some((LAST, LAST))

@@ -50,6 +50,7 @@ fn read(set: &Set<u32>, forest: &SetForest<u32>) -> bool {
     let mut range = set.range((Bound::Excluded(4), Bound::Included(20)), forest, &());
     count == LAST
         && !set.clone().is_empty()
+        && set.is_same_handle(&set.clone())
         && set.levels(forest) == 2
         && set.contains(LAST, forest, &())
         && set.get_or_less(99, forest, &()) == Some(LAST)

@@ -1,7 +1,9 @@
 use Rattle.bforest_calls.proofs.Chains.{pushed, room-stays}
 use Rattle.bforest_calls.proofs.Runs.{may-stop, on_err_from, run_next, run_same, run_whole}
+use Rattle.bforest_calls.proofs.Slots.{none-learned}
 use Rattle.bforest_calls.proofs.run.run.Goals as goal
-use Rattle.std.proofs.Common.{[], ap, arith, length, map, refl, ◌+◌, ◌∙◌}
+use Rattle.bforest_calls.specs.Machine.{IsKnown, State}
+use Rattle.std.proofs.Common.{[], ap, arith, length, map, refl, rules, ◌+◌, ◌∙◌}
 use Rattle.std.specs.Prelude.{is_ok}
 
 pub returns-in_err-answers-clause-err : goal.returns-in_err-answers-clause-err
@@ -24,6 +26,17 @@ returns-in_err-given-clause-err g c =
           (record { forest = t.trees c.make.new.forest; handles = t.numbers c.make.new.handles }) c.loop-call-test.true c.call-item.is
           (ap t.trees c.in_err-given.ensures.err_forest) (ap t.numbers c.in_err-given.ensures.err_handles) c.in_err-given.ensures.room,
     )
+
+pub loop-call-init : goal.loop-call-init
+loop-call-init g c =
+    let t = g.T.Collection in
+    let state : State g.row.K.Denot g.row.V.Denot = record { forest = t.trees c.args.forest.now; handles = t.numbers c.args.handles.now } in
+    record {
+      run = search rules;
+      known = none-learned (IsKnown (map g.C.Comparator.order c.args.comps.now) state) c.new-known.result.slots tt c.new-known.ensures.none;
+      told = search rules;
+      room = search rules;
+    }
 
 pub loop-call-preserved : goal.loop-call-preserved
 loop-call-preserved g c =
