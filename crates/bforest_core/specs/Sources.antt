@@ -18,7 +18,7 @@ module _ {K V : Type 0} where
     pub enough : count ≤ length (left base)
 
   -- the first `count` entries of a list were taken from a source, to which the rest is left, and `key` is the first key
-  pub record Gives (list rest : List (K × V)) (count : ℕ) (Reads : Type 0) (key : K) : Type 0 where
+  pub record TakesEntries (list rest : List (K × V)) (count : ℕ) (Reads : Type 0) (key : K) : Type 0 where
     pub value : V
     pub first_is : slice_get list 0 ≡ Some (key, value)
     pub reads : Reads

@@ -3,7 +3,7 @@ ghost use Rattle.std.specs.Prelude.{◌≡◌, ℕ, ◌+◌, ◌^◌, ◌<◌, �
 ghost use Rattle.bforest_nodes.specs.Content.{IsLeafCapacity};
 ghost use Rattle.bforest_core.specs.Change.{PlantsTree, node_count};
 ghost use Rattle.bforest_core.specs.Packed.{ArePacked, IsPlan, fewest, need_of, width};
-ghost use Rattle.bforest_core.specs.Sources.{Builds, Feeds, Gives};
+ghost use Rattle.bforest_core.specs.Sources.{Builds, Feeds, TakesEntries};
 ghost use Rattle.bforest_core.specs.Trees.{IsUnion};
 ghost use Rattle.bforest_core.specs.Table.{NeedsGrowth, Table, free_count, room};
 
@@ -81,7 +81,8 @@ impl<K: Copy, V: Copy, const N: usize> NodePool<K, V, N> {
             × Feeds N (S.reads source.old) (S.left source.old) base self.old entries }
         ensures gives { (base : Table K V)
             → Feeds N (S.reads source.old) (S.left source.old) base self.old entries
-            → Gives (S.left source.old base) (S.left source.new base) entries (S.reads source.new base) result.0 }
+            → TakesEntries (S.left source.old base) (S.left source.new base) entries
+            (S.reads source.new base) result.0 }
         ensures builds { (base : Table K V)
             → Feeds N (S.reads source.old) (S.left source.old) base self.old entries
             → Builds N base self.old self.new (S.left source.old base) entries level result.1 }

@@ -139,7 +139,7 @@ impl<'a, K: Copy, V: Copy, const N: usize> Reader<'a, K, V, N> {
         self.take_next(&trees.pool)
     }
 
-    /// Removes the first of the entries that are left, and returns it.
+    /// Removes the first of the entries that are left, as they are read from the trees' pool, and returns it.
     #[inline(always)]
     pub(crate) fn take_next(&mut self, pool: &'a NodePool<K, V, N>) -> Option<(K, V)>
         requires reader { IsReader pool.now self.old }
@@ -165,7 +165,7 @@ impl<'a, K: Copy, V: Copy, const N: usize> Reader<'a, K, V, N> {
         self.goes_on(&trees.pool)
     }
 
-    /// Whether an entry is left. Where those of the leaf are read, goes to the next leaf.
+    /// Whether an entry is left, as it is read from the trees' pool. Where those of the leaf are read, goes to the next leaf.
     #[inline(always)]
     pub(crate) fn goes_on(&mut self, pool: &'a NodePool<K, V, N>) -> bool
         requires reader { IsReader pool.now self.old }

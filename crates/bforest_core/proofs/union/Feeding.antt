@@ -5,7 +5,7 @@ use Rattle.bforest_core.proofs.{table.Allocating.{grows-not, reserved-enough}, t
 use Rattle.bforest_core.proofs.union.Building.{Building, build_room, building-first, building-last, building-next, built-leaf, built-plants, first-taken, over-room, part-first, part-next}
 use Rattle.bforest_core.specs.Change.{PlantsTree}
 use Rattle.bforest_core.specs.Packed.{Built, need_of, width}
-use Rattle.bforest_core.specs.Sources.{Adds, Builds, Gives}
+use Rattle.bforest_core.specs.Sources.{Adds, Builds, TakesEntries}
 use Rattle.std.proofs.lemmas.List.{drop-drop}
 use Rattle.std.specs.Prelude.{min}
 
@@ -54,7 +54,7 @@ module _ {K V : Type 0} {most : ℕ} where
 
   module _ (one : 0 < most) {base old : Table K V} {list : List (K × V)} {count level part : ℕ} (held : count ≤ length list) (is : part ≡ width most level) where
     -- the first part
-    pub filling-first : {now : Table K V} {rest : List (K × V)} {key : K} {Reads : Type 0} {child : ℕ} {over : Content K V} → 0 < count → Distinct old.chain → Gives list rest (min part count) Reads key
+    pub filling-first : {now : Table K V} {rest : List (K × V)} {key : K} {Reads : Type 0} {child : ℕ} {over : Content K V} → 0 < count → Distinct old.chain → TakesEntries list rest (min part count) Reads key
         → Builds most base old now list (min part count) level child → over ≡ Inner [] (child ∷ []) → Filling most base old now list rest count level part 0 over key Reads
     filling-first {now} {child = child} any apart g b over_is =
         let first = building-first (omega (arith, any, length-take-le count list held)) is apart (subst (λ z. Built most old now z level child) (sym (part-first part count list)) b.built) over_is in
@@ -87,7 +87,7 @@ module _ {K V : Type 0} {most : ℕ} where
             omega (arith, build_room one s.building part is (omega (arith, more, count_is)) (omega (arith, fits, count_is)) (omega (arith, room, ap (λ z. need_of most (suc level) z) count_is)), ap (λ z. need_of most level z) long)
 
         -- one part more
-        pub filling-next : {new : Table K V} {rest' : List (K × V)} {next : K} {Reads' : Type 0} {kid : ℕ} {over' : Content K V} → Gives rest rest' (min part (count - done)) Reads' next
+        pub filling-next : {new : Table K V} {rest' : List (K × V)} {next : K} {Reads' : Type 0} {kid : ℕ} {over' : Content K V} → TakesEntries rest rest' (min part (count - done)) Reads' next
             → Builds most base now new rest (min part (count - done)) level kid → over' ≡ with_child over index next kid → Filling most base old new list rest' count level (done + part) (suc index) over' key Reads'
         filling-next {new} {kid = kid} g b over'_is =
             let size = min part (count - done) in
@@ -109,7 +109,7 @@ module _ {K V : Type 0} {most : ℕ} where
         pub last-room : count ≤ width most (suc level) → need_of most (suc level) count ≤ length old.chain → 0 < length now.chain
         last-room fits room = over-room one s.building (omega (arith, past, count_is)) (omega (arith, fits, count_is)) (omega (arith, room, ap (λ z. need_of most (suc level) z) count_is))
 
-        pub filling-gives : Gives list rest count Reads key
+        pub filling-gives : TakesEntries list rest count Reads key
         filling-gives = let m : min done count ≡ count = omega (arith, past) in record {
           value = s.building.value;
           first_is = subst (λ z. slice_get list 0 ≡ Some (z, s.building.value)) s.key_is (first-taken count list s.building.first_is);

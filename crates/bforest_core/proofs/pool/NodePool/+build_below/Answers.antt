@@ -5,7 +5,7 @@ use Rattle.bforest_core.proofs.{union.Needs.{need-leaf, width-some}, union.Fores
 use Rattle.bforest_core.proofs.union.Building.{above, first-need, index_low, index_more, part-least, taken-front}
 use Rattle.bforest_core.proofs.union.Feeding.{count_is, filling-builds, filling-first, filling-gives, filling-next, last-room, leaf-builds, rest-enough, rest-room, Filling}
 use Rattle.bforest_core.specs.Packed.{need_of, width}
-use Rattle.bforest_core.specs.Sources.{Builds, Feeds, Gives}
+use Rattle.bforest_core.specs.Sources.{Builds, Feeds, TakesEntries}
 use Rattle.std.specs.Prelude.{min}
 use Rattle.bforest_core.proofs.pool.NodePool.+build_below.Goals as goal
 
@@ -72,7 +72,7 @@ loop-done-init g t c = λ base f. let one : 0 < g.row.N = omega (arith, c.requir
     let Reads = g.S.LeafSource.reads c.build_below-first_key.new.source base in
     let first : Feeds g.row.N (g.S.LeafSource.reads c.args.source.now) (g.S.LeafSource.left c.args.source.now) base c.args.self.now c.min.result = record { adds = f.adds; reads = f.reads; enough = omega (arith, f.enough, c.min.ensures) } in
     filling-first one f.enough (w.part_is ∙ ap (width g.row.N) (sym w.low_is)) c.requires.some (λ m. omega (arith, once f.adds.union.1 m))
-    (subst (λ z. Gives list rest z Reads c.build_below-first_key.result.0) c.min.ensures (c.build_below-first_key.ensures.gives base first))
+    (subst (λ z. TakesEntries list rest z Reads c.build_below-first_key.result.0) c.min.ensures (c.build_below-first_key.ensures.gives base first))
     (subst (λ z. Builds g.row.N base c.args.self.now c.build_below-first_key.new.self list z (c.args.level - 1) c.build_below-first_key.result.1) c.min.ensures (c.build_below-first_key.ensures.builds base first))
     c.over-node.ensures.node
 
@@ -152,7 +152,7 @@ loop-done-preserved g t c = λ base f. let one : 0 < g.row.N = omega (arith, c.r
     let same : c.try_inner_insert.new.self ≡ with_child c.loop-done.node c.loop-done.index c.build_below-key.result.0 c.build_below-key.result.1 = put.node ∙ ap (λ z. if z then with_child c.loop-done.node c.loop-done.index c.build_below-key.result.0 c.build_below-key.result.1 else c.loop-done.node) room in
     subst (λ z. Filling g.row.N base c.args.self.now c.build_below-key.new.self list rest c.args.entries (c.args.level - 1) (c.loop-done.done + c.args.room / 8) z c.try_inner_insert.new.self c.build_below-first_key.result.0 Reads) (omega arith)
     (filling-next one f.enough part_is s more
-    (subst (λ z. Gives left rest z Reads c.build_below-key.result.0) c.min-next.ensures (c.build_below-key.ensures.gives base next))
+    (subst (λ z. TakesEntries left rest z Reads c.build_below-key.result.0) c.min-next.ensures (c.build_below-key.ensures.gives base next))
     (subst (λ z. Builds g.row.N base c.loop-done.self c.build_below-key.new.self left z (c.args.level - 1) c.build_below-key.result.1) c.min-next.ensures (c.build_below-key.ensures.builds base next))
     same)
 
