@@ -110,6 +110,8 @@ MARKED = [
 ]
 # A new tree, whose root is marked.
 NEW_TREE = (r"\bOk\(PackedNode::some\((\w+)\)\)", r"Ok(self.named(\1))", 1)
+# A handle that gets a new root in a function without the trees, which keep the marks.
+RENAMED = [(r"^( *)\*handle = (PackedNode::some\(left\));\n", r"\1rename_in(pool, handle, \2);\n", 1)]
 # The place of a key that the call looked up in a leaf: builds with guards compare the keys beside it.
 LOOKED_UP = (
     r"^( *)let \((\w+), stored\) = self\.pool\.look_up_in_leaf\((leaf|way\.leaf\(\)), key, comp\);\n",
@@ -228,6 +230,8 @@ EDITS = {
             1,
         ),
     ],
+    "bforest_trees/retain.rt": [*RENAMED, (r"^(?=use crate::predicate::)", "use crate::guards::rename_in;\n", 1)],
+    "bforest_trees/keep.rt": [*RENAMED, (r"^(?=use bforest_core::\{Comparator)", "use crate::guards::rename_in;\n", 1)],
     "bforest_trees/trees/copy.rt": [NEW_TREE],
     "bforest_trees/trees/load.rt": [NEW_TREE],
     "bforest_trees/trees/part.rt": [

@@ -42,6 +42,20 @@ impl Display for LoadError {
 
 impl Error for LoadError {}
 
+impl From<OutOfMemory> for LoadError {
+    /// Returns [`LoadError::Refused`], so that `?` serves for [`Maps::load`] and for [`Maps::insert`] in one function.
+    fn from(why: OutOfMemory) -> Self {
+        LoadError::Refused(why)
+    }
+}
+
+impl From<TryReserveError> for LoadError {
+    /// Returns [`LoadError::Refused`] with [`OutOfMemory::Memory`], so that `?` serves for [`Maps::push`], too.
+    fn from(why: TryReserveError) -> Self {
+        LoadError::Refused(why.into())
+    }
+}
+
 impl<K: Copy, V: Copy> Default for MapForest<K, V> {
     /// Returns an empty forest, as [`MapForest::new`] does.
     fn default() -> Self {

@@ -1,7 +1,7 @@
 //! Handles of maps.
 ghost use Rattle.bforest_nodes.specs.Entries.{IsIncreasing, place, value_for};
 ghost use Rattle.bforest.specs.Bounds.{entries_between, entry_at_least, entry_at_most};
-ghost use Rattle.bforest.specs.Calls.{Clears, Clones, Compacts, Filters, GetsOrInserts, Inserts, Intersects, Loads, Pops, Removes, RemovesBetween, Shifts, SplitsOff, Subtracts, Unites, Updates, UpdatesOrInserts, fewest};
+ghost use Rattle.bforest.specs.Calls.{Clears, Clones, Compacts, Filters, GetsOrInserts, Inserts, Intersects, Loads, MayRekey, Pops, Removes, RemovesBetween, Shifts, SplitsOff, Subtracts, Unites, Updates, UpdatesOrInserts, fewest};
 ghost use Rattle.bforest.specs.Cursor.{IsCursor, comparator, forest_loan, forest_now, map_loan, map_now, spot};
 ghost use Rattle.bforest.specs.Forest.{Forest, IsFitFor, IsLive, IsSearchable, first_level, list_of, sizes_of};
 ghost use Rattle.bforest.specs.Memory.{MapsFitInMemory};
@@ -73,8 +73,8 @@ impl<K: Copy, V: Copy> Map<K, V> {
 
     /// Returns a second handle to the same tree. No entry is copied.
     ///
-    /// A change through one handle is not seen by the other: after [`Map::clear`], or where the tree gains or loses a level, the other
-    /// one is not live.
+    /// A change through one handle is not seen by the other: after [`Map::clear`], where the tree gains or loses a level, or where
+    /// [`Map::compact`] or [`Map::union_with`] make it anew, the other one is not live.
     pub fn clone(&self) -> Self
         ensures same { result ≡ self.now }
     {
@@ -277,7 +277,7 @@ impl<K: Copy, V: Copy> Map<K, V> {
     /// Removes the entry whose key compares equal to `key` and returns its value, or returns `None` and changes nothing.
     ///
     /// One search, as in [`Map::get`], and then at most two nodes of each level: a leaf that falls below half full is rebalanced with its
-    /// right sibling or merged into it, and so on upwards (docs/RULES.md, removal). No memory is taken, and nodes that become empty join
+    /// right neighbour or merged into it, and so on upwards (docs/RULES.md, removal). No memory is taken, and nodes that become empty join
     /// the forest's free list. An insertion of the same key may need a node again, and fail.
     pub fn remove<C: Comparator<K>>(
         &mut self,
@@ -410,7 +410,8 @@ impl<K: Copy, V: Copy> Map<K, V> {
     /// it. Where there are more, the call reads both anew, makes a tree of the union with the fewest nodes beside the old one, and frees
     /// that. Where memory can be had for a list of the union, which is given back then, it saves a third reading.
     ///
-    /// Other handles to this map's tree are not live where a key was new. Where both are one map, nothing is new.
+    /// Other handles to this map's tree are not live where several keys were new, or where a single one gave the tree a level. Where both
+    /// are one map, nothing is new.
     ///
     /// # Errors
     ///
@@ -575,7 +576,8 @@ impl<K: Copy, V: Copy> Map<K, V> {
         comp: &C,
     )
         requires searchable { IsSearchable (C.order comp.now) forest.old self.old }
-        requires callable { F.IsAlwaysCallable change }
+        requires callable { MayRekey (F.pre change)
+            (place (C.order comp.now) (list_of forest.old self.old) from) (list_of forest.old self.old) }
         ensures shifted { Shifts (F.post change)
             (place (C.order comp.now) (list_of forest.old self.old) from) forest.old self.old forest.new }
         ensures handle { self.new ≡ self.old }
@@ -648,8 +650,8 @@ impl<K: Copy, V: Copy> Map<K, V> {
         MapIter::new(self, forest)
     }
 
-    /// Returns an iterator over the entries from the last to the first. Visits one node of each level, and then each leaf once. No
-    /// comparison.
+    /// Returns an iterator over the entries from the last to the first. Constant time; the first step visits one node of each level, and
+    /// then each leaf is visited once. No comparison.
     #[inline(always)]
     pub fn iter_back<'a>(&self, forest: &'a MapForest<K, V>) -> MapIterBack<'a, K, V>
         requires live { IsLive forest.now self.now }

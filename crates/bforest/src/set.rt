@@ -1,7 +1,7 @@
 //! Handles of sets.
 ghost use Rattle.bforest_nodes.specs.Entries.{IsIncreasing, is_present, place, value_for};
 ghost use Rattle.bforest.specs.Bounds.{entries_between, entry_at_least, entry_at_most};
-ghost use Rattle.bforest.specs.Calls.{Clears, Clones, Compacts, Filters, Inserts, Intersects, Loads, Pops, Removes, RemovesBetween, Shifts, SplitsOff, Subtracts, Unites, fewest};
+ghost use Rattle.bforest.specs.Calls.{Clears, Clones, Compacts, Filters, Inserts, Intersects, Loads, MayRekey, Pops, Removes, RemovesBetween, Shifts, SplitsOff, Subtracts, Unites, fewest};
 ghost use Rattle.bforest.specs.Forest.{Forest, IsFitFor, IsLive, IsSearchable, first_level, list_of, sizes_of};
 ghost use Rattle.bforest.specs.Memory.{SetsFitInMemory};
 ghost use Rattle.bforest.specs.Retain.{MayAskEach};
@@ -337,7 +337,8 @@ impl<K: Copy> Set<K> {
     /// Where there are more, the call reads both anew, makes a tree of the union with the fewest nodes beside the old one, and frees
     /// that. Where memory can be had for a list of the union, which is given back then, it saves a third reading.
     ///
-    /// Other handles to this set's tree are not live where a key was new. Where both are one set, nothing is new.
+    /// Other handles to this set's tree are not live where several keys were new, or where a single one gave the tree a level. Where both
+    /// are one set, nothing is new.
     ///
     /// # Errors
     ///
@@ -495,7 +496,8 @@ impl<K: Copy> Set<K> {
         comp: &C,
     )
         requires searchable { IsSearchable (C.order comp.now) forest.old self.old }
-        requires callable { F.IsAlwaysCallable change }
+        requires callable { MayRekey (F.pre change)
+            (place (C.order comp.now) (list_of forest.old self.old) from) (list_of forest.old self.old) }
         ensures shifted { Shifts (F.post change)
             (place (C.order comp.now) (list_of forest.old self.old) from) forest.old self.old forest.new }
         ensures handle { self.new ≡ self.old }
@@ -568,7 +570,8 @@ impl<K: Copy> Set<K> {
         SetIter::new(self, forest)
     }
 
-    /// Returns an iterator over the keys from the last to the first. Visits one node of each level, and then each leaf once. No comparison.
+    /// Returns an iterator over the keys from the last to the first. Constant time; the first step visits one node of each level, and then
+    /// each leaf is visited once. No comparison.
     #[inline(always)]
     pub fn iter_back<'a>(&self, forest: &'a SetForest<K>) -> SetIterBack<'a, K>
         requires live { IsLive forest.now self.now }

@@ -1,4 +1,5 @@
 -- A call on a forest that adds up leaves one that does.
+use Rattle.bforest_trees.proofs.ranges.Splitting.{tail-fresh-sizes}
 use Rattle.bforest.proofs.Balances.{between-balance, clears-balance, compacts-balance, filters-balance, inserts-balance, keeps-balance, length-written, removes-at-balance, removes-balance, sizes-stay, unites-balance, updates-balance}
 use Rattle.bforest.specs.Bounds.{entries_outside}
 use Rattle.bforest.specs.Calls.{Clears, Clones, Compacts, Filters, GetsOrInserts, Inserts, KeepsFrom, Loads, Pops, Removes, RemovesAt, RemovesBetween, Shifts, SplitsAt, Unites, Updates, UpdatesOrInserts}
@@ -130,7 +131,7 @@ module _ {K V : Type 0} where
         let need = severed p (sizes_of f h) in
         let past : (n : ℕ) → slots_of f' ≤ n → nodes_at f n ≡ 0 = λ n beyond. nodes-past f n (omega (arith, beyond, s.slots)) in
         let all = upto-parted (nodes_at f) (nodes_at f') h h' t (slots_of f') past (λ n beyond. nodes-past f' n beyond) s.apart (λ ne ne'. node-at f' h ∙ ap node_count (s.leaves_sizes ne ne'))
-        (λ ne. node-at f h' ∙ ap node_count (s.fresh_sizes ne)) (λ ne. node-at f t ∙ ap node_count (s.tail_fresh_sizes ne)) (λ n ne ne' ne2. ap node_count (s.others_sizes n ne ne' ne2)) in
+        (λ ne. node-at f h' ∙ ap node_count (s.fresh_sizes ne)) (λ ne. node-at f t ∙ ap node_count (tail-fresh-sizes s ne)) (λ n ne ne' ne2. ap node_count (s.others_sizes n ne ne' ne2)) in
         let same = upto-more (nodes_at f) (slots_of f) (slots_of f') (λ n beyond. nodes-past f n beyond) (omega (arith, s.slots)) in
         let room : need ≤ room_of f = elim (leb_tells need (room_of f)) [ inl w ↦ w.1 | inr w ↦ absurd (let bad = s.full.1 (omega (arith, w.1)) in cc) ] in
         record {

@@ -1,4 +1,5 @@
 -- A call leaves what is known of the handles that it spares.
+use Rattle.bforest_trees.proofs.ranges.Splitting.{tail-fresh}
 use Rattle.bforest.proofs.Becoming.{list-beside}
 use Rattle.bforest.specs.Calls.{SplitsAt}
 use Rattle.bforest.specs.Forest.{Becomes, Forest, IsLive, list_of}
@@ -54,7 +55,7 @@ module _ {K V : Type 0} where
   kept-parted : (most : ℕ) (f f' : Forest K V) (h h' t q : Option ℕ) (p : ℕ) → SplitsAt most f h p (Ok t) f' h' → IsLive f q → h ≢ q → list_of f' q ≡ list_of f q
   kept-parted most f f' h h' t None p s live apart = refl
   kept-parted most f f' h h' t (Some n) p s live apart = s.others n (λ e. apart (sym e)) (λ e. live (subst (λ (z : Option ℕ). list_of f z ≡ []) (sym e) (s.fresh (λ d. apart (sym d ∙ sym e)))))
-      (λ e. live (subst (λ (z : Option ℕ). list_of f z ≡ []) (sym e) (s.tail_fresh (λ d. apart (sym d ∙ sym e)))))
+      (λ e. live (subst (λ (z : Option ℕ). list_of f z ≡ []) (sym e) (tail-fresh s (λ d. apart (sym d ∙ sym e)))))
 
   module _ (most : ℕ) (reads : Bool) (orders : Orders K) (old : State K V) (given : Answer K V) (new : State K V) where
     -- the handle was written, and its list increases

@@ -1,4 +1,5 @@
 -- A list of calls keeps each tree that it spares.
+use Rattle.bforest_trees.proofs.ranges.Splitting.{tail-fresh}
 use Rattle.bforest.specs.Calls.{SplitsAt}
 use Rattle.bforest.specs.Forest.{Becomes, list_at, list_of, sizes_at}
 use Rattle.bforest_calls.specs.Machine.{Lacks, MayStopAt, Offered, Orders, Run, State, Step, number_at, order_at, with_made}
@@ -78,7 +79,7 @@ module _ {K V : Type 0} where
   }
   parted most m old new h to p number (Ok tail) within into here apart handles s =
       let front : number ≢ Some m = λ e. here (subst (λ (q : Option ℕ). list_of old.forest q ≡ []) e (s.fresh (λ d. apart (sym d ∙ e)))) in
-      let behind : tail ≢ Some m = λ e. here (subst (λ (q : Option ℕ). list_of old.forest q ≡ []) e (s.tail_fresh (λ d. apart (sym d ∙ e)))) in
+      let behind : tail ≢ Some m = λ e. here (subst (λ (q : Option ℕ). list_of old.forest q ≡ []) e (tail-fresh s (λ d. apart (sym d ∙ e)))) in
       let wide : to < length (slice_set old.handles h number) = subst (λ n. to < n) (sym (length-set old.handles h number)) into in
       record {
         list = s.others m (λ e. apart (sym e)) (λ e. front (sym e)) (λ e. behind (sym e));

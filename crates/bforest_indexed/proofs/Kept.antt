@@ -431,6 +431,7 @@ module _ {K X C : Type 0} where
             sizes = ap (λ z. node_sizes z i) same;
             slots = call.slots;
             free = call.free;
+            table_memory = call.memory;
             beside = changes-not m (with_tree m i f' h') i same;
             absent = λ none. call.absent refl;
             same = λ none. same;
@@ -446,6 +447,7 @@ module _ {K X C : Type 0} where
             sizes = ap (sizes_of f') (here a within call.put) ∙ call.sizes;
             slots = call.slots;
             free = call.free;
+            table_memory = call.memory;
             beside = changes a within call.put;
             absent = λ none. absurd cc;
             same = λ none. absurd cc;

@@ -85,7 +85,7 @@ module _ {K X C : Type 0} {most : ℕ} {cmp : K → K → Ordering} {m : Indexed
         λ e. (apart, here, t.full.0 (let alike : refused ≡ Full = cc in ap Err alike)),
         λ asked. let full = t.full.1 asked.2 in let alike : refused ≡ Full = cc in ap Err alike,
       );
-      memory = λ e. t.memory (let alike : refused ≡ Memory = cc in ap Err alike);
+      memory = λ e. (apart, here, t.memory (let alike : refused ≡ Memory = cc in ap Err alike));
       succeeds = t.succeeds;
       room = t.room;
       never_full = λ lists most_entries stays room e. t.never_full lists most_entries stays room (let alike : refused ≡ Full = cc in ap Err alike);

@@ -1,4 +1,5 @@
 -- What a split of the list of one index, whose tail goes to another one, leaves of all indices.
+use Rattle.bforest_trees.proofs.ranges.Splitting.{tail-fresh}
 use Rattle.bforest.proofs.Balances.{clears-balance}
 use Rattle.bforest_core.proofs.table.Allocating.{grows-alike}
 use Rattle.bforest.specs.Calls.{Clears, SplitsAt, SplitsOff}
@@ -77,7 +78,7 @@ module _ {K X C : Type 0} {most : ℕ} {cmp : K → K → Ordering} {m : Indexed
     apart-front q n ne e d = some-list q n e (ap (list_of (table m)) d ∙ s.fresh (λ z. apart-own q n ne e (d ∙ z)))
 
     apart-tail : (q n : ℕ) → q ≢ i → handle m q ≡ Some n → Some n ≢ t
-    apart-tail q n ne e d = some-list q n e (ap (list_of (table m)) d ∙ s.tail_fresh (λ z. apart-own q n ne e (d ∙ z)))
+    apart-tail q n ne e d = some-list q n e (ap (list_of (table m)) d ∙ tail-fresh s (λ z. apart-own q n ne e (d ∙ z)))
 
     -- the handle of another index keeps its list and its sizes
     stays : (q : ℕ) → q ≢ i → (h : Option ℕ) → handle m q ≡ h → (list_of f1 h ≡ list_of (table m) h) × (sizes_of f1 h ≡ sizes_of (table m) h)

@@ -224,6 +224,7 @@ module _ {K X C : Type 0} where
     pub sizes : node_sizes m' i ≡ node_sizes m i
     pub slots : slots_of (table m') ≡ slots_of (table m)
     pub free : free_of (table m') ≡ free_of (table m)
+    pub table_memory : memory_of (table m') ≡ memory_of (table m)
     pub beside : ChangesAt m i m'
     pub absent : result ≡ None → value_for cmp (entries m i) k ≡ None
     pub same : result ≡ None → m' ≡ m
@@ -395,7 +396,7 @@ module _ {K X C : Type 0} where
       pub free : i ≢ j → is_present cmp (entries m i) k ≡ true → OnOk result (free_of (table m') + node_count (node_sizes m' i) ≡ (free_of (table m) - put_need m j k) + node_count (node_sizes m i))
       pub growth : i ≢ j → is_present cmp (entries m i) k ≡ true → OnOk result (GrowsFor (put_need m j k) (table m) (table m'))
       pub full : (result ≡ Err Full) ↔ ((i ≢ j) × (is_present cmp (entries m i) k ≡ true) × IsTooMany (put_need m j k) (table m))
-      pub memory : result ≡ Err Memory → NeedsGrowth (put_need m j k) (table m)
+      pub memory : result ≡ Err Memory → (i ≢ j) × (is_present cmp (entries m i) k ≡ true) × NeedsGrowth (put_need m j k) (table m)
       pub succeeds : put_need m j k ≤ free_of (table m) → IsOk result
       pub room : (lists most_entries : ℕ) → StaysWithin cmp lists most_entries m j k → HasRoom most lists most_entries (table m) → IsOk result
       pub never_full : (lists most_entries : ℕ) → StaysWithin cmp lists most_entries m j k → MayHave most lists most_entries (table m) → result ≢ Err Full

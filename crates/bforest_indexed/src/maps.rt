@@ -17,14 +17,14 @@ ghost use Rattle.bforest.specs.declared.map_forest.TheConstants.{MAP_LEAF};
 ghost use Rattle.bforest_indexed.specs.Indexed.{comparator, count, entries, handle, memory, node_sizes, nodes_in_use, table};
 ghost use Rattle.std.specs.Borrow.{sem};
 ghost use Rattle.std.specs.Option.{option_copied_mut};
-ghost use Rattle.std.specs.Prelude.{IfOk, IsOk, IsTrue, OnErr, OnOk, OnSome, Some, length, slice_get, ◌+◌, ◌-◌, ◌/◌, ◌<◌, ◌^◌, ◌↔◌, ◌≡◌, ◌≤◌, ℕ};
+ghost use Rattle.std.specs.Prelude.{IfOk, IsOk, IsTrue, OnErr, OnOk, OnSome, Some, length, reverse, slice_get, ◌+◌, ◌-◌, ◌/◌, ◌<◌, ◌^◌, ◌↔◌, ◌≡◌, ◌≤◌, ℕ};
 
 use crate::edit::{Edit, lend};
 use crate::handles::{add_empty, empty_all, hold};
 use crate::idx::Idx;
 use crate::load_error::LoadError;
 use crate::room::{reserve_handles, slots_for};
-use bforest::{Comparator, Map, MapCursor, MapForest, MapIter, MapRange, OutOfMemory};
+use bforest::{Comparator, Map, MapCursor, MapForest, MapIter, MapIterBack, MapRange, OutOfMemory};
 use bforest_trees::first_unordered;
 use std::alloc::{AllocError, Global};
 use std::marker::{Model, PhantomData};
@@ -503,7 +503,8 @@ impl<K: Copy, V: Copy, C: Comparator<K>, I: Idx> Maps<K, V, C, I> {
     /// entries that stay keep their values. Where both are one, nothing changes.
     ///
     /// As [`bforest::Map::intersect_with`]: walks along both, with at most one comparison for each entry of either. It takes no node and no
-    /// memory, so it can't be refused.
+    /// memory, so it can't be refused. Where a comparison panics, in the package, some of the
+    /// entries that go may be gone.
     pub fn intersect_with(&mut self, index: I, other: I) -> bool
         requires within { I.number index < count self.old }
         requires other { I.number other < count self.old }
@@ -518,7 +519,8 @@ impl<K: Copy, V: Copy, C: Comparator<K>, I: Idx> Maps<K, V, C, I> {
     /// entries that stay keep their values. Where both are one, all entries are removed.
     ///
     /// As [`bforest::Map::difference_with`]: walks along both, with at most one comparison for each entry of either. It takes no node and
-    /// no memory, so it can't be refused.
+    /// no memory, so it can't be refused. Where a comparison panics, in the package, some of the
+    /// entries that go may be gone.
     pub fn difference_with(&mut self, index: I, other: I) -> bool
         requires within { I.number index < count self.old }
         requires other { I.number other < count self.old }
@@ -608,6 +610,8 @@ impl<K: Copy, V: Copy, C: Comparator<K>, I: Idx> Maps<K, V, C, I> {
 
     /// Keeps the entries for which the predicate returns `true`, with the value as the predicate left it, and removes all others. It is
     /// called once for each entry, in order. No comparison, no memory.
+    ///
+    /// Where the predicate panics, in the package, each entry before that one is kept or removed as it returned, and all others stay.
     pub fn retain<F: FnMut(K, &mut V) -> bool>(&mut self, index: I, predicate: F)
         requires within { I.number index < count self.old }
         requires callable { MayAskEach (Answers F.FnMut) (MayAsk F.FnMut) predicate
@@ -645,6 +649,17 @@ impl<K: Copy, V: Copy, C: Comparator<K>, I: Idx> Maps<K, V, C, I> {
         ensures fits { MapsFitInMemory K.row V.row }
     {
         self.map(index).iter(&self.forest)
+    }
+
+    /// Returns an iterator over the entries of a map, from the last to the first. Constant time; the first step visits one node of each
+    /// level, and then each leaf is visited once. No comparison.
+    #[inline(always)]
+    pub fn iter_back(&self, index: I) -> MapIterBack<'_, K, V>
+        requires within { I.number index < count self.now }
+        ensures entries { result ≡ reverse (entries self.now (I.number index)) }
+        ensures fits { MapsFitInMemory K.row V.row }
+    {
+        self.map(index).iter_back(&self.forest)
     }
 
     /// Returns a double-ended iterator over the entries of a map within both bounds, in order. At most two searches and one comparison; the

@@ -14,15 +14,15 @@ ghost use Rattle.bforest.specs.declared.set_forest.TheConstants.{SET_LEAF};
 ghost use Rattle.bforest_indexed.specs.Indexed.{comparator, count, entries, handle, keys, memory, node_sizes, nodes_in_use, table};
 ghost use Rattle.std.specs.List.Sorted.{IsStrictlySortedBy};
 ghost use Rattle.std.specs.Map.{keys_of};
-ghost use Rattle.std.specs.Prelude.{IfOk, IsOk, IsTrue, OnErr, OnOk, false, is_some, length, option_map, slice_get, true, ◌*◌, ◌+◌, ◌-◌, ◌/◌, ◌<◌, ◌^◌, ◌↔◌, ◌≡◌, ◌≤◌, ℕ};
+ghost use Rattle.std.specs.Prelude.{IfOk, IsOk, IsTrue, OnErr, OnOk, false, is_some, length, option_map, reverse, slice_get, true, ◌*◌, ◌+◌, ◌-◌, ◌/◌, ◌<◌, ◌^◌, ◌↔◌, ◌≡◌, ◌≤◌, ℕ};
 
 use crate::handles::{add_empty, empty_all, hold};
 use crate::idx::Idx;
 use crate::load_error::LoadError;
 use crate::room::{reserve_handles, slots_for};
 use bforest::{
-    Comparator, OutOfMemory, Set, SetDifference, SetForest, SetIntersection, SetIter, SetRange,
-    SetSymmetricDifference, SetUnion,
+    Comparator, OutOfMemory, Set, SetDifference, SetForest, SetIntersection, SetIter, SetIterBack,
+    SetRange, SetSymmetricDifference, SetUnion,
 };
 use bforest_trees::first_unordered;
 use std::alloc::{AllocError, Global};
@@ -439,7 +439,8 @@ impl<K: Copy, C: Comparator<K>, I: Idx> Sets<K, C, I> {
     /// stay are the set's own. Where both are one, nothing changes.
     ///
     /// As [`bforest::Set::intersect_with`]: walks along both, with at most one comparison for each key of either. It takes no node and no
-    /// memory, so it can't be refused.
+    /// memory, so it can't be refused. Where a comparison panics, in the package, some of the
+    /// keys that go may be gone.
     pub fn intersect_with(&mut self, index: I, other: I) -> bool
         requires within { I.number index < count self.old }
         requires other { I.number other < count self.old }
@@ -454,7 +455,8 @@ impl<K: Copy, C: Comparator<K>, I: Idx> Sets<K, C, I> {
     /// are one, all keys are removed.
     ///
     /// As [`bforest::Set::difference_with`]: walks along both, with at most one comparison for each key of either. It takes no node and no
-    /// memory, so it can't be refused.
+    /// memory, so it can't be refused. Where a comparison panics, in the package, some of the
+    /// keys that go may be gone.
     pub fn difference_with(&mut self, index: I, other: I) -> bool
         requires within { I.number index < count self.old }
         requires other { I.number other < count self.old }
@@ -543,6 +545,8 @@ impl<K: Copy, C: Comparator<K>, I: Idx> Sets<K, C, I> {
 
     /// Keeps the keys for which the predicate returns `true`, and removes all others. It is called once for each key, in order. No
     /// comparison, no memory.
+    ///
+    /// Where the predicate panics, in the package, each key before that one is kept or removed as it returned, and all others stay.
     pub fn retain<F: FnMut(K) -> bool>(&mut self, index: I, predicate: F)
         requires within { I.number index < count self.old }
         requires callable { MayAskEach (AnswersKey F.FnMut) (MayAskKey F.FnMut) predicate
@@ -580,6 +584,17 @@ impl<K: Copy, C: Comparator<K>, I: Idx> Sets<K, C, I> {
         ensures fits { SetsFitInMemory K.row }
     {
         self.set(index).iter(&self.forest)
+    }
+
+    /// Returns an iterator over the keys of a set, from the last to the first. Constant time; the first step visits one node of each level,
+    /// and then each leaf is visited once. No comparison.
+    #[inline(always)]
+    pub fn iter_back(&self, index: I) -> SetIterBack<'_, K>
+        requires within { I.number index < count self.now }
+        ensures keys { result ≡ reverse (keys self.now (I.number index)) }
+        ensures fits { SetsFitInMemory K.row }
+    {
+        self.set(index).iter_back(&self.forest)
     }
 
     /// Returns an iterator over the keys of the sets at `index` and at `other`, in order; both may be one. Of two keys that compare equal

@@ -1,21 +1,23 @@
 -- What a removal at a place, and the end of a tree, leave.
 use Rattle.bforest_trees.proofs.Changed.{becomes, list-none, list-root, same_list, same_sizes, sizes-new, sizes-none, sizes-root}
+use Rattle.bforest_trees.proofs.Lowering.{lowers-by}
+use Rattle.bforest_trees.proofs.Sifted.{shrink-fewer}
 use Rattle.bforest_trees.proofs.Spots.{spot-on}
 use Rattle.bforest_trees.specs.Place.{IsSpot, OnSpot}
 use Rattle.bforest_core.proofs.walks.Standing.{on-within}
-use Rattle.bforest_trees.specs.Calls.{CutsFrom, truncation}
+use Rattle.bforest_trees.specs.Calls.{CutsFrom, Lowers, truncation}
 use Rattle.std.proofs.lemmas.Bool.{lt-ltb}
 use Rattle.std.proofs.lemmas.List.{take_all}
 use Rattle.bforest_core.specs.Paths.{CutsHere, IsAtEnd, OnEntry, StandsAt, list_under, sizes_under}
 use Rattle.bforest_core.specs.declared.path.Path.{Path}
-use Rattle.bforest_trees.specs.Forest.{Becomes, Forest, Gives, IsLive, list_at, list_of, sizes_at, sizes_of as forest_sizes, sizes_without}
+use Rattle.bforest_trees.specs.Forest.{Becomes, Forest, Gives, IsFree, IsLive, list_at, list_of, sizes_at, sizes_of as forest_sizes, sizes_without}
 use Rattle.bforest_core.specs.Change.{Changes, Ends, GivesNodes, Shrinks}
 use Rattle.bforest_core.specs.Levels.{flat, sizes_of}
 use Rattle.bforest_core.specs.Sizes.{shrink, truncated}
 use Rattle.bforest_core.specs.Table.{Table}
 use Rattle.bforest_core.specs.Trees.{IsUnion, is_root, tree_of}
 use Rattle.bforest_nodes.specs.Entries.{is_present, place}
-use Rattle.std.proofs.Common.{IsTrue, List, None, Option, Some, [], IfSome, nat_lt, take, ap, arith, false, if◌then◌else◌, length, length-append, refl, remove, subst, suc, sym, true, zero, ◌-◌, ◌<◌, ◌∙◌, ◌∷◌, ◌≡◌, ◌≤◌, ◌↔◌, ℕ}
+use Rattle.std.proofs.Common.{IsTrue, List, None, Option, Some, [], IfSome, nat_lt, take, ap, arith, false, if◌then◌else◌, length, length-append, refl, remove, subst, suc, sym, true, zero, ◌-◌, ◌<◌, ◌∙◌, ◌∷◌, ◌≡◌, ◌≢◌, ◌≤◌, ◌↔◌, ℕ}
 use Rattle.std.specs.declared.cmp.Ordering.{Ordering}
 
 -- a removal from a list of one entry leaves none
@@ -119,7 +121,7 @@ module _ {K X : Type 0} where
     pub union : IsUnion most f'
     pub removed : Becomes f h f' o (remove (list_of f h) p)
     pub sizes : forest_sizes f' o ≡ shrink most p (forest_sizes f h)
-    pub same_levels : (o ≡ h) ↔ (length (forest_sizes f' o) ≡ length (forest_sizes f h))
+    pub lowers : Lowers f h f' o
     pub account : Gives (forest_sizes f h) (forest_sizes f' o) f f'
 
   module _ (most : ℕ) (f f' : Forest K X) (n p : ℕ) (root : IsTrue (is_root f.nodes n)) (low : p < length (list_under f n)) where
@@ -129,25 +131,31 @@ module _ {K X : Type 0} where
     abbrev ss : List (List ℕ)
     ss = sizes_under f n
 
+    roots : (o : Option ℕ) (zs : List (K × X)) (us : List (List ℕ)) → IfSome o (λ r'. Changes most f f' n r' zs us) → IfSome o (λ r'. IsTrue (is_root f'.nodes r'))
+    roots None zs us changes = tt
+    roots (Some r') zs us changes = changes.root_is
+
     taken : (o : Option ℕ) → IfSome o (λ r'. Changes most f f' n r' (remove es p) (shrink most p ss)) → GivesNodes ss (shrink most p ss) f f' → IfSome o (λ r'. (r' ≡ n) ↔ (length (shrink most p ss) ≡ length ss)) →
-        ((o ≡ None) ↔ (length es ≡ 1)) → (o ≡ None → Ends most f f' n) → (o ≡ None → shrink most p ss ≡ []) → IsTaken most f f' (Some n) p o
-    taken o changes gv same last ended none =
+        ((o ≡ None) ↔ (length es ≡ 1)) → (o ≡ None → Ends most f f' n) → (o ≡ None → shrink most p ss ≡ []) → (o ≢ Some n → IsFree f' n) → IsTaken most f f' (Some n) p o
+    taken o changes gv same last ended none freed =
         let list : es ≡ list_at f n = sym (list-root f n root) in
         let sizes : ss ≡ sizes_at f n = sym (sizes-root f n root) in
         let now = sizes-cut most f f' n (remove es p) (shrink most p ss) o changes none in
+        let levels = same-cut n ss (shrink most p ss) o same none (omega arith) in
         record {
           union = union-cut most f f' n (remove es p) (shrink most p ss) o changes ended;
           removed = subst (λ (l : List (K × X)). Becomes f (Some n) f' o (remove l p)) list
               (becomes-cut most f f' n (remove es p) (shrink most p ss) o changes ended (λ e. remove-last es p (last.0 e) low));
           sizes = now ∙ ap (λ (z : List (List ℕ)). shrink most p z) sizes;
-          same_levels = subst (λ (z : List (List ℕ)). (o ≡ Some n) ↔ (length (forest_sizes f' o) ≡ length z)) sizes
-              (subst (λ (z : List (List ℕ)). (o ≡ Some n) ↔ (length z ≡ length ss)) (sym now) (same-cut n ss (shrink most p ss) o same none (omega arith)));
+          lowers = lowers-by most f f' n o gv (omega (arith, shrink-fewer most p ss, ap length now, ap length sizes))
+              (λ e. ap length now ∙ levels.0 e ∙ ap length sizes, λ e. levels.1 (sym (ap length now) ∙ e ∙ sym (ap length sizes)))
+              freed (union-cut most f f' n (remove es p) (shrink most p ss) o changes ended) (roots o _ _ changes);
           account = subst (λ (z : List (List ℕ)). Gives z (forest_sizes f' o) f f') sizes (subst (λ (z : List (List ℕ)). Gives ss z f f') (sym now) (gives f f' ss (shrink most p ss) gv));
         }
 
     -- the same of a tree that lost an entry
     pub shrunk : (path : List ℕ) (o : Option ℕ) → Shrinks most f f' path n p o → IsTaken most f f' (Some n) p o
-    shrunk path o s = taken o s.changes s.account s.same_root s.last s.ended s.none_left
+    shrunk path o s = taken o s.changes s.account s.same_root s.last s.ended s.none_left s.freed_root
 
     -- after a removal the path stands where the next entry is, or at the end
     spot-left : (path' : Path K X most) (o : Option ℕ) → IfSome o (λ r'. StandsAt f' r' path' p) → ((o ≡ None) ↔ (length es ≡ 1)) → (o ≡ None → IsAtEnd path') → IsSpot f' o path' p
@@ -160,12 +168,12 @@ module _ {K X : Type 0} where
       ((e : OnEntry f path) → GivesNodes (sizes_under f e.root) (shrink most e.place (sizes_under f e.root)) f f') →
       ((e : OnEntry f path) → IfSome o (λ r'. (r' ≡ e.root) ↔ (length (shrink most e.place (sizes_under f e.root)) ≡ length (sizes_under f e.root)))) →
       ((e : OnEntry f path) → (o ≡ None) ↔ (length (list_under f e.root) ≡ 1)) → (o ≡ None → (e : OnEntry f path) → Ends most f f' e.root) → (o ≡ None → (e : OnEntry f path) → shrink most e.place (sizes_under f e.root) ≡ []) →
-      IsTaken most f f' h at.place o
-  taken-at most f f' h path o at removed account same last ended none =
+      ((e : OnEntry f path) → o ≢ Some e.root → IsFree f' e.root) → IsTaken most f f' h at.place o
+  taken-at most f f' h path o at removed account same last ended none freed =
       let t = spot-on f path h at.place at.spot at.within in
       let e : OnEntry f path = record { root = t.0; place = at.place; on = t.2 } in
       subst (λ (z : Option ℕ). IsTaken most f f' z at.place o) (sym t.1)
-      (taken most f f' t.0 at.place t.2.root_is (on-within f path t.2) o (removed e) (account e) (same e) (last e) (λ z. ended z e) (λ z. none z e))
+      (taken most f f' t.0 at.place t.2.root_is (on-within f path t.2) o (removed e) (account e) (same e) (last e) (λ z. ended z e) (λ z. none z e) (freed e))
 
   -- the entries from a place of a handle's list on were removed: what that leaves
   pub record IsCutOff (most : ℕ) (f f' : Forest K X) (h : Option ℕ) (p : ℕ) (o : Option ℕ) : Type 0 where
@@ -186,7 +194,8 @@ module _ {K X : Type 0} where
           removed = subst (λ (l : List (K × X)). Becomes f (Some n) f' o (take p l)) list (becomes-cut most f f' n (take p es) (truncated p ss) o changes ended empty);
           changed = sym (lt-ltb p (length (list_at f n)) (omega (arith, low, ap length list)));
           sizes = now ∙ ap (truncated p) sizes ∙ sym (truncation-some p (length (list_at f n) - p) (sizes_at f n) (omega (arith, low, ap length list)));
-          same_levels = λ e. (same-cut n ss (truncated p ss) o same none (omega arith)).1 (sym (ap length now) ∙ e ∙ sym (ap length sizes));
+          same_levels = (let levels = same-cut n ss (truncated p ss) o same none (omega arith) in
+              (λ e. ap length now ∙ levels.0 e ∙ ap length sizes, λ e. levels.1 (sym (ap length now) ∙ e ∙ sym (ap length sizes))));
           account = subst (λ (z : List (List ℕ)). Gives z (forest_sizes f' o) f f') sizes (subst (λ (z : List (List ℕ)). Gives ss z f f') (sym now) (gives f f' ss (truncated p ss) gv));
           same_forest = λ bad. absurd cc;
           same_handle = λ bad. absurd cc;
@@ -207,7 +216,7 @@ module _ {K X : Type 0} where
     removed = subst (Becomes f h f h) (sym (take_all (length (list_of f h)) (list_of f h) (omega arith))) (becomes-same f h live);
     changed = sym (ltb-none (length (list_of f h)));
     sizes = (let none : length (list_of f h) - length (list_of f h) ≡ 0 = omega arith in sym (ap (λ n. truncation (length (list_of f h)) n (forest_sizes f h)) none));
-    same_levels = λ e. refl;
+    same_levels = (λ e. refl, λ e. refl);
     account = record { slots = refl; free = refl; memory = refl };
     same_forest = λ e. refl;
     same_handle = λ e. refl;

@@ -8,7 +8,7 @@ use Rattle.bforest_nodes.specs.Entries.{IsIncreasing, place}
 use Rattle.bforest_trees.proofs.ranges.Parting.{tested-up}
 use Rattle.bforest_trees.proofs.ranges.Between.{end-unbounded, slice-between, start-included, start-rises}
 use Rattle.bforest_trees.proofs.ranges.Outside.{outside-is}
-use Rattle.bforest_trees.proofs.unions.Uniting.{becomes-made, made-beside, made-stays}
+use Rattle.bforest_trees.proofs.unions.Uniting.{becomes-made, made-beside, made-moves, made-stays}
 use Rattle.bforest_trees.specs.Bounds.{entries_between, entries_outside, is_between, is_from_start}
 use Rattle.bforest_trees.specs.Calls.{Clears, Compacts, Loads, SplitsAt, SplitsOff}
 use Rattle.bforest_trees.specs.Forest.{Becomes, Forest, GrowsFor, IsLive, list_of}
@@ -36,6 +36,7 @@ module _ {K X : Type 0} (most : ℕ) (f : Forest K X) (h : Option ℕ) (live : I
   pub compacts-refused : (refused : OutOfMemory) {f1 : Forest K X} → Loads most f (list_of f h) (Err refused) f1 → Compacts most f h (Err refused) f h
   compacts-refused refused told = record {
     same_list = tt;
+    moved = λ some. tt;
     packed = tt;
     nodes = tt;
     fit = tt;
@@ -61,6 +62,7 @@ module _ {K X : Type 0} (most : ℕ) (f : Forest K X) (h : Option ℕ) (live : I
       let beside = made-beside h live l.loaded in
       record {
         same_list = b;
+        moved = made-moves h live l.loaded;
         packed = subst (ArePacked most) (sym made.2) l.packed;
         nodes = ap node_count made.2 ∙ l.nodes;
         fit = subst (IsFitFor most (length (list_of f h))) (sym made.2) l.fit;

@@ -48,7 +48,7 @@ module _ {K X : Type 0} {most : ℕ} {f : Forest K X} {n : ℕ} (live : list_at 
 
   pub popped : Pops most f (Some n) p (Some x) f' o
   popped = let t = taken-out in pops most f (Some n) p (Some x) f' o (sym (ap (λ z. slice_get z p) its-list ∙ entry))
-      (removes-here most f (Some n) p f' o (omega (arith, slice_get_within (list_under f n) p x entry, ap length its-list)) t.removed t.sizes t.same_levels t.account)
+      (removes-here most f (Some n) p f' o (omega (arith, slice_get_within (list_under f n) p x entry, ap length its-list)) t.removed t.sizes t.lowers.same_levels t.account)
 
   -- the last entry
   pub popped-last : p ≡ length (list_under f n) - 1 → Pops most f (Some n) (length (list_of f (Some n)) - 1) (Some x) f' o

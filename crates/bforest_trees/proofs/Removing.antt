@@ -31,7 +31,7 @@ module _ {K X : Type 0} (most : ℕ) (cmp : K → K → Ordering) (f : Forest K 
         gone = gone-cut total entries increasing k (t.removed.list ∙ sym list);
         others = others-cut total entries increasing k (t.removed.list ∙ sym list);
         sizes = t.sizes ∙ sym (without-present most cmp f h k here);
-        same_levels = t.same_levels;
+        same_levels = t.lowers.same_levels;
         account = t.account;
         increasing = subst (IsIncreasing cmp) (sym (t.removed.list ∙ sym list)) (IsIncreasing-cut cmp entries k increasing);
         absent_forest = λ none. absurd (cc);

@@ -6,7 +6,7 @@ use Rattle.bforest_trees.proofs.Reading.{left-at}
 use Rattle.bforest_trees.specs.Calls.{Shifts}
 use Rattle.bforest_trees.specs.Forest.{Forest}
 use Rattle.bforest_trees.specs.Layout.{entries_from}
-use Rattle.bforest_trees.specs.Shift.{Rekeys, ShiftedUnder, StepShifted}
+use Rattle.bforest_trees.specs.Shift.{MayRekey, Rekeys, ShiftedUnder, StepShifted}
 use Rattle.bforest_core.proofs.table.Lists.{drop-read, read_none}
 use Rattle.bforest_core.proofs.union.Rekeying.{rekeyed-at}
 use Rattle.bforest_core.proofs.walks.Backward.{at_end, at_entry}
@@ -16,6 +16,7 @@ use Rattle.bforest_core.specs.Paths.{StandsAt, StandsOn, list_under, sizes_under
 use Rattle.bforest_core.specs.Table.{Table, slot_count}
 use Rattle.bforest_core.specs.Trees.{IsUnion, is_root, tree_of}
 use Rattle.bforest_core.specs.declared.path.Path.{Path}
+use Rattle.bforest_nodes.proofs.Seams.{seam_is}
 use Rattle.bforest_nodes.specs.Entries.{rekeyed}
 use Rattle.std.proofs.Common.{IsTrue, List, None, Some, [], ap, inl, inr, zero, append-nil, append_assoc, arith, drop, length, refl, slice_get, subst, suc, sym, take, take-append-drop, ◌++◌, ◌<◌, ◌∙◌, ◌∷◌, ◌≡◌, ◌≤◌, ℕ}
 use Rattle.std.proofs.Math.Seq.{drop-append_seam, take-append_seam}
@@ -111,6 +112,15 @@ module _ {K X : Type 0} {calls : K → K → Type 0} {most : ℕ} {old : Table K
 
       left_is : s.rest ≡ (k, v) ∷ drop (suc place_of) (list_under now root)
       left_is = sym (drop-append_seam (s.front ++ s.moved) s.rest) ∙ ap (drop place_of) (sym s.is) ∙ drop-read (list_under now root) place_of (k, v) (sym here)
+
+      -- the entry had its key before the first step
+      was-here : slice_get (list_under old root) (length (s.front ++ s.done)) ≡ Some (k, v)
+      was-here = let more = drop (suc place_of) (list_under now root) in
+          ap (λ z. slice_get z (length (s.front ++ s.done))) (s.was ∙ sym (append_assoc s.front s.done s.rest) ∙ ap (λ z. (s.front ++ s.done) ++ z) left_is) ∙ seam_is (s.front ++ s.done) (k, v) more
+
+      -- so a call may be made with it
+      pub shifting-may : (may : K → Type 0) → MayRekey may first (list_under old root) → may k
+      shifting-may may asks = asks (length (s.front ++ s.done)) (k, v) (omega (arith, s.first_is, length-append s.front s.done)) was-here
 
       -- the next entry gets its key
       pub shifting-next : {new : Table K X} {path' : Path K X most} (key : K) → calls k key → StepShifted most now new root path' place_of key →

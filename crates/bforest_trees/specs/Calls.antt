@@ -7,7 +7,7 @@ use Rattle.bforest_core.specs.declared.pool.OutOfMemory.TheVariants.{Full, Memor
 use Rattle.bforest_core.specs.declared.pool.OutOfMemory.{OutOfMemory}
 use Rattle.bforest_nodes.specs.Entries.{IsIncreasing, cut, is_present, place, put, value_for}
 use Rattle.bforest_trees.specs.Bounds.{entries_between, entries_outside, is_between, start_place}
-use Rattle.bforest_trees.specs.Forest.{Becomes, Forest, Gives, GrowsFor, IsLive, IsTooMany, Keeps, NeedsGrowth, Takes, TakesAndGives, free_of, limit_of, list_at, list_of, memory_of, need_of, nodes_of, sizes_at, sizes_of, sizes_with, sizes_without, slots_of}
+use Rattle.bforest_trees.specs.Forest.{Becomes, Forest, Gives, GrowsFor, IsFree, IsLive, IsTooMany, Keeps, NeedsGrowth, Takes, TakesAndGives, free_of, limit_of, list_at, list_of, memory_of, need_of, nodes_of, sizes_at, sizes_of, sizes_with, sizes_without, slots_of}
 use Rattle.bforest_trees.specs.Retain.{Retains, sizes_by}
 use Rattle.bforest_trees.specs.Shift.{Rekeys}
 use Rattle.bforest_trees.specs.Union.{are_among, fits, kept_from, kept_of, keeps_all, new_to, united}
@@ -78,6 +78,15 @@ module _ {K X : Type 0} where
   abbrev pub SameLevels : Forest K X → Option ℕ → Forest K X → Option ℕ → Type 0
   SameLevels f h f' h' = (h' ≡ h) ↔ (length (sizes_of f' h') ≡ length (sizes_of f h))
 
+  -- The tree of h lost levels, or none, and no node was taken. A number that the handle lost is free, and so is each that was free; the number
+  -- that it has is not
+  pub record Lowers (f : Forest K X) (h : Option ℕ) (f' : Forest K X) (h' : Option ℕ) : Type 0 where
+    pub fewer : length (sizes_of f' h') ≤ length (sizes_of f h)
+    pub same_levels : SameLevels f h f' h'
+    pub freed : h' ≢ h → IfSome h (λ n. IsFree f' n)
+    pub free : (n : ℕ) → IsFree f n → IsFree f' n
+    pub used : IfSome h' (λ n. ¬ IsFree f' n)
+
   -- the entry at a place of h was removed, where a leaf has at most `most` entries; at the end nothing changed
   pub record RemovesAt (most : ℕ) (f : Forest K X) (h : Option ℕ) (place : ℕ) (f' : Forest K X) (h' : Option ℕ) : Type 0 where
     pub removed : Becomes f h f' h' (remove (list_of f h) place)
@@ -93,7 +102,7 @@ module _ {K X : Type 0} where
     pub removed : Becomes f h f' h' (take place (list_of f h))
     pub changed : result ≡ nat_lt place (length (list_of f h))
     pub sizes : sizes_of f' h' ≡ truncation place (length (list_of f h) - place) (sizes_of f h)
-    pub same_levels : length (sizes_of f' h') ≡ length (sizes_of f h) → h' ≡ h
+    pub same_levels : SameLevels f h f' h'
     pub account : Gives (sizes_of f h) (sizes_of f' h') f f'
     pub same_forest : result ≡ false → f' ≡ f
     pub same_handle : result ≡ false → h' ≡ h
@@ -104,7 +113,7 @@ module _ {K X : Type 0} where
     pub removed : Becomes f h f' h' (drop place (list_of f h))
     pub changed : result ≡ nat_lt 0 place
     pub sizes : sizes_of f' h' ≡ detached most place (sizes_of f h)
-    pub same_levels : length (sizes_of f' h') ≡ length (sizes_of f h) → h' ≡ h
+    pub same_levels : SameLevels f h f' h'
     pub account : Gives (sizes_of f h) (sizes_of f' h') f f'
     pub same_forest : result ≡ false → f' ≡ f
     pub same_handle : result ≡ false → h' ≡ h
@@ -127,8 +136,8 @@ module _ {K X : Type 0} where
     pub leaves_sizes : IfOk result (λ t. h ≢ h' → h ≢ t → sizes_of f' h ≡ [])
     pub fresh : h' ≢ h → list_of f h' ≡ []
     pub fresh_sizes : h' ≢ h → sizes_of f h' ≡ []
-    pub tail_fresh : IfOk result (λ t. t ≢ h → list_of f t ≡ [])
-    pub tail_fresh_sizes : IfOk result (λ t. t ≢ h → sizes_of f t ≡ [])
+    pub tail_fresh : place ≢ 0 → IfOk result (λ t. list_of f t ≡ [])
+    pub tail_fresh_sizes : place ≢ 0 → IfOk result (λ t. sizes_of f t ≡ [])
     pub others : IfOk result (λ t. (n : ℕ) → Some n ≢ h → Some n ≢ h' → Some n ≢ t → list_at f' n ≡ list_at f n)
     pub others_sizes : IfOk result (λ t. (n : ℕ) → Some n ≢ h → Some n ≢ h' → Some n ≢ t → sizes_at f' n ≡ sizes_at f n)
     pub limit : limit_of f' ≡ limit_of f
@@ -200,6 +209,7 @@ module _ {K X : Type 0} where
   -- the tree of h was made anew, packed, beside the old one, which was freed then; or the call was refused, and nothing changed
   pub record Compacts (most : ℕ) (f : Forest K X) (h : Option ℕ) (result : Result (Unit {0}) OutOfMemory) (f' : Forest K X) (h' : Option ℕ) : Type 0 where
     pub same_list : OnOk result (Becomes f h f' h' (list_of f h))
+    pub moved : list_of f h ≢ [] → OnOk result (h' ≢ h)
     pub packed : OnOk result (ArePacked most (sizes_of f' h'))
     pub nodes : OnOk result (nodes_of f' h' ≡ fewest most (length (list_of f h)))
     pub fit : OnOk result (IsFitFor most (length (list_of f h)) (sizes_of f' h'))
@@ -337,6 +347,7 @@ module _ {K X : Type 0} (most : ℕ) (cmp : K → K → Ordering) where
     pub united : OnOk result (Becomes f h f' h' (united cmp (list_of f h) (list_of f other)))
     pub changed : IfOk result (λ changed. changed ≡ not (are_among cmp (list_of f other) (list_of f h)))
     pub inserted : (e : K × X) → new_to cmp f h other ≡ e ∷ [] → Inserts f h e.0 e.1 (as_inserted result) f' h'
+    pub moved : 1 < length (new_to cmp f h other) → list_of f h ≢ [] → OnOk result (h' ≢ h)
     pub packed : 1 < length (new_to cmp f h other) → OnOk result (ArePacked most (sizes_of f' h'))
     pub nodes : 1 < length (new_to cmp f h other) → OnOk result (nodes_of f' h' ≡ need_of_union f h other)
     pub fit : 1 < length (new_to cmp f h other) → OnOk result (IsFitFor most (length (list_of f' h')) (sizes_of f' h'))
@@ -386,7 +397,7 @@ module _ {K X : Type 0} (most : ℕ) (cmp : K → K → Ordering) where
     pub changed : result ≡ nat_lt 0 (length (entries_between cmp lo hi (list_of f h)))
     pub found : (q : K) → value_for cmp (list_of f' h') q ≡ (if is_between cmp lo hi q then None else value_for cmp (list_of f h) q)
     pub sizes : sizes_of f' h' ≡ sizes_outside most lo hi (start_place cmp lo (list_of f h)) (length (entries_between cmp lo hi (list_of f h))) (sizes_of f h)
-    pub same_levels : length (sizes_of f' h') ≡ length (sizes_of f h) → h' ≡ h
+    pub same_levels : SameLevels f h f' h'
     pub account : Gives (sizes_of f h) (sizes_of f' h') f f'
     pub increasing : IsIncreasing cmp (list_of f' h')
     pub same_forest : result ≡ false → f' ≡ f

@@ -4,7 +4,11 @@ use Rattle.bforest_core.specs.Paths.{StandsAt, list_under, sizes_under}
 use Rattle.bforest_core.specs.Table.{Table, slot_count}
 use Rattle.bforest_core.specs.declared.path.Path.{Path}
 use Rattle.bforest_nodes.specs.Entries.{rekeyed}
-use Rattle.std.specs.Prelude.{List, [], drop, suc, take, ◌++◌, ◌≡◌, ◌∷◌, ℕ}
+use Rattle.std.specs.Prelude.{List, Some, [], drop, slice_get, suc, take, ◌++◌, ◌≡◌, ◌≤◌, ◌∷◌, ℕ}
+
+-- the key of each entry from a place on may be handed to a call
+abbrev pub MayRekey : {K X : Type 0} → (K → Type 0) → ℕ → List (K × X) → Type 0
+MayRekey {K} {X} may place es = (i : ℕ) (e : K × X) → place ≤ i → slice_get es i ≡ Some e → may e.0
 
 module _ {K X : Type 0} (calls : K → K → Type 0) where
   -- each entry got a key that a call with its key returned, and keeps its value

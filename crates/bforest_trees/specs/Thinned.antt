@@ -3,7 +3,7 @@ use Rattle.bforest_core.specs.Levels.{LevelNode, node}
 use Rattle.bforest_core.specs.Paths.{OnEntry}
 use Rattle.bforest_core.specs.declared.path.Path.{Path}
 use Rattle.bforest_trees.specs.Bounds.{is_past_end}
-use Rattle.bforest_trees.specs.Calls.{without_leaves}
+use Rattle.bforest_trees.specs.Calls.{Lowers, without_leaves}
 use Rattle.bforest_trees.specs.Forest.{Becomes, Forest, Gives, list_of, sizes_of}
 use Rattle.bforest_trees.specs.Place.{IsSpot}
 use Rattle.std.specs.List.{AllByRecursion, sum_by}
@@ -43,8 +43,7 @@ module _ {K X : Type 0} where
     pub gone_is : length gone ≡ sum_by (λ size. size) dropped
     pub sizes : sizes_of f' h' ≡ without_leaves (length before) (length dropped) (sizes_of f h)
     pub gives : Gives (sizes_of f h) (sizes_of f' h') f f'
-    pub fewer : length (sizes_of f' h') ≤ length (sizes_of f h)
-    pub same_levels : length (sizes_of f' h') ≡ length (sizes_of f h) → h' ≡ h
+    pub lowers : Lowers f h f' h'
     pub spot : IsSpot f' h' path place
     pub same : gone ≡ [] → (f' ≡ f) × (h' ≡ h)
 

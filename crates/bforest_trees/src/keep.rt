@@ -5,14 +5,16 @@ ghost use Rattle.bforest_nodes.specs.Entries.{IsIncreasing};
 ghost use Rattle.bforest_trees.specs.Keep.{Kept, Nears, Reaches, Steps};
 ghost use Rattle.std.specs.Prelude.{IsTrue, ◌≢◌, ℕ};
 
-use bforest_core::{Comparator, Node, NodePool, Path};
+use bforest_core::{Comparator, Node, NodePool, PackedNode, Path};
 
 /// Keeps the entries of the tree under a root whose keys are in the tree under `other`, or those whose keys are not, as `present` says.
 /// Returns the new root, or `None` where no entry stays, and whether an entry was removed. The two roots differ.
 ///
-/// Two paths walk side by side, so this takes at most one comparison for each entry of both trees.
+/// Two paths walk side by side, so this takes at most one comparison for each entry of both trees. The tree's handle gets each new root at
+/// once, so it is live where a comparison panics in plain Rust.
 pub(crate) fn keep<K: Copy, V: Copy, const N: usize, C: Comparator<K>>(
     pool: &mut NodePool<K, V, N>,
+    handle: &mut PackedNode,
     root: Node,
     other: Node,
     present: bool,
@@ -35,7 +37,7 @@ pub(crate) fn keep<K: Copy, V: Copy, const N: usize, C: Comparator<K>>(
     while let Some(entry) = mine {
         let stays = find_onwards(entry.0, &mut theirs, &mut beside, pool, comp) == present;
         changed |= !stays;
-        let Some(step) = keep_step(stays, &mut path, root, pool) else {
+        let Some(step) = keep_step(stays, &mut path, handle, root, pool) else {
             return (None, changed);
         };
         root = step.0;
@@ -74,6 +76,7 @@ fn find_onwards<K: Copy, V: Copy, const N: usize, C: Comparator<K>>(
 fn keep_step<K: Copy, V: Copy, const N: usize>(
     stays: bool,
     path: &mut Path<K, V, N>,
+    handle: &mut PackedNode,
     root: Node,
     pool: &mut NodePool<K, V, N>,
 ) -> Option<(Node, Option<(K, V)>)>
@@ -85,5 +88,6 @@ fn keep_step<K: Copy, V: Copy, const N: usize>(
         return Some((root, path.next(pool)));
     }
     let left = path.remove(pool)?;
+    *handle = PackedNode::some(left);
     Some((left, path.entry(pool)))
 }

@@ -5,12 +5,15 @@ ghost use Rattle.bforest_trees.specs.Retain.{MayAskEach, Retained, RetainedNone,
 ghost use Rattle.std.specs.Prelude.{IfSome, IsTrue, None, slice_get, suc, ◌≡◌, ℕ};
 
 use crate::predicate::Predicate;
-use bforest_core::{Node, NodePool, Path};
+use bforest_core::{Node, NodePool, PackedNode, Path};
 
 /// Calls a predicate on each entry of the tree under a root, in order, and keeps the entries for which it returns `true`, with the value
 /// that the call left. Returns the new root, or `None` where no entry stays.
+///
+/// The tree's handle gets each new root at once, so it is live where a predicate panics in plain Rust.
 pub(crate) fn retain<K: Copy, V: Copy, const N: usize, P: Predicate<K, V>>(
     pool: &mut NodePool<K, V, N>,
+    handle: &mut PackedNode,
     root: Node,
     predicate: P,
 ) -> Option<Node>
@@ -25,7 +28,7 @@ pub(crate) fn retain<K: Copy, V: Copy, const N: usize, P: Predicate<K, V>>(
     let mut path = Path::default();
     let mut here = Some(path.first(root, pool));
     while let Some(entry) = here {
-        let step = retain_step(entry, &mut path, root, pool, &mut predicate)?;
+        let step = retain_step(entry, &mut path, handle, root, pool, &mut predicate)?;
         root = step.0;
         here = step.1;
     }
@@ -38,6 +41,7 @@ pub(crate) fn retain<K: Copy, V: Copy, const N: usize, P: Predicate<K, V>>(
 fn retain_step<K: Copy, V: Copy, const N: usize, P: Predicate<K, V>>(
     entry: (K, V),
     path: &mut Path<K, V, N>,
+    handle: &mut PackedNode,
     root: Node,
     pool: &mut NodePool<K, V, N>,
     predicate: &mut P,
@@ -60,5 +64,6 @@ fn retain_step<K: Copy, V: Copy, const N: usize, P: Predicate<K, V>>(
         return Some((root, path.next(pool)));
     }
     let left = path.remove(pool)?;
+    *handle = PackedNode::some(left);
     Some((left, path.entry(pool)))
 }

@@ -1,7 +1,7 @@
 //! New keys for the entries from one on.
 ghost use Rattle.bforest_core.specs.Paths.{StandsAt, StandsOn, list_under};
 ghost use Rattle.bforest_core.specs.Trees.{IsUnion};
-ghost use Rattle.bforest_trees.specs.Shift.{ShiftedUnder, StepShifted};
+ghost use Rattle.bforest_trees.specs.Shift.{MayRekey, ShiftedUnder, StepShifted};
 ghost use Rattle.std.specs.Prelude.{Some, slice_get, ◌≡◌, ℕ};
 
 use bforest_core::{Node, NodePool, Path};
@@ -14,8 +14,8 @@ pub(crate) fn shift<K: Copy, V: Copy, const N: usize, F: Fn(K) -> K>(
     change: F,
 )
     requires union { IsUnion N pool.old }
-    requires stands { (place : ℕ) × StandsAt pool.old root path.old place }
-    requires callable { F.IsAlwaysCallable change }
+    requires stands { (place : ℕ) × StandsAt pool.old root path.old place
+        × MayRekey (F.pre change) place (list_under pool.old root) }
     ensures { (place : ℕ) → StandsAt pool.old root path.old place
         → ShiftedUnder (F.post change) N pool.old pool.new root place }
 {

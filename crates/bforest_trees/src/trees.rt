@@ -1,10 +1,11 @@
 //! The table of all trees of a forest: each call on one tree, stated once for maps and sets.
 ghost use Rattle.bforest_trees.specs.Forest.{Becomes, Gives, IsAccounted, IsLive, Takes, empty, emptied, first_level, free_of, limit_of, list_at, list_of, sizes_at, sizes_of, slots_of};
 ghost use Rattle.bforest_trees.specs.Bounds.{entry_at_most};
-ghost use Rattle.bforest_trees.specs.Calls.{Clears, Filters, Inserts, Removes, Reserves, SameLevels, Shifts};
+ghost use Rattle.bforest_trees.specs.Calls.{Clears, Filters, Inserts, Lowers, Removes, Reserves, Shifts};
 ghost use Rattle.bforest_trees.specs.Place.{AtSpot, IsComputed, IsSpot, OnSpot};
 ghost use Rattle.bforest_core.specs.Paths.{IsAtEnd, IsPlaced, StandingUnder, StandsOn, list_under};
 ghost use Rattle.bforest_trees.specs.Retain.{MayAskEach};
+ghost use Rattle.bforest_trees.specs.Shift.{MayRekey};
 ghost use Rattle.bforest_core.specs.Levels.{half_of};
 ghost use Rattle.bforest_core.specs.Sizes.{IsFitFor, shrink};
 ghost use Rattle.bforest_core.specs.Trees.{IsUnion, is_root};
@@ -135,7 +136,7 @@ impl<K: Copy, V: Copy, const N: usize> Trees<K, V, N> {
         ensures { Filters N P.step self.old handle.old predicate self.new handle.new }
     {
         if let Some(root) = handle.expand() {
-            *handle = packed(retain::retain(&mut self.pool, root, predicate));
+            *handle = packed(retain::retain(&mut self.pool, handle, root, predicate));
         }
     }
 
@@ -149,7 +150,8 @@ impl<K: Copy, V: Copy, const N: usize> Trees<K, V, N> {
     )
         requires live { IsLive self.old handle }
         requires increasing { IsIncreasing (C.order comp.now) (list_of self.old handle) }
-        requires callable { F.IsAlwaysCallable change }
+        requires callable { MayRekey (F.pre change) (place (C.order comp.now) (list_of self.old handle) from)
+            (list_of self.old handle) }
         ensures { Shifts (F.post change) (place (C.order comp.now) (list_of self.old handle) from)
             self.old handle self.new }
     {
@@ -330,7 +332,7 @@ impl<K: Copy, V: Copy, const N: usize> Trees<K, V, N> {
             → Becomes self.old handle.old self.new handle.new (remove (list_of self.old handle.old) at.place) }
         ensures sizes { (at : OnSpot self.old handle.old path.old)
             → sizes_of self.new handle.new ≡ shrink N at.place (sizes_of self.old handle.old) }
-        ensures same_levels { SameLevels self.old handle.old self.new handle.new }
+        ensures lowers { Lowers self.old handle.old self.new handle.new }
         ensures account { Gives (sizes_of self.old handle.old) (sizes_of self.new handle.new)
             self.old self.new }
         ensures spot { (at : OnSpot self.old handle.old path.old)

@@ -546,6 +546,7 @@ fn calls_by_an_index_that_compare_nothing() {
     assert_eq!((maps.first(1), maps.last(1)), (Some((2, 1)), Some((72, 36))));
     assert_eq!((sets.first(1), sets.last(1)), (Some(2), Some(144)));
     assert_eq!((maps.levels(1), sets.levels(1), maps.iter(1).count(), sets.iter(1).count()), (3, 3, 36, 72));
+    assert_eq!((maps.iter_back(1).count(), sets.iter_back(1).count()), (36, 72));
     assert_eq!((maps.pop_first(1), maps.pop_last(1)), (Some((2, 1)), Some((72, 36))));
     assert_eq!((sets.pop_first(1), sets.pop_last(1)), (Some(2), Some(144)));
     maps.retain(1, |key, _| key % 4 == 0);

@@ -172,6 +172,7 @@ fn maps_answer_as_a_vector_of_maps() {
         }
         for (at, map) in model.iter().enumerate() {
             assert!(maps.iter(at).eq(map.iter().map(|(k, v)| (*k, *v))));
+            assert!(maps.iter_back(at).eq(map.iter().rev().map(|(k, v)| (*k, *v))));
         }
     }
 }
@@ -265,6 +266,7 @@ fn sets_answer_as_a_vector_of_sets() {
         }
         for (at, set) in model.iter().enumerate() {
             assert!(sets.iter(at).eq(set.iter().copied()));
+            assert!(sets.iter_back(at).eq(set.iter().rev().copied()));
         }
     }
 }
@@ -310,6 +312,26 @@ fn loaded(keys: &[u32], leaf: usize, room: u32) -> Result<(), LoadError> {
 }
 
 /// Loads of 0 to 400 entries at one of three indices, one in four with two neighbours that do not increase, under four limits.
+/// Loads two maps, and puts an entry into the second one.
+fn two_maps(limit: u32, second: &[(u32, u32)]) -> Result<Maps<u32, u32>, LoadError> {
+    let mut maps = Maps::with_node_limit((), limit);
+    let one = maps.push()?;
+    maps.load(one, &[(1, 10), (2, 20)])?;
+    let other = maps.push()?;
+    maps.load(other, second)?;
+    maps.insert(other, 9, 90)?;
+    Ok(maps)
+}
+
+#[test]
+fn the_errors_of_a_load_and_of_an_insertion_are_one() {
+    let maps = two_maps(2, &[(5, 50)]).unwrap();
+    assert!(maps.iter(1).eq([(5, 50), (9, 90)]));
+    assert_eq!(two_maps(2, &[(5, 50), (4, 40)]).err(), Some(LoadError::Unordered(0)));
+    assert_eq!(two_maps(1, &[(5, 50)]).err(), Some(LoadError::Refused(OutOfMemory::Full)));
+    assert_eq!(two_maps(1, &[]).err(), Some(LoadError::Refused(OutOfMemory::Full)));
+}
+
 #[test]
 fn loads_by_an_index_answer_as_their_entries_say() {
     let mut random = Random(0x1234_5678_9abc_def1);

@@ -1,6 +1,6 @@
 //! What a panic of the caller's own code leaves, where it is caught.
 
-use bforest::{Comparator, Map, MapForest, Set, SetForest};
+use bforest::{Comparator, Map, MapForest, Maps, Set, SetForest};
 use std::cell::Cell;
 use std::cmp::Ordering;
 use std::ops::Bound::{Excluded, Included};
@@ -132,47 +132,67 @@ fn a_shift_that_panics_leaves_the_keys_from_there_on() {
     }
 }
 
+/// Which of the entries that a predicate is asked of stay: one in five.
+fn stays(key: u32) -> bool {
+    key % 10 == 0
+}
+
+/// What a predicate leaves that panics at its call of this number: the entries before are kept or removed, and all others stay.
+fn left_by(asked: usize) -> impl Iterator<Item = (u32, u32)> {
+    (0..200).step_by(2).enumerate().filter(move |(at, key)| *at >= asked || stays(*key)).map(|(_, key)| (key, key))
+}
+
 #[test]
-fn a_predicate_that_panics_leaves_a_forest_that_can_be_cleared() {
+fn a_predicate_that_panics_leaves_what_it_answered_before() {
     set_hook(Box::new(|_| {}));
     for asked in 0..100 {
         let (mut map, mut forest) = filled();
+        let mut maps: Maps<u32, u32> = Maps::new(());
+        maps.grow_to(2).unwrap();
+        maps.load(1, &map.iter(&forest).collect::<Vec<_>>()).unwrap();
         let mut count = 0;
-        let made = catch_unwind(AssertUnwindSafe(|| {
-            map.retain(&mut forest, |_, _| {
-                count += 1;
-                assert!(count <= asked, "no call is left");
-                false
-            });
-        }));
-        assert!(made.is_err());
-        if forest.holds(&map) {
-            assert!(map.iter(&forest).count() <= 100);
-        }
-        forest.clear();
-        map = Map::new();
-        map.insert(1, 1, &mut forest, &()).unwrap();
-        assert!(map.iter(&forest).eq([(1, 1)]));
+        let mut ask = |key: u32, _: &mut u32| {
+            assert!(count < asked, "no call is left");
+            count += 1;
+            stays(key)
+        };
+        assert!(catch_unwind(AssertUnwindSafe(|| map.retain(&mut forest, &mut ask))).is_err());
+        assert!(forest.holds(&map) && map.iter(&forest).eq(left_by(asked)));
+        map.insert(41, 41, &mut forest, &()).unwrap();
+        map.clear(&mut forest);
+        assert_eq!(forest.nodes_in_use(), 0);
+
+        let mut count = 0;
+        let ask = |key: u32, _: &mut u32| {
+            assert!(count < asked, "no call is left");
+            count += 1;
+            stays(key)
+        };
+        assert!(catch_unwind(AssertUnwindSafe(|| maps.retain(1, ask))).is_err());
+        assert!(maps.iter(1).eq(left_by(asked)));
+        maps.clear(1);
+        assert_eq!(maps.nodes_in_use(), 0);
     }
 }
 
 /// A difference removes one entry after the other, as `retain` does, and compares twice for each but the first: with the key before in the
-/// other map, and with the equal one.
+/// other map, and with the equal one. What was removed before a panic is gone, all others stay, and the handle is live.
 #[test]
-fn a_comparator_that_panics_in_a_difference_leaves_a_forest_that_can_be_cleared() {
+fn a_comparator_that_panics_in_a_difference() {
     set_hook(Box::new(|_| {}));
-    let mut not_live = 0;
+    let mut met = [false; 100];
     for asked in 0..199 {
         let (mut map, mut forest) = filled();
         let other = map.deep_clone(&mut forest).unwrap();
         let order = Failing(Cell::new(asked));
         assert!(catch_unwind(AssertUnwindSafe(|| map.difference_with(&other, &mut forest, &order))).is_err());
         assert!(other.iter(&forest).eq((0..200).step_by(2).map(|it| (it, it))));
-        not_live += usize::from(!forest.holds(&map));
-        forest.clear();
-        map = Map::new();
-        map.insert(1, 1, &mut forest, &()).unwrap();
-        assert!(map.iter(&forest).eq([(1, 1)]));
+        assert!(forest.holds(&map));
+        let gone = 100 - map.iter(&forest).count();
+        assert!(map.iter(&forest).eq((0..200).step_by(2).skip(gone).map(|it| (it, it))));
+        met[gone] = true;
+        map.insert(41, 41, &mut forest, &()).unwrap();
+        map.clear(&mut forest);
     }
-    assert!(not_live > 0);
+    assert!(met.iter().all(|it| *it));
 }

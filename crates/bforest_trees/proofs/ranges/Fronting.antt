@@ -25,7 +25,7 @@ module _ {K X : Type 0} {most : ℕ} {f : Forest K X} where
     removed = becomes-same f h live;
     changed = sym (ltb-none 0);
     sizes = refl;
-    same_levels = λ e. refl;
+    same_levels = (λ e. refl, λ e. refl);
     account = record { slots = refl; free = refl; memory = refl };
     same_forest = λ e. refl;
     same_handle = λ e. refl;
@@ -38,7 +38,7 @@ module _ {K X : Type 0} {most : ℕ} {f : Forest K X} where
       removed = subst (Becomes f (Some n) f' None) (sym (drop_all (length (list_at f n)) (list_at f n) (omega arith))) (becomes-ended most f f' n ended);
       changed = sym (lt-ltb 0 (length (list_at f n)) (some-entries (list_at f n) live));
       sizes = sym (end-sizes f union (Some n) live).1;
-      same_levels = λ e. absurd (omega (arith, e, ap length (sizes-root f n root)));
+      same_levels = (λ e. absurd (cc), λ e. absurd (omega (arith, e, ap length (sizes-root f n root))));
       account = subst (λ (z : List (List ℕ)). Gives z [] f f') (sym (sizes-root f n root)) (gives f f' (sizes_under f n) [] given);
       same_forest = λ bad. absurd (cc);
       same_handle = λ bad. absurd (cc);
@@ -50,7 +50,10 @@ module _ {K X : Type 0} {most : ℕ} {f : Forest K X} where
       removed = subst (λ (l : List (K × X)). Becomes f (Some n) f' (Some r') (drop p l)) (sym (list-root f n root)) (becomes most f f' n r' (drop p (list_under f n)) (detached most p (sizes_under f n)) c.removed);
       changed = sym (lt-ltb 0 p some);
       sizes = now ∙ ap (detached most p) (sym (sizes-root f n root));
-      same_levels = λ e. ap Some (c.same_root.1 (omega (arith, e, ap length now, ap length (sizes-root f n root))));
+      same_levels = (
+        λ e. omega (arith, c.same_root.0 (let one : r' ≡ n = cc in one), ap length now, ap length (sizes-root f n root)),
+        λ e. ap Some (c.same_root.1 (omega (arith, e, ap length now, ap length (sizes-root f n root)))),
+      );
       account = subst (λ (z : List (List ℕ)). Gives z (sizes_at f' r') f f') (sym (sizes-root f n root)) (subst (λ (z : List (List ℕ)). Gives (sizes_under f n) z f f') (sym now) (gives f f' (sizes_under f n) (detached most p (sizes_under f n)) c.account));
       same_forest = λ bad. absurd (cc);
       same_handle = λ bad. absurd (cc);

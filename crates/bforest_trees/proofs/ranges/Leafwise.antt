@@ -1,9 +1,11 @@
 -- The entries between two bounds, of which whole leaves were removed first, and then the others one after another.
+use Rattle.bforest_core.specs.Trees.{IsUnion}
 use Rattle.bforest_core.specs.declared.path.Path.{Path}
 use Rattle.bforest_core.proofs.removal.Asked.{remove_at}
 use Rattle.bforest_nodes.proofs.Ordered.{IsIncreasing-remove}
 use Rattle.bforest_nodes.specs.Entries.{IsIncreasing, value_for}
 use Rattle.bforest_trees.proofs.Becoming.{becomes-both}
+use Rattle.bforest_trees.proofs.Lowering.{lowers-both}
 use Rattle.bforest_trees.proofs.ranges.Between.{end-rises, slice-between, start-rises}
 use Rattle.bforest_trees.proofs.ranges.Counted.{all-front, count-all, count-append, from-behind, index-at, not-past, taken-is, total, whole-at, within-exact}
 use Rattle.bforest_trees.proofs.ranges.Parting.{Parted, Parting, bounded, parting-first, outside-up, outside-value, start-low, zero-by}
@@ -98,7 +100,7 @@ module _ {K X : Type 0} (most : ℕ) (cmp : K → K → Ordering) (lo hi : Bound
         changed = r.changed_is;
         found = λ q. ap (λ l. value_for cmp l q) r.removed.list ∙ outside-value cmp lo hi total_order es q up;
         sizes = r.sizes ∙ ap (λ n. removals most p n (sizes_of f₀ h₀)) none ∙ ap (λ n. without_range most p n (sizes_of f₀ h₀)) (sym none) ∙ sym (bounded most lo hi p (length (entries_between cmp lo hi es)) (sizes_of f₀ h₀) start end);
-        same_levels = r.same_levels;
+        same_levels = r.lowers.same_levels;
         account = r.account;
         increasing = subst (IsIncreasing cmp) (sym r.removed.list) (outside-up cmp lo hi es up);
         same_forest = λ off. (r.same none).0;
@@ -193,7 +195,7 @@ module _ {K X : Type 0} (most : ℕ) (cmp : K → K → Ordering) (lo hi : Bound
         changed = r.changed_is ∙ ap (λ l. nat_lt 0 (length (entries_between cmp lo hi l))) w.becomes.list ∙ lt-same left n none-all (λ z. omega (arith, z, left-is));
         found = λ q. ap (λ l. value_for cmp l q) becomes.list ∙ outside-value cmp lo hi total_order es q up;
         sizes = sizes ∙ sym (bounded most lo hi p n (sizes_of f₀ h₀) start end);
-        same_levels = λ same. let here : length (sizes_of f₁ h₁) ≡ length (sizes_of f₀ h₀) = omega (arith, same, r.fewer, w.fewer) in r.same_levels (same ∙ sym here) ∙ w.same_levels here;
+        same_levels = (lowers-both h₀ h₁ h w.lowers r.lowers).same_levels;
         account = record {
           slots = r.account.slots ∙ w.gives.slots;
           free = omega (arith, r.account.free, w.gives.free);
@@ -238,11 +240,11 @@ module _ {K X : Type 0} {most : ℕ} {cmp : K → K → Ordering} {lo hi : Bound
     (spot : IsSpot f₀ h₀ path (start_place cmp lo (list_of f₀ h₀))) (forest : IsAtEnd path → f₁ ≡ f₀) (handle : IsAtEnd path → h₁ ≡ h₀) (same : IsAtEnd path → path₁ ≡ path)
     (thinned : ¬ (IsAtEnd path) → (at : AtSpot f₀ h₀ path) → (t : Thinned most cmp hi f₀ h₀ at.place f₁ h₁ path₁) × Stops cmp hi t.behind t.after) where
   -- the other entries are removed from there on
-  pub leaves-first : IsLive f₀ h₀ → Parting most cmp lo hi f₁ h₁ f₁ h₁ path₁ false
-  leaves-first live = elim (cases_lt 0 path.size) [
+  pub leaves-first : IsUnion most f₁ → IsUnion most f₀ → IsLive f₀ h₀ → Parting most cmp lo hi f₁ h₁ f₁ h₁ path₁ false
+  leaves-first union₁ union live = elim (cases_lt 0 path.size) [
     | inl some ↦ (let t = (thinned (λ end. omega (arith, end, some)) (record { place = start_place cmp lo (list_of f₀ h₀); spot = spot })).0 in
-        parting-first t.becomes.live (subst (IsSpot f₁ h₁ path₁) (sym (start-kept most cmp lo hi f₀ h₀ total_order up t)) t.spot))
-    | inr none ↦ (let end : path.size ≡ 0 = omega (arith, none) in rw (forest end, handle end, same end) (parting-first live spot))
+        parting-first union₁ t.becomes.live (subst (IsSpot f₁ h₁ path₁) (sym (start-kept most cmp lo hi f₀ h₀ total_order up t)) t.spot))
+    | inr none ↦ (let end : path.size ≡ 0 = omega (arith, none) in rw (forest end, handle end, same end) (parting-first union live spot))
   ]
 
   -- all entries within the bounds are removed where the loop removes those that the leaves left

@@ -1,17 +1,18 @@
 -- What the loop of `remove_range` has done, and what it answers and leaves, as one record.
 use Rattle.bforest_core.proofs.table.Lists.{length_remove}
 use Rattle.bforest_core.specs.Sizes.{detached, shrink}
+use Rattle.bforest_core.specs.Trees.{IsUnion}
 use Rattle.bforest_core.specs.declared.path.Path.{Path}
 use Rattle.bforest_nodes.specs.Entries.{IsIncreasing, value_for}
 use Rattle.bforest_trees.proofs.Becoming.{becomes-both}
 use Rattle.bforest_trees.proofs.Cutting.{becomes-same}
+use Rattle.bforest_trees.proofs.Lowering.{lowers-both, lowers-none}
 use Rattle.bforest_trees.proofs.Retaining.{IsIncreasing-kept}
-use Rattle.bforest_trees.proofs.Sifted.{shrink-fewer}
 use Rattle.bforest_trees.proofs.ranges.Between.{end-rises, start-rises}
 use Rattle.bforest_trees.proofs.ranges.Outside.{Parts, behind-is, filter-halves, get-behind, none-out, outside-is, past-behind, remove-behind}
 use Rattle.bforest_trees.proofs.unions.Choosing.{passing-value}
 use Rattle.bforest_trees.specs.Bounds.{end_place, entries_between, entries_outside, is_between, is_from_start, is_past_end, start_behind, start_place}
-use Rattle.bforest_trees.specs.Calls.{CutsFrom, CutsTo, RemovesBetween, SameLevels, removals, sizes_outside, truncation, without_range}
+use Rattle.bforest_trees.specs.Calls.{CutsFrom, CutsTo, Lowers, RemovesBetween, removals, sizes_outside, truncation, without_range}
 use Rattle.bforest_trees.specs.Forest.{Becomes, Forest, Gives, IsLive, list_of, sizes_of}
 use Rattle.bforest_trees.specs.Place.{AtSpot, IsSpot, OnSpot}
 use Rattle.bforest_trees.specs.Retain.{kept_by}
@@ -112,8 +113,7 @@ module _ {K X : Type 0} (most : ℕ) (cmp : K → K → Ordering) (lo hi : Bound
     pub becomes : Becomes f₀ h₀ f h (take (start_place cmp lo (list_of f₀ h₀)) (list_of f₀ h₀) ++ drop to (list_of f₀ h₀))
     pub sizes : sizes_of f h ≡ removals most (start_place cmp lo (list_of f₀ h₀)) count (sizes_of f₀ h₀)
     pub gives : Gives (sizes_of f₀ h₀) (sizes_of f h) f₀ f
-    pub fewer : length (sizes_of f h) ≤ length (sizes_of f₀ h₀)
-    pub same_levels : length (sizes_of f h) ≡ length (sizes_of f₀ h₀) → h ≡ h₀
+    pub lowers : Lowers f₀ h₀ f h
     pub spot : IsSpot f h path (start_place cmp lo (list_of f₀ h₀))
     pub tested : (i : ℕ) (e : K × X) → start_place cmp lo (list_of f₀ h₀) ≤ i → i < to → slice_get (list_of f₀ h₀) i ≡ Some e → is_past_end cmp hi e.0 ≡ false
     pub changed_is : changed ≡ nat_lt 0 count
@@ -124,15 +124,14 @@ module _ {K X : Type 0} (most : ℕ) (cmp : K → K → Ordering) (lo hi : Bound
     pub removed : Becomes f₀ h₀ f h (entries_outside cmp lo hi (list_of f₀ h₀))
     pub changed_is : changed ≡ nat_lt 0 (length (entries_between cmp lo hi (list_of f₀ h₀)))
     pub sizes : sizes_of f h ≡ removals most (start_place cmp lo (list_of f₀ h₀)) (length (entries_between cmp lo hi (list_of f₀ h₀))) (sizes_of f₀ h₀)
-    pub fewer : length (sizes_of f h) ≤ length (sizes_of f₀ h₀)
-    pub same_levels : length (sizes_of f h) ≡ length (sizes_of f₀ h₀) → h ≡ h₀
+    pub lowers : Lowers f₀ h₀ f h
     pub account : Gives (sizes_of f₀ h₀) (sizes_of f h) f₀ f
     pub same : length (entries_between cmp lo hi (list_of f₀ h₀)) ≡ 0 → (f ≡ f₀) × (h ≡ h₀)
 
 module _ {K X : Type 0} {most : ℕ} {cmp : K → K → Ordering} {lo hi : Bound K} {f₀ : Forest K X} {h₀ : Option ℕ} where
   -- before the first step
-  pub parting-first : {path : Path K X most} → IsLive f₀ h₀ → IsSpot f₀ h₀ path (start_place cmp lo (list_of f₀ h₀)) → Parting most cmp lo hi f₀ h₀ f₀ h₀ path false
-  parting-first live spot = record {
+  pub parting-first : {path : Path K X most} → IsUnion most f₀ → IsLive f₀ h₀ → IsSpot f₀ h₀ path (start_place cmp lo (list_of f₀ h₀)) → Parting most cmp lo hi f₀ h₀ f₀ h₀ path false
+  parting-first union live spot = record {
     count = 0;
     to = start_place cmp lo (list_of f₀ h₀);
     to_is = omega arith;
@@ -140,8 +139,7 @@ module _ {K X : Type 0} {most : ℕ} {cmp : K → K → Ordering} {lo hi : Bound
     becomes = subst (Becomes f₀ h₀ f₀ h₀) (none-out (start_place cmp lo (list_of f₀ h₀)) (list_of f₀ h₀)) (becomes-same f₀ h₀ live);
     sizes = refl;
     gives = record { slots = refl; free = refl; memory = refl };
-    fewer = omega arith;
-    same_levels = λ e. refl;
+    lowers = lowers-none most f₀ h₀ union live;
     spot = spot;
     tested = λ i e over less. absurd (omega (arith, over, less));
     changed_is = refl;
@@ -176,12 +174,11 @@ module _ {K X : Type 0} {most : ℕ} {cmp : K → K → Ordering} {lo hi : Bound
         pub parting-shorter : length (list_of f' h') < length (list_of f h)
         parting-shorter = omega (arith, low, ap length ((removed parting-on).list), length_remove (list_of f h) (start_place cmp lo (list_of f₀ h₀)) low)
 
-        pub parting-next : {path' : Path K X most} → ((at : OnSpot f h path) → sizes_of f' h' ≡ shrink most at.place (sizes_of f h)) → SameLevels f h f' h' → Gives (sizes_of f h) (sizes_of f' h') f f'
+        pub parting-next : {path' : Path K X most} → ((at : OnSpot f h path) → sizes_of f' h' ≡ shrink most at.place (sizes_of f h)) → Lowers f h f' h' → Gives (sizes_of f h) (sizes_of f' h') f f'
             → ((at : OnSpot f h path) → IsSpot f' h' path' at.place) → Parting most cmp lo hi f₀ h₀ f' h' path' true
-        parting-next sizes levels account spot =
+        parting-next sizes lowers account spot =
             let p = start_place cmp lo (list_of f₀ h₀) in
             let e = on parting-at in
-            let few : length (sizes_of f' h') ≤ length (sizes_of f h) = omega (arith, shrink-fewer most p (sizes_of f h), ap length (sizes parting-on)) in
             record {
               count = suc s.count;
               to = suc s.to;
@@ -194,8 +191,7 @@ module _ {K X : Type 0} {most : ℕ} {cmp : K → K → Ordering} {lo hi : Bound
                 free = omega (arith, account.free, s.gives.free);
                 memory = account.memory ∙ s.gives.memory;
               };
-              fewer = omega (arith, few, s.fewer);
-              same_levels = λ same. let here : length (sizes_of f h) ≡ length (sizes_of f₀ h₀) = omega (arith, same, few, s.fewer) in levels.1 (omega (arith, same, here)) ∙ s.same_levels here;
+              lowers = lowers-both h₀ h h' s.lowers lowers;
               spot = spot parting-on;
               tested = λ i x over less get. elim (cases_lt i s.to) [
                 | inl before ↦ s.tested i x over before get
@@ -216,8 +212,7 @@ module _ {K X : Type 0} {most : ℕ} {cmp : K → K → Ordering} {lo hi : Bound
       removed = subst (Becomes f₀ h₀ f h) (sym parts.outside_is) s.becomes;
       changed_is = s.changed_is ∙ ap (nat_lt 0) (sym count);
       sizes = s.sizes ∙ ap (λ n. removals most (start_place cmp lo (list_of f₀ h₀)) n (sizes_of f₀ h₀)) (sym count);
-      fewer = s.fewer;
-      same_levels = s.same_levels;
+      lowers = s.lowers;
       account = s.gives;
       same = λ none. s.same (sym count ∙ none);
     }

@@ -218,8 +218,8 @@ module _ {K X : Type 0} {most : ℕ} (f : Forest K X) (union : IsUnion most f) w
     leaves_sizes = tt;
     fresh = λ ne. absurd (ne refl);
     fresh_sizes = λ ne. absurd (ne refl);
-    tail_fresh = tt;
-    tail_fresh_sizes = tt;
+    tail_fresh = λ ne. tt;
+    tail_fresh_sizes = λ ne. tt;
     others = tt;
     others_sizes = tt;
     limit = refl;
@@ -311,6 +311,17 @@ module _ {K X : Type 0} {most : ℕ} {f g f' : Forest K X} {n p need front behin
     refused_forest = tt;
     refused_handle = tt;
   }
+
+-- a tail that is not all of the tree has a number that was no root
+module _ {K X : Type 0} {most : ℕ} {f f' : Forest K X} {h h' t : Option ℕ} {p : ℕ} (s : SplitsAt most f h p (Ok t) f' h') where
+  some-front : t ≢ h → p ≢ 0
+  some-front ne zero_is = ne (let whole : Ok t ≡ Ok h = (s.whole zero_is).0 in let same : t ≡ h = cc in same)
+
+  pub tail-fresh : t ≢ h → list_of f t ≡ []
+  tail-fresh ne = s.tail_fresh (some-front ne)
+
+  pub tail-fresh-sizes : t ≢ h → sizes_of f t ≡ []
+  tail-fresh-sizes ne = s.tail_fresh_sizes (some-front ne)
 
 -- a path of which a leaf is told is not at the end
 pub not-end : {A : Type 0} {end : Type 0} {leaf : Option A} {none : Bool} → (end → leaf ≡ None) → is_some leaf ≡ not none → none ≡ false → end → ⊥

@@ -5,19 +5,20 @@ use Rattle.bforest_core.proofs.rows.Zipper.{cut_same}
 use Rattle.bforest_core.specs.Levels.{LevelNode, flat, node, sizes, sizes_of as tree_sizes}
 use Rattle.bforest_core.specs.Paths.{IsAtEnd, OnEntry, leaf_of, RemovesNext, StandsOn}
 use Rattle.bforest_core.specs.Sizes.{loss_above, trimmed, without_next}
-use Rattle.bforest_core.specs.Trees.{tree_of}
+use Rattle.bforest_core.specs.Trees.{IsUnion, tree_of}
 use Rattle.bforest_core.specs.declared.path.Path.{Path}
 use Rattle.bforest_nodes.specs.Entries.{IsIncreasing}
 use Rattle.bforest_trees.proofs.Becoming.{becomes-both}
 use Rattle.bforest_trees.proofs.Changed.{becomes, list-root, sizes-new, sizes-root}
 use Rattle.bforest_trees.proofs.Cutting.{becomes-same, gives}
+use Rattle.bforest_trees.proofs.Lowering.{lowers-both, lowers-by, lowers-none}
 use Rattle.bforest_trees.proofs.Sifted.{without_next-fewer}
 use Rattle.bforest_trees.proofs.Spots.{spot-in, spot-on}
 use Rattle.bforest_trees.proofs.ranges.Between.{end-rises}
 use Rattle.bforest_trees.proofs.ranges.Slices.{Rises}
 use Rattle.bforest_trees.proofs.ranges.Counted.{all-append, index-at, not-past, split_same, total, total-cons, total-flat}
 use Rattle.bforest_trees.specs.Bounds.{is_past_end}
-use Rattle.bforest_trees.specs.Calls.{leaf_index, without_leaves}
+use Rattle.bforest_trees.specs.Calls.{Lowers, leaf_index, without_leaves}
 use Rattle.bforest_trees.specs.Forest.{Becomes, Forest, Gives, IsLive, list_of, sizes_of}
 use Rattle.bforest_trees.specs.Place.{IsSpot}
 use Rattle.bforest_trees.specs.Thinned.{NextWithin, Stops, Thinned}
@@ -48,8 +49,8 @@ module _ {K X : Type 0} {most : ℕ} {cmp : K → K → Ordering} {hi : Bound K}
   thin-entry t = record { root = (thin-on t).0; place = p; on = (thin-on t).2 }
 
 -- no leaf went yet
-pub thin-first : {K X : Type 0} {most : ℕ} {cmp : K → K → Ordering} {hi : Bound K} (f : Forest K X) (h : Option ℕ) (p : ℕ) (path : Path K X most) → IsLive f h → IsSpot f h path p → (IsAtEnd path → ⊥) → Thinned most cmp hi f h p f h path
-thin-first {most = most} {cmp} {hi} f h p path live spot some = go (spot-on f path h p spot (spot-in f path h p spot some)) live spot
+pub thin-first : {K X : Type 0} {most : ℕ} {cmp : K → K → Ordering} {hi : Bound K} (f : Forest K X) (h : Option ℕ) (p : ℕ) (path : Path K X most) → IsUnion most f → IsLive f h → IsSpot f h path p → (IsAtEnd path → ⊥) → Thinned most cmp hi f h p f h path
+thin-first {most = most} {cmp} {hi} f h p path union live spot some = go (spot-on f path h p spot (spot-in f path h p spot some)) live spot
   where
     go : (o : (n : ℕ) × (h ≡ Some n) × StandsOn f n path p) → IsLive f h → IsSpot f h path p → Thinned most cmp hi f h p f h path
     go (n, is, on) live spot = let leaf = on.stands.leaf in
@@ -77,8 +78,7 @@ thin-first {most = most} {cmp} {hi} f h p path live spot some = go (spot-on f pa
           gone_is = refl;
           sizes = refl;
           gives = record { slots = refl; free = refl; memory = refl };
-          fewer = omega arith;
-          same_levels = λ e. refl;
+          lowers = lowers-none most f h union live;
           spot = spot;
           same = λ e. (refl, refl);
         }
@@ -150,40 +150,45 @@ module _ {K X : Type 0} {most : ℕ} {cmp : K → K → Ordering} {hi : Bound K}
     account = let were = ap (sizes_of f) (thin-on t).1 ∙ sizes-root f n on.root_is in let now = sizes-new most f f' n root' _ _ e.removed in
         subst (λ z. Gives z (sizes_of f' (Some root')) f f') (sym were) (subst (λ z. Gives (tree_sizes (tree_of f.nodes n)) z f f') (sym now) (gives f f' _ _ e.account))
 
+    lowered : Lowers f h f' (Some root')
+    lowered = let was = sizes-root f n on.root_is in let now = sizes-new most f f' n root' _ _ e.removed in
+        let few : length (sizes_of f' (Some root')) ≤ length (sizes_of f h) = omega (arith, ap length sizes-is, without_next-fewer (length before) (sizes_of f h)) in
+        subst (λ z. Lowers f z f' (Some root')) (sym (thin-on t).1)
+        (lowers-by most f f' n (Some root') e.account (subst (λ z. length (sizes_of f' (Some root')) ≤ length (sizes_of f z)) (thin-on t).1 few) (
+          λ same. ap length now ∙ e.same_root.0 (let one : root' ≡ n = cc in one) ∙ ap length (sym was),
+          λ same. ap Some (e.same_root.1 (ap length (sym now) ∙ same ∙ ap length was)),
+        ) (λ ne. e.freed_root (λ same. ne (ap Some same))) e.removed.union e.removed.root_is)
+
     pub thin-next : Thinned most cmp hi f₀ h₀ p f' (Some root') path'
-    thin-next = let few : length (sizes_of f' (Some root')) ≤ length (sizes_of f h) = omega (arith, ap length sizes-is, without_next-fewer (length before) (sizes_of f h)) in
-        record {
-          front = front;
-          gone = gone ++ gn;
-          behind = flat rest;
-          list_was = t.list_was ∙ ap (λ z. front ++ (gone ++ z)) behind-is ∙ ap (λ z. front ++ z) (sym (append_assoc gone gn (flat rest)));
-          becomes = becomes-both f₀ f f' h₀ h (Some root') _ _ t.becomes (subst (Becomes f h f' (Some root')) list-is' (subst (λ z. Becomes f z f' (Some root') (flat (on.stands.leaf.before ++ node (leaf_of path) on.stands.leaf.entries ∷ rest))) (sym (thin-on t).1) (becomes most f f' n root' _ _ e.removed)));
-          within = all-append (λ e. is_past_end cmp hi e.0 ≡ false) gone gn t.within (not-past (λ e. is_past_end cmp hi e.0) (front ++ gone) g last (flat rest) (subst (Rises (λ (e : K × X). is_past_end cmp hi e.0)) whole (end-rises cmp total_order hi (list_of f₀ h₀) up)) inside);
-          before = before;
-          size = size;
-          dropped = dropped ++ length gn ∷ [];
-          after = sizes rest;
-          levels = t.levels;
-          levels' = head.0;
-          sizes_were = t.sizes_were ∙ ap (λ z. (before ++ size ∷ z) ∷ t.levels) (ap (λ z. dropped ++ z) after-is ∙ sym (append_assoc dropped (length gn ∷ []) (sizes rest)));
-          sizes_now = head.1;
-          from = t.from;
-          low = t.low;
-          front_is = t.front_is;
-          gone_is = omega (arith, t.gone_is, length-append gone gn, sum_by-append (λ (size : ℕ). size) dropped (length gn ∷ []), total-cons (length gn) []);
-          sizes = sizes-is ∙ ap (without_next (length before)) t.sizes ∙ ap (λ z. without_leaves (length before) z (sizes_of f₀ h₀)) (let is : suc (length dropped) ≡ length (dropped ++ length gn ∷ []) = omega (arith, length-append dropped (length gn ∷ [])) in is);
-          gives = record {
-            slots = account.slots ∙ t.gives.slots;
-            free = omega (arith, account.free, t.gives.free);
-            memory = account.memory ∙ t.gives.memory;
-          };
-          fewer = omega (arith, few, t.fewer);
-          same_levels = λ same. let here : length (sizes_of f h) ≡ length (sizes_of f₀ h₀) = omega (arith, same, few, t.fewer) in
-              let kept = e.same_root.1 (ap length (sym (sizes-new most f f' n root' _ _ e.removed)) ∙ same ∙ sym here ∙ ap length (ap (sizes_of f) (thin-on t).1 ∙ sizes-root f n on.root_is)) in
-              ap Some kept ∙ sym (thin-on t).1 ∙ t.same_levels here;
-          spot = record { root_is = e.stands.root_is; at = path-at path'.size e.stands.stands };
-          same = λ none. absurd (omega (arith, ap length none, length-append gone gn, length-append g (last ∷ [])));
-        }
+    thin-next = record {
+      front = front;
+      gone = gone ++ gn;
+      behind = flat rest;
+      list_was = t.list_was ∙ ap (λ z. front ++ (gone ++ z)) behind-is ∙ ap (λ z. front ++ z) (sym (append_assoc gone gn (flat rest)));
+      becomes = becomes-both f₀ f f' h₀ h (Some root') _ _ t.becomes (subst (Becomes f h f' (Some root')) list-is' (subst (λ z. Becomes f z f' (Some root') (flat (on.stands.leaf.before ++ node (leaf_of path) on.stands.leaf.entries ∷ rest))) (sym (thin-on t).1) (becomes most f f' n root' _ _ e.removed)));
+      within = all-append (λ e. is_past_end cmp hi e.0 ≡ false) gone gn t.within (not-past (λ e. is_past_end cmp hi e.0) (front ++ gone) g last (flat rest) (subst (Rises (λ (e : K × X). is_past_end cmp hi e.0)) whole (end-rises cmp total_order hi (list_of f₀ h₀) up)) inside);
+      before = before;
+      size = size;
+      dropped = dropped ++ length gn ∷ [];
+      after = sizes rest;
+      levels = t.levels;
+      levels' = head.0;
+      sizes_were = t.sizes_were ∙ ap (λ z. (before ++ size ∷ z) ∷ t.levels) (ap (λ z. dropped ++ z) after-is ∙ sym (append_assoc dropped (length gn ∷ []) (sizes rest)));
+      sizes_now = head.1;
+      from = t.from;
+      low = t.low;
+      front_is = t.front_is;
+      gone_is = omega (arith, t.gone_is, length-append gone gn, sum_by-append (λ (size : ℕ). size) dropped (length gn ∷ []), total-cons (length gn) []);
+      sizes = sizes-is ∙ ap (without_next (length before)) t.sizes ∙ ap (λ z. without_leaves (length before) z (sizes_of f₀ h₀)) (let is : suc (length dropped) ≡ length (dropped ++ length gn ∷ []) = omega (arith, length-append dropped (length gn ∷ [])) in is);
+      gives = record {
+        slots = account.slots ∙ t.gives.slots;
+        free = omega (arith, account.free, t.gives.free);
+        memory = account.memory ∙ t.gives.memory;
+      };
+      lowers = lowers-both h₀ h (Some root') t.lowers lowered;
+      spot = record { root_is = e.stands.root_is; at = path-at path'.size e.stands.stands };
+      same = λ none. absurd (omega (arith, ap length none, length-append gone gn, length-append g (last ∷ [])));
+    }
       where
         list-is' : flat (on.stands.leaf.before ++ node (leaf_of path) on.stands.leaf.entries ∷ rest) ≡ front ++ flat rest
         list-is' = sym (becomes most f f' n root' _ _ e.removed).list ∙ list-is

@@ -79,6 +79,14 @@ module _ {K X : Type 0} {f : Forest K X} where
     pub still-live : IsLive f1 h
     still-live = made-beside.0
 
+    -- the tree that is made has another number
+    pub made-moves : list_of f h ≢ [] → h1 ≢ h
+    made-moves some same = go h same some
+      where
+        go : (q : Option ℕ) → h1 ≡ q → list_of f q ≢ [] → ⊥
+        go None same some = some refl
+        go (Some n) same some = some (ap (list_of f) (sym same) ∙ b.fresh (λ none. absurd (let bad : None ≡ Some n = sym none ∙ same in cc)))
+
     module _ {f2 : Forest K X} (c : Becomes f1 h f2 None []) where
       -- the tree that was made stays while the old one ends
       pub made-stays : IsLive f2 h1 × (list_of f2 h1 ≡ list_of f1 h1) × (sizes_of f2 h1 ≡ sizes_of f1 h1)
@@ -164,6 +172,7 @@ module _ {K X : Type 0} (most : ℕ) (cmp : K → K → Ordering) (o : IsTotalOr
         united = subst (λ es. Becomes f h f h es) (sym (united-same cmp (list_of f h) (list_of f other) all)) (becomes-same f h s.live);
         changed = sym (ap not all);
         inserted = λ e is. absurd (let bad : e ∷ [] ≡ [] = sym is ∙ none in cc);
+        moved = λ many some. absurd (omega (arith, many, ap length none));
         packed = λ many. absurd (omega (arith, many, ap length none));
         nodes = λ many. absurd (omega (arith, many, ap length none));
         account = λ many. absurd (omega (arith, many, ap length none));
@@ -203,6 +212,7 @@ module _ {K X : Type 0} (most : ℕ) (cmp : K → K → Ordering) (o : IsTotalOr
           united = subst (λ es. Becomes f h f' h' es) (sym told-one.0) i.put;
           changed = sym (ap not fresh-one);
           inserted = only-one (λ e. Inserts most cmp f h e.0 e.1 (Ok None) f' h') (subst (λ z. Inserts most cmp f h k x (Ok z) f' h') absent i);
+          moved = not-many;
           packed = not-many;
           nodes = not-many;
           account = not-many;
@@ -226,6 +236,7 @@ module _ {K X : Type 0} (most : ℕ) (cmp : K → K → Ordering) (o : IsTotalOr
       united = tt;
       changed = tt;
       inserted = only-one (λ e. Inserts most cmp f h e.0 e.1 (Err refused) f' h') i;
+      moved = not-many;
       packed = not-many;
       nodes = not-many;
       fit = not-many;
@@ -271,6 +282,7 @@ module _ {K X : Type 0} (most : ℕ) (cmp : K → K → Ordering) (o : IsTotalOr
       united = tt;
       changed = tt;
       inserted = λ e is. absurd (not-one e is);
+      moved = λ many some. tt;
       packed = λ many. tt;
       nodes = λ many. tt;
       fit = λ many. tt;
@@ -304,6 +316,7 @@ module _ {K X : Type 0} (most : ℕ) (cmp : K → K → Ordering) (o : IsTotalOr
           united = b;
           changed = sym (ap not fresh-many);
           inserted = λ e is. absurd (not-one e is);
+          moved = λ many some. made-moves h s.live l.loaded some;
           packed = λ many. subst (ArePacked most) (sym made.2) l.packed;
           nodes = λ many. ap node_count made.2 ∙ l.nodes ∙ sym need-is;
           account = λ many. rw need-is (record {

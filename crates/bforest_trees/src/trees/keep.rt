@@ -31,7 +31,7 @@ impl<K: Copy, V: Copy, const N: usize> Trees<K, V, N> {
         if root == theirs {
             return self.free_unless(handle, present);
         }
-        let (left, changed) = keep(&mut self.pool, root, theirs, present, comp);
+        let (left, changed) = keep(&mut self.pool, handle, root, theirs, present, comp);
         *handle = packed(left);
         changed
     }

@@ -1,4 +1,4 @@
-use Rattle.bforest_trees.proofs.Shifting.{place_of, shifting-first, shifting-last, shifting-left, shifting-next, shifting-stands}
+use Rattle.bforest_trees.proofs.Shifting.{place_of, shifting-first, shifting-last, shifting-left, shifting-may, shifting-next, shifting-stands}
 use Rattle.bforest_trees.proofs.shift.shift.Goals as goal
 use Rattle.bforest_trees.specs.Layout.{entries_from}
 use Rattle.bforest_core.proofs.walks.Backward.{at_entry}
@@ -24,6 +24,12 @@ entry-requires g c =
         ),
       ),
     )
+
+pub change-key-requires : goal.change-key-requires
+change-key-requires g c =
+    let s = c.loop-entry.invariant c.requires.stands.0 c.requires.stands.1 in
+    let here = sym c.in-Some.is ∙ c.entry.ensures.value (record { root = c.args.root; place = place_of s; at = s.at }) in
+    shifting-may s here _ c.requires.stands.2
 
 pub shift_step-requires : goal.shift_step-requires
 shift_step-requires g c =

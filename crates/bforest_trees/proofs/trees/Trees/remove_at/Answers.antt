@@ -17,7 +17,7 @@ remove-requires g c =
 taken : (g : Over) (c : After-packed g) (at : OnSpot c.self.inside.pool c.args.handle.now c.args.path.now) → IsTaken g.row.N c.self.inside.pool c.remove.new.pool c.args.handle.now at.place c.remove.result
 taken g c at =
     let told = c.remove.ensures in
-    taken-at g.row.N c.self.inside.pool c.remove.new.pool c.args.handle.now c.args.path.now c.remove.result at told.removed told.account told.same_root told.last told.ended told.none_left
+    taken-at g.row.N c.self.inside.pool c.remove.new.pool c.args.handle.now c.args.path.now c.remove.result at told.removed told.account told.same_root told.last told.ended told.none_left told.freed_root
 
 pub invariant_of-self : goal.invariant_of-self
 invariant_of-self g c = (taken g c (rw (← c.self.view_is) at c.requires.stands)).union
@@ -37,10 +37,10 @@ returns-clause-spot g c = λ at.
     let told = c.remove.ensures in
     rw c.packed.ensures (spot-at g.row.N c.self.inside.pool c.remove.new.pool c.args.handle.now c.args.path.now c.remove.new.self c.remove.result (rw (← c.self.view_is) at at) told.stands told.last told.end)
 
-pub returns-clause-same_levels : goal.returns-clause-same_levels
-returns-clause-same_levels g c =
+pub returns-clause-lowers : goal.returns-clause-lowers
+returns-clause-lowers g c =
     let t = taken g c (rw (← c.self.view_is) at c.requires.stands) in
-    rw (c.packed.ensures, ← c.self.view_is) t.same_levels
+    rw (c.packed.ensures, ← c.self.view_is) t.lowers
 
 pub returns-clause-account : goal.returns-clause-account
 returns-clause-account g c =

@@ -21,7 +21,7 @@ loop-changed-smaller g c = parting-shorter c.loop-changed.invariant (c.is_within
 pub loop-changed-preserved : goal.loop-changed-preserved
 loop-changed-preserved g c =
     let e = c.remove_at.ensures in
-    parting-next c.loop-changed.invariant (c.is_within.ensures.yes c.loop-changed-test.true) e.removed e.sizes e.same_levels e.account e.spot
+    parting-next c.loop-changed.invariant (c.is_within.ensures.yes c.loop-changed-test.true) e.removed e.sizes e.lowers e.account e.spot
 
 pub goto_start-requires : goal.goto_start-requires
 goto_start-requires g c = (search rules, (search rules, (c.requires.live, (c.requires.increasing, spot-end c.args.self.now c.default-path.result c.args.handle.now c.requires.live c.default-path.ensures))))
@@ -40,7 +40,7 @@ remove_leaves-requires g c = let h = c.args.handle.now in let cmp = g.C.Comparat
 pub loop-changed-init : goal.loop-changed-init
 loop-changed-init g c = let h = c.args.handle.now in let cmp = g.C.Comparator.order c.args.comp.now in let e = c.remove_leaves.ensures in
     let all = subst (λ (f : Forest g.row.K.Denot g.row.V.Denot). (IsLive f h × IsIncreasing cmp (list_of f h)) × IsSpot f h c.goto_start-2.new.path (start_place cmp c.args.bounds.0 (list_of f h))) (sym c.self.view_is) ((c.requires.live, c.requires.increasing), c.goto_start-2.ensures.spot) in
-    leaves-first (g.met.C.Comparator.total c.args.comp.now) all.0.1 all.1 e.pool_at_end e.handle_at_end e.path_at_end e.thinned all.0.0
+    leaves-first (g.met.C.Comparator.total c.args.comp.now) all.0.1 all.1 e.pool_at_end e.handle_at_end e.path_at_end e.thinned e.union c.self.invariant all.0.0
 
 pub returns : goal.returns
 returns g c = let h = c.args.handle.now in let cmp = g.C.Comparator.order c.args.comp.now in let total = g.met.C.Comparator.total c.args.comp.now in let e = c.remove_leaves.ensures in

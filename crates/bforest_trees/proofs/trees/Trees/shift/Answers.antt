@@ -24,7 +24,9 @@ shift-requires g c =
     let points = found-points cmp p n c.find-value.new.self c.args.from c.find-value.ensures.present c.find-value.ensures.absent in
     let first = place cmp (flat (tree_of p.nodes n).leaves) c.args.from in
     let at = c.normalize.ensures.stands (record { root = n; place = first; to = points }) in
-    (search rules, (search rules, (c.self.invariant, ((first, at), search rules))))
+    let handle : c.args.handle ≡ Some n = sym c.expand.ensures.value ∙ c.in-Some.is in
+    let s = seen-as {h = Some n} refl refl (rw (← c.self.view_is, handle) at c.requires.live) in
+    (search rules, (search rules, (c.self.invariant, (first, at, rw (← s.list) at (rw (← c.self.view_is, handle) at c.requires.callable)))))
 
 pub invariant_of-self : goal.invariant_of-self
 invariant_of-self g c =

@@ -26,7 +26,7 @@ pub returns-clause-removed : goal.returns-clause-removed
 unfolding on
 returns-clause-removed g c = λ at.
     let o = on g c at in
-    removes-here g.row.N c.args.self.now c.args.handle.now at.place c.remove_at.new.self c.remove_at.new.handle o.within (c.remove_at.ensures.removed o) (c.remove_at.ensures.sizes o) c.remove_at.ensures.same_levels c.remove_at.ensures.account
+    removes-here g.row.N c.args.self.now c.args.handle.now at.place c.remove_at.new.self c.remove_at.new.handle o.within (c.remove_at.ensures.removed o) (c.remove_at.ensures.sizes o) c.remove_at.ensures.lowers.same_levels c.remove_at.ensures.account
 
 pub returns-clause-spot : goal.returns-clause-spot
 unfolding on

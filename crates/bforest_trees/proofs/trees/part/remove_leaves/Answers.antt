@@ -5,7 +5,7 @@ use Rattle.std.proofs.lemmas.Bool.{false≢true}
 use Rattle.std.specs.Option.{is_some}
 
 pub loop-next-init : goal.loop-next-init
-loop-next-init g c = (c.requires.union, λ at. thin-first _ _ at.place _ c.requires.live at.spot (λ end. false≢true (sym (ap is_some (c.leaf_pos.ensures.end end)) ∙ c.is_none.ensures ∙ ap not c.if-is_none.false)))
+loop-next-init g c = (c.requires.union, λ at. thin-first _ _ at.place _ c.requires.union c.requires.live at.spot (λ end. false≢true (sym (ap is_some (c.leaf_pos.ensures.end end)) ∙ c.is_none.ensures ∙ ap not c.if-is_none.false)))
 
 pub leaf_within-requires : goal.leaf_within-requires
 leaf_within-requires g c = (search rules, (search rules, (c.loop-next.invariant.0, thin-entry (c.loop-next.invariant.1 c.requires.stands))))
