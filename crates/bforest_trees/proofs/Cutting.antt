@@ -1,6 +1,6 @@
 -- What a removal at a place, and the end of a tree, leave.
 use Rattle.bforest_trees.proofs.Changed.{becomes, list-none, list-root, same_list, same_sizes, sizes-new, sizes-none, sizes-root}
-use Rattle.bforest_trees.proofs.Lowering.{lowers-by}
+use Rattle.bforest_trees.proofs.ranges.Lowering.{lowers-by}
 use Rattle.bforest_trees.proofs.Sifted.{shrink-fewer}
 use Rattle.bforest_trees.proofs.Spots.{spot-on}
 use Rattle.bforest_trees.specs.Place.{IsSpot, OnSpot}

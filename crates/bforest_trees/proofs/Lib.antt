@@ -17,7 +17,6 @@ pub mod Accounts
 pub mod Cutting
 pub mod Removing
 pub mod Following
-pub mod Lowering
 pub mod Sifted
 pub mod Sifting
 pub mod Retaining

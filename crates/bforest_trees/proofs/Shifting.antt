@@ -118,7 +118,7 @@ module _ {K X : Type 0} {calls : K → K → Type 0} {most : ℕ} {old : Table K
       was-here = let more = drop (suc place_of) (list_under now root) in
           ap (λ z. slice_get z (length (s.front ++ s.done))) (s.was ∙ sym (append_assoc s.front s.done s.rest) ∙ ap (λ z. (s.front ++ s.done) ++ z) left_is) ∙ seam_is (s.front ++ s.done) (k, v) more
 
-      -- so a call may be made with it
+      -- a call may be made with its key
       pub shifting-may : (may : K → Type 0) → MayRekey may first (list_under old root) → may k
       shifting-may may asks = asks (length (s.front ++ s.done)) (k, v) (omega (arith, s.first_is, length-append s.front s.done)) was-here
 

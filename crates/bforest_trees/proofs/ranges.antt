@@ -2,6 +2,7 @@
 pub mod Slices
 pub mod Between
 pub mod Limits
+pub mod Lowering
 pub mod Ranging
 pub mod Beside
 pub mod Narrowing

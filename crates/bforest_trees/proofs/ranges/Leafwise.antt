@@ -5,7 +5,7 @@ use Rattle.bforest_core.proofs.removal.Asked.{remove_at}
 use Rattle.bforest_nodes.proofs.Ordered.{IsIncreasing-remove}
 use Rattle.bforest_nodes.specs.Entries.{IsIncreasing, value_for}
 use Rattle.bforest_trees.proofs.Becoming.{becomes-both}
-use Rattle.bforest_trees.proofs.Lowering.{lowers-both}
+use Rattle.bforest_trees.proofs.ranges.Lowering.{lowers-both}
 use Rattle.bforest_trees.proofs.ranges.Between.{end-rises, slice-between, start-rises}
 use Rattle.bforest_trees.proofs.ranges.Counted.{all-front, count-all, count-append, from-behind, index-at, not-past, taken-is, total, whole-at, within-exact}
 use Rattle.bforest_trees.proofs.ranges.Parting.{Parted, Parting, bounded, parting-first, outside-up, outside-value, start-low, zero-by}

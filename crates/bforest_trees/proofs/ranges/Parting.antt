@@ -6,7 +6,7 @@ use Rattle.bforest_core.specs.declared.path.Path.{Path}
 use Rattle.bforest_nodes.specs.Entries.{IsIncreasing, value_for}
 use Rattle.bforest_trees.proofs.Becoming.{becomes-both}
 use Rattle.bforest_trees.proofs.Cutting.{becomes-same}
-use Rattle.bforest_trees.proofs.Lowering.{lowers-both, lowers-none}
+use Rattle.bforest_trees.proofs.ranges.Lowering.{lowers-both, lowers-none}
 use Rattle.bforest_trees.proofs.Retaining.{IsIncreasing-kept}
 use Rattle.bforest_trees.proofs.ranges.Between.{end-rises, start-rises}
 use Rattle.bforest_trees.proofs.ranges.Outside.{Parts, behind-is, filter-halves, get-behind, none-out, outside-is, past-behind, remove-behind}

@@ -11,7 +11,7 @@ use Rattle.bforest_nodes.specs.Entries.{IsIncreasing}
 use Rattle.bforest_trees.proofs.Becoming.{becomes-both}
 use Rattle.bforest_trees.proofs.Changed.{becomes, list-root, sizes-new, sizes-root}
 use Rattle.bforest_trees.proofs.Cutting.{becomes-same, gives}
-use Rattle.bforest_trees.proofs.Lowering.{lowers-both, lowers-by, lowers-none}
+use Rattle.bforest_trees.proofs.ranges.Lowering.{lowers-both, lowers-by, lowers-none}
 use Rattle.bforest_trees.proofs.Sifted.{without_next-fewer}
 use Rattle.bforest_trees.proofs.Spots.{spot-in, spot-on}
 use Rattle.bforest_trees.proofs.ranges.Between.{end-rises}

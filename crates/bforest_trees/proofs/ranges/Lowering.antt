@@ -56,7 +56,7 @@ module _ {K X : Type 0} where
     still-free None h' h'' a b other = tt
     still-free (Some n) h' h'' a b other = b.free n (a.freed other)
 
-    -- and so it does not come back
+    -- a number that was lost does not come back
     never-back : (h h' h'' : Option ℕ) → Lowers f h f' h' → Lowers f' h' f'' h'' → h' ≢ h → h'' ≢ h
     never-back None h' h'' a b other e = other (a.same_levels.1 (omega (arith, a.fewer)))
     never-back (Some n) h' h'' a b other e = subst (λ z. IfSome z (λ m. ¬ IsFree f'' m)) e b.used (still-free (Some n) h' h'' a b other)
