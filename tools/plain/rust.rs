@@ -85,6 +85,12 @@ impl<K: Copy, C: Comparator<K> + Default, I: Idx> Default for Sets<K, C, I> {
 }
 
 impl<K: Copy, V: Copy, C: Comparator<K>, I: Idx> Maps<K, V, C, I> {
+    /// Returns the order that all maps have, as it was handed over.
+    #[must_use]
+    pub fn order(&self) -> &C {
+        &self.order
+    }
+
     /// Returns whether a key of a map compares equal to `key`. One search, as [`Map::get`] makes.
     ///
     /// This call is not among [what is proved](crate#what-is-proved); [`Maps::get`] is.
@@ -126,6 +132,12 @@ impl<K: Copy, V: Copy, C: Comparator<K>, I: Idx> Maps<K, V, C, I> {
 }
 
 impl<K: Copy, C: Comparator<K>, I: Idx> Sets<K, C, I> {
+    /// Returns the order that all sets have, as it was handed over.
+    #[must_use]
+    pub fn order(&self) -> &C {
+        &self.order
+    }
+
     /// Returns a cursor that reads and changes a set, as [`Set::cursor`] does. It stands at the end, behind the last key.
     ///
     /// # Panics

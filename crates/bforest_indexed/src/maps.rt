@@ -503,8 +503,7 @@ impl<K: Copy, V: Copy, C: Comparator<K>, I: Idx> Maps<K, V, C, I> {
     /// entries that stay keep their values. Where both are one, nothing changes.
     ///
     /// As [`bforest::Map::intersect_with`]: walks along both, with at most one comparison for each entry of either. It takes no node and no
-    /// memory, so it can't be refused. Where a comparison panics, in the package, some of the
-    /// entries that go may be gone.
+    /// memory, so it can't be refused. Where a comparison panics, in the package, a part of these entries may be removed already.
     pub fn intersect_with(&mut self, index: I, other: I) -> bool
         requires within { I.number index < count self.old }
         requires other { I.number other < count self.old }
@@ -519,8 +518,7 @@ impl<K: Copy, V: Copy, C: Comparator<K>, I: Idx> Maps<K, V, C, I> {
     /// entries that stay keep their values. Where both are one, all entries are removed.
     ///
     /// As [`bforest::Map::difference_with`]: walks along both, with at most one comparison for each entry of either. It takes no node and
-    /// no memory, so it can't be refused. Where a comparison panics, in the package, some of the
-    /// entries that go may be gone.
+    /// no memory, so it can't be refused. Where a comparison panics, in the package, a part of these entries may be removed already.
     pub fn difference_with(&mut self, index: I, other: I) -> bool
         requires within { I.number index < count self.old }
         requires other { I.number other < count self.old }

@@ -439,8 +439,7 @@ impl<K: Copy, C: Comparator<K>, I: Idx> Sets<K, C, I> {
     /// stay are the set's own. Where both are one, nothing changes.
     ///
     /// As [`bforest::Set::intersect_with`]: walks along both, with at most one comparison for each key of either. It takes no node and no
-    /// memory, so it can't be refused. Where a comparison panics, in the package, some of the
-    /// keys that go may be gone.
+    /// memory, so it can't be refused. Where a comparison panics, in the package, a part of these keys may be removed already.
     pub fn intersect_with(&mut self, index: I, other: I) -> bool
         requires within { I.number index < count self.old }
         requires other { I.number other < count self.old }
@@ -455,8 +454,7 @@ impl<K: Copy, C: Comparator<K>, I: Idx> Sets<K, C, I> {
     /// are one, all keys are removed.
     ///
     /// As [`bforest::Set::difference_with`]: walks along both, with at most one comparison for each key of either. It takes no node and no
-    /// memory, so it can't be refused. Where a comparison panics, in the package, some of the
-    /// keys that go may be gone.
+    /// memory, so it can't be refused. Where a comparison panics, in the package, a part of these keys may be removed already.
     pub fn difference_with(&mut self, index: I, other: I) -> bool
         requires within { I.number index < count self.old }
         requires other { I.number other < count self.old }

@@ -2,8 +2,9 @@
 
 mod random;
 
-use bforest::{LoadError, Map, Maps, OutOfMemory, Set, Sets};
+use bforest::{Comparator, LoadError, Map, Maps, OutOfMemory, Set, Sets};
 use random::Random;
+use std::cmp::{Ordering, Reverse};
 use std::collections::{BTreeMap, BTreeSet};
 use std::panic::{AssertUnwindSafe, catch_unwind};
 
@@ -312,6 +313,14 @@ fn loaded(keys: &[u32], leaf: usize, room: u32) -> Result<(), LoadError> {
 }
 
 /// Loads of 0 to 400 entries at one of three indices, one in four with two neighbours that do not increase, under four limits.
+#[test]
+fn the_order_is_lent() {
+    let maps: Maps<u32, u32, Reverse<()>> = Maps::new(Reverse(()));
+    let sets: Sets<u32, Reverse<()>> = Sets::new(Reverse(()));
+    assert_eq!(Comparator::cmp(maps.order(), 1, 2), Ordering::Greater);
+    assert_eq!(Comparator::cmp(sets.order(), 1, 2), Ordering::Greater);
+}
+
 /// Loads two maps, and puts an entry into the second one.
 fn two_maps(limit: u32, second: &[(u32, u32)]) -> Result<Maps<u32, u32>, LoadError> {
     let mut maps = Maps::with_node_limit((), limit);
