@@ -185,8 +185,6 @@ EDITS = {
         BEHIND_FIRST,
         (r"\n    Comparator, Node, NodeData, PackedNode, Removed, SetValue, Source, SplitOff,\n", "Comparator, Node, NodeData, PackedNode, SetValue, Source", 1),
     ],
-    # Else rustc makes a call of it, and inlines what it calls.
-    "bforest_core/access.rt": [(r"^(?=pub\(crate\) fn put_entry\b)", "#[inline(always)]\n", 1)],
     # What the search alone uses, which goes with it.
     "bforest_core/pool.rt": [
         (r"^use std::alloc::\{AllocError, Global\};\n", "use alloc::collections::TryReserveError;\nuse alloc::vec::Vec;\n", 1),

@@ -1,5 +1,5 @@
 //! Forests, of maps or of sets.
-ghost use Rattle.bforest.specs.Forest.{IsAccounted, IsFitFor, emptied, free_of, limit_of, list_at, sizes_at, slots_of};
+ghost use Rattle.bforest.specs.Forest.{IsAccounted, IsFitFor, emptied, free_of, limit_of, list_at, memory_of, sizes_at, slots_of};
 ghost use Rattle.bforest.specs.Calls.{Reserves};
 ghost use Rattle.std.specs.Prelude.{[], length, ◌+◌, ◌<◌, ◌≡◌, ◌≢◌, ◌≤◌, ℕ};
 
@@ -33,10 +33,12 @@ impl<K: Copy, V: Copy, const N: usize> Forest<K, V, N> {
         self.trees.clear();
     }
 
-    /// Returns how many slots the table has, which is the number of nodes in use and of free ones. Constant time.
+    /// Returns how many slots the table has, which is the number of nodes in use and of free ones. Memory is held for all of them, and
+    /// stays when the forest is cleared: so many slots can be had after `clear` with no request for memory. Constant time.
     pub fn slots(&self) -> u32
         ensures count { result ≡ slots_of self.now }
         ensures within { slots_of self.now ≤ limit_of self.now }
+        ensures held { slots_of self.now ≤ memory_of self.now }
     {
         self.trees.slots()
     }

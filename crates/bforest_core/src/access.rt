@@ -96,6 +96,7 @@ pub(crate) fn last_index<K: Copy, V: Copy, const N: usize>(
 }
 
 // Inserts an entry into a leaf at `index`. Returns whether there was room.
+#[inline(always)]
 pub(crate) fn put_entry<K: Copy, V: Copy, const N: usize>(
     pool: &mut NodePool<K, V, N>,
     node: Node,

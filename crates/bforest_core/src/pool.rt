@@ -76,10 +76,11 @@ impl<K: Copy, V: Copy, const N: usize> NodePool<K, V, N> {
         }
     }
 
-    /// The number of slots, used or free. Constant time.
+    /// The number of slots, used or free, for each of which memory is held. Constant time.
     pub fn slots(&self) -> u32
         ensures value { result ≡ slot_count self.now }
         ensures table { IsTable self.now }
+        ensures held { slot_count self.now ≤ self.now.memory }
     {
         self.nodes.len() as u32
     }

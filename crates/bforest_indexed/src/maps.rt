@@ -2,7 +2,7 @@
 ghost use Rattle.bforest.specs.Bounds.{entries_between, entry_at_least, entry_at_most};
 ghost use Rattle.bforest.specs.Calls.{Reserves};
 ghost use Rattle.bforest.specs.Entries.{value_for};
-ghost use Rattle.bforest.specs.Forest.{IsFitFor, IsSearchable, empty, first_level, free_of, limit_of, slots_of};
+ghost use Rattle.bforest.specs.Forest.{IsFitFor, IsSearchable, empty, first_level, free_of, limit_of, memory_of, slots_of};
 ghost use Rattle.bforest.specs.Memory.{MapsFitInMemory};
 ghost use Rattle.bforest.specs.Retain.{Answers, MayAsk, MayAskEach};
 ghost use Rattle.bforest.specs.Union.{are_among, are_apart};
@@ -696,10 +696,12 @@ impl<K: Copy, V: Copy, C: Comparator<K>, I: Idx> Maps<K, V, C, I> {
         )
     }
 
-    /// Returns how many slots the table has, which is the number of nodes in use and of free ones. Constant time.
+    /// Returns how many slots the table has, which is the number of nodes in use and of free ones. Memory is held for all of them, and
+    /// stays when all is cleared: so many slots can be had after that with no request for memory. Constant time.
     pub fn slots(&self) -> u32
         ensures count { result ≡ slots_of (table self.now) }
         ensures within { slots_of (table self.now) ≤ limit_of (table self.now) }
+        ensures held { slots_of (table self.now) ≤ memory_of (table self.now) }
         ensures account { slots_of (table self.now) ≡ free_of (table self.now) + nodes_in_use self.now }
         ensures fit { (i : ℕ) → IsFitFor MAP_LEAF (length (entries self.now i)) (node_sizes self.now i) }
     {

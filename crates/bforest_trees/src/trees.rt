@@ -1,5 +1,5 @@
 //! The table of all trees of a forest: each call on one tree, stated once for maps and sets.
-ghost use Rattle.bforest_trees.specs.Forest.{Becomes, Gives, IsAccounted, IsLive, Takes, empty, emptied, first_level, free_of, limit_of, list_at, list_of, sizes_at, sizes_of, slots_of};
+ghost use Rattle.bforest_trees.specs.Forest.{Becomes, Gives, IsAccounted, IsLive, Takes, empty, emptied, first_level, free_of, limit_of, list_at, list_of, memory_of, sizes_at, sizes_of, slots_of};
 ghost use Rattle.bforest_trees.specs.Bounds.{entry_at_most};
 ghost use Rattle.bforest_trees.specs.Calls.{Clears, Filters, Inserts, Lowers, Removes, Reserves, Shifts};
 ghost use Rattle.bforest_trees.specs.Place.{AtSpot, IsComputed, IsSpot, OnSpot};
@@ -81,6 +81,7 @@ impl<K: Copy, V: Copy, const N: usize> Trees<K, V, N> {
     pub fn slots(&self) -> u32
         ensures count { result ≡ slots_of self.now }
         ensures within { slots_of self.now ≤ limit_of self.now }
+        ensures held { slots_of self.now ≤ memory_of self.now }
         ensures account { IsAccounted self.now }
         ensures fit { (n : ℕ) → IsFitFor N (length (list_at self.now n)) (sizes_at self.now n) }
         ensures below { (n : ℕ) → list_at self.now n ≢ [] → n < slots_of self.now }

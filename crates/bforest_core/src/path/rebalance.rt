@@ -1,4 +1,4 @@
-//! Rebalancing on the way up, once an entry has gone. It is about a node that underflows and its right sibling, under the same parent or
+//! Rebalancing on the way up, once an entry has gone. It is about a node that underflows and its right neighbour, under the same parent or
 //! another, and about a merged or emptied node, which is taken out of the rows above it. Separators above a node whose first key changed
 //! are renewed.
 ghost use Rattle.std.specs.Prelude.{◌≡◌, ℕ, suc, ◌+◌, ◌-◌, ◌<◌, ◌≤◌, List, [], ◌∷◌, ◌++◌, map, length, get_or, slice_get, Some, None, true, false};

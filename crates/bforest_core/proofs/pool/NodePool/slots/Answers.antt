@@ -11,4 +11,5 @@ returns g c = record {
     limit_within = c.self.invariant.limit_within;
   });
   value = rw (← c.self.view_is) (omega arith);
+  held = rw (← c.self.view_is) (omega (arith, c.self.inside.nodes.ok.0, c.self.inside.nodes.ok.1));
 }
