@@ -400,6 +400,7 @@ module _ {K X : Type 0} (most : ℕ) (cmp : K → K → Ordering) where
     pub same_levels : SameLevels f h f' h'
     pub account : Gives (sizes_of f h) (sizes_of f' h') f f'
     pub increasing : IsIncreasing cmp (list_of f' h')
+    pub fewer : result ≡ true → length (list_of f' h') < length (list_of f h)
     pub same_forest : result ≡ false → f' ≡ f
     pub same_handle : result ≡ false → h' ≡ h
 

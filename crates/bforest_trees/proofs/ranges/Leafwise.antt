@@ -8,7 +8,7 @@ use Rattle.bforest_trees.proofs.Becoming.{becomes-both}
 use Rattle.bforest_trees.proofs.ranges.Lowering.{lowers-both}
 use Rattle.bforest_trees.proofs.ranges.Between.{end-rises, slice-between, start-rises}
 use Rattle.bforest_trees.proofs.ranges.Counted.{all-front, count-all, count-append, from-behind, index-at, not-past, taken-is, total, whole-at, within-exact}
-use Rattle.bforest_trees.proofs.ranges.Parting.{Parted, Parting, bounded, parting-first, outside-up, outside-value, start-low, zero-by}
+use Rattle.bforest_trees.proofs.ranges.Parting.{Parted, Parting, bounded, outside-fewer, outside-up, outside-value, parting-first, start-low, zero-by}
 use Rattle.bforest_trees.proofs.ranges.Slices.{Rises, count-cons, count-none}
 use Rattle.bforest_trees.specs.Bounds.{end_place, entries_between, entries_outside, is_from_start, is_past_end, start_place}
 use Rattle.bforest_trees.specs.Calls.{RemovesBetween, removals, without_leaves, without_range}
@@ -103,6 +103,7 @@ module _ {K X : Type 0} (most : ℕ) (cmp : K → K → Ordering) (lo hi : Bound
         same_levels = r.lowers.same_levels;
         account = r.account;
         increasing = subst (IsIncreasing cmp) (sym r.removed.list) (outside-up cmp lo hi es up);
+        fewer = outside-fewer cmp lo hi es r.removed.list r.changed_is;
         same_forest = λ off. (r.same none).0;
         same_handle = λ off. (r.same none).1;
       }
@@ -192,7 +193,7 @@ module _ {K X : Type 0} (most : ℕ) (cmp : K → K → Ordering) (lo hi : Bound
       pub parted-between : {f : Forest K X} {h : Option ℕ} {changed : Bool} → (lo ≡ Unbounded → ⊥) → (hi ≡ Unbounded → ⊥) → Parted most cmp lo hi f₁ h₁ changed f h → RemovesBetween most cmp lo hi f₀ h₀ changed f h
       parted-between {f} {h} {changed} start end r = record {
         removed = becomes;
-        changed = r.changed_is ∙ ap (λ l. nat_lt 0 (length (entries_between cmp lo hi l))) w.becomes.list ∙ lt-same left n none-all (λ z. omega (arith, z, left-is));
+        changed = told;
         found = λ q. ap (λ l. value_for cmp l q) becomes.list ∙ outside-value cmp lo hi total_order es q up;
         sizes = sizes ∙ sym (bounded most lo hi p n (sizes_of f₀ h₀) start end);
         same_levels = (lowers-both h₀ h₁ h w.lowers r.lowers).same_levels;
@@ -202,6 +203,7 @@ module _ {K X : Type 0} (most : ℕ) (cmp : K → K → Ordering) (lo hi : Bound
           memory = r.account.memory ∙ w.gives.memory;
         };
         increasing = subst (IsIncreasing cmp) (sym becomes.list) (outside-up cmp lo hi es up);
+        fewer = outside-fewer cmp lo hi es becomes.list told;
         same_forest = λ off. (kept (none off)).0;
         same_handle = λ off. (kept (none off)).1;
       }
@@ -215,6 +217,9 @@ module _ {K X : Type 0} (most : ℕ) (cmp : K → K → Ordering) (lo hi : Bound
               go : (g : List (K × X)) → gone ≡ g → n ≡ 0
               go [] is = omega (arith, z, left-is, ap length is)
               go (e ∷ g) is = let f = whole-front (λ none. absurd (let bad = sym none ∙ is in cc)) in absurd (omega (arith, z, left-is, f, between-is, end-is, w.low, w.front_is))
+
+          told : changed ≡ nat_lt 0 n
+          told = r.changed_is ∙ ap (λ l. nat_lt 0 (length (entries_between cmp lo hi l))) w.becomes.list ∙ lt-same left n none-all (λ z. omega (arith, z, left-is))
 
           none : changed ≡ false → n ≡ 0
           none off = none-all (zero-by left (ap (λ l. nat_lt 0 (length (entries_between cmp lo hi l))) (sym w.becomes.list) ∙ sym r.changed_is ∙ off))

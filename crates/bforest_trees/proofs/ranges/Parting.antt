@@ -17,7 +17,7 @@ use Rattle.bforest_trees.specs.Forest.{Becomes, Forest, Gives, IsLive, list_of, 
 use Rattle.bforest_trees.specs.Place.{AtSpot, IsSpot, OnSpot}
 use Rattle.bforest_trees.specs.Retain.{kept_by}
 use Rattle.std.proofs.Common.{Bool, List, None, Option, Some, [], ap, arith, drop, false, filter, if◌then◌else◌, inl, inr, length, map, nat_lt, not, refl, remove, slice_get, subst, suc, sym, take, true, zero, ◌&&◌, ◌+◌, ◌-◌, ◌++◌, ◌<◌, ◌∙◌, ◌∷◌, ◌≡◌, ◌≤◌, ℕ}
-use Rattle.std.proofs.lemmas.Bool.{cases_lt, lt-ltb, ltb-false}
+use Rattle.std.proofs.lemmas.Bool.{cases_lt, lt-ltb, ltb-false, ltb-true}
 use Rattle.std.proofs.lemmas.Cmp.{alike_right}
 use Rattle.std.proofs.lemmas.List.Sums.{count_by-le-length}
 use Rattle.std.proofs.lemmas.List.{append-nil, drop_all, length-drop}
@@ -94,6 +94,11 @@ module _ {K X : Type 0} (cmp : K → K → Ordering) where
         turned : (b : Bool) → (if not b then value_for cmp es q else None) ≡ (if b then None else value_for cmp es q)
         turned true = refl
         turned false = refl
+
+    -- where an entry is within the bounds, those outside are fewer
+    pub outside-fewer : (es : List (K × X)) {left : List (K × X)} {changed : Bool} → left ≡ entries_outside cmp lo hi es → changed ≡ nat_lt 0 (length (entries_between cmp lo hi es)) → changed ≡ true → length left < length es
+    outside-fewer es is told some =
+        omega (arith, ap length is, filter-halves (λ (e : K × X). is_between cmp lo hi e.0) es, ltb-true 0 (length (entries_between cmp lo hi es)) (sym told ∙ some))
 
   -- the place where the bounds end is in the list
   end-low : (hi : Bound K) (es : List (K × X)) → end_place cmp hi es ≤ length es
@@ -241,14 +246,16 @@ module _ {K X : Type 0} (cmp : K → K → Ordering) (total : IsTotalOrder cmp) 
 pub parting-cut : {K X : Type 0} {most : ℕ} {cmp : K → K → Ordering} {lo hi : Bound K} {f f' : Forest K X} {h h' : Option ℕ} {changed : Bool} → hi ≡ Unbounded → IsTotalOrder cmp → IsIncreasing cmp (list_of f h) →
     CutsFrom f h (start_place cmp lo (list_of f h)) changed f' h' → RemovesBetween most cmp lo hi f h changed f' h'
 parting-cut {most = most} {cmp} {lo} {f = f} {f'} {h} {h'} is total up c = let parts = behind-parts cmp total lo (list_of f h) up in
-    let count : length (list_of f h) - start_place cmp lo (list_of f h) ≡ length (entries_between cmp lo Unbounded (list_of f h)) = omega (arith, parts.1) in rw is (record {
+    let count : length (list_of f h) - start_place cmp lo (list_of f h) ≡ length (entries_between cmp lo Unbounded (list_of f h)) = omega (arith, parts.1) in
+    let told = c.changed ∙ less-some (start_place cmp lo (list_of f h)) (length (list_of f h)) (length (entries_between cmp lo Unbounded (list_of f h))) parts.1 in rw is (record {
       removed = subst (Becomes f h f' h') (sym parts.0) c.removed;
-      changed = c.changed ∙ less-some (start_place cmp lo (list_of f h)) (length (list_of f h)) (length (entries_between cmp lo Unbounded (list_of f h))) parts.1;
+      changed = told;
       found = λ q. ap (λ l. value_for cmp l q) (c.removed.list ∙ sym parts.0) ∙ outside-value cmp lo Unbounded total (list_of f h) q up;
       sizes = c.sizes ∙ ap (λ n. truncation (start_place cmp lo (list_of f h)) n (sizes_of f h)) count;
       same_levels = c.same_levels;
       account = c.account;
       increasing = subst (IsIncreasing cmp) (sym (c.removed.list ∙ sym parts.0)) (outside-up cmp lo Unbounded (list_of f h) up);
+      fewer = outside-fewer cmp lo Unbounded (list_of f h) (c.removed.list ∙ sym parts.0) told;
       same_forest = c.same_forest;
       same_handle = c.same_handle;
     })
@@ -265,15 +272,17 @@ pub parting-front : {K X : Type 0} {most : ℕ} {cmp : K → K → Ordering} {lo
 parting-front {most = most} {cmp} {hi = hi} {f} {f'} {h} {h'} is end total up c = let parts = front-parts cmp total hi (list_of f h) up in
     let at : start_place cmp (start_behind hi) (list_of f h) ≡ end_place cmp hi (list_of f h) = start-at-end cmp hi (list_of f h) end in
     let left : drop (start_place cmp (start_behind hi) (list_of f h)) (list_of f h) ≡ entries_outside cmp Unbounded hi (list_of f h) = ap (λ n. drop n (list_of f h)) at ∙ sym parts.0 in
-    let count : start_place cmp (start_behind hi) (list_of f h) ≡ length (entries_between cmp Unbounded hi (list_of f h)) = at ∙ sym parts.1 in rw is (record {
+    let count : start_place cmp (start_behind hi) (list_of f h) ≡ length (entries_between cmp Unbounded hi (list_of f h)) = at ∙ sym parts.1 in
+    let told = c.changed ∙ ap (nat_lt 0) count in rw is (record {
       removed = subst (Becomes f h f' h') left c.removed;
-      changed = c.changed ∙ ap (nat_lt 0) count;
+      changed = told;
       found = λ q. ap (λ l. value_for cmp l q) (c.removed.list ∙ left) ∙ outside-value cmp Unbounded hi total (list_of f h) q up;
       sizes = c.sizes ∙ ap (λ n. detached most n (sizes_of f h)) count
           ∙ sym (ended most hi (start_place cmp Unbounded (list_of f h)) (length (entries_between cmp Unbounded hi (list_of f h))) (sizes_of f h) end);
       same_levels = c.same_levels;
       account = c.account;
       increasing = subst (IsIncreasing cmp) (sym (c.removed.list ∙ left)) (outside-up cmp Unbounded hi (list_of f h) up);
+      fewer = outside-fewer cmp Unbounded hi (list_of f h) (c.removed.list ∙ left) told;
       same_forest = c.same_forest;
       same_handle = c.same_handle;
     })
