@@ -149,6 +149,7 @@ module _ {K X : Type 0} where
     pub memory : result ≡ Err Memory → NeedsGrowth (severed place (sizes_of f h)) f
     pub enough : severed place (sizes_of f h) ≤ free_of f → IsOk result
     pub whole : place ≡ 0 → (result ≡ Ok h) × (f' ≡ f) × (h' ≡ None)
+    pub none : length (list_of f h) ≤ place → result ≡ Ok None
     pub none_forest : result ≡ Ok None → f' ≡ f
     pub none_handle : result ≡ Ok None → h' ≡ h
     pub refused_forest : OnErr result (f' ≡ f)

@@ -158,6 +158,7 @@ module _ {K X : Type 0} {most : ℕ} (f : Forest K X) (union : IsUnion most f) w
     memory = λ bad. absurd (cc);
     enough = λ z. refl;
     whole = λ zero_is. (let none = empty-of h live zero_is in (ap Ok (sym none), refl, none));
+    none = λ low. refl;
     none_forest = λ z. refl;
     none_handle = λ z. refl;
     refused_forest = tt;
@@ -194,6 +195,7 @@ module _ {K X : Type 0} {most : ℕ} (f : Forest K X) (union : IsUnion most f) w
     memory = λ bad. absurd (cc);
     enough = λ z. refl;
     whole = λ z. (refl, refl, refl);
+    none = λ low. ap Ok (empty-of h live (omega (arith, low)));
     none_forest = λ z. refl;
     none_handle = λ z. (let e : h ≡ None = cc in sym e);
     refused_forest = tt;
@@ -201,9 +203,9 @@ module _ {K X : Type 0} {most : ℕ} (f : Forest K X) (union : IsUnion most f) w
   })
 
   -- the call was refused
-  pub splits-refused : (h : Option ℕ) (p : ℕ) (refused : OutOfMemory) → IsLive f h → p ≢ 0 → severed p (sizes_of f h) ≤ length (sizes_of f h) → ((refused ≡ Full) ↔ IsTooMany (severed p (sizes_of f h)) f) →
+  pub splits-refused : (h : Option ℕ) (p : ℕ) (refused : OutOfMemory) → IsLive f h → p ≢ 0 → p < length (list_of f h) → severed p (sizes_of f h) ≤ length (sizes_of f h) → ((refused ≡ Full) ↔ IsTooMany (severed p (sizes_of f h)) f) →
       (refused ≡ Memory → NeedsGrowth (severed p (sizes_of f h)) f) → (severed p (sizes_of f h) ≤ free_of f → ⊥) → SplitsAt most f h p (Err refused) f h
-  splits-refused h p refused live some few full memory scarce = record {
+  splits-refused h p refused live some low few full memory scarce = record {
     front = tt;
     tail = tt;
     sizes = tt;
@@ -231,6 +233,7 @@ module _ {K X : Type 0} {most : ℕ} (f : Forest K X) (union : IsUnion most f) w
     memory = λ e. memory (cc);
     enough = λ many. absurd (scarce many);
     whole = λ z. absurd (some z);
+    none = λ over. absurd (omega (arith, over, low));
     none_forest = λ bad. absurd (cc);
     none_handle = λ bad. absurd (cc);
     refused_forest = refl;
@@ -306,6 +309,7 @@ module _ {K X : Type 0} {most : ℕ} {f g f' : Forest K X} {n p need front behin
     memory = λ bad. absurd (cc);
     enough = λ z. refl;
     whole = λ z. absurd (omega (arith, z, some));
+    none = λ over. absurd (omega (arith, over, low, ap length (list-root f n root)));
     none_forest = λ bad. absurd (cc);
     none_handle = λ bad. absurd (cc);
     refused_forest = tt;
@@ -352,7 +356,7 @@ module _ {K X : Type 0} {most : ℕ} {f : Forest K X} {h : Option ℕ} {path : P
 
     -- the nodes can't be had
     pub entry-refused : (refused : OutOfMemory) → need ≢ 0 → ((refused ≡ Full) ↔ IsTooMany need f) → (refused ≡ Memory → NeedsGrowth need f) → (need ≤ free_of f → ⊥) → SplitsAt most f h at.place (Err refused) f h
-    entry-refused refused some full memory scarce = splits-refused f union h at.place refused live (λ z. some ((first f union entry).1 z))
+    entry-refused refused some full memory scarce = splits-refused f union h at.place refused live (λ z. some ((first f union entry).1 z)) low-place
         (omega (arith, need-here, few f union entry, ap length shape-here)) (subst (λ z. (refused ≡ Full) ↔ IsTooMany z f) (sym need-here) full) (λ e. subst (λ z. NeedsGrowth z f) (sym need-here) (memory e))
         (λ enough. scarce (omega (arith, need-here, enough)))
 
