@@ -4,8 +4,9 @@ pub mod New
 pub mod Fewest
 pub mod Fronts
 pub mod Finding
-pub mod Uniting
 pub mod Choosing
+pub mod Valued
+pub mod Uniting
 pub mod Keeping
 pub mod Restricting
 pub mod Marks

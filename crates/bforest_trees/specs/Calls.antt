@@ -347,6 +347,9 @@ module _ {K X : Type 0} (most : ℕ) (cmp : K → K → Ordering) where
   pub record Unites (f : Forest K X) (h other : Option ℕ) (result : Result Bool OutOfMemory) (f' : Forest K X) (h' : Option ℕ) : Type 0 where
     pub united : OnOk result (Becomes f h f' h' (united cmp (list_of f h) (list_of f other)))
     pub changed : IfOk result (λ changed. changed ≡ not (are_among cmp (list_of f other) (list_of f h)))
+    pub found : OnOk result ((q : K) → value_for cmp (list_of f' h') q ≡ (if is_present cmp (list_of f h) q then value_for cmp (list_of f h) q else value_for cmp (list_of f other) q))
+    pub more : result ≡ Ok true → length (list_of f h) < length (list_of f' h')
+    pub itself : other ≡ h → result ≡ Ok false
     pub inserted : (e : K × X) → new_to cmp f h other ≡ e ∷ [] → Inserts f h e.0 e.1 (as_inserted result) f' h'
     pub moved : 1 < length (new_to cmp f h other) → list_of f h ≢ [] → OnOk result (h' ≢ h)
     pub packed : 1 < length (new_to cmp f h other) → OnOk result (ArePacked most (sizes_of f' h'))

@@ -1,7 +1,7 @@
 -- A key's place in an increasing list, found by steps along it, and what one list keeps of another.
 use Rattle.bforest_core.proofs.table.Lists.{read_none}
 use Rattle.bforest_nodes.proofs.Ordered.{above, place-here, place-later}
-use Rattle.bforest_nodes.specs.Entries.{IsIncreasing, is_present, place, value_for}
+use Rattle.bforest_nodes.specs.Entries.{IsIncreasing, entry_for, is_present, place, value_for}
 use Rattle.bforest_trees.specs.Keep.{Tells}
 use Rattle.bforest_core.specs.Sizes.{shrink}
 use Rattle.bforest_trees.specs.Retain.{AsksEach, kept_by, sizes_by}
@@ -87,19 +87,22 @@ module _ {K X : Type 0} (cmp : K → K → Ordering) where
         go Equal t rest = not-first (ap is_lt t) rest
         go Greater t rest = not-first (ap is_lt t) rest
 
-    -- a key is present where one is that compares equal to it
-    pub present-like : (others : List (K × X)) (k q : K) → cmp k q ≡ Equal → is_present cmp others k ≡ is_present cmp others q
-    present-like others k q t = ap present_by (λ i x. same x i)
+    -- of two keys that compare equal, both have the same entry, and one is present where the other is
+    pub entry-like : (others : List (K × X)) (k q : K) → cmp k q ≡ Equal → entry_for cmp others k ≡ entry_for cmp others q
+    entry-like others k q t = ap entry_by (λ i x. same x i)
       where
-        present_by : (K → Ordering) → Bool
-        present_by to = is_some (option_and_then (λ (x : K × X). if is_eq (to x.0) then Some x else None) (slice_get others (count_by (λ (x : K × X). is_lt (to x.0)) others)))
+        entry_by : (K → Ordering) → Option (K × X)
+        entry_by to = option_and_then (λ (x : K × X). if is_eq (to x.0) then Some x else None) (slice_get others (count_by (λ (x : K × X). is_lt (to x.0)) others))
 
         same : (x : K) → cmp x k ≡ cmp x q
         same x = o.antisymm x k ∙ ap ordering_reverse (o.congr k q x t) ∙ sym (o.antisymm x q)
 
+    pub present-like : (others : List (K × X)) (k q : K) → cmp k q ≡ Equal → is_present cmp others k ≡ is_present cmp others q
+    present-like others k q t = ap is_some (entry-like others k q t)
+
 module _ {K X : Type 0} (cmp : K → K → Ordering) where
   -- what a look-up tells at the first entry, from how its key compares and what the others tell
-  abbrev answer : Ordering → X → Option X → Option X
+  abbrev pub answer : Ordering → X → Option X → Option X
   answer Less x further = further
   answer Equal x further = Some x
   answer Greater x further = None
@@ -108,7 +111,7 @@ module _ {K X : Type 0} (cmp : K → K → Ordering) where
   no_value = None
 
   module _ (o : IsTotalOrder cmp) where
-    value-step : (e : K × X) (es : List (K × X)) (k : K) → IsIncreasing cmp (e ∷ es) → value_for cmp (e ∷ es) k ≡ answer (cmp e.0 k) e.1 (value_for cmp es k)
+    pub value-step : (e : K × X) (es : List (K × X)) (k : K) → IsIncreasing cmp (e ∷ es) → value_for cmp (e ∷ es) k ≡ answer (cmp e.0 k) e.1 (value_for cmp es k)
     value-step e es k up = go (cmp e.0 k) refl
       where
         here : is_lt (cmp e.0 k) ≡ false → value_for cmp (e ∷ es) k ≡ option_map (λ (x : K × X). x.1) (if is_eq (cmp e.0 k) then Some e else None)
@@ -122,14 +125,14 @@ module _ {K X : Type 0} (cmp : K → K → Ordering) where
         go Equal t = here (ap is_lt t) ∙ ap found t ∙ sym (ap (λ r. answer r e.1 (value_for cmp es k)) t)
         go Greater t = here (ap is_lt t) ∙ ap found t ∙ sym (ap (λ r. answer r e.1 (value_for cmp es k)) t)
 
+    -- a key below all entries has no value
+    pub beyond : (q : K) (es : List (K × X)) → AllByRecursion (λ y. cmp q y ≡ Less) (keys_of es) → IsIncreasing cmp es → value_for cmp es q ≡ None
+    beyond q [] below up = refl
+    beyond q (x ∷ es) below up = value-step x es q up ∙ ap (λ z. answer z x.1 (value_for cmp es q)) (o.antisymm x.0 q ∙ ap ordering_reverse below.0)
+
     module _ (test : K → Bool) (alike : (k q : K) → cmp k q ≡ Equal → test k ≡ test q) where
       abbrev passing : List (K × X) → List (K × X)
       passing es = filter (λ e. test e.0) es
-
-      -- a key below all entries has no value
-      beyond : (q : K) (es : List (K × X)) → AllByRecursion (λ y. cmp q y ≡ Less) (keys_of es) → IsIncreasing cmp es → value_for cmp es q ≡ None
-      beyond q [] below up = refl
-      beyond q (x ∷ es) below up = value-step x es q up ∙ ap (λ z. answer z x.1 (value_for cmp es q)) (o.antisymm x.0 q ∙ ap ordering_reverse below.0)
 
       -- what holds of the first entry, from what holds of the others
       module _ (e : K × X) (es : List (K × X)) (q : K) (up : IsIncreasing cmp (e ∷ es)) (rest : value_for cmp (passing es) q ≡ (if test q then value_for cmp es q else None)) where

@@ -222,6 +222,10 @@ module _ {K X : Type 0} (cmp : K → K → Ordering) where
     inserted (e ∷ es) zero = refl
     inserted (e ∷ es) (suc p) = ap suc (inserted es p)
 
+    -- a list in which a new key is put has one more
+    put-longer : (es : List (K × X)) → is_present cmp es k ≡ false → length (put cmp es k v) ≡ suc (length es)
+    put-longer es absent = ap (λ b. length (if b then with_value es (place cmp es k) v else insert es (place cmp es k) (k, v))) absent ∙ inserted es (place cmp es k)
+
     -- a list in which an entry is put has at most one more
     put-length : (es : List (K × X)) → (length es ≤ length (put cmp es k v)) × (length (put cmp es k v) ≤ suc (length es))
     put-length es = go (is_present cmp es k) (place cmp es k)
@@ -239,11 +243,15 @@ module _ {K X : Type 0} (cmp : K → K → Ordering) where
       go true = omega arith
       go false = (put-length x.0 x.1 es).0
 
-  -- where a key is new, the union has an entry
-  pub united-some : (es others : List (K × X)) → are_among cmp others es ≡ false → 0 < length (united cmp es others)
-  united-some es [] new = absurd (cc)
-  united-some [] (x ∷ others) new = united-grows (put cmp [] x.0 x.1) others
-  united-some (e ∷ es) (x ∷ others) new = omega (arith, united-grows (e ∷ es) (x ∷ others))
+  -- where a key is new, the union has more entries than the first list
+  pub united-more : (es others : List (K × X)) → are_among cmp others es ≡ false → length es < length (united cmp es others)
+  united-more es [] new = absurd (cc)
+  united-more es (x ∷ others) new = go (is_present cmp es x.0) refl new (united-more es others)
+    where
+      go : (b : Bool) → is_present cmp es x.0 ≡ b → (b && are_among cmp others es) ≡ false → (are_among cmp others es ≡ false → length es < length (united cmp es others))
+          → length es < length (united cmp (if b then es else put cmp es x.0 x.1) others)
+      go true t new rest = rest new
+      go false t new rest = omega (arith, united-grows (put cmp es x.0 x.1) others, put-longer x.0 x.1 es t)
 
   pub united-length : (es others : List (K × X)) → length (united cmp es others) ≤ length es + length others
   united-length es [] = omega arith

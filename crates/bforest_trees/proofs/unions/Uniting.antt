@@ -6,16 +6,17 @@ use Rattle.bforest_core.specs.declared.pool.OutOfMemory.TheVariants.{Full, Memor
 use Rattle.bforest_core.specs.declared.pool.OutOfMemory.{OutOfMemory}
 use Rattle.bforest_core.proofs.union.Needs.{fewest-least, fewest-many}
 use Rattle.bforest_nodes.proofs.Found.{value_for-absent}
-use Rattle.bforest_nodes.specs.Entries.{IsIncreasing, is_present, put}
+use Rattle.bforest_nodes.specs.Entries.{IsIncreasing, is_present, put, value_for}
 use Rattle.bforest_trees.proofs.Accounts.{accounted}
 use Rattle.bforest_trees.proofs.Cutting.{becomes-same}
 use Rattle.bforest_trees.proofs.Fits.{below-slots, fit-at}
-use Rattle.bforest_trees.proofs.unions.Merging.{among-itself, united-same, united-some, united-up}
+use Rattle.bforest_trees.proofs.unions.Merging.{among-itself, united-more, united-same, united-up}
 use Rattle.bforest_trees.proofs.unions.New.{none-new, some-new, united-one}
+use Rattle.bforest_trees.proofs.unions.Valued.{united-value}
 use Rattle.bforest_trees.specs.Calls.{Clears, Inserts, Loads, Unites, need_of_new, need_of_union}
 use Rattle.bforest_trees.specs.Forest.{Becomes, Forest, IsLive, IsTooMany, NeedsGrowth, list_at, list_of, nodes_at, numbers_below, sizes_at, sizes_of, slots_of}
 use Rattle.bforest_trees.specs.Union.{AreSearchable, are_among, new_to, united}
-use Rattle.std.proofs.Common.{Err, List, None, Ok, OnOk, Option, Result, Some, [], ap, arith, false, inl, inr, is_err, is_ok, length, not, refl, subst, suc, sym, true, zero, ◌*◌, ◌<◌, ◌∙◌, ◌∷◌, ◌≡◌, ◌≢◌, ◌≤◌, ℕ}
+use Rattle.std.proofs.Common.{Err, List, None, Ok, OnOk, Option, Result, Some, [], ap, arith, false, if◌then◌else◌, inl, inr, is_err, is_ok, length, not, refl, subst, suc, sym, true, zero, ◌*◌, ◌<◌, ◌∙◌, ◌∷◌, ◌≡◌, ◌≢◌, ◌≤◌, ℕ}
 use Rattle.std.proofs.lemmas.Bool.{cases_lt, false≢true}
 use Rattle.std.proofs.lemmas.List.Sums.{sum_by_push}
 use Rattle.std.specs.Cmp.{IsTotalOrder}
@@ -158,12 +159,20 @@ module _ {K X : Type 0} (most : ℕ) (cmp : K → K → Ordering) (o : IsTotalOr
   need-by : {es : List (K × X)} → new ≡ es → need_of_union most cmp f h other ≡ need_of_new most cmp f h (length (united cmp (list_of f h) (list_of f other))) es
   need-by is = ap (need_of_new most cmp f h (length (united cmp (list_of f h) (list_of f other)))) is
 
-  -- the other tree stays where one of its keys is new, since it is not the first one then
-  other-beside : are_among cmp (list_of f other) (list_of f h) ≡ false → {es : List (K × X)} {f' : Forest K X} {h' : Option ℕ} → Becomes f h f' h' es
-      → IsLive f' other × (list_of f' other ≡ list_of f other) × (sizes_of f' other ≡ sizes_of f other)
-  other-beside fresh b =
-      let apart : other ≢ h = λ e. absurd (let all : are_among cmp (list_of f other) (list_of f h) ≡ true = subst (λ z. are_among cmp (list_of f z) (list_of f h) ≡ true) (sym e) (among-itself cmp o (list_of f h) s.increasing) in cc) in
-      other-stays b other s.other_live apart
+  -- a key's value in the union
+  found-in : {es : List (K × X)} → es ≡ united cmp (list_of f h) (list_of f other) → (q : K) → value_for cmp es q ≡ (if is_present cmp (list_of f h) q then value_for cmp (list_of f h) q else value_for cmp (list_of f other) q)
+  found-in is q = ap (λ l. value_for cmp l q) is ∙ united-value cmp o (list_of f h) (list_of f other) q s.increasing s.other_increasing
+
+  -- where one of the other tree's keys is new, it is not the first tree, and stays, and the union is longer
+  module _ (fresh : are_among cmp (list_of f other) (list_of f h) ≡ false) where
+    other-apart : other ≢ h
+    other-apart e = absurd (let all : are_among cmp (list_of f other) (list_of f h) ≡ true = subst (λ z. are_among cmp (list_of f z) (list_of f h) ≡ true) (sym e) (among-itself cmp o (list_of f h) s.increasing) in cc)
+
+    other-beside : {es : List (K × X)} {f' : Forest K X} {h' : Option ℕ} → Becomes f h f' h' es → IsLive f' other × (list_of f' other ≡ list_of f other) × (sizes_of f' other ≡ sizes_of f other)
+    other-beside b = other-stays b other s.other_live other-apart
+
+    longer : {es : List (K × X)} → es ≡ united cmp (list_of f h) (list_of f other) → length (list_of f h) < length es
+    longer is = omega (arith, ap length is, united-more cmp (list_of f h) (list_of f other) fresh)
 
   -- nothing of the other list is new
   pub unites-none : new ≡ [] → Unites most cmp f h other (Ok false) f h
@@ -171,6 +180,9 @@ module _ {K X : Type 0} (most : ℕ) (cmp : K → K → Ordering) (o : IsTotalOr
       let all : are_among cmp (list_of f other) (list_of f h) ≡ true = none-new cmp (list_of f h) (list_of f other) none in record {
         united = subst (λ es. Becomes f h f h es) (sym (united-same cmp (list_of f h) (list_of f other) all)) (becomes-same f h s.live);
         changed = sym (ap not all);
+        found = found-in (sym (united-same cmp (list_of f h) (list_of f other) all));
+        more = λ bad. absurd (cc);
+        itself = λ e. refl;
         inserted = λ e is. absurd (let bad : e ∷ [] ≡ [] = sym is ∙ none in cc);
         moved = λ many some. absurd (omega (arith, many, ap length none));
         packed = λ many. absurd (omega (arith, many, ap length none));
@@ -211,6 +223,9 @@ module _ {K X : Type 0} (most : ℕ) (cmp : K → K → Ordering) (o : IsTotalOr
         let absent : old ≡ None = i.ok ∙ value_for-absent cmp (list_of f h) k told-one.1 in record {
           united = subst (λ es. Becomes f h f' h' es) (sym told-one.0) i.put;
           changed = sym (ap not fresh-one);
+          found = found-in (i.put.list ∙ sym told-one.0);
+          more = λ is. longer fresh-one (i.put.list ∙ sym told-one.0);
+          itself = λ e. absurd (other-apart fresh-one e);
           inserted = only-one (λ e. Inserts most cmp f h e.0 e.1 (Ok None) f' h') (subst (λ z. Inserts most cmp f h k x (Ok z) f' h') absent i);
           moved = not-many;
           packed = not-many;
@@ -235,6 +250,9 @@ module _ {K X : Type 0} (most : ℕ) (cmp : K → K → Ordering) (o : IsTotalOr
     insertion-refused {refused} {f'} {h'} i = record {
       united = tt;
       changed = tt;
+      found = tt;
+      more = λ bad. absurd (cc);
+      itself = λ e. absurd (other-apart fresh-one e);
       inserted = only-one (λ e. Inserts most cmp f h e.0 e.1 (Err refused) f' h') i;
       moved = not-many;
       packed = not-many;
@@ -274,13 +292,16 @@ module _ {K X : Type 0} (most : ℕ) (cmp : K → K → Ordering) (o : IsTotalOr
     not-one e is = omega (arith, many, ap length is)
 
     pub union-some : 0 < length (united cmp (list_of f h) (list_of f other))
-    union-some = united-some cmp (list_of f h) (list_of f other) fresh-many
+    union-some = omega (arith, united-more cmp (list_of f h) (list_of f other) fresh-many)
 
     -- the call was refused
     pub unites-refused : (refused : OutOfMemory) {f1 : Forest K X} → Loads most f (united cmp (list_of f h) (list_of f other)) (Err refused) f1 → Unites most cmp f h other (Err refused) f h
     unites-refused refused told = record {
       united = tt;
       changed = tt;
+      found = tt;
+      more = λ bad. absurd (cc);
+      itself = λ e. absurd (other-apart fresh-many e);
       inserted = λ e is. absurd (not-one e is);
       moved = λ many some. tt;
       packed = λ many. tt;
@@ -315,6 +336,9 @@ module _ {K X : Type 0} (most : ℕ) (cmp : K → K → Ordering) (o : IsTotalOr
         let gone = c.account in record {
           united = b;
           changed = sym (ap not fresh-many);
+          found = found-in b.list;
+          more = λ is. longer fresh-many b.list;
+          itself = λ e. absurd (other-apart fresh-many e);
           inserted = λ e is. absurd (not-one e is);
           moved = λ many some. made-moves h s.live l.loaded some;
           packed = λ many. subst (ArePacked most) (sym made.2) l.packed;
