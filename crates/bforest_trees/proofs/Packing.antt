@@ -4,20 +4,22 @@ use Rattle.bforest_core.specs.Packed.{ArePacked}
 use Rattle.bforest_core.specs.Sizes.{IsFitFor}
 use Rattle.bforest_core.specs.declared.pool.OutOfMemory.TheVariants.{Full, Memory}
 use Rattle.bforest_core.specs.declared.pool.OutOfMemory.{OutOfMemory}
-use Rattle.bforest_nodes.specs.Entries.{IsIncreasing, place}
-use Rattle.bforest_trees.proofs.ranges.Parting.{tested-up}
+use Rattle.bforest_nodes.specs.Entries.{IsIncreasing, place, value_for}
+use Rattle.bforest_trees.proofs.ranges.Parting.{inside-value, outside-value, tested-up}
 use Rattle.bforest_trees.proofs.ranges.Between.{end-unbounded, slice-between, start-included, start-rises}
 use Rattle.bforest_trees.proofs.ranges.Outside.{outside-is}
 use Rattle.bforest_trees.proofs.unions.Uniting.{becomes-made, made-beside, made-moves, made-stays}
 use Rattle.bforest_trees.specs.Bounds.{entries_between, entries_outside, is_between, is_from_start}
 use Rattle.bforest_trees.specs.Calls.{Clears, Compacts, Loads, SplitsAt, SplitsOff}
 use Rattle.bforest_trees.specs.Forest.{Becomes, Forest, GrowsFor, IsLive, list_of}
-use Rattle.std.proofs.Common.{Err, List, Ok, Option, [], ap, slice_range, append-nil, arith, drop, false, length, not, refl, subst, sym, take, true, ◌++◌, ◌-◌, ◌∙◌, ◌≡◌, ◌≤◌, ℕ}
+use Rattle.std.proofs.Common.{Bool, Err, List, None, Ok, Option, [], ap, slice_range, append-nil, arith, drop, false, if◌then◌else◌, length, not, refl, subst, sym, take, true, ◌&&◌, ◌++◌, ◌-◌, ◌∙◌, ◌≡◌, ◌≤◌, ℕ}
 use Rattle.std.proofs.lemmas.List.Sums.{count_by-le-length}
 use Rattle.std.proofs.lemmas.List.{drop_all, length-drop, take_all}
 use Rattle.std.proofs.lemmas.Bool.{false≢true}
 use Rattle.std.specs.Cmp.{IsTotalOrder}
 use Rattle.std.specs.List.{AllByRecursion}
+use Rattle.std.specs.Ordering.{is_le, is_lt, ordering_reverse}
+use Rattle.std.specs.declared.cmp.Ordering.TheVariants.{Equal, Greater, Less}
 use Rattle.std.specs.declared.cmp.Ordering.{Ordering}
 use Rattle.std.specs.declared.ops.Bound.TheVariants.{Included, Unbounded}
 
@@ -94,11 +96,33 @@ module _ {K X : Type 0} (cmp : K → K → Ordering) (total : IsTotalOrder cmp) 
         slice-between cmp total (Included k) Unbounded es up ∙ (λ i. slice_range es ((sym (start-included cmp total k es)) i) (end-unbounded cmp total es i)) ∙ take_all (length es - p) (drop p es) (omega (arith, length-drop p es)),
       )
 
--- a split at the place of a key leaves and moves keys in order
+  -- the keys from k on are those that are not less
+  from-key : (q : K) → is_between cmp (Included k) Unbounded q ≡ not (is_lt (cmp q k))
+  from-key q = sym (ap (λ r. not (is_lt r)) (total.antisymm q k) ∙ turned (cmp k q))
+    where
+      turned : (r : Ordering) → not (is_lt (ordering_reverse r)) ≡ (is_le r && true)
+      turned Less = refl
+      turned Equal = refl
+      turned Greater = refl
+
+  -- a key's value in each part
+  parts-found : (q : K) → (value_for cmp (take (place cmp es k) es) q ≡ (if is_lt (cmp q k) then value_for cmp es q else None)) × (value_for cmp (drop (place cmp es k) es) q ≡ (if is_lt (cmp q k) then None else value_for cmp es q))
+  parts-found q = (
+    ap (λ l. value_for cmp l q) (sym parts.0) ∙ outside-value cmp (Included k) Unbounded total es q up ∙ ap (λ b. if b then None else value_for cmp es q) (from-key q) ∙ swapped None (value_for cmp es q) (is_lt (cmp q k)),
+    ap (λ l. value_for cmp l q) (sym parts.1) ∙ inside-value cmp (Included k) Unbounded total es q up ∙ ap (λ b. if b then value_for cmp es q else None) (from-key q) ∙ swapped (value_for cmp es q) None (is_lt (cmp q k)),
+  )
+    where
+      swapped : (x y : Option X) (b : Bool) → (if not b then x else y) ≡ (if b then y else x)
+      swapped x y true = refl
+      swapped x y false = refl
+
+-- a split at the place of a key leaves and moves keys in order, with their values
 module _ {K X : Type 0} (most : ℕ) (cmp : K → K → Ordering) (total : IsTotalOrder cmp) (f : Forest K X) (h : Option ℕ) (k : K) (up : IsIncreasing cmp (list_of f h)) where
   pub splits-off : {f' : Forest K X} {h' : Option ℕ} (t : Option ℕ) → SplitsAt most f h (place cmp (list_of f h) k) (Ok t) f' h' → SplitsOff most cmp f h k (Ok t) f' h'
   splits-off t s = let both = parts cmp total k (list_of f h) up in record {
     parts = s;
+    found = λ q. ap (λ l. value_for cmp l q) s.front ∙ (parts-found cmp total k (list_of f h) up q).0;
+    tail_found = λ q. ap (λ l. value_for cmp l q) s.tail ∙ (parts-found cmp total k (list_of f h) up q).1;
     increasing = subst (IsIncreasing cmp) (both.0 ∙ sym s.front) (tested-up cmp (λ q. not (is_between cmp (Included k) Unbounded q)) (list_of f h) up);
     tail_increasing = subst (IsIncreasing cmp) (both.1 ∙ sym s.tail) (tested-up cmp (λ q. is_between cmp (Included k) Unbounded q) (list_of f h) up);
   }
@@ -106,6 +130,8 @@ module _ {K X : Type 0} (most : ℕ) (cmp : K → K → Ordering) (total : IsTot
   pub splits-not : {f' : Forest K X} {h' : Option ℕ} (e : OutOfMemory) → SplitsAt most f h (place cmp (list_of f h) k) (Err e) f' h' → SplitsOff most cmp f h k (Err e) f' h'
   splits-not e s = record {
     parts = s;
+    found = tt;
+    tail_found = tt;
     increasing = subst (IsIncreasing cmp) (λ i. list_of (sym s.refused_forest i) (sym s.refused_handle i)) up;
     tail_increasing = tt;
   }

@@ -15,7 +15,7 @@ use Rattle.std.specs.Fn.{FnOnceReturns, Once}
 use Rattle.std.specs.List.{sum_by}
 use Rattle.std.specs.Prelude.{Bool, Err, IfOk, IfSome, IsOk, IsSome, List, None, Ok, OnErr, OnOk, Option, Result, Some, [], drop, false, if◌then◌else◌, length, nat_le, nat_lt, not, remove, slice_get, take, true, unwrap_or, zero, suc, ◌++◌, ◌∷◌, ◌+◌, ◌-◌, ◌<◌, ◌↔◌, ◌≡◌, ◌≢◌, ◌≤◌, ℕ}
 use Rattle.std.specs.Cmp.{IsTotalOrder}
-use Rattle.std.specs.Ordering.{is_eq}
+use Rattle.std.specs.Ordering.{is_eq, is_lt}
 use Rattle.std.specs.declared.cmp.Ordering.{Ordering}
 use Rattle.std.specs.declared.ops.Bound.TheVariants.{Excluded, Included, Unbounded}
 use Rattle.std.specs.declared.ops.Bound.{Bound}
@@ -416,5 +416,7 @@ module _ {K X : Type 0} (most : ℕ) (cmp : K → K → Ordering) where
   -- changed
   pub record SplitsOff (f : Forest K X) (h : Option ℕ) (k : K) (result : Result (Option ℕ) OutOfMemory) (f' : Forest K X) (h' : Option ℕ) : Type 0 where
     pub parts : SplitsAt most f h (place cmp (list_of f h) k) result f' h'
+    pub found : OnOk result ((q : K) → value_for cmp (list_of f' h') q ≡ (if is_lt (cmp q k) then value_for cmp (list_of f h) q else None))
+    pub tail_found : IfOk result (λ t. (q : K) → value_for cmp (list_of f' t) q ≡ (if is_lt (cmp q k) then None else value_for cmp (list_of f h) q))
     pub increasing : IsIncreasing cmp (list_of f' h')
     pub tail_increasing : IfOk result (λ t. IsIncreasing cmp (list_of f' t))

@@ -73,6 +73,9 @@ module _ {K : Type 0} (cmp : K → K → Ordering) (total : IsTotalOrder cmp) wh
   end-alike (Excluded a) k q t = ap is_le (alike_right total k q a t)
   end-alike Unbounded k q t = refl
 
+  between-alike : (lo hi : Bound K) (k q : K) → cmp k q ≡ Equal → is_between cmp lo hi k ≡ is_between cmp lo hi q
+  between-alike lo hi k q t = λ i. start-alike lo k q t i && not (end-alike hi k q t i)
+
 module _ {K X : Type 0} (cmp : K → K → Ordering) where
   -- the entries that pass a test of their keys increase as they did
   pub tested-up : (test : K → Bool) (es : List (K × X)) → IsIncreasing cmp es → IsIncreasing cmp (filter (λ e. test e.0) es)
@@ -86,14 +89,18 @@ module _ {K X : Type 0} (cmp : K → K → Ordering) where
     pub outside-up : (es : List (K × X)) → IsIncreasing cmp es → IsIncreasing cmp (entries_outside cmp lo hi es)
     outside-up es up = tested-up (λ k. not (is_between cmp lo hi k)) es up
 
-    -- a key's value among the entries outside
-    pub outside-value : IsTotalOrder cmp → (es : List (K × X)) (q : K) → IsIncreasing cmp es → value_for cmp (entries_outside cmp lo hi es) q ≡ (if is_between cmp lo hi q then None else value_for cmp es q)
-    outside-value total es q up =
-        passing-value cmp total (λ k. not (is_between cmp lo hi k)) (λ k r t i. not (start-alike cmp total lo k r t i && not (end-alike cmp total hi k r t i))) outside-up es q up ∙ turned (is_between cmp lo hi q)
-      where
-        turned : (b : Bool) → (if not b then value_for cmp es q else None) ≡ (if b then None else value_for cmp es q)
-        turned true = refl
-        turned false = refl
+    module _ (total : IsTotalOrder cmp) (es : List (K × X)) (q : K) (up : IsIncreasing cmp es) where
+      -- a key's value among the entries outside
+      pub outside-value : value_for cmp (entries_outside cmp lo hi es) q ≡ (if is_between cmp lo hi q then None else value_for cmp es q)
+      outside-value = passing-value cmp total (λ k. not (is_between cmp lo hi k)) (λ k r t. ap not (between-alike cmp total lo hi k r t)) outside-up es q up ∙ turned (is_between cmp lo hi q)
+        where
+          turned : (b : Bool) → (if not b then value_for cmp es q else None) ≡ (if b then None else value_for cmp es q)
+          turned true = refl
+          turned false = refl
+
+      -- a key's value among those inside
+      pub inside-value : value_for cmp (entries_between cmp lo hi es) q ≡ (if is_between cmp lo hi q then value_for cmp es q else None)
+      inside-value = passing-value cmp total (is_between cmp lo hi) (between-alike cmp total lo hi) (tested-up (is_between cmp lo hi)) es q up
 
     -- where an entry is within the bounds, those outside are fewer
     pub outside-fewer : (es : List (K × X)) {left : List (K × X)} {changed : Bool} → left ≡ entries_outside cmp lo hi es → changed ≡ nat_lt 0 (length (entries_between cmp lo hi es)) → changed ≡ true → length left < length es
