@@ -47,6 +47,11 @@ module _ {K X : Type 0} where
       go true live = refl
       go false live = absurd (live refl)
 
+  -- a live handle of no entry is empty
+  pub live-empty : (f : Forest K X) (h : Option ℕ) → IsLive f h → list_of f h ≡ [] → h ≡ None
+  live-empty f None live none = refl
+  live-empty f (Some n) live none = absurd (live none)
+
   -- a list of at least one entry is not empty
   some_not_none : (es : List (K × X)) → 1 ≤ length es → es ≢ []
   some_not_none [] some e = omega (arith, some)

@@ -382,6 +382,8 @@ module _ {K X : Type 0} (most : ℕ) (cmp : K → K → Ordering) where
     pub fewer : result ≡ true → length (list_of f' h') < length (list_of f h)
     pub same_forest : result ≡ false → f' ≡ f
     pub same_handle : result ≡ false → h' ≡ h
+    pub itself : present ≡ true → other ≡ h → result ≡ false
+    pub itself_gone : present ≡ false → other ≡ h → h' ≡ None
     pub other_live : other ≢ h → IsLive f' other
     pub other_list : other ≢ h → list_of f' other ≡ list_of f other
     pub other_sizes : other ≢ h → sizes_of f' other ≡ sizes_of f other

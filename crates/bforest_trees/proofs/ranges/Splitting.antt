@@ -13,7 +13,7 @@ use Rattle.bforest_core.specs.Table.{fresh_nodes, front_of, reserved}
 use Rattle.bforest_core.specs.Trees.{IsUnion, is_root, tree_of}
 use Rattle.bforest_core.specs.declared.pool.OutOfMemory.TheVariants.{Full, Memory}
 use Rattle.bforest_core.specs.declared.pool.OutOfMemory.{OutOfMemory}
-use Rattle.bforest_trees.proofs.Changed.{keeps, list-none, list-root, live-root, root-live, same_list, same_sizes, sizes-none, sizes-root}
+use Rattle.bforest_trees.proofs.Changed.{keeps, list-none, list-root, live-empty, live-root, root-live, same_list, same_sizes, sizes-none, sizes-root}
 use Rattle.bforest_trees.proofs.Cutting.{truncation-some}
 use Rattle.bforest_trees.proofs.Fits.{fit-at}
 use Rattle.bforest_trees.proofs.Spots.{spot-in, spot-on}
@@ -106,8 +106,7 @@ module _ {K X : Type 0} {most : ℕ} (f : Forest K X) (union : IsUnion most f) w
 
   -- a live handle of no entry is empty
   empty-of : (h : Option ℕ) → IsLive f h → length (list_of f h) ≡ 0 → h ≡ None
-  empty-of None live none = refl
-  empty-of (Some n) live none = absurd (live (nil_from_length (list_at f n) none))
+  empty-of h live none = live-empty f h live (nil_from_length (list_of f h) none)
 
   -- no node is in front of all entries
   whole-sizes : (h : Option ℕ) → IsLive f h → [] ≡ truncation 0 (length (list_of f h) - 0) (sizes_of f h)

@@ -3,7 +3,7 @@ use Rattle.bforest_core.specs.Levels.{sizes_of as tree_sizes}
 use Rattle.bforest_core.specs.Paths.{list_under}
 use Rattle.bforest_core.specs.Trees.{IsUnion, tree_of, is_root}
 use Rattle.bforest_nodes.specs.Entries.{IsIncreasing, is_present, value_for}
-use Rattle.bforest_trees.proofs.Changed.{list-root, seen-as, seen-asks}
+use Rattle.bforest_trees.proofs.Changed.{list-root, live-empty, seen-as, seen-asks}
 use Rattle.bforest_trees.proofs.Cutting.{becomes-same}
 use Rattle.bforest_trees.proofs.Retaining.{IsIncreasing-kept, filters, union-kept}
 use Rattle.bforest_trees.proofs.unions.Choosing.{kept-all, kept-by, kept-few, kept-none, kept-same, passing-value, present-like, sizes-all, told-answers, absent-all, apart-by, fits-false, fits-true, same-by}
@@ -55,6 +55,8 @@ module _ {K X : Type 0} {most : ℕ} {cmp : K → K → Ordering} (o : IsTotalOr
     fewer = fewer;
     same_forest = λ e. (same e).0;
     same_handle = λ e. (same e).1;
+    itself = λ is e. told result same fewer ∙ ap not (subst (λ p. keeps_all cmp p (list_of f h) (list_of f other) ≡ true) (sym is) (own e));
+    itself_gone = λ is e. live-empty f' h' b.live (list ∙ kept-none cmp present (list_of f h) (list_of f other) (subst (λ p. keeps_all cmp (not p) (list_of f h) (list_of f other) ≡ true) (sym is) (own e)));
     other_live = λ apart. (other-stays b other a.other_live apart).0;
     other_list = λ apart. (other-stays b other a.other_live apart).1;
     other_sizes = λ apart. (other-stays b other a.other_live apart).2;
@@ -65,6 +67,10 @@ module _ {K X : Type 0} {most : ℕ} {cmp : K → K → Ordering} (o : IsTotalOr
       told false same fewer =
           let stays : length (list_of f' h') ≡ length (list_of f h) = λ i. length (list_of ((same refl).0 i) ((same refl).1 i)) in
           ap not (sym (kept-same cmp present (list_of f other) (list_of f h) (sym (ap length list) ∙ stays)))
+
+      -- each key is among its own
+      own : other ≡ h → keeps_all cmp true (list_of f h) (list_of f other) ≡ true
+      own e = rw e (among-itself cmp o (list_of f h) a.increasing)
 
   -- nothing is removed
   pub keeps-all : keeps_all cmp present (list_of f h) (list_of f other) ≡ true → KeepsFrom most cmp present f h other false f h
