@@ -92,7 +92,7 @@ module _ {K X : Type 0} {cmp : K → K → Ordering} {f : Forest K X} {n : ℕ} 
     -- `insert` of an absent key that was refused
     pub refused : IsIncreasing cmp (list_at f n) → {x : X} {err : OutOfMemory} → result ≡ Err err → (result ≡ Err Memory → NeedsGrowth (need most at (sizes_under f n)) f) → (need most at (sizes_under f n) ≤ free_of f → IsOk result) → Inserts most cmp f (Some n) k x (Err err) f (Some n)
     refused up {x} {err} said memory enough =
-        inserts-err most cmp f k x (Some n) err up none
+        inserts-err most cmp f k x (Some n) err s.live up none
         (λ e. rw (needs most) (full.0 (said ∙ ap Err e)), λ low. let same = full.1 (rw (needs most) at low) in cc)
         (λ e. rw (needs most) (memory (said ∙ ap Err e)))
         (λ low. not-ok result err said (enough (rw (needs most) at low)))

@@ -10,7 +10,7 @@ use Rattle.bforest_trees.proofs.Increasing.{IsIncreasing-one, alone}
 use Rattle.bforest_trees.proofs.LookedUp.{found-put, others-put}
 use Rattle.bforest_trees.proofs.Putting.{IsPut, present-told, sizes-kept}
 use Rattle.bforest_trees.specs.Calls.{Inserts}
-use Rattle.bforest_trees.specs.Forest.{Becomes, Forest, IsTooMany, NeedsGrowth, Takes, free_of, list_at, list_of, need_of, sizes_at}
+use Rattle.bforest_trees.specs.Forest.{Becomes, Forest, IsLive, IsTooMany, NeedsGrowth, Takes, free_of, list_at, list_of, need_of, sizes_at}
 use Rattle.std.proofs.Common.{Err, IsOk, None, Ok, Option, Result, Some, [], ap, length, refl, subst, sym, ◌∙◌, ◌∷◌, ◌↔◌, ◌≡◌, ◌≤◌, ℕ}
 use Rattle.std.proofs.lemmas.Bool.{false≢true}
 use Rattle.std.specs.Cmp.{IsTotalOrder}
@@ -33,6 +33,7 @@ module _ {K X : Type 0} (most : ℕ) (cmp : K → K → Ordering) (f : Forest K 
       same_number = λ is. ap Some (told.same_root.1 (ap length (sizes-kept most cmp f (Some n) k (present-told cmp (list_at f n) k (ap is_some value ∙ is)))));
       same_levels = (λ same. ap length told.sizes ∙ told.same_root.0 (some_same same), λ e. ap Some (told.same_root.1 (sym (ap length told.sizes) ∙ e)));
       account = told.account;
+      live = told.put.live;
       increasing = subst (IsIncreasing cmp) (sym told.put.list) (IsIncreasing-put cmp total _ k x up);
       full = (λ bad. absurd (cc), λ bad. absurd (low bad));
       memory = λ bad. absurd (cc);
@@ -43,10 +44,10 @@ module _ {K X : Type 0} (most : ℕ) (cmp : K → K → Ordering) (f : Forest K 
     }
 
   -- an insertion at any handle that is refused
-  pub inserts-err : (h : Option ℕ) (refused : OutOfMemory) → IsIncreasing cmp (list_of f h) → value_for cmp (list_of f h) k ≡ None
+  pub inserts-err : (h : Option ℕ) (refused : OutOfMemory) → IsLive f h → IsIncreasing cmp (list_of f h) → value_for cmp (list_of f h) k ≡ None
       → (refused ≡ Full) ↔ IsTooMany (need_of most cmp f h k) f → (refused ≡ Memory → NeedsGrowth (need_of most cmp f h k) f)
       → ¬ (need_of most cmp f h k ≤ free_of f) → Inserts most cmp f h k x (Err refused) f h
-  inserts-err h refused up gone full memory scarce = record {
+  inserts-err h refused live up gone full memory scarce = record {
     ok = tt;
     put = tt;
     found = tt;
@@ -55,6 +56,7 @@ module _ {K X : Type 0} (most : ℕ) (cmp : K → K → Ordering) (f : Forest K 
     same_number = tt;
     same_levels = tt;
     account = tt;
+    live = live;
     increasing = up;
     full = (λ bad. full.0 (cc), λ bad. ap Err (full.1 bad));
     memory = λ bad. memory (cc);
@@ -75,6 +77,7 @@ module _ {K X : Type 0} (most : ℕ) (cmp : K → K → Ordering) (f : Forest K 
     same_number = λ is. absurd (false≢true is);
     same_levels = (λ same. absurd (cc), λ e. absurd (let one : 1 ≡ 0 = sym (ap length sizes) ∙ e in cc));
     account = takes;
+    live = becomes.live;
     increasing = subst (IsIncreasing cmp) (sym becomes.list) (IsIncreasing-one cmp (k, x));
     full = (λ bad. absurd (cc), λ bad. absurd (low bad));
     memory = λ bad. absurd (cc);
@@ -92,5 +95,5 @@ module _ {K X : Type 0} {most : ℕ} {f : Forest K X} {k : K} {x : X} (cmp : K �
   -- an insertion at an empty handle that is refused
   pub inserts-none : {refused : OutOfMemory} → (◌≡◌ {A = Result ℕ OutOfMemory} (Err refused) (Err Full)) ↔ IsTooMany 1 f
       → (◌≡◌ {A = Result ℕ OutOfMemory} (Err refused) (Err Memory) → NeedsGrowth 1 f) → (1 ≤ free_of f → IsOk {T = ℕ} (Err refused)) → Inserts most cmp f None k x (Err refused) f None
-  inserts-none {refused} full memory enough = inserts-err most cmp f k x None refused (alone cmp None) refl (λ e. full.0 (ap Err e), λ low. let same = full.1 low in cc)
+  inserts-none {refused} full memory enough = inserts-err most cmp f k x None refused tt (alone cmp None) refl (λ e. full.0 (ap Err e), λ low. let same = full.1 low in cc)
       (λ e. memory (ap Err e)) (λ low. false≢true (enough low))

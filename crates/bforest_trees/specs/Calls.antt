@@ -285,6 +285,7 @@ module _ {K X : Type 0} (most : ℕ) (cmp : K → K → Ordering) where
     pub same_number : IfOk result (λ old. IsSome old → h' ≡ h)
     pub same_levels : OnOk result (SameLevels f h f' h')
     pub account : OnOk result (Takes (need_of most cmp f h k) f f')
+    pub live : IsLive f' h'
     pub increasing : IsIncreasing cmp (list_of f' h')
     pub full : (result ≡ Err Full) ↔ IsTooMany (need_of most cmp f h k) f
     pub memory : result ≡ Err Memory → NeedsGrowth (need_of most cmp f h k) f
@@ -358,6 +359,7 @@ module _ {K X : Type 0} (most : ℕ) (cmp : K → K → Ordering) where
     pub account : 1 < length (new_to cmp f h other) → OnOk result (TakesAndGives (need_of_union f h other) (sizes_of f h) f f')
     pub same_forest : result ≡ Ok false → f' ≡ f
     pub same_handle : result ≡ Ok false → h' ≡ h
+    pub live : IsLive f' h'
     pub increasing : IsIncreasing cmp (list_of f' h')
     pub other_live : IsLive f' other
     pub other_list : list_of f' other ≡ list_of f other

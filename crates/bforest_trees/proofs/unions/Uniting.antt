@@ -191,6 +191,7 @@ module _ {K X : Type 0} (most : ℕ) (cmp : K → K → Ordering) (o : IsTotalOr
         fit = λ many. absurd (omega (arith, many, ap length none));
         same_forest = λ is. refl;
         same_handle = λ is. refl;
+        live = s.live;
         increasing = s.increasing;
         other_live = s.other_live;
         other_list = refl;
@@ -234,6 +235,7 @@ module _ {K X : Type 0} (most : ℕ) (cmp : K → K → Ordering) (o : IsTotalOr
           fit = not-many;
           same_forest = λ bad. absurd (cc);
           same_handle = λ bad. absurd (cc);
+          live = i.live;
           increasing = i.increasing;
           other_live = stays.0;
           other_list = stays.1;
@@ -261,6 +263,7 @@ module _ {K X : Type 0} (most : ℕ) (cmp : K → K → Ordering) (o : IsTotalOr
       account = not-many;
       same_forest = λ bad. absurd (cc);
       same_handle = λ bad. absurd (cc);
+      live = i.live;
       increasing = i.increasing;
       other_live = subst (λ z. IsLive z other) (sym i.refused_forest) s.other_live;
       other_list = ap (λ z. list_of z other) i.refused_forest;
@@ -310,6 +313,7 @@ module _ {K X : Type 0} (most : ℕ) (cmp : K → K → Ordering) (o : IsTotalOr
       account = λ many. tt;
       same_forest = λ bad. absurd (cc);
       same_handle = λ bad. absurd (cc);
+      live = s.live;
       increasing = s.increasing;
       other_live = s.other_live;
       other_list = refl;
@@ -356,6 +360,7 @@ module _ {K X : Type 0} (most : ℕ) (cmp : K → K → Ordering) (o : IsTotalOr
           fit = λ many. rw (b.list, made.2) l.fit;
           same_forest = λ bad. absurd (cc);
           same_handle = λ bad. absurd (cc);
+          live = b.live;
           increasing = subst (IsIncreasing cmp) (sym b.list) (united-up cmp o (list_of f h) (list_of f other) s.increasing);
           other_live = stays.0;
           other_list = stays.1;
