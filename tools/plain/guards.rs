@@ -7,6 +7,8 @@ use crate::bforest_core::Path;
 use crate::bforest_core::{Comparator, Node, NodePool, PackedNode};
 use crate::bforest_trees::Trees;
 #[cfg(any(debug_assertions, feature = "guards"))]
+use crate::bforest_trees::Reader;
+#[cfg(any(debug_assertions, feature = "guards"))]
 use core::fmt::Arguments;
 use core::ops::Bound;
 
@@ -121,6 +123,19 @@ impl<K: Copy, V: Copy, const N: usize> Trees<K, V, N> {
         order::expect(key, self.pool.node(leaf).unwrap_leaf().0, index, is_there, comp);
     }
 
+    /// Panics where the keys of a tree do not strictly increase.
+    #[track_caller]
+    pub(crate) fn expect_increasing<C: Comparator<K>>(&self, handle: PackedNode, comp: &C) {
+        let mut reader = Reader::new(handle, self);
+        let mut before = None;
+        while let Some((key, _)) = reader.take_next(&self.pool) {
+            if before.is_some_and(|it| !comp.cmp(it, key).is_lt()) {
+                order::out_of_order(order::OTHER_ORDER);
+            }
+            before = Some(key);
+        }
+    }
+
     /// Searches for the key of a bound, if it has one, and panics where the keys of the leaf beside its place are out of order.
     #[track_caller]
     pub(crate) fn expect_order_at<C: Comparator<K>>(&self, handle: PackedNode, bound: Bound<K>, comp: &C) {
@@ -152,6 +167,9 @@ impl<K: Copy, V: Copy, const N: usize> Trees<K, V, N> {
 
     #[inline(always)]
     pub(crate) fn expect_order_at<C: Comparator<K>>(&self, _handle: PackedNode, _bound: Bound<K>, _comp: &C) {}
+
+    #[inline(always)]
+    pub(crate) fn expect_increasing<C: Comparator<K>>(&self, _handle: PackedNode, _comp: &C) {}
 }
 
 /// The order of the keys beside a place that was searched.
@@ -163,7 +181,7 @@ mod order {
     // What a comparator may have done.
     const NO_ORDER: &str = "it is no order, as with a NaN: each key has to equal itself and no two keys, and to swap two keys has to \
                             reverse the answer";
-    const OTHER_ORDER: &str = "two keys next to each other do not increase under it, so that the map was filled under another one";
+    pub(super) const OTHER_ORDER: &str = "two keys next to each other do not increase under it, so that the map was filled under another one";
     const OTHERWISE: &str = "it answers otherwise for the same two keys than in the search before";
 
     // Panics where a key does not equal itself, or where three keys in a row do not increase: the key at its place, and the two that are
@@ -208,7 +226,7 @@ mod order {
 
     #[cold]
     #[track_caller]
-    fn out_of_order(why: &str) -> ! {
+    pub(super) fn out_of_order(why: &str) -> ! {
         panic!("the comparator is not that of the map, which the call requires and `increases` tests: {why}");
     }
 }

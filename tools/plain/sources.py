@@ -19,6 +19,8 @@ ARE_LIVE, ARE_ORDERED = "The call requires that both handles are live", " and th
 PANICS = "Else it may panic; builds with guards often do so at once: [what a call requires](crate#what-a-call-requires)."
 LIVE_TOO = r"requires other \{ IsSearchable "
 GUARD, GUARD_TOO = "forest.trees.expect_live(self.root);", "forest.trees.expect_live(other.root);"
+# What a call that changes one tree by the keys of another one tests beside that. It reads both, so the test takes no more than the call.
+CHANGED, ORDERED = r"requires other \{ IsSearchable \(C\.order comp\.now\) forest\.old ", "forest.trees.expect_increasing({}.root, comp);"
 # The same in a call on the forest.
 OF_FOREST, GUARD_OF_FOREST = r"requires \{ IsSearchable \(C\.order comp\.now\) self\.", "self.trees.expect_live(map.root);"
 TRACKED = 'cfg_attr(any(debug_assertions, feature = "guards"), track_caller)'
@@ -116,7 +118,10 @@ def guard(contract):
     if not re.search(LIVE, contract):
         return None
     if re.search(LIVE_TOO, contract):
-        return f"{ARE_LIVE}{ARE_ORDERED}. {PANICS}", TRACKED, f"\n        {GUARD}\n        {GUARD_TOO}"
+        tests = [GUARD, GUARD_TOO]
+        if re.search(CHANGED, contract):
+            tests += [ORDERED.format("self"), ORDERED.format("other")]
+        return f"{ARE_LIVE}{ARE_ORDERED}. {PANICS}", TRACKED, "".join(f"\n        {it}" for it in tests)
     asked = IS_LIVE + (IS_ORDERED if re.search(SEARCHABLE, contract) else "")
     test = GUARD_OF_FOREST if re.search(OF_FOREST, contract) else GUARD
     return f"{asked}. {PANICS}", TRACKED, f"\n        {test}"

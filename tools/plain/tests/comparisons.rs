@@ -1,5 +1,6 @@
-//! How often calls compare, told by a comparator that counts. With guards those that insert or remove by a key compare a few times more, and
-//! those that are handed bounds, or a key to split at, search for each once more.
+//! How often calls compare, told by a comparator that counts. With guards those that insert or remove by a key compare a few times more,
+//! those that are handed bounds, or a key to split at, search for each once more, and those that change a map or set by the keys of another
+//! one compare each key of both with the next.
 
 use bforest::{Comparator, Map, MapForest, Maps, Set, SetForest, Sets};
 use std::cell::Cell;
@@ -31,6 +32,11 @@ const BESIDE: u32 = if cfg!(any(debug_assertions, feature = "guards")) { 3 } els
 /// How often a build with guards compares for a bound's key, where one search compares so often: it searches once more, and then as above.
 fn beside_bound(search: u32) -> u32 {
     if cfg!(any(debug_assertions, feature = "guards")) { search + BESIDE } else { 0 }
+}
+
+/// How often a build with guards compares each key with the next, in maps or sets that have so many entries in all.
+fn beside_all(entries: u32) -> u32 {
+    if cfg!(any(debug_assertions, feature = "guards")) { entries } else { 0 }
 }
 
 /// Two leaves, of 10 to 40 and of 50 to 80.
@@ -414,7 +420,7 @@ fn each_of_two<H: Clone, F: Clone>(calls: &[OfTwo<H, F>], (one, two): (&H, &H), 
     for (name, most, call) in calls {
         let counting = Counting::default();
         call(&mut one.clone(), two, &mut forest.clone(), &counting);
-        let (taken, most) = (counting.taken(), if least == 0 { 0 } else { most * all });
+        let (taken, most) = (counting.taken(), if least == 0 { 0 } else { most * all } + if name.ends_with("_with") { beside_all(all) } else { 0 });
         assert!(taken <= most, "{name} of {all} entries compares {taken} times, more than {most}");
     }
 }
@@ -609,11 +615,11 @@ fn calls_on_whole_maps_and_sets_by_an_index() {
         assert_eq!((maps.copy(1, 2), sets.copy(1, 2)), (Ok(()), Ok(())));
         within(0);
         assert_eq!((maps.union_with(2, 0), sets.union_with(2, 0)), (Ok(true), Ok(true)));
-        within(8 * count);
+        within(8 * count + beside_all(4 * count));
         assert!(!maps.intersect_with(2, 2) && !sets.intersect_with(2, 2));
-        within(0);
+        within(beside_all(8 * count));
         assert!(maps.intersect_with(2, 0) && sets.intersect_with(2, 0));
-        within(6 * count);
+        within(6 * count + beside_all(6 * count));
         // A search here, one there, and one to remove it; where it is not here, one search.
         let searches = |times: u32| times * (count.ilog2() + 4) * 2;
         assert_eq!((maps.move_entry(0, 1, 2), sets.move_key(0, 1, 2)), (Ok(false), Ok(false)));
@@ -624,7 +630,7 @@ fn calls_on_whole_maps_and_sets_by_an_index() {
         within(searches(6));
         // 6 is in both.
         assert_eq!((maps.difference_with(2, 1), sets.difference_with(2, 1)), (count > 1, count > 1));
-        within(4 * count);
+        within(4 * count + beside_all(4 * count));
     }
 }
 

@@ -471,6 +471,36 @@ fn calls_whose_other_handle_is_not_live() {
     }
 }
 
+/// A call that changes a map or set by the keys of another one reads the keys of both. Guards test all of them before anything is changed.
+#[test]
+fn calls_on_two_of_which_one_is_in_another_order() {
+    let mistake = "two keys next to each other do not increase under it";
+    let is_told = cfg!(any(debug_assertions, feature = "guards"));
+    let mut maps = MapForest::new();
+    let (map, mut turned) = (map_up_to(20, &mut maps), Map::new());
+    let mut sets = SetForest::new();
+    let (set, mut turned_set) = (set_up_to(20, &mut sets), Set::new());
+    for key in 1..=20 {
+        turned.insert(key, 0, &mut maps, &Reverse(())).unwrap();
+        turned_set.insert(key, &mut sets, &Reverse(())).unwrap();
+    }
+    let changes = |name: &str| name.ends_with("_with");
+    for (name, call) in OF_TWO_MAPS.into_iter().filter(|it| changes(it.0)) {
+        for (first, second) in [(&map, &turned), (&turned, &map)] {
+            let (mut changed, mut forest) = (first.clone(), maps.clone());
+            refused(name, OUT_OF_ORDER, mistake, || call(&mut changed, second, &mut forest));
+            assert!(!is_told || changed.iter(&forest).eq(first.iter(&maps)), "after {name}");
+        }
+    }
+    for (name, call) in OF_TWO_SETS.into_iter().filter(|it| changes(it.0)) {
+        for (first, second) in [(&set, &turned_set), (&turned_set, &set)] {
+            let (mut changed, mut forest) = (first.clone(), sets.clone());
+            refused(name, OUT_OF_ORDER, mistake, || call(&mut changed, second, &mut forest));
+            assert!(!is_told || changed.iter(&forest).eq(first.iter(&sets)), "after {name}");
+        }
+    }
+}
+
 // What builds without guards do not notice.
 
 /// A copy that names a leaf of a tree which has grown a level can end that leaf. What finds the hole later says what was done before.

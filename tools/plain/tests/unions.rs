@@ -379,7 +379,9 @@ fn intersections_and_differences_beside_btreeset() {
                 false => set.difference_with(&other, &mut forest, &order),
             };
             assert_eq!(changed, left < a.len());
-            assert!(order.0.get() as usize <= a.len() + b.len());
+            // Builds with guards compare each key with the next, too.
+            let times = if cfg!(any(debug_assertions, feature = "guards")) { 2 } else { 1 };
+            assert!(order.0.get() as usize <= times * (a.len() + b.len()));
         }
         assert!(mine.iter(&forest).eq(a.intersection(&b).copied()) && less.iter(&forest).eq(a.difference(&b).copied()));
         assert!(other.iter(&forest).eq(b.iter().copied()) && same.iter(&forest).eq(a.iter().copied()));
