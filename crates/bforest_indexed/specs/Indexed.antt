@@ -258,7 +258,7 @@ module _ {K X C : Type 0} where
     pub refused : OnErr result (m' ≡ holding (memory m') m)
     pub full : (result ≡ Err Full) ↔ ¬ (MayHave most lists most_entries (table m))
     pub full_same : result ≡ Err Full → m' ≡ m
-    pub memory : result ≡ Err Memory → (memory m < lists) ⊎ ((nodes : ℕ) → IsMostFor most most_entries nodes → NeedsGrowth (missing lists nodes m) (table m))
+    pub memory : result ≡ Err Memory → (memory m' < lists) ⊎ ((nodes : ℕ) → IsMostFor most most_entries nodes → NeedsGrowth (missing lists nodes m) (table m))
 
   -- `most` is the number of entries that a leaf has at most; `increasing` says that the list of i did before
   module _ (most : ℕ) (cmp : K → K → Ordering) where
