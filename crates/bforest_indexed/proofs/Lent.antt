@@ -48,6 +48,7 @@ module _ {K X C : Type 0} {most : ℕ} {cmp : K → K → Ordering} {m : Indexed
       sizes = call.sizes;
       slots = call.slots;
       free = call.free;
+      table_memory = call.memory;
       beside = subst (ChangesAt m i) same-tree (changes a within call.put);
     }
 

@@ -1,6 +1,6 @@
 -- What writing the value of a key of one index leaves.
 use Rattle.bforest.specs.Entries.{put, value_for}
-use Rattle.bforest.specs.Forest.{free_of, slots_of}
+use Rattle.bforest.specs.Forest.{free_of, memory_of, slots_of}
 use Rattle.bforest.specs.Written.{with_value_for}
 use Rattle.bforest_indexed.specs.Indexed.{ChangesAt, Indexed, entries, handle, node_sizes, table}
 use Rattle.std.specs.Ordering.{is_eq}
@@ -20,4 +20,5 @@ module _ {K X C : Type 0} (cmp : K → K → Ordering) where
     pub sizes : node_sizes m' i ≡ node_sizes m i
     pub slots : slots_of (table m') ≡ slots_of (table m)
     pub free : free_of (table m') ≡ free_of (table m)
+    pub table_memory : memory_of (table m') ≡ memory_of (table m)
     pub beside : ChangesAt m i m'
