@@ -48,6 +48,7 @@ module _ {K X C : Type 0} {most : ℕ} {cmp : K → K → Ordering} {m : Indexed
       lists = λ i low. ap (list_of f') (same i) ∙ cleared.beside.others i (λ e. absurd (omega (arith, low, e, one-more)));
       sizes = λ i low. ap (sizes_of f') (same i) ∙ cleared.beside.other_sizes i (λ e. absurd (omega (arith, low, e, one-more)));
       ended = λ i past. ap (list_of f') (get_or_past qs i None (omega (arith, past, one-more)));
+      ended_sizes = λ i past. ap (sizes_of f') (get_or_past qs i None (omega (arith, past, one-more)));
       left = omega (arith, one-more);
       slots = cleared.account.slots;
       free = omega (arith, cleared.account.slots, a.account, (end-kept {held = held}).account);
@@ -65,6 +66,7 @@ module _ {K X C : Type 0} (m : Indexed K X C) where
     lists = λ i low. refl;
     sizes = λ i low. refl;
     ended = λ i past. ap (list_of (table m)) (get_or_past m.handles i None (omega (arith, few, past)));
+    ended_sizes = λ i past. ap (sizes_of (table m)) (get_or_past m.handles i None (omega (arith, few, past)));
     left = omega (arith, few);
     slots = refl;
     free = refl;
@@ -87,6 +89,7 @@ module _ {K X C : Type 0} (m : Indexed K X C) where
     lists = λ i low. t.lists i (omega (arith, low, t.left)) ∙ s.lists i (omega (arith, low, t.left));
     sizes = λ i low. t.sizes i (omega (arith, low, t.left)) ∙ s.sizes i (omega (arith, low, t.left));
     ended = λ i past. t.ended i (omega (arith, past, t.left, more));
+    ended_sizes = λ i past. t.ended_sizes i (omega (arith, past, t.left, more));
     left = omega (arith, s.left, t.left);
     slots = t.slots ∙ s.slots;
     free = t.free ∙ s.free;

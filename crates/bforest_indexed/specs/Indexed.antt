@@ -144,6 +144,7 @@ module _ {K X C : Type 0} where
     pub lists : (i : ℕ) → i < n → entries m' i ≡ entries m i
     pub sizes : (i : ℕ) → i < n → node_sizes m' i ≡ node_sizes m i
     pub ended : (i : ℕ) → n ≤ i → entries m' i ≡ []
+    pub ended_sizes : (i : ℕ) → n ≤ i → node_sizes m' i ≡ []
     pub left : count m' ≡ min n (count m)
     pub slots : slots_of (table m') ≡ slots_of (table m)
     pub free : free_of (table m') + nodes_in_use m' ≡ free_of (table m) + nodes_in_use m
