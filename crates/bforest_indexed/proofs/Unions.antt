@@ -2,15 +2,20 @@
 use Rattle.bforest.proofs.Balances.{keeps-balance, unites-balance}
 use Rattle.bforest.specs.Calls.{KeepsFrom, Unites}
 use Rattle.bforest.specs.Entries.{is_present, value_for}
-use Rattle.bforest.specs.Forest.{Forest, Gives, list_of, sizes_of}
+use Rattle.bforest.specs.Forest.{Forest, Gives, IsLive, list_of, sizes_of}
 use Rattle.bforest.specs.Refusal.{OutOfMemory}
 use Rattle.bforest.specs.Room.{node_count}
 use Rattle.bforest.specs.Union.{fits}
 use Rattle.bforest_indexed.proofs.Kept.{changes, changes-not, here, kept-set, list-here, put-at, read, unchanged, with_tree}
 use Rattle.bforest_indexed.specs.Indexed.{AreKept, Indexed, InsertsAt, KeepsFromAt, UnitesAt, as_inserted, count, entries, handle, new_in, node_sizes, table}
-use Rattle.std.proofs.Common.{Bool, Err, List, None, Ok, Option, Result, [], ap, false, get_or, if◌then◌else◌, length, refl, subst, sym, true, ◌<◌, ◌∙◌, ◌∷◌, ◌≡◌, ℕ}
+use Rattle.std.proofs.Common.{Bool, Err, List, None, Ok, Option, Result, Some, [], ap, false, get_or, if◌then◌else◌, length, refl, subst, sym, true, ◌<◌, ◌∙◌, ◌∷◌, ◌≡◌, ℕ}
 use Rattle.std.proofs.lemmas.List.{get_or_default}
 use Rattle.std.specs.declared.cmp.Ordering.{Ordering}
+
+-- a live handle without entries has no node
+no-sizes : {K X : Type 0} (f : Forest K X) (h : Option ℕ) → IsLive f h → list_of f h ≡ [] → sizes_of f h ≡ []
+no-sizes f None live gone = refl
+no-sizes f (Some n) live gone = absurd (live gone)
 
 module _ {K X C : Type 0} {most : ℕ} {cmp : K → K → Ordering} {m : Indexed K X C} {i : ℕ} (j : ℕ) (a : AreKept most cmp m) (within : i < count m) where
   module _ {f' : Forest K X} {h' : Option ℕ} where
@@ -88,6 +93,7 @@ module _ {K X C : Type 0} {most : ℕ} {cmp : K → K → Ordering} {m : Indexed
         changed = call.changed;
         found = λ q. subst (λ (es : List (K × X)). value_for cmp es q ≡ (if fits present (is_present cmp (entries m j) q) then value_for cmp (entries m i) q else None)) (sym list) (call.found q);
         sizes = λ some. ap (sizes_of f') (here a within call.kept) ∙ call.sizes (λ none. some (list ∙ none));
+        none = λ gone. ap (sizes_of f') (here a within call.kept) ∙ no-sizes f' h' call.kept.live (sym list ∙ gone);
         beside = changes a within call.kept;
         account = subst (λ (z : Option ℕ). Gives (node_sizes m i) (sizes_of f' z) (table m) f') (sym (here a within call.kept)) call.account;
         fewer = λ e. subst (λ (es : List (K × X)). length es < length (entries m i)) (sym list) (call.fewer e);

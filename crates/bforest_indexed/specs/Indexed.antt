@@ -309,6 +309,7 @@ module _ {K X C : Type 0} where
       pub changed : result ≡ not (keeps_all cmp present (entries m i) (entries m j))
       pub found : (q : K) → value_for cmp (entries m' i) q ≡ (if fits present (is_present cmp (entries m j) q) then value_for cmp (entries m i) q else None)
       pub sizes : entries m' i ≢ [] → node_sizes m' i ≡ sizes_by most 0 (kept_of cmp present (entries m i) (entries m j)) (node_sizes m i)
+      pub none : entries m' i ≡ [] → node_sizes m' i ≡ []
       pub beside : ChangesAt m i m'
       pub account : Gives (node_sizes m i) (node_sizes m' i) (table m) (table m')
       pub fewer : result ≡ true → length (entries m' i) < length (entries m i)
