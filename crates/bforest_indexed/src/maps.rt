@@ -1,7 +1,7 @@
 //! Maps by an index.
 ghost use Rattle.bforest.specs.Bounds.{entries_between, entry_at_least, entry_at_most};
 ghost use Rattle.bforest.specs.Calls.{Reserves};
-ghost use Rattle.bforest.specs.Entries.{value_for};
+ghost use Rattle.bforest.specs.Entries.{IsIncreasing, value_for};
 ghost use Rattle.bforest.specs.Forest.{IsFitFor, IsSearchable, empty, first_level, free_of, limit_of, memory_of, slots_of};
 ghost use Rattle.bforest.specs.Memory.{MapsFitInMemory};
 ghost use Rattle.bforest.specs.Retain.{Answers, MayAsk, MayAskEach};
@@ -704,6 +704,7 @@ impl<K: Copy, V: Copy, C: Comparator<K>, I: Idx> Maps<K, V, C, I> {
         ensures held { slots_of (table self.now) ≤ memory_of (table self.now) }
         ensures account { slots_of (table self.now) ≡ free_of (table self.now) + nodes_in_use self.now }
         ensures fit { (i : ℕ) → IsFitFor MAP_LEAF (length (entries self.now i)) (node_sizes self.now i) }
+        ensures increasing { (i : ℕ) → IsIncreasing (C.order (comparator self.now)) (entries self.now i) }
     {
         self.forest.slots()
     }
