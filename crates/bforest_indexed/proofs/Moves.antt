@@ -5,10 +5,12 @@ use Rattle.bforest.specs.Refusal.{Full, Memory, OutOfMemory}
 use Rattle.bforest.specs.Room.{node_count}
 use Rattle.bforest.specs.Set.{the_value}
 use Rattle.bforest_indexed.proofs.Kept.{ok-err}
-use Rattle.bforest_indexed.specs.Indexed.{Indexed, InsertsAt, MovesAt, RemovesAt, entries, node_sizes}
+use Rattle.bforest_indexed.specs.Indexed.{ChangesAt, Indexed, InsertsAt, MovesAt, RemovesAt, entries, node_sizes}
 use Rattle.bforest_core.proofs.walks.LeafSearch.{some-mapped}
-use Rattle.std.proofs.Common.{Bool, Err, List, None, Ok, Option, Some, ap, arith, false, if◌then◌else◌, refl, remove, sym, true, ◌∙◌, ◌≡◌, ◌≢◌, ℕ}
+use Rattle.std.proofs.Common.{Bool, Err, List, None, Ok, Option, Some, ap, arith, false, if◌then◌else◌, inl, inr, refl, remove, subst, sym, true, ◌∙◌, ◌≡◌, ◌≢◌, ℕ}
+use Rattle.std.proofs.lemmas.Bool.Decides.{eqb_tells}
 use Rattle.std.specs.Option.{is_some}
+use Rattle.std.specs.Ordering.{is_eq}
 use Rattle.std.specs.declared.cmp.Ordering.{Ordering}
 
 module _ {K X : Type 0} (cmp : K → K → Ordering) (es : List (K × X)) (k : K) where
@@ -17,6 +19,15 @@ module _ {K X : Type 0} (cmp : K → K → Ordering) (es : List (K × X)) (k : K
 
   not-here : {P : Type 0} → is_present cmp es k ≡ false → is_present cmp es k ≡ true → P
   not-here none here = absurd (let bad : true ≡ false = sym here ∙ none in cc)
+
+-- where one list changed, and there the value of the key k alone, each other key has the value that it had, at each index
+other-keys : {K X C : Type 0} (cmp : K → K → Ordering) (k : K) {m m' : Indexed K X C} {i : ℕ} → ChangesAt m i m'
+    → ((q : K) → is_eq (cmp k q) ≡ false → value_for cmp (entries m' i) q ≡ value_for cmp (entries m i) q)
+    → (n : ℕ) (q : K) → is_eq (cmp k q) ≡ false → value_for cmp (entries m' n) q ≡ value_for cmp (entries m n) q
+other-keys cmp k {m} {m'} {i} beside same n q apart = elim (eqb_tells n i) [
+  | inl w ↦ subst (λ z. value_for cmp (entries m' z) q ≡ value_for cmp (entries m z) q) (sym w.1) (same q apart)
+  | inr w ↦ ap (λ es. value_for cmp es q) (beside.others n w.1)
+]
 
 -- a set's key has the value that all have
 pub the-value : (found : Option (Unit {0})) → is_some found ≡ true → found ≡ Some the_value
@@ -36,6 +47,9 @@ module _ {K X C : Type 0} {most : ℕ} {cmp : K → K → Ordering} {m : Indexed
     put_sizes = λ ne here. not-here cmp (entries m i) k (none ne) here;
     cut = λ ne. sym (ap (λ b. if b then remove (entries m i) (place cmp (entries m i) k) else entries m i) (none ne));
     cut_sizes = λ ne. sym (ap (λ b. if b then shrink most (place cmp (entries m i) k) (node_sizes m i) else node_sizes m i) (none ne));
+    arrived = λ ne x here. absurd (let bad : None ≡ Some x = sym (gone ne) ∙ here in cc);
+    gone = gone;
+    other_keys = λ n q ne. refl;
     others = λ q ne ne'. refl;
     other_sizes = λ q ne ne'. refl;
     same_count = refl;
@@ -70,6 +84,9 @@ module _ {K X C : Type 0} {most : ℕ} {cmp : K → K → Ordering} {m : Indexed
       put_sizes = λ ne here. tt;
       cut = λ ne. tt;
       cut_sizes = λ ne. tt;
+      arrived = λ ne. tt;
+      gone = λ ne. tt;
+      other_keys = λ n q ne. ap (λ z. value_for cmp (entries z n) q) t.refused;
       others = λ q ne ne'. t.beside.others q ne';
       other_sizes = λ q ne ne'. t.beside.other_sizes q ne';
       same_count = t.beside.same_count;
@@ -104,6 +121,9 @@ module _ {K X C : Type 0} {most : ℕ} {cmp : K → K → Ordering} {m : Indexed
           put_sizes = λ ne is. r.beside.other_sizes j back ∙ t.sizes;
           cut = λ ne. r.cut ∙ ap (λ es. cut cmp es k) list;
           cut_sizes = λ ne. r.sizes ∙ (λ z. if is_present cmp (list z) k then shrink most (place cmp (list z) k) (sizes z) else sizes z);
+          arrived = λ ne y is. ap (λ es. value_for cmp es k) (r.beside.others j back) ∙ t.found ∙ sym value ∙ is;
+          gone = λ ne. r.gone;
+          other_keys = λ n q ne. other-keys cmp k r.beside r.others n q ne ∙ other-keys cmp k t.beside t.others n q ne;
           others = λ q ne ne'. r.beside.others q ne ∙ t.beside.others q ne';
           other_sizes = λ q ne ne'. r.beside.other_sizes q ne ∙ t.beside.other_sizes q ne';
           same_count = r.beside.same_count ∙ t.beside.same_count;

@@ -386,6 +386,9 @@ module _ {K X C : Type 0} where
       pub put_sizes : i ≢ j → is_present cmp (entries m i) k ≡ true → OnOk result (node_sizes m' j ≡ sizes_with most cmp (table m) (handle m j) k)
       pub cut : i ≢ j → OnOk result (entries m' i ≡ cut cmp (entries m i) k)
       pub cut_sizes : i ≢ j → OnOk result (node_sizes m' i ≡ sizes_without most cmp (table m) (handle m i) k)
+      pub arrived : i ≢ j → OnOk result ((x : X) → value_for cmp (entries m i) k ≡ Some x → value_for cmp (entries m' j) k ≡ Some x)
+      pub gone : i ≢ j → OnOk result (value_for cmp (entries m' i) k ≡ None)
+      pub other_keys : (n : ℕ) (q : K) → is_eq (cmp k q) ≡ false → value_for cmp (entries m' n) q ≡ value_for cmp (entries m n) q
       pub others : (q : ℕ) → q ≢ i → q ≢ j → entries m' q ≡ entries m q
       pub other_sizes : (q : ℕ) → q ≢ i → q ≢ j → node_sizes m' q ≡ node_sizes m q
       pub same_count : count m' ≡ count m
