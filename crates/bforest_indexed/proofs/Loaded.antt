@@ -15,11 +15,11 @@ use Rattle.std.proofs.Common.{Err, List, None, Ok, Option, [], ap, arith, get_or
 use Rattle.std.specs.Cmp.{IsTotalOrder}
 use Rattle.std.specs.declared.cmp.Ordering.{Ordering}
 
-some-most : {K X C : Type 0} {most : ℕ} {cmp : K → K → Ordering} {m : Indexed K X C} → AreKept most cmp m → 0 < most
+pub some-most : {K X C : Type 0} {most : ℕ} {cmp : K → K → Ordering} {m : Indexed K X C} → AreKept most cmp m → 0 < most
 some-most a = let odd = a.odd in omega arith
 
 -- entries that are as few as a list may have take at most the nodes that such a list may have
-load-few : (most : ℕ) → 0 < most → {n most_entries : ℕ} → n ≤ most_entries → (nodes : ℕ) → IsEnoughFor most most_entries nodes → fewest most n ≤ nodes
+pub load-few : (most : ℕ) → 0 < most → {n most_entries : ℕ} → n ≤ most_entries → (nodes : ℕ) → IsEnoughFor most most_entries nodes → fewest most n ≤ nodes
 load-few most some {n} few nodes enough = let met = fewest-met most n some in rw (← met.2) (enough n met.0 few met.1)
 
 module _ {K X C : Type 0} {most : ℕ} {cmp : K → K → Ordering} {m : Indexed K X C} {i : ℕ} (a : AreKept most cmp m) (es : List (K × X)) where

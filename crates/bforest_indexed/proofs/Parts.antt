@@ -1,14 +1,16 @@
 -- What a removal of a range, and a tree that is made anew, leave of all trees.
 use Rattle.bforest.proofs.Balances.{between-balance, compacts-balance}
 use Rattle.bforest.specs.Bounds.{is_between}
-use Rattle.bforest.specs.Calls.{Compacts, RemovesBetween}
+use Rattle.bforest.specs.Calls.{Compacts, RemovesBetween, fewest}
 use Rattle.bforest.specs.Entries.{value_for}
 use Rattle.bforest.specs.Forest.{Forest, Gives, list_of, sizes_of}
-use Rattle.bforest.specs.Refusal.{OutOfMemory}
+use Rattle.bforest.specs.Refusal.{Full, OutOfMemory}
 use Rattle.bforest.specs.Room.{node_count}
-use Rattle.bforest_indexed.proofs.Kept.{changes, changes-not, here, kept-set, list-here, read, unchanged, with_tree}
+use Rattle.bforest_indexed.proofs.Copies.{may-more, room-more}
+use Rattle.bforest_indexed.proofs.Kept.{changes, changes-not, here, kept-set, list-here, not-both, ok-err, read, unchanged, with_tree}
+use Rattle.bforest_indexed.proofs.Loaded.{load-few, some-most}
 use Rattle.bforest_indexed.specs.Indexed.{AreKept, CompactsAt, Indexed, RemovesBetweenAt, count, entries, handle, node_sizes, table}
-use Rattle.std.proofs.Common.{Bool, Err, List, None, Ok, Option, Result, ap, get_or, if◌then◌else◌, subst, sym, ◌<◌, ◌∙◌, ◌≡◌, ℕ}
+use Rattle.std.proofs.Common.{Bool, Err, List, None, Ok, Option, Result, ap, get_or, if◌then◌else◌, length, refl, subst, sym, ◌<◌, ◌∙◌, ◌≡◌, ℕ}
 use Rattle.std.specs.declared.cmp.Ordering.{Ordering}
 use Rattle.std.specs.declared.ops.Bound.{Bound}
 
@@ -47,6 +49,8 @@ module _ {K X C : Type 0} {most : ℕ} {cmp : K → K → Ordering} {m : Indexed
       memory = call.memory;
       succeeds = call.succeeds;
       refused = tt;
+      room = λ lists most_entries short room. refl;
+      never_full = λ lists most_entries short may. ok-err done Full;
     },
   )
   compacted-here (Err refused) call =
@@ -62,6 +66,8 @@ module _ {K X C : Type 0} {most : ℕ} {cmp : K → K → Ordering} {m : Indexed
           memory = call.memory;
           succeeds = call.succeeds;
           refused = same;
+          room = λ lists most_entries short room. call.succeeds (room-more a (fewest most (length (entries m i))) (load-few most (some-most a) (short.each i)) lists short room);
+          never_full = λ lists most_entries short may is. not-both (call.full.0 is) (may-more a (fewest most (length (entries m i))) (load-few most (some-most a) (short.each i)) lists short may);
         },
       )
 

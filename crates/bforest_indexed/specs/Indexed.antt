@@ -182,6 +182,8 @@ module _ {K X C : Type 0} where
     pub memory : result ≡ Err Memory → NeedsGrowth (fewest most (length (entries m i))) (table m)
     pub succeeds : fewest most (length (entries m i)) ≤ free_of (table m) → IsOk result
     pub refused : OnErr result (m' ≡ m)
+    pub room : (lists most_entries : ℕ) → IsShortOf lists most_entries m → HasRoom most lists most_entries (table m) → IsOk result
+    pub never_full : (lists most_entries : ℕ) → IsShortOf lists most_entries m → MayHave most lists most_entries (table m) → result ≢ Err Full
 
   -- the list of i was copied to j, and that of j ended; or the call was refused, and nothing changed. A leaf has at most `most` entries
   pub record CopiesAt (most : ℕ) (m : Indexed K X C) (i j : ℕ) (result : Result (Unit {0}) OutOfMemory) (m' : Indexed K X C) : Type 0 where
