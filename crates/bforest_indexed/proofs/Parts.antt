@@ -24,6 +24,7 @@ module _ {K X C : Type 0} {most : ℕ} {cmp : K → K → Ordering} {m : Indexed
       removed = list-here a within call.removed;
       changed = call.changed;
       found = λ q. subst (λ (es : List (K × X)). value_for cmp es q ≡ (if is_between cmp lo hi q then None else value_for cmp (entries m i) q)) (sym (ap (list_of f') (here a within call.removed))) (call.found q);
+      fewer = λ e. subst (λ (es : List (K × X)). length es < length (entries m i)) (sym (ap (list_of f') (here a within call.removed))) (call.fewer e);
       sizes = ap (sizes_of f') (here a within call.removed) ∙ call.sizes;
       beside = changes a within call.removed;
       account = subst (λ (z : Option ℕ). Gives (node_sizes m i) (sizes_of f' z) (table m) f') (sym (here a within call.removed)) call.account;

@@ -3,7 +3,7 @@ use Rattle.bforest_trees.proofs.ranges.Splitting.{tail-fresh}
 use Rattle.bforest.proofs.Balances.{clears-balance}
 use Rattle.bforest_core.proofs.table.Allocating.{grows-alike}
 use Rattle.bforest.specs.Calls.{Clears, SplitsAt, SplitsOff}
-use Rattle.bforest.specs.Entries.{IsIncreasing, place}
+use Rattle.bforest.specs.Entries.{IsIncreasing, place, value_for}
 use Rattle.bforest.specs.Forest.{Forest, IsFitFor, IsLive, list_of, memory_of, sizes_of}
 use Rattle.bforest.specs.Refusal.{Full, Memory, OutOfMemory}
 use Rattle.bforest.specs.Room.{node_count}
@@ -243,6 +243,8 @@ module _ {K X C : Type 0} {most : ℕ} {cmp : K → K → Ordering} {m : Indexed
           tail = tail-is ∙ s.tail;
           sizes = λ ne. front-sizes ne ∙ s.sizes;
           tail_sizes = tail-sizes ∙ s.tail_sizes;
+          found = λ ne q. ap (λ (es : List (K × X)). value_for cmp es q) (ap (list_of kf) (beside i ne (not-last i there)) ∙ c3.others i ne ∙ ap (list_of f1) own) ∙ call.found q;
+          tail_found = λ q. ap (λ (es : List (K × X)). value_for cmp es q) tail-is ∙ call.tail_found q;
           others = λ q ne ne'. (others q ne ne').0;
           other_sizes = λ q ne ne'. (others q ne ne').1;
           same_count = length-set (set m.handles i h1) j t ∙ length-set m.handles i h1;
@@ -264,6 +266,8 @@ module _ {K X C : Type 0} {most : ℕ} {cmp : K → K → Ordering} {m : Indexed
           full = (λ bad. absurd (ok-err tt Full bad), λ low. absurd (ok-err t Full (s.full.1 low)));
           memory = λ bad. absurd (ok-err tt Memory bad);
           enough = λ many. refl;
+          whole = λ first. refl;
+          none = λ end. refl;
           refused = tt;
         },
       )
@@ -275,6 +279,8 @@ module _ {K X C : Type 0} {most : ℕ} {cmp : K → K → Ordering} {m : Indexed
     tail = tt;
     sizes = tt;
     tail_sizes = tt;
+    found = tt;
+    tail_found = tt;
     others = λ q ne ne'. refl;
     other_sizes = λ q ne ne'. refl;
     same_count = refl;
@@ -289,6 +295,8 @@ module _ {K X C : Type 0} {most : ℕ} {cmp : K → K → Ordering} {m : Indexed
     full = (λ bad. call.parts.full.0 (let same : e ≡ Full = cc in ap Err same), λ low. (let same = call.parts.full.1 low in let is : e ≡ Full = cc in ap Err is));
     memory = λ bad. call.parts.memory (let same : e ≡ Memory = cc in ap Err same);
     enough = λ many. call.parts.enough many;
+    whole = λ first. absurd (let bad = (call.parts.whole first).0 in cc);
+    none = λ end. absurd (let bad = call.parts.none end in cc);
     refused = refl;
   })
 

@@ -36,6 +36,9 @@ module _ {K X C : Type 0} {most : ℕ} {cmp : K → K → Ordering} {m : Indexed
       record {
         united = list-here a within call.united;
         changed = call.changed;
+        found = λ q. ap (λ (z : Option ℕ). value_for cmp (list_of f' z) q) (here a within call.united) ∙ call.found q;
+        more = λ e. subst (λ (es : List (K × X)). length (entries m i) < length es) (sym (ap (list_of f') (here a within call.united))) (call.more e);
+        itself = λ e. call.itself (ap (handle m) (sym e));
         inserted = one-here call;
         packed = λ many. rw (ap (sizes_of f') (here a within call.united)) (call.packed many);
         nodes = λ many. ap (λ q. node_count (sizes_of f' q)) (here a within call.united) ∙ call.nodes many;
@@ -51,6 +54,9 @@ module _ {K X C : Type 0} {most : ℕ} {cmp : K → K → Ordering} {m : Indexed
     united-here (Ok false) call = united-same (call.same_forest refl) (call.same_handle refl) (λ same. record {
       united = list-here a within call.united;
       changed = call.changed;
+      found = λ q. ap (λ (z : Option ℕ). value_for cmp (list_of f' z) q) (here a within call.united) ∙ call.found q;
+      more = λ bad. absurd (cc);
+      itself = λ e. refl;
       inserted = one-here call;
       packed = λ many. rw (ap (sizes_of f') (here a within call.united)) (call.packed many);
       nodes = λ many. ap (λ q. node_count (sizes_of f' q)) (here a within call.united) ∙ call.nodes many;
@@ -65,6 +71,9 @@ module _ {K X C : Type 0} {most : ℕ} {cmp : K → K → Ordering} {m : Indexed
     united-here (Err refused) call = united-same call.refused_forest call.refused_handle (λ same. record {
       united = tt;
       changed = tt;
+      found = tt;
+      more = λ bad. absurd (cc);
+      itself = λ e. call.itself (ap (handle m) (sym e));
       inserted = one-here call;
       packed = λ many. tt;
       nodes = λ many. tt;
@@ -98,6 +107,8 @@ module _ {K X C : Type 0} {most : ℕ} {cmp : K → K → Ordering} {m : Indexed
         account = subst (λ (z : Option ℕ). Gives (node_sizes m i) (sizes_of f' z) (table m) f') (sym (here a within call.kept)) call.account;
         fewer = λ e. subst (λ (es : List (K × X)). length es < length (entries m i)) (sym list) (call.fewer e);
         same = λ e. unchanged m i f' h' (call.same_forest e) (call.same_handle e);
+        itself = λ kept e. call.itself kept (ap (handle m) (sym e));
+        itself_gone = λ gone e. list ∙ ap (list_of f') (call.itself_gone gone (ap (handle m) (sym e)));
       },
     )
       where

@@ -17,7 +17,7 @@ use Rattle.std.specs.Fn.{FnOnceReturns, Once}
 use Rattle.std.specs.List.{sum_by}
 use Rattle.std.specs.Map.{keys_of}
 use Rattle.std.specs.Prelude.{Bool, Err, IfOk, IfSome, IsOk, IsSome, List, None, Ok, OnErr, OnOk, Option, Result, Some, [], drop, false, get_or, if◌then◌else◌, length, map, max, min, nat_eq, nat_lt, not, remove, slice_get, suc, take, true, unwrap_or, zero, ℕ, ◌%◌, ◌*◌, ◌+◌, ◌-◌, ◌<◌, ◌↔◌, ◌∷◌, ◌≡◌, ◌≢◌, ◌≤◌}
-use Rattle.std.specs.Ordering.{is_eq}
+use Rattle.std.specs.Ordering.{is_eq, is_lt}
 use Rattle.std.specs.declared.cmp.Ordering.{Ordering}
 use Rattle.std.specs.declared.ops.Bound.{Bound}
 pub use Rattle.bforest.specs.Calls.{as_inserted}
@@ -293,6 +293,9 @@ module _ {K X C : Type 0} where
     pub record UnitesAt (m : Indexed K X C) (i j : ℕ) (result : Result Bool OutOfMemory) (m' : Indexed K X C) : Type 0 where
       pub united : OnOk result (entries m' i ≡ united cmp (entries m i) (entries m j))
       pub changed : IfOk result (λ changed. changed ≡ not (are_among cmp (entries m j) (entries m i)))
+      pub found : OnOk result ((q : K) → value_for cmp (entries m' i) q ≡ (if is_present cmp (entries m i) q then value_for cmp (entries m i) q else value_for cmp (entries m j) q))
+      pub more : result ≡ Ok true → length (entries m i) < length (entries m' i)
+      pub itself : i ≡ j → result ≡ Ok false
       pub inserted : (e : K × X) → new_in m i j ≡ e ∷ [] → InsertsAt m i e.0 e.1 (as_inserted result) m'
       pub packed : 1 < length (new_in m i j) → OnOk result (ArePacked most (node_sizes m' i))
       pub nodes : 1 < length (new_in m i j) → OnOk result (node_count (node_sizes m' i) ≡ need_of_union most cmp (table m) (handle m i) (handle m j))
@@ -316,6 +319,8 @@ module _ {K X C : Type 0} where
       pub account : Gives (node_sizes m i) (node_sizes m' i) (table m) (table m')
       pub fewer : result ≡ true → length (entries m' i) < length (entries m i)
       pub same : result ≡ false → m' ≡ m
+      pub itself : present ≡ true → i ≡ j → result ≡ false
+      pub itself_gone : present ≡ false → i ≡ j → entries m' i ≡ []
 
     -- the entries of i whose key is in j stay
     abbrev pub IntersectsAt : Indexed K X C → ℕ → ℕ → Bool → Indexed K X C → Type 0
@@ -336,6 +341,8 @@ module _ {K X C : Type 0} where
       pub tail : OnOk result (entries m' j ≡ drop (place cmp (entries m i) k) (entries m i))
       pub sizes : OnOk result (i ≢ j → node_sizes m' i ≡ truncation (place cmp (entries m i) k) (length (entries m i) - place cmp (entries m i) k) (node_sizes m i))
       pub tail_sizes : OnOk result (node_sizes m' j ≡ detached most (place cmp (entries m i) k) (node_sizes m i))
+      pub found : OnOk result (i ≢ j → (q : K) → value_for cmp (entries m' i) q ≡ (if is_lt (cmp q k) then value_for cmp (entries m i) q else None))
+      pub tail_found : OnOk result ((q : K) → value_for cmp (entries m' j) q ≡ (if is_lt (cmp q k) then None else value_for cmp (entries m i) q))
       pub others : (q : ℕ) → q ≢ i → q ≢ j → entries m' q ≡ entries m q
       pub other_sizes : (q : ℕ) → q ≢ i → q ≢ j → node_sizes m' q ≡ node_sizes m q
       pub same_count : count m' ≡ count m
@@ -351,6 +358,8 @@ module _ {K X C : Type 0} where
       pub full : (result ≡ Err Full) ↔ IsTooMany (split_need m i k) (table m)
       pub memory : result ≡ Err Memory → NeedsGrowth (split_need m i k) (table m)
       pub enough : split_need m i k ≤ free_of (table m) → IsOk result
+      pub whole : place cmp (entries m i) k ≡ 0 → IsOk result
+      pub none : length (entries m i) ≤ place cmp (entries m i) k → IsOk result
       pub refused : OnErr result (m' ≡ m)
 
     -- The entries of i whose keys are within both bounds were removed, and whether there was one is answered; where there was none, nothing
@@ -359,6 +368,7 @@ module _ {K X C : Type 0} where
       pub removed : entries m' i ≡ entries_outside cmp lo hi (entries m i)
       pub changed : result ≡ nat_lt 0 (length (entries_between cmp lo hi (entries m i)))
       pub found : (q : K) → value_for cmp (entries m' i) q ≡ (if is_between cmp lo hi q then None else value_for cmp (entries m i) q)
+      pub fewer : result ≡ true → length (entries m' i) < length (entries m i)
       pub sizes : node_sizes m' i ≡ sizes_outside most lo hi (start_place cmp lo (entries m i)) (length (entries_between cmp lo hi (entries m i))) (node_sizes m i)
       pub beside : ChangesAt m i m'
       pub account : Gives (node_sizes m i) (node_sizes m' i) (table m) (table m')
