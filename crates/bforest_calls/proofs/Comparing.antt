@@ -52,9 +52,9 @@ module _ {K V : Type 0} (reads : Bool) (orders : Orders K) (h c : ℕ) (state : 
 
   -- a call that passes its tests and is answered by a list requests memory for it
   pub asks-room : (call : Call K V) → IsComparing reads h c call → IsListed call → AsksRoom reads orders state call
-  asks-room (call.Read a b steps) w listed = (w.2, on a b w.0 w.1)
-  asks-room (call.Edit a b steps) w listed = on a b w.0 w.1
-  asks-room (call.Range a b lo hi ends) w listed = on a b w.0 w.1
+  asks-room (call.Read a b steps) w listed = (w.2, listed, on a b w.0 w.1)
+  asks-room (call.Edit a b steps) w listed = (listed, on a b w.0 w.1)
+  asks-room (call.Range a b lo hi ends) w listed = (listed, on a b w.0 w.1)
   asks-room other w listed = absurd listed
 
 module _ {K V : Type 0} (most : ℕ) (reads : Bool) (orders : Orders K) (h c : ℕ) (old : State K V) (given : Answer K V) (new : State K V) where

@@ -3,7 +3,7 @@ use Rattle.bforest_calls.proofs.Adding.{step-adds}
 use Rattle.bforest_calls.specs.Machine.{AsksRoom, MayStopAt, Orders, Run, State, Step}
 use Rattle.bforest_calls.specs.declared.call.Answer.{Answer}
 use Rattle.bforest_calls.specs.declared.call.Call.{Call}
-use Rattle.std.proofs.Common.{Bool, Err, List, Ok, Result, [], ap, get_or, length, refl, subst, sym, take, ◌%◌, ◌+◌, ◌++◌, ◌<◌, ◌∙◌, ◌≡◌, ◌≤◌, ◌∷◌, ℕ}
+use Rattle.std.proofs.Common.{Bool, Err, List, Ok, Result, [], ap, get_or, length, refl, subst, sym, take, ◌%◌, ◌+◌, ◌++◌, ◌<◌, ◌∙◌, ◌≡◌, ◌≤◌, ◌∷◌, ℕ, arith, suc, zero}
 use Rattle.std.proofs.lemmas.List.{take_all, take_more}
 use Rattle.std.proofs.lemmas.Option.{slice_get_read}
 use Rattle.std.specs.Result.{OnErr}
@@ -40,13 +40,18 @@ module _ {K V : Type 0} (most : ℕ) (odd : most % 2 ≡ 1) (reads : Bool) where
       → Run most reads orders old (take i calls) answers new → length calls ≤ i → Run most reads orders old calls answers new
   run_whole orders old calls i answers new h end = subst (λ (cs : List (Call K V)). Run most reads orders old cs answers new) (take_all i calls end) h
 
+-- what is not 0 is more
+pub not-none : (n : ℕ) → (n ≡ 0 → ⊥) → 0 < n
+not-none zero none = absurd (none refl)
+not-none (suc n) none = omega arith
+
 -- a list may stop at a call of it that requests memory, and then has left the state as it was
 pub may-stop : {K V : Type 0} (reads : Bool) (orders : Orders K) (calls : List (Call K V)) (i : ℕ) (call : Call K V) (old new : State K V) → i < length calls
     → call ≡ get_or calls i call → new.forest ≡ old.forest → new.handles ≡ old.handles → AsksRoom reads orders old call
     → MayStopAt reads orders new calls i
-may-stop reads orders calls i call old new within is forest handles asks positive =
+may-stop reads orders calls i call old new within is forest handles asks =
     let same : old ≡ new = λ j. record { forest = sym forest j; handles = sym handles j } in
-    (call, slice_get_read calls (length calls) i call refl within is, subst (λ s. AsksRoom reads orders s call) same asks)
+    (within, λ positive. (call, slice_get_read calls (length calls) i call refl within is, subst (λ s. AsksRoom reads orders s call) same asks))
 
 pub on_err_from : {T E P : Type 0} (r : Result T E) → P → OnErr r P
 on_err_from (Ok x) p = tt

@@ -12,7 +12,7 @@ use Rattle.bforest_calls.specs.declared.call.Seen.{Seen}
 use Rattle.bforest_core.specs.declared.pool.OutOfMemory.{OutOfMemory}
 use Rattle.bforest_nodes.specs.Entries.{value_for}
 use Rattle.std.specs.Global.{Global}
-use Rattle.std.specs.Prelude.{Bool, Option, Result, Vec, length, true, ◌≡◌, ℕ}
+use Rattle.std.specs.Prelude.{Bool, Option, Result, Vec, length, true, ◌<◌, ◌≡◌, ℕ}
 use Rattle.std.specs.declared.cmp.Ordering.{Ordering}
 
 module _ {K V : Type 0} where
@@ -62,11 +62,11 @@ module _ {K V : Type 0} where
   IsOfMaps h c (call.Read a b steps) = (a ≡ h) × (b ≡ c)
   IsOfMaps h c other = ⊥
 
-  -- the answer of a call that compares keys is a list
+  -- the answer of a call that compares keys is a list, of one answer for each of its steps, and it has a step
   abbrev pub IsListed : Call K V → Type 0
-  IsListed (call.Read h c steps) = Unit {0}
-  IsListed (call.Edit h c steps) = Unit {0}
-  IsListed (call.Range h c lo hi ends) = Unit {0}
+  IsListed (call.Read h c steps) = 0 < length steps.items
+  IsListed (call.Edit h c steps) = 0 < length steps.items
+  IsListed (call.Range h c lo hi ends) = 0 < length ends.items
   IsListed other = ⊥
 
   module _ (most : ℕ) (order : K → K → Ordering) where

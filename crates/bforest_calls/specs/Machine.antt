@@ -141,20 +141,22 @@ module _ {K V : Type 0} where
   AreKnown orders state known = All (IsKnown orders state) known.slots
 
   -- Memory is requested: for the answer of a call, which is a list, where the call is offered and passes its tests; and for the keys of a
-  -- set that is loaded. `reads` is whether the calls that only maps have are offered.
+  -- set that is loaded. None is requested for the steps of a cursor or a range where there are none, nor for no keys. `reads` is whether
+  -- the calls that only maps have are offered.
   abbrev pub AsksRoom : (reads : Bool) → Orders K → State K V → Call K V → Type 0
   AsksRoom reads orders state (call.Iter h) = (h < length state.handles) × Live state h
   AsksRoom reads orders state (call.IterBack h) = (h < length state.handles) × Live state h
-  AsksRoom reads orders state (call.Read h c steps) = (reads ≡ true) × Passes orders state h c
-  AsksRoom reads orders state (call.Edit h c steps) = Passes orders state h c
-  AsksRoom reads orders state (call.Range h c lo hi ends) = Passes orders state h c
-  AsksRoom reads orders state (call.Load h entries) = (reads ≡ false) × (h < length state.handles)
+  AsksRoom reads orders state (call.Read h c steps) = (reads ≡ true) × (0 < length steps.items) × Passes orders state h c
+  AsksRoom reads orders state (call.Edit h c steps) = (0 < length steps.items) × Passes orders state h c
+  AsksRoom reads orders state (call.Range h c lo hi ends) = (0 < length ends.items) × Passes orders state h c
+  AsksRoom reads orders state (call.Load h entries) = (reads ≡ false) × (0 < length entries.items) × (h < length state.handles)
   AsksRoom reads orders state other = ⊥
 
-  -- a list of calls may end for want of memory after the first n, which left this state: before any call, or at a call for which memory
-  -- is requested in this state
+  -- a list of calls may end for want of memory after the first n, which left this state, and before the last: before any call, or at a
+  -- call for which memory is requested in this state
   abbrev pub MayStopAt : (reads : Bool) → Orders K → State K V → List (Call K V) → ℕ → Type 0
-  MayStopAt reads orders state calls n = 0 < n → (call : Call K V) × (slice_get calls n ≡ Some call) × AsksRoom reads orders state call
+  MayStopAt reads orders state calls n =
+      (n < length calls) × (0 < n → (call : Call K V) × (slice_get calls n ≡ Some call) × AsksRoom reads orders state call)
 
   -- an answer that lists the answers of steps
   abbrev pub Shows : List (Seen K V) → Answer K V → Type 0

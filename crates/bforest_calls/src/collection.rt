@@ -164,7 +164,7 @@ pub trait Collection<K: Copy, V: Copy>: Drop {
             Loads most (trees forest.old) entries.now (Ok (number tree)) (trees forest.new))) }
         ensures refused { IfOk result (λ loaded. IfErr loaded (λ why.
             Loads most (trees forest.old) entries.now (Err why) (trees forest.new))) }
-        ensures room { OnErr result (READS ≡ false) }
+        ensures room { OnErr result ((READS ≡ false) × (0 < length entries.now)) }
         ensures err_forest { OnErr result (forest.new ≡ forest.old) };
 
     /// A second handle to the same tree.

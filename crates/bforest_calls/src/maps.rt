@@ -25,7 +25,7 @@ use std::cmp::Ordering;
 /// # Errors
 ///
 /// `AllocError` where memory for the answers was refused: then the first calls, up to some number, were made, each whole. It ends before
-/// the first call, or at a call that is answered by a list.
+/// the first call, or at a call that is answered by a list. A run of no calls requests none.
 pub fn run_map<K: Copy, V: Copy, C: Comparator<K>>(
     alloc: Global,
     calls: &[Call<K, V>],

@@ -9,7 +9,7 @@ ghost use Rattle.bforest_calls.specs.State.{Retained, Shifted, is_listed};
 ghost use Rattle.bforest_calls.specs.Steps.{ActsBy, TakesFrom, set_view};
 ghost use Rattle.std.proofs.Common.{◌∙◌};
 ghost use Rattle.std.proofs.lemmas.List.{get_or_default};
-ghost use Rattle.std.specs.Prelude.{IfOk, None, OnErr, false, map, option_map, refl, take, ◌≡◌, ℕ};
+ghost use Rattle.std.specs.Prelude.{IfOk, None, OnErr, false, length, map, option_map, refl, take, ◌<◌, ◌≡◌, ℕ};
 
 use crate::call::{Act, Answer, Call, Seen, Side};
 use crate::collection::Collection;
@@ -29,7 +29,8 @@ use std::cmp::Ordering;
 /// # Errors
 ///
 /// `AllocError` where memory for the answers was refused: then the first calls, up to some number, were made, each whole. It ends before
-/// the first call, or at a call that is answered by a list, or at a load, for which the keys are gathered in one.
+/// the first call, or at a call that is answered by a list, or at a load, for which the keys are gathered in one. A run of no calls requests
+/// none.
 pub fn run_set<K: Copy, C: Comparator<K>>(
     alloc: Global,
     calls: &[Call<K, ()>],
@@ -228,6 +229,7 @@ impl<K: Copy> Collection<K, ()> for Set<K> {
 /// The keys of the entries.
 fn keys_of<K: Copy>(alloc: Global, entries: &[(K, ())]) -> Result<Vec<K>, AllocError>
     ensures keys { IfOk result (λ keys. with_each keys.items ≡ entries.now) }
+    ensures some { OnErr result (0 < length entries.now) }
 {
     let mut keys = Vec::with_capacity(alloc, entries.len())?;
     for entry in entries {

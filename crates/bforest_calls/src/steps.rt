@@ -1,7 +1,7 @@
 //! The steps of a cursor, or those from the ends of a range, in turn.
 ghost use Rattle.bforest_calls.specs.Steps.{Chained};
 ghost use Rattle.bforest_calls.specs.declared.call.Seen.{Seen};
-ghost use Rattle.std.specs.Prelude.{IfOk, OnErr, ◌≡◌};
+ghost use Rattle.std.specs.Prelude.{IfOk, OnErr, length, ◌<◌, ◌≡◌};
 
 use crate::call::{Answer, Seen};
 use std::alloc::{AllocError, Global};
@@ -30,6 +30,7 @@ pub(crate) fn each<A, K: Copy, V: Copy, S: Steps<A, K, V>>(
     requires ready { S.ready stepper.old }
     ensures chain { IfOk result (Chained S.goes stepper.old steps.now stepper.new) }
     ensures err { OnErr result (stepper.new ≡ stepper.old) }
+    ensures some { OnErr result (0 < length steps.now) }
 {
     let mut sights = Vec::with_capacity(alloc, steps.len())?;
     for step in steps {

@@ -2,7 +2,7 @@
 ghost use Rattle.interval_books.specs.Books.{Books, Cancelled, Recorded, at_moment, bookings, node_sizes, resource_count, table};
 ghost use Rattle.interval_books.specs.Bookings.{AreApart};
 ghost use Rattle.bforest.specs.Forest.{empty};
-ghost use Rattle.std.specs.Prelude.{IfOk, [], ◌≡◌, ℕ};
+ghost use Rattle.std.specs.Prelude.{IfOk, OnErr, [], ◌<◌, ◌≡◌, ℕ};
 
 use crate::book_error::BookError;
 use crate::intervals::{first_met, holding};
@@ -34,12 +34,13 @@ impl Books {
     ///
     /// # Errors
     ///
-    /// `AllocError` where memory was refused.
+    /// `AllocError` where memory was refused. For no resources none is requested.
     pub fn new(alloc: Global, resources: u32) -> Result<Books, AllocError>
         ensures count { IfOk result (λ b. resource_count b ≡ resources) }
         ensures nothing { IfOk result (λ b. (r : ℕ) → bookings b r ≡ []) }
         ensures sizes { IfOk result (λ b. (r : ℕ) → node_sizes b r ≡ []) }
         ensures table { IfOk result (λ b. table b ≡ empty u32.MAX) }
+        ensures refused { OnErr result (0 < resources) }
     {
         let mut maps = Maps::new(alloc, ());
         maps.grow_to(resources as usize)?;

@@ -19,4 +19,4 @@ returns-clause-step g c =
 
 pub returns-in_err-loaded-clause-room : goal.returns-in_err-loaded-clause-room
 returns-in_err-loaded-clause-room g c = λ orders. on_err_from c.from_residual.result
-    (c.in_err-loaded.ensures.room, subst (λ n. c.args.h < n) (sym (g.met.T.Collection.counted c.args.handles.now)) c.if-h-handles.false)
+    (c.in_err-loaded.ensures.room.0, rw c.deref.ensures.value at c.in_err-loaded.ensures.room.1, subst (λ n. c.args.h < n) (sym (g.met.T.Collection.counted c.args.handles.now)) c.if-h-handles.false)

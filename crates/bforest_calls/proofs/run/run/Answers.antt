@@ -1,13 +1,15 @@
 use Rattle.bforest_calls.proofs.Chains.{pushed, room-stays}
-use Rattle.bforest_calls.proofs.Runs.{may-stop, on_err_from, run_next, run_same, run_whole}
+use Rattle.bforest_calls.proofs.Runs.{may-stop, not-none, on_err_from, run_next, run_same, run_whole}
 use Rattle.bforest_calls.proofs.Slots.{none-learned}
 use Rattle.bforest_calls.proofs.run.run.Goals as goal
 use Rattle.bforest_calls.specs.Machine.{IsKnown, State}
 use Rattle.std.proofs.Common.{[], ap, arith, length, map, refl, rules, ◌+◌, ◌∙◌}
+use Rattle.std.proofs.lemmas.Bool.{false≢true}
 use Rattle.std.specs.Prelude.{is_ok}
 
 pub returns-in_err-answers-clause-err : goal.returns-in_err-answers-clause-err
-returns-in_err-answers-clause-err g c = on_err_from c.from_residual.result (0, [], refl, λ positive. absurd (omega (arith, positive)))
+returns-in_err-answers-clause-err g c =
+    on_err_from c.from_residual.result (0, [], refl, (not-none (length c.args.calls.now) (λ none. false≢true (c.in_err-answers.ensures.succeeds none)), λ positive. absurd (omega (arith, positive))))
 
 pub returns-in_err-given-clause-err : goal.returns-in_err-given-clause-err
 returns-in_err-given-clause-err g c =

@@ -23,7 +23,7 @@ returns-in-Read g c =
       makes = rw c.in-Read.is (shows-all (LooksBy order) c.cursor-cursor.result c.each.new.stepper c.deref-in-Read.result.now _ c.each.result c.each.ensures.chain
           (λ sights chain. looks-of order c.cursor-cursor.result c.deref-in-Read.result.now sights c.each.new.stepper chain
           ∙ (λ j. sights_of (order (made.comparator j)) (made.entries j) (made.spot j) (asked j))) refl);
-      room = rw c.in-Read.is (on_err_from c.each.result tt);
+      room = rw c.in-Read.is (rw asked at c.each.ensures.some);
       err_forest = on_err_from c.each.result refl;
       err_self = on_err_from c.each.result refl;
     }
@@ -37,13 +37,13 @@ returns-in-Edit g c =
     let old : Held g.row.K.Denot g.row.V.Denot = record { forest = c.args.forest.now; number = c.args.self.now } in
     let w = edited 7 refl view _ _ e.chain e.err old _ made.forest made.map (c.forest-1.given.1 (sym (loans.1 ∙ made.forest_loan)))
     (c.self-1.given.1 (sym (loans.0 ∙ made.map_loan))) (ap g.C.Comparator.order made.comparator) made.spot c.deref-in-Edit.ensures.value in
-    record { makes = rw c.in-Edit.is w.0; room = rw c.in-Edit.is (on_err_from c.each-in-Edit.result tt); err_forest = w.1; err_self = w.2 }
+    record { makes = rw c.in-Edit.is w.0; room = rw c.in-Edit.is (rw c.deref-in-Edit.ensures.value at e.some); err_forest = w.1; err_self = w.2 }
 
 pub returns-in-Range : goal.returns-in-Range
 returns-in-Range g c =
     let r = c.each-in-Range.result in
     let taken = shows-taken _ _ r c.each-in-Range.ensures.chain c.range-range.ensures.entries c.deref-in-Range.ensures.value refl in
-    record { makes = rw c.in-Range.is taken; room = rw c.in-Range.is (on_err_from r tt); err_forest = on_err_from r refl; err_self = on_err_from r refl }
+    record { makes = rw c.in-Range.is taken; room = rw c.in-Range.is (rw c.deref-in-Range.ensures.value at c.each-in-Range.ensures.some); err_forest = on_err_from r refl; err_self = on_err_from r refl }
 
 pub unreachable-requires : goal.unreachable-requires
 unreachable-requires g c = let d = c.in_default in

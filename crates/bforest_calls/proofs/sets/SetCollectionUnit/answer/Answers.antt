@@ -45,13 +45,13 @@ returns-in-Edit g c =
     let old : Held g.row.K.Denot (Unit {0}) = record { forest = c.args.forest.now; number = c.args.self.now } in
     let w = edited 15 refl view _ _ e.chain e.err old _ made.forest made.set (c.forest-1.given.1 (sym (loans.1 ∙ made.forest_loan)))
     (c.self-1.given.1 (sym (loans.0 ∙ made.set_loan))) (ap g.C.Comparator.order made.comparator) made.spot c.deref-in-Edit.ensures.value in
-    record { makes = rw c.in-Edit.is w.0; room = rw c.in-Edit.is (on_err_from c.each.result tt); err_forest = w.1; err_self = w.2 }
+    record { makes = rw c.in-Edit.is w.0; room = rw c.in-Edit.is (rw c.deref-in-Edit.ensures.value at e.some); err_forest = w.1; err_self = w.2 }
 
 pub returns-in-Range : goal.returns-in-Range
 returns-in-Range g c =
     let r = c.each-in-Range.result in
     let taken = shows-taken _ _ r c.each-in-Range.ensures.chain (ap with_each c.range-range.ensures.keys ∙ whole-each _) c.deref-in-Range.ensures.value refl in
-    record { makes = rw c.in-Range.is taken; room = rw c.in-Range.is (on_err_from r tt); err_forest = on_err_from r refl; err_self = on_err_from r refl }
+    record { makes = rw c.in-Range.is taken; room = rw c.in-Range.is (rw c.deref-in-Range.ensures.value at c.each-in-Range.ensures.some); err_forest = on_err_from r refl; err_self = on_err_from r refl }
 
 pub unreachable-requires : goal.unreachable-requires
 unreachable-requires g c = let d = c.in_default in
