@@ -119,7 +119,10 @@ LOOKED_UP = (
     2,
 )
 # What is met where a call was made on a handle that was not live.
-MISUSED = 'panic!("this call or an earlier one was made on a handle that was not live: the trees of this forest share nodes")'
+MISUSED = (
+    'panic!("this call or an earlier one was made on a handle that was not live: the trees of this forest share nodes. Debug builds, and \
+those with the feature `guards`, tell which call it was")'
+)
 
 EDITS = {
     "bforest/lib.rt": [(FRONT, "", 1)],

@@ -445,6 +445,30 @@ fn each_entry_of_two_maps_or_sets() {
     }
 }
 
+/// A shift asks once for each key from the first on, in order.
+#[test]
+fn keys_that_are_shifted() {
+    let (mut forest, mut set_forest) = (MapForest::new(), SetForest::new());
+    for count in [0, 1, 7, 8, 36, 100] {
+        for from in [0, 1, count, 2 * count, 2 * count + 1] {
+            let (mut map, mut set) = (even_map(count, &mut forest), even_set(count, &mut set_forest));
+            let asked: Vec<u32> = (1..=count).map(|it| 2 * it).filter(|it| *it >= from).collect();
+            let (seen, seen_of_set) = (Cell::new(Vec::new()), Cell::new(Vec::new()));
+            map.shift(from, |key| noted(&seen, key), &mut forest, &());
+            set.shift(from, |key| noted(&seen_of_set, key), &mut set_forest, &());
+            assert_eq!((seen.take(), seen_of_set.take()), (asked.clone(), asked));
+        }
+    }
+}
+
+/// Notes a key, and answers the next one.
+fn noted(seen: &Cell<Vec<u32>>, key: u32) -> u32 {
+    let mut keys = seen.take();
+    keys.push(key);
+    seen.set(keys);
+    key + 1
+}
+
 // Maps and sets that are named by an index.
 
 type Indexed<'a> = Maps<u32, u32, &'a Counting>;
