@@ -684,6 +684,7 @@ impl<K: Copy, V: Copy> Map<K, V> {
         requires { IsSearchable (C.order comp.now) forest.now self.now }
         ensures entries { result
             ≡ entries_between (C.order comp.now) bounds.0 bounds.1 (list_of forest.now self.now) }
+        ensures increasing { IsIncreasing (C.order comp.now) result }
         ensures fits { MapsFitInMemory K.row V.row }
     {
         let (trees, root) = (&forest.trees, self.root);

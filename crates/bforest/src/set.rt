@@ -693,6 +693,7 @@ impl<K: Copy> Set<K> {
         requires { IsSearchable (C.order comp.now) forest.now self.now }
         ensures keys { result
             ≡ keys_of (entries_between (C.order comp.now) bounds.0 bounds.1 (list_of forest.now self.now)) }
+        ensures increasing { IsStrictlySortedBy (C.order comp.now) result }
         ensures fits { SetsFitInMemory K.row }
     {
         let (trees, root) = (&forest.trees, self.root);
