@@ -11,7 +11,7 @@ ghost use Rattle.bforest.specs.Union.{are_among, are_apart};
 ghost use Rattle.std.specs.Option.{option_map_or};
 ghost use Rattle.std.specs.declared.cmp.Ordering.{Ordering};
 ghost use Rattle.std.specs.Ordering.{is_lt};
-ghost use Rattle.std.specs.Prelude.{IsTrue, List, ℕ, None, Some, [], true, ◌↔◌, length, reverse, slice_get, ◌+◌, ◌-◌, ◌/◌, ◌<◌, ◌^◌, ◌≡◌, ◌≤◌};
+ghost use Rattle.std.specs.Prelude.{IsTrue, List, ℕ, None, Some, [], true, ◌↔◌, length, reverse, slice_get, ◌*◌, ◌+◌, ◌-◌, ◌/◌, ◌<◌, ◌^◌, ◌≡◌, ◌≤◌};
 
 use crate::map_cursor::MapCursor;
 use crate::map_cursor_mut::MapCursorMut;
@@ -623,6 +623,7 @@ impl<K: Copy, V: Copy> Map<K, V> {
     pub fn nodes_for(entries: usize) -> usize
         ensures enough { IsEnoughFor MAP_LEAF entries result }
         ensures met { IsMetBy MAP_LEAF entries result }
+        ensures few { result ≤ 2 * ((entries + 3) / 4) }
     {
         most_nodes(entries, MAP_LEAF)
     }

@@ -1,5 +1,6 @@
 //! How many nodes a tree of so many entries can have.
 ghost use Rattle.bforest.specs.Room.{IsEnoughAbove, IsEnoughFor, IsMetAbove, IsMetBy};
+ghost use Rattle.std.specs.Int.{div_ceil};
 ghost use Rattle.std.specs.Prelude.{◌*◌, ◌<◌, ◌≡◌, ◌≤◌, ℕ};
 
 /// The least number of children of an inner node that is not the last of its level.
@@ -11,6 +12,7 @@ pub(crate) fn most_nodes(entries: usize, capacity: usize) -> usize
     requires small { capacity ≤ 255 }
     ensures enough { IsEnoughFor capacity entries result }
     ensures met { IsMetBy capacity entries result }
+    ensures few { result ≤ 2 * div_ceil entries (div_ceil capacity 2) }
 {
     if entries == 0 {
         return 0;

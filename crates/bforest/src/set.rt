@@ -543,6 +543,7 @@ impl<K: Copy> Set<K> {
     pub fn nodes_for(keys: usize) -> usize
         ensures enough { IsEnoughFor SET_LEAF keys result }
         ensures met { IsMetBy SET_LEAF keys result }
+        ensures few { result ≤ 2 * ((keys + 7) / 8) }
     {
         most_nodes(keys, SET_LEAF)
     }
