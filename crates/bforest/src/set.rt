@@ -153,6 +153,7 @@ impl<K: Copy> Set<K> {
     pub fn first(&self, forest: &SetForest<K>) -> Option<K>
         requires live { IsLive forest.now self.now }
         ensures key { result ≡ slice_get (elements forest.now self.now) 0 }
+        ensures entry { result ≡ option_map (λ e. e.0) (slice_get (list_of forest.now self.now) 0) }
     {
         key_of(forest.trees.first_entry(self.root))
     }
@@ -162,6 +163,8 @@ impl<K: Copy> Set<K> {
         requires live { IsLive forest.now self.now }
         ensures key { result
             ≡ slice_get (elements forest.now self.now) (length (elements forest.now self.now) - 1) }
+        ensures entry { result ≡ option_map (λ e. e.0)
+            (slice_get (list_of forest.now self.now) (length (list_of forest.now self.now) - 1)) }
     {
         key_of(forest.trees.last_entry(self.root))
     }

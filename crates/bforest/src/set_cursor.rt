@@ -4,8 +4,8 @@ ghost use Rattle.bforest.specs.Memory.{SetsFitInMemory};
 ghost use Rattle.bforest.specs.Set.{as_put, the_value};
 ghost use Rattle.bforest.specs.SetCursor.{Goes, IsCursor, Moves, comparator, entries, forest_now, keys, set_now, spot};
 ghost use Rattle.bforest_core.specs.Place.{entry_before};
-ghost use Rattle.bforest_nodes.specs.Entries.{is_present, place};
-ghost use Rattle.std.specs.Prelude.{IsTrue, [], length, min, slice_get, ◌+◌, ◌-◌, ◌≡◌, ◌≤◌, ◌↔◌};
+ghost use Rattle.bforest_nodes.specs.Entries.{is_present, place, value_for};
+ghost use Rattle.std.specs.Prelude.{IsTrue, [], is_some, length, min, slice_get, ◌+◌, ◌-◌, ◌≡◌, ◌≤◌, ◌↔◌};
 
 use crate::entry::key_of;
 use crate::set::{Set, is_new};
@@ -77,6 +77,8 @@ impl<'a, K: Copy, C: Comparator<K>> SetCursor<'a, K, C> {
         requires valid { IsCursor C.order self.old }
         requires fits { SetsFitInMemory K.row }
         ensures present { result ≡ is_present (C.order (comparator self.old)) (entries self.old) elem }
+        ensures value { result
+            ≡ is_some (value_for (C.order (comparator self.old)) (entries self.old) elem) }
         ensures moves { Moves C.order self.old self.new
             (place (C.order (comparator self.old)) (entries self.old) elem) }
     {
