@@ -12,20 +12,23 @@ use Rattle.bforest_core.specs.Trees.{tree_of}
 use Rattle.bforest_core.specs.declared.path.Path.{Path}
 use Rattle.bforest_core.specs.declared.pool.OutOfMemory.{OutOfMemory}
 use Rattle.bforest_nodes.proofs.Ordered.{IsIncreasing-remove}
-use Rattle.bforest_nodes.specs.Entries.{IsIncreasing, value_at_place, with_value}
+use Rattle.bforest_nodes.specs.Entries.{IsIncreasing, value_at_place, value_for, with_value}
 use Rattle.bforest_trees.proofs.Changed.{list-root, live-root}
 use Rattle.bforest_trees.proofs.Cutting.{becomes-same}
 use Rattle.bforest_trees.proofs.Looking.{look-place-is, look-stands}
+use Rattle.bforest_trees.proofs.Popping.{pops}
 use Rattle.bforest_trees.specs.Forest.{Becomes, Forest, IsLive, list_of}
 use Rattle.bforest_trees.specs.Looks.{AtLook, IsLook, look_place}
 use Rattle.bforest_trees.specs.Place.{IsComputed, IsSpot, IsWritten, OnSpot, spot_of}
 use Rattle.bforest_trees.specs.declared.look.Look.{Look}
-use Rattle.std.proofs.Common.{Err, List, None, Ok, Option, Result, Some, [], ap, arith, false, if◌then◌else◌, inl, inr, length, option_map, refl, subst, suc, sym, true, zero, ◌<◌, ◌==◌, ◌∙◌, ◌∷◌, ◌≡◌, ◌≤◌, ◌↔◌, ℕ}
+use Rattle.std.proofs.Common.{Err, IfSome, List, None, Ok, Option, Result, Some, [], ap, arith, false, if◌then◌else◌, inl, inr, length, option_map, refl, slice_get, subst, suc, sym, true, zero, ◌<◌, ◌==◌, ◌∙◌, ◌∷◌, ◌≡◌, ◌≤◌, ◌↔◌, ℕ}
 use Rattle.std.proofs.lemmas.Bool.Decides.{eqb_tells}
 use Rattle.std.proofs.lemmas.Option.{slice_get_past}
+use Rattle.std.specs.Cmp.{IsTotalOrder}
 use Rattle.std.specs.List.Sorted.{IsStrictlySortedBy}
 use Rattle.std.specs.Map.{keys_of}
 use Rattle.std.specs.Option.{IsNone}
+use Rattle.std.specs.Ordering.{is_eq}
 use Rattle.std.specs.declared.cmp.Ordering.{Ordering}
 
 module _ {K X : Type 0} {most : ℕ} {f : Forest K X} {h : Option ℕ} {path : Path K X most} {p : ℕ} where
@@ -60,6 +63,15 @@ module _ {K X : Type 0} {most : ℕ} {cmp : K → K → Ordering} {f f' : Forest
   -- a list that increases still does after a removal
   pub removes-ordered : {p : ℕ} → IsIncreasing cmp (list_of f h) → RemovesAt most f h p f' h' → IsSearchable cmp f' h'
   removes-ordered {p} up r = record { live = r.removed.live; increasing = rw r.removed.list (IsIncreasing-remove cmp (list_of f h) p up) }
+
+  module _ (total : IsTotalOrder cmp) {p : ℕ} (up : IsIncreasing cmp (list_of f h)) (r : RemovesAt most f h p f' h') where
+    -- the key at the place of a removal has no value any more
+    pub removes-gone : IfSome (slice_get (list_of f h) p) (λ e. value_for cmp (list_of f' h') e.0 ≡ None)
+    removes-gone = (pops most f h p _ f' h' refl r).gone total up
+
+    -- all other keys have the values that they had
+    pub removes-others : IfSome (slice_get (list_of f h) p) (λ e. (q : K) → is_eq (cmp e.0 q) ≡ false → value_for cmp (list_of f' h') q ≡ value_for cmp (list_of f h) q)
+    removes-others = (pops most f h p _ f' h' refl r).others total up
 
 module _ {K X : Type 0} {n : ℕ} (f : Forest K X) (path : Path K X n) where
   -- a path with no node is at the end of a list

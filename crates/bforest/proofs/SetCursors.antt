@@ -5,7 +5,7 @@ use Rattle.bforest.specs.SetCursor.{Goes, IsCursor, Moves, comparator, forest_lo
 use Rattle.bforest.specs.declared.set_cursor.SetCursor.{SetCursor}
 use Rattle.bforest_core.specs.Place.{entry_before}
 use Rattle.bforest_trees.specs.Place.{IsComputed, IsSpot}
-use Rattle.std.proofs.Common.{List, Option, [], ap, length, option_map, refl, slice_get, subst, suc, sym, zero, ◌∙◌, ◌∷◌, ◌≡◌, ℕ}
+use Rattle.std.proofs.Common.{IfSome, List, None, Option, Some, [], ap, length, option_map, refl, slice_get, subst, suc, sym, zero, ◌∙◌, ◌∷◌, ◌≡◌, ℕ}
 use Rattle.std.specs.Map.{keys_of}
 use Rattle.std.specs.declared.cmp.Ordering.{Ordering}
 
@@ -48,3 +48,11 @@ module _ {K X : Type 0} where
   pub keys-count : (es : List (K × X)) → length (keys_of es) ≡ length es
   keys-count [] = refl
   keys-count (e ∷ es) = ap suc (keys-count es)
+
+  -- what holds of the key of an entry, if there is one, holds of the key that was read
+  pub key-holds : (P : K → Type 0) (es : List (K × X)) (p : ℕ) {k : Option K} → k ≡ slice_get (keys_of es) p → IfSome (slice_get es p) (λ e. P e.0) → IfSome k P
+  key-holds P es p is holds = rw (is ∙ sym (key-at es p)) (go (slice_get es p) holds)
+    where
+      go : (o : Option (K × X)) → IfSome o (λ e. P e.0) → IfSome (option_map (λ e. e.0) o) P
+      go None holds = tt
+      go (Some e) holds = holds

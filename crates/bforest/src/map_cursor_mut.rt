@@ -8,7 +8,8 @@ ghost use Rattle.bforest_core.specs.Place.{entry_before};
 ghost use Rattle.bforest_nodes.specs.Entries.{place, value_at_place, value_for};
 ghost use Rattle.std.specs.Borrow.{sem};
 ghost use Rattle.std.specs.Option.{option_copied_mut};
-ghost use Rattle.std.specs.Prelude.{IsTrue, Some, [], length, min, option_map, slice_get, ◌+◌, ◌-◌, ◌≡◌, ◌≤◌, ◌↔◌};
+ghost use Rattle.std.specs.Ordering.{is_eq};
+ghost use Rattle.std.specs.Prelude.{IfSome, IsTrue, None, Some, [], false, length, min, option_map, slice_get, ◌+◌, ◌-◌, ◌≡◌, ◌≤◌, ◌↔◌};
 
 use crate::entry::{key_of, value_of};
 use crate::map::Map;
@@ -203,6 +204,12 @@ impl<'a, K: Copy, V: Copy, C: Comparator<K>> MapCursorMut<'a, K, V, C> {
         ensures value { result ≡ value_at_place (entries self.old) (spot self.old) }
         ensures removed { RemovesAt MAP_LEAF (forest_now self.old) (map_now self.old) (spot self.old)
             (forest_now self.new) (map_now self.new) }
+        ensures gone { IfSome (slice_get (entries self.old) (spot self.old)) (λ e.
+            value_for (C.order (comparator self.old)) (entries self.new) e.0 ≡ None) }
+        ensures others { IfSome (slice_get (entries self.old) (spot self.old)) (λ e.
+            (q : K) → is_eq (C.order (comparator self.old) e.0 q) ≡ false
+                → value_for (C.order (comparator self.old)) (entries self.new) q
+                    ≡ value_for (C.order (comparator self.old)) (entries self.old) q) }
         ensures goes { Goes C.order self.old self.new (spot self.old) }
     {
         let map = &mut *self.map;

@@ -5,7 +5,8 @@ ghost use Rattle.bforest.specs.Set.{as_put, the_value};
 ghost use Rattle.bforest.specs.SetCursor.{Goes, IsCursor, Moves, comparator, entries, forest_now, keys, set_now, spot};
 ghost use Rattle.bforest_core.specs.Place.{entry_before};
 ghost use Rattle.bforest_nodes.specs.Entries.{is_present, place, value_for};
-ghost use Rattle.std.specs.Prelude.{IsTrue, [], is_some, length, min, slice_get, ◌+◌, ◌-◌, ◌≡◌, ◌≤◌, ◌↔◌};
+ghost use Rattle.std.specs.Ordering.{is_eq};
+ghost use Rattle.std.specs.Prelude.{IfSome, IsTrue, None, [], false, is_some, length, min, slice_get, ◌+◌, ◌-◌, ◌≡◌, ◌≤◌, ◌↔◌};
 
 use crate::entry::key_of;
 use crate::set::{Set, is_new};
@@ -155,6 +156,11 @@ impl<'a, K: Copy, C: Comparator<K>> SetCursor<'a, K, C> {
         ensures key { result ≡ slice_get (keys self.old) (spot self.old) }
         ensures removed { RemovesAt SET_LEAF (forest_now self.old) (set_now self.old) (spot self.old)
             (forest_now self.new) (set_now self.new) }
+        ensures gone { IfSome result (λ k. value_for (C.order (comparator self.old)) (entries self.new) k
+            ≡ None) }
+        ensures others { IfSome result (λ k. (q : K) → is_eq (C.order (comparator self.old) k q) ≡ false
+            → value_for (C.order (comparator self.old)) (entries self.new) q
+                ≡ value_for (C.order (comparator self.old)) (entries self.old) q) }
         ensures goes { Goes C.order self.old self.new (spot self.old) }
     {
         let set = &mut *self.set;
