@@ -3,6 +3,7 @@ ghost use Rattle.bforest_calls.specs.Beside.{IsBeside};
 ghost use Rattle.bforest_calls.specs.Compared.{IsComparing, IsKeeping, IsOfMaps};
 ghost use Rattle.bforest_calls.specs.Alone.{IsAlone};
 ghost use Rattle.bforest_calls.specs.Machine.{AreKnown, AsksRoom, IsKnown, Lacks, Live, Ordered, Passes, Refuses, State, Step};
+ghost use Rattle.bforest_calls.specs.State.{StillAddsUp};
 ghost use Rattle.bforest_calls.specs.declared.call.Answer.TheVariants as answer;
 ghost use Rattle.bforest_calls.specs.declared.call.Call.TheVariants as call;
 ghost use Rattle.std.specs.Prelude.{Err, IfErr, IfOk, IfSome, None, Ok, Bool, OnErr, false, length, map, slice_set, ◌<◌, ◌≡◌, ℕ};
@@ -42,8 +43,10 @@ pub fn make<K: Copy, V: Copy, C: Comparator<K>, T: Collection<K, V>>(
         (record { forest = T.trees forest.old; handles = T.numbers handles.old }) call.now) }
     ensures err_forest { OnErr result (forest.new ≡ forest.old) }
     ensures err_handles { OnErr result (handles.new ≡ handles.old) }
+    ensures err_known { OnErr result (known.new ≡ known.old) }
     ensures known { AreKnown (map C.order comps.now)
         (record { forest = T.trees forest.new; handles = T.numbers handles.new }) known.new }
+    ensures adds_up { StillAddsUp T.most (T.trees forest.old) (T.trees forest.new) }
 {
     let mut left = *known;
     left.forget(call, handles);
