@@ -208,8 +208,8 @@ impl<'a, K: Copy, V: Copy, C: Comparator<K>> MapCursorMut<'a, K, V, C> {
             value_for (C.order (comparator self.old)) (entries self.new) e.0 ≡ None) }
         ensures others { IfSome (slice_get (entries self.old) (spot self.old)) (λ e.
             (q : K) → is_eq (C.order (comparator self.old) e.0 q) ≡ false
-                → value_for (C.order (comparator self.old)) (entries self.new) q
-                    ≡ value_for (C.order (comparator self.old)) (entries self.old) q) }
+            → value_for (C.order (comparator self.old)) (entries self.new) q
+            ≡ value_for (C.order (comparator self.old)) (entries self.old) q) }
         ensures goes { Goes C.order self.old self.new (spot self.old) }
     {
         let map = &mut *self.map;

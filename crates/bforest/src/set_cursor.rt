@@ -160,7 +160,7 @@ impl<'a, K: Copy, C: Comparator<K>> SetCursor<'a, K, C> {
             ≡ None) }
         ensures others { IfSome result (λ k. (q : K) → is_eq (C.order (comparator self.old) k q) ≡ false
             → value_for (C.order (comparator self.old)) (entries self.new) q
-                ≡ value_for (C.order (comparator self.old)) (entries self.old) q) }
+            ≡ value_for (C.order (comparator self.old)) (entries self.old) q) }
         ensures goes { Goes C.order self.old self.new (spot self.old) }
     {
         let set = &mut *self.set;
